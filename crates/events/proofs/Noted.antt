@@ -1,4 +1,4 @@
--- What is noted of a step: the accesses that it makes.
+-- The accesses that are noted of a step are those that it makes.
 use Rattle.std.proofs.Common.{◌≡◌, true, List, [], ◌∷◌, ◌++◌, refl, sym, ap, ◌∙◌, subst}
 use Rattle.std.specs.Prelude.{fold}
 use Rattle.bus.specs.Bus.{BusMeaning}

@@ -1,4 +1,5 @@
--- The keyboard's queue in a clock: the processor and the wires keep it, the codes of the clock arrive, and the keyboard settles.
+-- The keyboard's queue in a clock: the processor and the wires keep it, the codes of the clock arrive, and the keyboard
+-- settles.
 use Rattle.wiring.specs.EachWire.{requested_type}
 use Rattle.std.proofs.Common.{◌≡◌, ℕ, ◌+◌, Bool, true, false, if◌then◌else◌, List, [], ◌∷◌, refl, sym, ap, ◌∙◌, subst}
 use Rattle.std.specs.Prelude.{fold}
@@ -113,7 +114,7 @@ arrived_keyboard (code ∷ codes) s = arrived_keyboard codes (after_arrival s co
 
 -- the next clock
 
--- the chips that its codes have reached, and those that it leaves
+-- the chips after its codes have reached them, before they settle
 abbrev pub gathered_in : Plain → ChipsState
 gathered_in s = after_arrivals (chips_reached s) (codes_next s)
 

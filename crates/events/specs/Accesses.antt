@@ -1,5 +1,5 @@
--- The accesses that a plain board's processor makes in a clock, in order (8086 Family User's Manual, "Instruction Set"): those of
--- its step, of the next iteration of a repeat, or of an entry, made over a bus that notes them.
+-- The accesses that a plain board's processor makes in a clock, in order (8086 Family User's Manual, "Instruction
+-- Set"): those of its step, of the next iteration of a repeat, or of an entry, made over a bus that notes them.
 -- To be believed by callers of this crate: the headline does not rest on it.
 use Rattle.wiring.specs.EachWire.{requested_type}
 use Rattle.std.specs.Prelude.{ℕ, List}
@@ -17,7 +17,7 @@ use Rattle.wiring.specs.Wires.{after_acknowledge}
 use Rattle.events.specs.declared.access.Access.{Access}
 use Rattle.events.specs.Noting.{Noted, noting, unnoted}
 
--- the processor's part of a clock over the chips' bus, whose accesses are noted
+-- the processor's part of a clock over the chips' bus, with its accesses noted
 abbrev pub after_noted : ClockTable → CpuState → ℕ → ChipsState → Act → StepResult (Noted ChipsState)
 after_noted table cpu busy chips Nothing = step_result cpu (unnoted chips) busy
 after_noted table cpu busy chips Request =

@@ -1,6 +1,6 @@
 -- What happens in a clock of a plain board, in the order of the clock's parts: what begins, the accesses, and the
--- processor's new state; then the keys and the wires. What the processor does has the clock at which the board stands, as in
--- the trail; what the chips bring has the clock that is reached, as a key's stamp and the speaker's changes have it.
+-- processor's new state; then the keys and the wires. Events of the processor have the clock at which the board stands,
+-- as in the trail; those of the chips have the clock that is reached, as a key's stamp and the speaker's changes do.
 -- To be believed by callers of this crate: the headline does not rest on it.
 use Rattle.keyboard.specs.Parts.{has_room, sends}
 use Rattle.std.specs.Prelude.{ℕ, ◌+◌, Bool, ◌&&◌, if◌then◌else◌, List, [], ◌∷◌, ◌++◌, map, Option, None, Some, slice_get}
@@ -28,7 +28,7 @@ use Rattle.events.specs.declared.event.Wire.{Wire}
 use Rattle.events.specs.declared.event.Wire.TheVariants.{Out0, Out2, Ir0, Ir1, Int, Speaker}
 use Rattle.events.specs.Accesses.{accesses_next}
 
--- the processor comes to another state
+-- the processor's state doesn't change
 abbrev pub is_same_state : State → State → Bool
 is_same_state a b = beq (is_halted a) (is_halted b) && beq (is_jammed a) (is_jammed b)
 
@@ -52,7 +52,7 @@ latch_events clock (Some code) = Keyed clock IsLatched code ∷ []
 abbrev pub settling_events : ℕ → ChipsState → List Event
 settling_events clock c = latch_events clock (code_latched c.keyboard (lines_b c.ppi))
 
--- what becomes of the keys, as a clock's codes reach the chips
+-- what becomes of the keys when a clock's codes reach the chips
 abbrev pub key_events : ℕ → ChipsState → List ℕ → List Event
 key_events clock c codes = arrival_events clock c.keyboard codes ++ settling_events clock (after_arrivals c codes)
 

@@ -1,4 +1,4 @@
--- What holds of what happens in a plain board's clocks.
+-- What holds of the events of a plain board's clocks.
 -- Laws: claims above the definitions, each proved as the contract of a function.
 use Rattle.std.specs.Prelude.{ℕ, ◌≡◌, ◌≤◌, ⊤, List, [], ◌∷◌, fold, length}
 use Rattle.board_types.specs.declared.choice.ClockTable.{ClockTable}
@@ -12,7 +12,7 @@ use Rattle.events.specs.declared.access.Access.{Access}
 use Rattle.events.specs.declared.access.Access.TheVariants.{In}
 use Rattle.events.specs.Noting.{Noted, after_access, noting, unnoted}
 
--- the answers that are noted are the bus's own at that point
+-- the byte that a noted read of a port has is the bus's own at that point
 abbrev pub IsOwn : {S : Type 0} → BusMeaning S → S → Access → Type 0
 IsOwn bus s (In port byte) = byte ≡ bus.input s port
 IsOwn bus s _ = ⊤
@@ -21,8 +21,8 @@ abbrev pub AreOwn : {S : Type 0} → BusMeaning S → S → List Access → Type
 AreOwn bus s [] = ⊤
 AreOwn bus s (access ∷ accesses) = IsOwn bus s access × AreOwn bus (after_access bus s access) accesses
 
--- What is done over a bus that notes is what is done over the bus alone, and that is left as by the accesses that are
--- noted, made in order.
+-- What is done over a bus that notes is what is done over the bus alone, which the noted accesses, made in order, leave
+-- as it leaves it.
 pub record IsNoted {S : Type 0} (bus : BusMeaning S) (s : S) (done : StepResult S) (noted : StepResult (Noted S)) : Type 0 where
   pub cpu : noted.cpu ≡ done.cpu
   pub clocks : noted.clocks ≡ done.clocks
@@ -39,7 +39,8 @@ pub record MakesAccesses {S : Type 0} (bus : BusMeaning S) : Type 0 where
   pub enter : (table : ClockTable) (p : CpuState) (s : S) (kind : ℕ) (cause : Cause)
       → IsNoted bus s (after_enter bus table p s kind cause) (after_enter (noting bus) table p (unnoted s) kind cause)
 
--- and they are few: none of these makes more than the six that write an interrupt's three words
+-- a step, the next iteration of a repeat, and an entry make at most six accesses, as many as write an interrupt's three
+-- words
 pub record MakesFewAccesses {S : Type 0} (bus : BusMeaning S) : Type 0 where
   pub step : (table : ClockTable) (p : CpuState) (s : S) (decoded : Decoded)
       → length (after_step (noting bus) table p (unnoted s) decoded).bus.accesses ≤ 6

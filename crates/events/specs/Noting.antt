@@ -13,11 +13,11 @@ pub record Noted (S : Type 0) : Type 0 where
 abbrev pub unnoted : {S : Type 0} → S → Noted S
 unnoted s = record { reached = s; accesses = [] }
 
--- one more access, and what it leaves
+-- an access is noted, and leaves a state
 abbrev pub with_access : {S : Type 0} → Noted S → S → Access → Noted S
 with_access n s access = record { reached = s; accesses = n.accesses ++ access ∷ [] }
 
--- a bus made to note each access beside what it does; a read of memory isn't noted
+-- a bus that also notes each access; a read of memory isn't noted
 abbrev pub noting : {S : Type 0} → BusMeaning S → BusMeaning (Noted S)
 noting bus = record {
   byte_at = λ n address. bus.byte_at n.reached address;
@@ -28,7 +28,7 @@ noting bus = record {
   after_output = λ n port byte. with_access n (bus.after_output n.reached port byte) (Out port byte);
 }
 
--- an access that is made
+-- the state that an access leaves
 abbrev pub after_access : {S : Type 0} → BusMeaning S → S → Access → S
 after_access bus s (Write address byte) = bus.after_write s address byte
 after_access bus s (In port byte) = bus.after_input s port

@@ -5,34 +5,34 @@ use board_plain::trail::TrailEntry;
 use board_types::clock::Clock;
 use board_types::state::State;
 
-/// What happens in a clock. What the processor does has the clock at which the board stands; what the chips bring has the
-/// one that is reached.
+/// What happens in a clock. Events of the processor have the clock at which the board stands; those of the chips have
+/// the next one, which is reached.
 #[derive(Drop)]
 pub enum Event {
     /// An instruction begins, or an interrupt is entered at a boundary, as the trail has it.
     Began(TrailEntry),
     /// The processor writes a byte to memory, or reaches a port.
     Reached(Clock, Access),
-    /// The processor halts, wakes or jams: it comes to this state.
+    /// The processor halts, wakes up or jams: its new state.
     Became(Clock, State),
-    /// Something becomes of a key's code.
+    /// A key's code arrives, is lost or is latched.
     Keyed(Clock, KeyEvent, u8),
-    /// A wire comes to another level: high, or not.
+    /// A wire takes another level; true means high.
     Wired(Clock, Wire, bool),
 }
 
 /// What becomes of a key's code.
 #[derive(Clone, Copy, Debug, PartialEq, Eq)]
 pub enum KeyEvent {
-    /// It reaches the keyboard, and waits.
+    /// The code reaches the keyboard, and waits.
     Arrives,
-    /// It reaches the keyboard while sixteen codes wait, and is dropped.
+    /// The code reaches the keyboard while sixteen others wait, and is dropped.
     IsLost,
-    /// It moves into the latch.
+    /// The code moves into the latch.
     IsLatched,
 }
 
-/// A wire whose level is shown.
+/// A wire whose changes are events.
 #[derive(Clone, Copy, Debug, PartialEq, Eq)]
 pub enum Wire {
     /// The output of counter 0.

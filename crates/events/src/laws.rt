@@ -1,10 +1,10 @@
-//! What holds of what happens in a plain board's clocks.
+//! What holds of the events of a plain board's clocks.
 ghost use Rattle.events.specs.Laws.{MakesAccesses, MakesFewAccesses};
 
 use bus::Bus;
 
-/// A step, the next iteration of a repeat and an entry leave the bus as their accesses do, made in order; each answer of a port
-/// is the bus's own at that point.
+/// A step, the next iteration of a repeat and an entry leave the bus as their accesses do, made in order; each byte
+/// that a port gives is the bus's own at that point.
 pub fn accesses_are_made<B: Bus>()
     ensures { MakesAccesses B.meaning }
 {}

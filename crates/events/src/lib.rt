@@ -1,6 +1,6 @@
-//! What happens in a plain board's clocks: what begins, each byte that the processor writes to memory and each of its port
-//! accesses, what becomes of its state, the keys, and the wires. The definitions are in `specs/`; here are the types that they
-//! speak of, and the laws. Nothing here runs a board.
+//! What happens in a plain board's clocks: what begins, each byte that the processor writes to memory and each of its
+//! port accesses, its changes of state, the keys, and the wires. The definitions are in `specs/`; here are their types,
+//! and the laws. Nothing here runs a board.
 #![tactic(auto)]
 
 pub mod access;
