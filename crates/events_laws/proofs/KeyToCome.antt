@@ -19,7 +19,7 @@ use Rattle.wiring.proofs.Clocks.{clock_of_arrivals}
 use Rattle.events_laws.specs.Keys.{KeyToComeWaits, KeyWasThere, ListsStay}
 use Rattle.events_laws.specs.WithKey.{inserted, with_key}
 
--- other clocks have the codes that they had
+-- the codes of other clocks are the same
 
 not_now : (stamp clock : ℕ) → clock < stamp → nat_eq stamp clock ≡ false
 not_now stamp clock before = grind (arith, nat_tests, before)
@@ -61,7 +61,7 @@ key_waits (suc n) s key before =
     let at = clocks_go_by n s in
     ap after_clock (key_waits n s key (omega (arith, before))) ∙ next_clock (after_clocks s n) key (omega (arith, at, before))
 
--- and what it adds to the lists
+-- what a clock before the stamp adds to the lists
 
 level_same : (s : Plain) (key : StampedKey) → speaker_level (with_key s key) ≡ speaker_level s
 unfolding speaker_level with_key

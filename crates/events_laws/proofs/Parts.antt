@@ -1,4 +1,4 @@
--- What a function of events gives of a clock, part by part, and of clocks that follow one another.
+-- What a function of events gives for a clock, part by part, and for consecutive clocks.
 use Rattle.keyboard.specs.Parts.{has_room}
 use Rattle.std.proofs.Common.{◌≡◌, ℕ, zero, suc, ◌+◌, Bool, true, false, if◌then◌else◌, List, [], ◌∷◌, ◌++◌, map, Option, None, Some, refl, ap, ◌∙◌, append-nil}
 use Rattle.std.specs.Bool.{beq}
@@ -76,7 +76,7 @@ none_wired f none clock s t (w ∷ ws) =
     flat_map-append f (wire_event clock s t w) (flat_map (wire_event clock s t) ws)
     ∙ (λ i. none_if f (Wired clock w (level_of t w)) (none clock w (level_of t w)) (beq (level_of s w) (level_of t w)) i ++ none_wired f none clock s t ws i)
 
--- what is so of a clock is so of clocks
+-- what holds for a clock holds for n clocks
 pub told_in : {A : Type 0} (f : Event → List A) (seen : Plain → List A) → ((s : Plain) → flat_map f (events_next s) ≡ seen s) → (s : Plain) (n : ℕ) → flat_map f (events_in s n) ≡ gathered after_clock seen n s
 unfolding gathered
 told_in f seen each s zero = refl

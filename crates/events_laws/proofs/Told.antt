@@ -74,7 +74,7 @@ speaker_wire clock Low High = refl
 speaker_wire clock High Low = refl
 speaker_wire clock High High = refl
 
--- wires of which nothing is given, before the others
+-- wires of which nothing is listed, before the others
 past : (s t : Plain) (clock : ℕ) (wire : Wire) (rest : List Wire) → changed_by (Wired clock wire (level_of t wire)) ≡ [] → flat_map changed_by (flat_map (wire_event clock s t) (wire ∷ rest)) ≡ flat_map changed_by (flat_map (wire_event clock s t) rest)
 past s t clock wire rest none =
     flat_map-append changed_by (wire_event clock s t wire) (flat_map (wire_event clock s t) rest)
@@ -148,7 +148,7 @@ takes_after_one c address (Write to byte) = chips_keep_bytes.fixed c to byte add
 takes_after_one c address (In port byte) = chips_keep_bytes.input_fixed c port address
 takes_after_one c address (Out port byte) = chips_keep_bytes.output_fixed c port byte address
 
--- and after several
+-- a byte after several accesses
 
 after_several : (c : ChipsState) (address clock : ℕ) (takes : Bool) (accesses : List Access) → is_writable c address ≡ takes → byte_at (fold (after_access chips_bus) c accesses) address ≡ fold (byte_after takes address) (byte_at c address) (flat_map written_by (map (Reached clock) accesses))
 after_several c address clock takes [] is = refl
@@ -195,12 +195,12 @@ passed c keys address =
     memory_then _ arrived c address (after_settled arrived address)
     (memory_then arrived went c address (after_codes (codes_at keys (c.clock + 1)) went address) (after_wires c address))
 
--- and neither does an acknowledge
+-- an acknowledge writes nothing
 acknowledged : (s : ChipsState) (address : ℕ) → SameMemory (after_acknowledge s) s address
 unfolding after_acknowledge byte_at is_writable mda.text_byte
 acknowledged s address = record { byte = refl; takes = refl }
 
--- what the processor's part makes its accesses over, and that it makes them
+-- the bus over which the processor's part makes its accesses, and that it makes them
 record Made (c after : ChipsState) (accesses : List Access) (address : ℕ) : Type 0 where
   start : ChipsState
   same : SameMemory start c address

@@ -13,13 +13,14 @@ KeyToComeWaits =
     (s : Plain) (key : StampedKey) (n : ℕ) → clock_of s + n < key.stamp
     → after_clocks (with_key s key) n ≡ with_key (after_clocks s n) key
 
--- nor does it change what these clocks add to the speaker's list and to the trail
+-- a key that is still to come doesn't change what the clocks before its stamp add to the speaker's list and to the
+-- trail
 abbrev pub ListsStay : Type 0
 ListsStay =
     (s : Plain) (key : StampedKey) (n : ℕ) → clock_of s + n < key.stamp
     → (changes_in (with_key s key) n ≡ changes_in s n) × (trail_in (with_key s key) n ≡ trail_in s n)
 
--- so a board that gets the key is one that had it from power-on
+-- a board that gets a key that is still to come is one that had it from power-on
 abbrev pub KeyWasThere : Type 0
 KeyWasThere =
     (image : List (ℕ × ℕ)) (config : Config) (keys : List StampedKey) (key : StampedKey) (n : ℕ) → n < key.stamp

@@ -17,23 +17,23 @@ use Rattle.events.specs.declared.event.KeyEvent.TheVariants.{Arrives, IsLatched,
 use Rattle.events.specs.declared.event.Wire.TheVariants.{Speaker}
 use Rattle.events.specs.Events.{codes_next, events_in}
 
--- a byte that is written: its address, and the byte
+-- the address and the byte of a write
 abbrev pub written_by : Event → List (ℕ × ℕ)
 written_by (Reached _ (Write address byte)) = (address, byte) ∷ []
 written_by _ = []
 
--- the byte at an address after a write, by whether the address takes bytes
+-- the byte at an address after a write, if the address takes bytes
 abbrev pub byte_after : Bool → ℕ → ℕ → ℕ × ℕ → ℕ
 byte_after takes address byte w = if takes && (w.0 == address) then w.1 else byte
 
--- a byte of memory is what the writes leave there, one after another
+-- a byte of memory is what the writes leave there, made in order
 abbrev pub MemoryIsWritten : Type 0
 MemoryIsWritten =
     (s : Plain) (n address : ℕ)
     → byte_of (after_clocks s n) address
     ≡ fold (byte_after (is_writable s.chips address) address) (byte_of s address) (flat_map written_by (events_in s n))
 
--- what begins
+-- the entries of what begins
 abbrev pub begun_by : Event → List TrailEntry
 begun_by (Began entry) = entry ∷ []
 begun_by _ = []
@@ -49,7 +49,7 @@ changed_by _ = []
 abbrev pub SpeakerIsTold : Type 0
 SpeakerIsTold = (s : Plain) (n : ℕ) → flat_map changed_by (events_in s n) ≡ changes_in s n
 
--- the codes that reach the keyboard, of them those that wait and those that are lost, and the codes that leave the queue
+-- the codes that reach the keyboard, those of them that wait, those that are lost, and the codes that leave the queue
 abbrev pub come_by : Event → List ℕ
 come_by (Keyed _ Arrives code) = code ∷ []
 come_by (Keyed _ IsLost code) = code ∷ []
@@ -71,7 +71,7 @@ latched_by _ = []
 abbrev pub CodesAreTold : Type 0
 CodesAreTold = (s : Plain) (n : ℕ) → flat_map come_by (events_in s n) ≡ gathered after_clock codes_next n s
 
--- what waited and what was queued since is what was latched since and what waits
+-- the codes that waited and those that were queued since are those that were latched since and those that wait
 abbrev pub QueueIsTold : Type 0
 QueueIsTold =
     (s : Plain) (n : ℕ)
