@@ -1,4 +1,4 @@
--- What a bus that keeps accesses keeps of a step: all that it makes, since they are few.
+-- A bus that notes six accesses notes all of a step, an iteration or an entry, since they make no more.
 use Rattle.std.proofs.Common.{◌≡◌, ℕ, ◌+◌, ◌≤◌, Bool, true, false, if◌then◌else◌, List, [], ◌∷◌, ◌++◌, length, refl, sym, ap, ◌∙◌, subst, arith}
 use Rattle.std.specs.Prelude.{nat_le}
 use Rattle.std.proofs.lemmas.Bool.Decides.{nat_tests}
@@ -20,7 +20,7 @@ use Rattle.events.proofs.Few.{makes_few}
 use Rattle.events.proofs.Noted.{makes_accesses}
 use Rattle.execute_noted.specs.Held.{Held, held_after, holding, is_full}
 
--- the reference stays, and the accesses are kept while they are few
+-- the reference stays, and the accesses are noted while there are at most six
 record Keeps {S : Type 0} (name : ℕ) (n : Noted S) (h : Held S) : Type 0 where
   same : h.name ≡ name
   reached : h.reached ≡ n.reached
@@ -61,14 +61,15 @@ keeps_ports bus name = record {
   write = λ n h port byte any keeps. keeps_more name n h _ _ (Out port byte) (Out port byte) keeps (ap (λ s. bus.after_output s port byte) keeps.reached) refl;
 }
 
--- nothing is kept yet
+-- nothing is noted yet
 abbrev pub fresh : {S : Type 0} → ℕ → S → Held S
 fresh name s = record { name = name; reached = s; accesses = [] }
 
 keeps_none : {S : Type 0} (name : ℕ) (s : S) → Keeps name (unnoted s) (fresh name s)
 keeps_none name s = record { same = refl; reached = refl; few = λ more. refl }
 
--- what is done over such a bus is what is done over the bus; the reference stays, and all accesses are kept
+-- what is done over a bus that notes is what is done over the bus within; the reference stays, and all accesses are
+-- noted
 pub record IsKept {S : Type 0} (name : ℕ) (plain : StepResult S) (noted : StepResult (Noted S)) (held : StepResult (Held S)) : Type 0 where
   pub done : step_result held.cpu held.bus.reached held.clocks ≡ plain
   pub same : held.bus.name ≡ name

@@ -1,11 +1,11 @@
--- A bus that keeps the first accesses that are made over it.
+-- A bus that notes the first six accesses that are made over it.
 -- For proofs alone: no public contract rests on it.
 use Rattle.std.specs.Prelude.{ℕ, Bool, nat_le, if◌then◌else◌, List, [], ◌∷◌, ◌++◌, length}
 use Rattle.bus.specs.Bus.{BusMeaning}
 use Rattle.events.specs.declared.access.Access.{Access}
 use Rattle.events.specs.declared.access.Access.TheVariants.{Write, In, Out}
 
--- what is reached through a reference of this name, and the first six accesses
+-- what is reached through the reference of this name, and the first six accesses
 pub record Held (S : Type 0) : Type 0 where
   pub name : ℕ
   pub reached : S

@@ -1,4 +1,4 @@
--- What a bus that keeps accesses keeps.
+-- A bus that notes accesses keeps its bytes as the bus within does.
 -- For proofs alone: no public contract rests on it.
 use Rattle.bus.specs.Bus.{BusMeaning}
 use Rattle.bus.specs.Kept.{IsBus}

@@ -1,4 +1,5 @@
-//! What the processor does over a bus, with its accesses noted or not: a step, an iteration of a repeat, the entry of an interrupt.
+//! What the processor does over a bus, with its accesses noted or not: a step, an iteration of a repeat, the entry of
+//! an interrupt.
 #![tactic(auto)]
 
 pub mod notes;

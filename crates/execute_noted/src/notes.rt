@@ -1,4 +1,4 @@
-//! What is noted of the processor's accesses.
+//! How accesses of the processor are noted.
 ghost use Rattle.std.specs.Prelude.{◌≡◌, List, []};
 ghost use Rattle.execute_meaning.specs.Boundaries.{after_enter};
 ghost use Rattle.execute_meaning.specs.Meaning.{after_again, after_step, step_result};
@@ -18,9 +18,9 @@ use execute_meaning::boundary::Cause;
 /// The accesses of a step, an iteration or an entry, in order: none of them makes more than six.
 pub type Accesses = ArrayVec<Access, 6>;
 
-/// Does what the processor does in a clock, and notes its accesses, or not.
+/// Does what the processor does in a clock, and notes its accesses, unless it is `Unnoted`.
 pub trait Notes {
-    // that these accesses were noted last, if any are
+    // the accesses that were noted last are these, if any are noted
     ghost are: { Self → List Access → Type 0 };
 
     /// Notes that there is no access.

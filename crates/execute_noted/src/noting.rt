@@ -1,4 +1,4 @@
-//! A bus that keeps the accesses that are made over it, and what the processor does over one.
+//! A bus that notes the accesses that are made over it, and what the processor does over that bus.
 ghost use Rattle.std.specs.Prelude.{◌≡◌, ◌++◌, [], ◌∷◌, if◌then◌else◌};
 ghost use Rattle.execute_meaning.specs.Boundaries.{after_enter};
 ghost use Rattle.execute_meaning.specs.Meaning.{after_again, after_step, step_result};
@@ -16,7 +16,7 @@ use execute::step::{again, enter, step};
 use execute_meaning::boundary::Cause;
 use std::mem;
 
-/// A bus, and the accesses that are made over it, up to six.
+/// A bus with the accesses that are made over it, at most six.
 #[derive(Drop)]
 struct Noting<'a, B: Bus> {
     bus: &'a mut B,
@@ -24,7 +24,7 @@ struct Noting<'a, B: Bus> {
 }
 
 impl<'a, B: Bus> Noting<'a, B> {
-    /// The accesses, which are handed out.
+    /// Takes the accesses out.
     fn take(&mut self) -> Accesses
         ensures same { self.new.bus.ghost_name ≡ self.old.bus.ghost_name }
         ensures bus { self.new.bus.now ≡ self.old.bus.now }
@@ -34,7 +34,7 @@ impl<'a, B: Bus> Noting<'a, B> {
     }
 }
 
-/// Keeps one more access, if there is room.
+/// Notes one more access, if there is room.
 #[inline(always)]
 fn keep(accesses: &mut Accesses, access: Access)
     ensures { accesses.new.items
