@@ -1,4 +1,4 @@
--- Boards that get a key more stand where they stood, as if the first one had had it.
+-- Boards that get one more key stand at their clocks as if the first one had had it.
 use Rattle.std.proofs.Common.{◌≡◌, ℕ, suc, ◌+◌, ◌<◌, ◌≤◌, List, [], ◌∷◌, ◌++◌, length, take, drop, get_or, set, refl, sym, ap, ◌∙◌, subst, arith}
 use Rattle.std.specs.Prelude.{All, Contains}
 use Rattle.std.proofs.lemmas.List.{drop-set, drop-set-lt, drop_all, drop_at, get_or-take, length-append, length-drop, length-set, length-take, take-set, take-take, take_at}
@@ -24,7 +24,7 @@ clock_same : (s : Plain) (key : StampedKey) → clock_of (with_key s key) ≡ cl
 unfolding clock_of with_key
 clock_same s key = refl
 
--- what a board is that has the longer list in place of its own
+-- what a board with the longer list of keys is
 pub made_with : (board new : BoardState) (keys : List StampedKey) (key : StampedKey) → new ≡ record board { plain = record board.plain { keys = keys } } → keys ≡ inserted board.plain.keys key → new ≡ board_with board key
 unfolding with_key
 made_with board new keys key made is = made ∙ ap (λ (ks : List StampedKey). record board { plain = record board.plain { keys = ks } }) is
@@ -47,7 +47,7 @@ one_stands first old key board all has =
     subst (StandsAfter (shown_with first key)) (sym has.is)
     (stands_after_with first has.before key has.early (All-contains (StandsAfter first) old has.before all has.there))
 
--- a session whose parts have it is one
+-- a session is still one after its parts get the key
 pub session_with : (first board new_first new_board : BoardState) (kept new_kept : List BoardState) (stops : List Condition) (key : StampedKey) → clock_of board.plain < key.stamp → IsSession first board kept stops
     → new_first ≡ board_with first key → new_board ≡ board_with board key → HaveKey key kept new_kept → IsSession new_first new_board new_kept stops
 session_with first board new_first new_board kept new_kept stops key early all is_first is_board have =
@@ -59,7 +59,7 @@ session_with first board new_first new_board kept new_kept stops key early all i
       copies = All-weaker (HasKey key kept) (StandsAfter (shown_with (shown_of first) key)) (λ copy has. one_stands (shown_of first) kept key copy all.copies has) new_kept have;
     }))
 
--- the copies, from the last one to the first: those before a place are as they were, those from it on have the key
+-- the copies, from the last one to the first: those before a place are as they were, those from there on have the key
 pub record Adds (key : StampedKey) (old : List BoardState) (index : ℕ) (now : List BoardState) : Type 0 where
   pub within : index ≤ length now
   pub fewer : length now ≤ length old
@@ -103,7 +103,7 @@ adds_more key old now next index was got at early gets made adds =
           (All-cons (HasKey key old) got (drop (index + 1) now) has adds.after);
     }
 
--- it went
+-- the copy at a place went
 pub adds_less : (key : StampedKey) (old now mid next : List BoardState) (index : ℕ) (got : BoardState) → mid ≡ set now index got → next ≡ take index mid ++ drop (index + 1) mid → Adds key old (index + 1) now → Adds key old index next
 adds_less key old now mid next index got made left adds =
     let few : length now ≤ length old = adds.fewer in

@@ -1,4 +1,4 @@
-//! Copies of a board at some of the clocks that a session went by, from which it goes back.
+//! Copies of a board at some of the clocks that a session passed, from which it goes back.
 ghost use Rattle.std.specs.Prelude.{◌≡◌, ◌+◌, ◌<◌, ◌≤◌, [], All, Contains, IfOk, IfSome, IsTrue, length, take, None};
 ghost use Rattle.std.specs.Result.{IfErr};
 ghost use Rattle.board_plain.specs.Plain.{clock_of};
@@ -17,13 +17,13 @@ use std::marker::Model;
 /// How many copies are kept at most.
 const MOST: usize = 8;
 
-/// The turns of the board after which a further copy is kept.
+/// Two copies of a board are at least this many turns apart.
 pub(crate) const FAR: u64 = 1 << 22;
 
-/// The most changes of the speaker's level in a board that is kept: each copy lists them all anew.
+/// A board with more changes of the speaker's level isn't kept, since each copy lists them all anew.
 const MOST_CHANGES: usize = 1 << 20;
 
-/// Copies of a board, by their clocks, listed in memory of the allocator `A`.
+/// Copies of a board, in the order of their clocks, listed in memory of the allocator `A`.
 #[derive(Drop)]
 pub(crate) struct Checkpoints<A: Allocator> {
     kept: Vec<Board, A>,
@@ -41,7 +41,7 @@ impl<A: Allocator> Model for Checkpoints<A> {
 }
 
 impl<A: Allocator> Checkpoints<A> {
-    /// None yet.
+    /// No copies yet.
     pub(crate) fn new(alloc: A) -> Checkpoints<A>
         ensures { result ≡ [] }
     {
@@ -68,8 +68,8 @@ impl<A: Allocator> Checkpoints<A> {
         Some(&self.kept[place - 1])
     }
 
-    /// Keeps a copy of the board where the latest one is far away in turns, the speaker's changes aren't too many, and there is
-    /// memory for it; `first` is the clock of the board with which the session began.
+    /// Keeps a copy of the board if the latest one is far away in turns, the speaker's changes aren't too many, and
+    /// there is memory for it; `first` is the clock of the board with which the session began.
     pub(crate) fn keep(&mut self, first: Clock, board: &Board)
         ensures { AreKept self.old board.now self.new }
     {
@@ -91,7 +91,8 @@ impl<A: Allocator> Checkpoints<A> {
         }
     }
 
-    /// The copies that stand before a key's stamp have it from now on. The others go, and those for whose keys there is no memory.
+    /// Gives the key to the copies that stand before its stamp. The others go, and so do those for whose keys there is
+    /// no memory.
     pub(crate) fn take_key(&mut self, alloc: Global, key: &StampedKey)
         ensures { HaveKey key.now self.old self.new }
     {
@@ -111,7 +112,8 @@ pub(crate) fn copy_of(board: &Board) -> Result<Board, DebugFault>
     }
 }
 
-/// Those boards that stand before a key's stamp have it from now on. The others go, and those for whose keys there is no memory.
+/// Gives the key to the boards that stand before its stamp. The others go, and so do those for whose keys there is no
+/// memory.
 fn give_key<A: Allocator>(boards: &mut Vec<Board, A>, alloc: Global, key: &StampedKey)
     ensures have { HaveKey key.now boards.old.items boards.new.items }
     ensures fewer { length boards.new.items ≤ length boards.old.items }
@@ -126,7 +128,7 @@ fn give_key<A: Allocator>(boards: &mut Vec<Board, A>, alloc: Global, key: &Stamp
     }
 }
 
-/// Whether a board stands before a key's stamp, and there is memory for its keys: then it has it from now on.
+/// Gives the key to a board, if it stands before its stamp and there is memory for its keys. Answers whether it did.
 #[tactic(auto, unfolding(events_laws::specs::WithKey::with_key))]
 fn takes_key(board: &mut Board, alloc: Global, key: &StampedKey) -> bool
     ensures early { IsTrue result → clock_of board.old.plain < key.now.stamp }
@@ -144,7 +146,7 @@ fn takes_key(board: &mut Board, alloc: Global, key: &StampedKey) -> bool
     }
 }
 
-/// How many of the boards, from the front, stand at or before a clock.
+/// How many of the boards stand at or before a clock; they are in the order of their clocks.
 fn place_after(kept: &[Board], clock: u64) -> usize
     ensures within { result ≤ length kept.now }
     ensures before { All (λ board. clock_of board.plain ≤ clock) (take result kept.now) }
@@ -157,8 +159,8 @@ fn place_after(kept: &[Board], clock: u64) -> usize
     kept.len()
 }
 
-/// Whether a copy of a board is worth its memory: it has no long list to copy, and the last of the boards before its place
-/// is far from it in turns, or there is none.
+/// Whether a copy of a board is worth its memory: its list of changes isn't too long, and the copy before its place, if
+/// there is one, is far away in turns.
 fn is_worth_keeping(kept: &[Board], place: usize, board: &Board) -> bool
     requires { place ≤ length kept.now }
 {
@@ -171,9 +173,9 @@ fn is_worth_keeping(kept: &[Board], place: usize, board: &Board) -> bool
     FAR <= board.turns().saturating_sub(kept[place - 1].turns())
 }
 
-/// Of these boards the one that is missed least. Where the last one lies ahead of the present clock, from which no way back
-/// leads to it, that one; else, the last one aside, the one without which the gap between those beside it is least against
-/// how far the earlier one of them, or the first clock, lies behind.
+/// The index of the copy that would be missed least: the last one if it stands after the present clock, since no way
+/// back leads there. Otherwise, the last one aside, it is the one whose neighbours are closest together, compared with
+/// how long ago the earlier of them was; the first one's neighbour is the session's first clock.
 fn thinnest(kept: &[Board], first: u64, now: u64) -> usize
     requires { 1 ≤ length kept.now }
     ensures { result < length kept.now }

@@ -37,13 +37,13 @@ use std::alloc::{Allocator, Global};
 use std::marker::Model;
 use std::mem;
 
-/// The clocks of a run after which it is asked whether a copy of the board is to be kept.
+/// A run is made in pieces of this many clocks; after each, a copy of the board may be kept.
 const PIECE: u64 = 1 << 26;
 
-/// The last clocks of a stretch among which a free processor is looked for first: no instruction takes half as many.
+/// A free processor is looked for first in this many clocks before the present one: no instruction takes half as many.
 const NEAR: u64 = 1024;
 
-/// A board that runs and stops by commands, and goes back. Copies of the board are listed in memory of the allocator `A`.
+/// A board that runs and stops by commands, and goes back. Copies of it are listed in memory of the allocator `A`.
 #[derive(Drop)]
 pub struct Session<A: Allocator = Global> {
     /// The board with which the session began.
@@ -65,7 +65,8 @@ impl<A: Allocator> Model for Session<A> {
 }
 
 impl Session {
-    /// A session with the board where it stands, and without stops. The board is dropped where there is no memory.
+    /// A session with this board, as it stands, and without stops. Refused as `Memory` if there is none; the board is
+    /// dropped then.
     pub fn new(alloc: Global, board: Board) -> Result<Session, DebugFault>
         ensures session { IfOk result (λ session. session ≡ session_about board) }
         ensures stands { IfOk result Stands }
@@ -76,8 +77,8 @@ impl Session {
 }
 
 impl<A: Allocator> Session<A> {
-    /// A session as `new` makes it, whose copies of the board are listed in memory of this allocator. Where that has none, the
-    /// session answers the same, and goes back more slowly.
+    /// A session as `new` makes it, except that copies of the board are listed in memory of this allocator. If that has
+    /// none, the session gives the same answers, but goes back more slowly.
     pub fn with_checkpoints_in(alloc: A, board: Board) -> Result<Session<A>, DebugFault>
         ensures session { IfOk result (λ session. session ≡ session_about board) }
         ensures stands { IfOk result Stands }
@@ -97,7 +98,7 @@ impl<A: Allocator> Session<A> {
         }
     }
 
-    /// How many copies of the board are kept, to go back from.
+    /// How many copies of the board are kept to go back from.
     pub fn checkpoints(&self) -> usize
         ensures { result ≤ 8 }
     {
@@ -113,11 +114,11 @@ impl<A: Allocator> Session<A> {
         &self.board
     }
 
-    /// Does what the line commands, and answers. A line that is no command is refused as `BadCommand`, a seventeenth
-    /// stop as `TooManyStops`, a run past clock 2^40, or a step at it, as `ClockLimit`, a way back to a clock that there
-    /// isn't since the session's first one as `BeforeStart`, and what finds no memory as `Memory`. A refusal changes nothing,
-    /// but a run that found no memory stands where it has come to, and its refusal tells the clock; no stop was passed.
-    /// After each command the board stands where it stood so many clocks after the first one.
+    /// Does what the line commands, and answers. Refused are a line that is no command, as `BadCommand`; a seventeenth
+    /// stop, as `TooManyStops`; a run past clock 2^40, or a step at it, as `ClockLimit`; a way back to a clock before
+    /// the session's first one, or that isn't found, as `BeforeStart`; and what finds no memory, as `Memory`. A refusal
+    /// changes nothing, except that a run that found no memory stands at the clock that the refusal names; it has
+    /// passed no stop. After each command the board is the session's first one some clocks later.
     pub fn command(&mut self, alloc: Global, line: &str) -> Result<Answer, DebugFault>
         ensures answers { AnswersLine (command_of line.now) self.old result self.new }
         ensures stands { Stands self.new }
@@ -126,15 +127,15 @@ impl<A: Allocator> Session<A> {
             None => Err(DebugFault::BadCommand),
             Some(command) => self.answer(alloc, command),
         };
-        // whatever the answer is, the board stands some clocks after the first one
+        // whatever the answer, the board stands some clocks after the first one
         let _clock = self.clock();
         answer
     }
 
-    /// One turn of the board's run to the clock `end`, whatever the stops say, with what begins in it and a note of its accesses:
-    /// of a step at most the clocks up to `within`, past which only a leap leads. After some turns a copy of the board may be
-    /// kept. `over_edges` lets it leap over edges of the timer. Refused as `Memory`, with nothing changed, where the speaker's
-    /// level changes and there is no memory to list it.
+    /// Makes one turn of the board's run to the clock `end`, whatever the stops are. Answers what begins in it, and
+    /// notes its accesses. A step has at most its clocks up to `within`, past which only a leap leads; `over_edges`
+    /// lets a leap pass over edges of the timer. After some turns a copy of the board may be kept. Refused as `Memory`,
+    /// with nothing changed, if the speaker's level changes and there is no memory to list that.
     pub fn run_turn<N: Notes>(
         &mut self,
         within: Clock,
@@ -173,7 +174,7 @@ impl<A: Allocator> Session<A> {
         self.board.clock()
     }
 
-    /// The clock at which it stood first.
+    /// The clock of the session's first board.
     pub fn first_clock(&self) -> Clock
         ensures clock { result ≡ clock_of self.now.first.plain }
         ensures earlier { clock_of self.now.first.plain ≤ clock_of self.now.board.plain }
@@ -202,7 +203,7 @@ impl<A: Allocator> Session<A> {
         }
     }
 
-    /// Adds a stop, if there are fewer than sixteen.
+    /// Adds a stop, and answers its number. Refused as `TooManyStops` if there are sixteen.
     pub fn add(&mut self, condition: Condition) -> Result<Answer, DebugFault>
         requires { HasAddress condition }
         ensures { AnswersStop condition self.old result self.new }
@@ -213,7 +214,9 @@ impl<A: Allocator> Session<A> {
         }
     }
 
-    /// Runs for `count` clocks, or up to the first stop after the start.
+    /// Runs for `count` clocks, or up to the first clock after the start at which a stop holds. Refused as
+    /// `ClockLimit`, with nothing changed, if it would go past clock 2^40, and as `Memory`, at a clock with no stop
+    /// passed, if there is none.
     pub fn go(&mut self, count: u64) -> Result<Answer, DebugFault>
         ensures { MatchResult result (Goes count self.old self.new) (RefusesGo count self.old self.new) }
     {
@@ -233,7 +236,8 @@ impl<A: Allocator> Session<A> {
         }
     }
 
-    /// Runs for `count` clocks, or up to the first stop after the start, after which a copy of the board may be kept.
+    /// Runs for `count` clocks, or up to the first clock after the start at which a stop holds; then a copy of the
+    /// board may be kept.
     fn go_piece(&mut self, count: u64) -> Result<Stopped, DebugFault>
         ensures runs { MatchResult result (Runs self.old.stops count self.old.board self.new.board)
             (RefusesRun self.old.stops count self.old.board self.new.board) }
@@ -260,7 +264,8 @@ impl<A: Allocator> Session<A> {
         Ok(Answer::Clock(self.board.clock()))
     }
 
-    /// Goes back by `count` clocks, as the command does.
+    /// Goes back by `count` clocks. Refused as `BeforeStart` if the session began less than that ago, and as `Memory`
+    /// if there is none; nothing changes then.
     pub fn back(&mut self, count: u64) -> Result<Answer, DebugFault>
         requires { 1 ≤ count }
         ensures { MatchResult result (GoesBack count self.old self.new) (RefusesBack count self.old self.new) }
@@ -274,7 +279,7 @@ impl<A: Allocator> Session<A> {
         Ok(Answer::Clock(self.clock()))
     }
 
-    /// Goes back to the last earlier clock at which the processor was free. It mostly was so shortly before.
+    /// Goes back to the last earlier clock at which the processor was free, which mostly lies shortly before.
     fn back_step(&mut self) -> Result<Answer, DebugFault>
         ensures { MatchResult result (GoesBackTo (Free ∷ []) tell_clock self.old self.new) (RefusesBackTo (Free ∷ []) self.old self.new) }
     {
@@ -285,7 +290,8 @@ impl<A: Allocator> Session<A> {
         Ok(Answer::Clock(found.0))
     }
 
-    /// Goes back to the last earlier clock at which a stop held.
+    /// Goes back to the last earlier clock at which a stop held, and answers the least number of those that held.
+    /// Refused as `BeforeStart` if none held, and as `Memory` if there is none; nothing changes then.
     pub fn back_stop(&mut self) -> Result<Answer, DebugFault>
         ensures { MatchResult result (GoesBackTo self.old.stops answers.StopAt self.old self.new) (RefusesBackTo self.old.stops self.old self.new) }
     {
@@ -297,8 +303,8 @@ impl<A: Allocator> Session<A> {
         Ok(Answer::StopAt(found.1, found.0))
     }
 
-    /// A board at the last earlier clock at which one of `stops` held, that clock, and the least number of one there. The last
-    /// `near` clocks are looked at first, so that a board runs up to them only once.
+    /// A board at the last earlier clock at which one of `stops` held, that clock, and the least number of those that
+    /// held. The last `near` clocks are searched first, so that only one board has to run up to them.
     fn last_held(&self, stops: &Stops, near: u64) -> Result<(Board, (Clock, usize)), DebugFault>
         requires { All HasAddress stops.now.items }
         ensures { MatchResult result
@@ -309,7 +315,7 @@ impl<A: Allocator> Session<A> {
         let first = self.first_clock().get();
         let mut bound = self.clock().get();
         let mut near = near;
-        // stretch by stretch, each from a board that is kept
+        // stretch by stretch, each from a copy that is kept
         'stretches: while first < bound {
             let mut board = self.board_near(bound - 1, near)?;
             match last_from(&board, bound - 1, stops)? {
@@ -327,7 +333,7 @@ impl<A: Allocator> Session<A> {
         Err(DebugFault::BeforeStart)
     }
 
-    /// Goes to where a board stands that is some clocks after the first one.
+    /// Replaces the session's board by one that is the first one some clocks later.
     fn stand(&mut self, board: Board)
         requires { StandsAfter self.old.first board }
         ensures { StandsNow (clock_of board.plain) self.old self.new }
@@ -335,7 +341,8 @@ impl<A: Allocator> Session<A> {
         drop(mem::replace(&mut self.board, board));
     }
 
-    /// A board at most `near` clocks before an earlier clock, or at it, by a copy: where one is kept, or else that many before.
+    /// A copy of the board as it was `near` clocks before `clock`, or at the clock of the last kept copy up to `clock`
+    /// if that is later. Refused as `Memory` if there is none.
     pub fn board_near(&self, clock: u64, near: u64) -> Result<Board, DebugFault>
         requires from { clock_of self.now.first.plain ≤ clock }
         ensures stands { IfOk result (StandsAfter self.now.first) }
@@ -354,7 +361,7 @@ impl<A: Allocator> Session<A> {
         }
     }
 
-    /// A copy of the latest board that is kept for a clock at or before this one, or else of the first.
+    /// A copy of the latest board that is kept at or before this clock, or else of the first one.
     fn board_before(&self, clock: u64) -> Result<Board, DebugFault>
         requires { clock_of self.now.first.plain ≤ clock }
         ensures stands { IfOk result (StandsAfter self.now.first) }
@@ -409,8 +416,8 @@ fn run_to(board: &mut Board, clock: u64) -> Result<(), DebugFault>
     }
 }
 
-/// The last clock up to `to` at which one of `stops` holds from where this board stands, by a copy, with the least number of one
-/// there.
+/// The last clock up to `to`, from this board's own on, at which one of `stops` holds, with the least number of those
+/// that hold. A copy of the board runs.
 fn last_from(board: &Board, to: u64, stops: &Stops) -> Result<Option<(Clock, usize)>, DebugFault>
     requires address { All HasAddress stops.now.items }
     requires from { clock_of board.now.plain ≤ to }

@@ -12,8 +12,8 @@ use debugger_meaning::fault::DebugFault;
 use std::alloc::{Allocator, Global};
 
 impl<A: Allocator> Session<A> {
-    /// Takes a key that is still to come, as if it had been there when the session began: the board, the first board and the
-    /// copies that stand before its stamp have it from now on. Refused as `Memory`, with nothing changed.
+    /// Takes a key that is still to come, as if it had been there when the session began: the board, the first board
+    /// and the copies that stand before its stamp have it from now on. Refused as `Memory`, with nothing changed.
     pub fn take_key(&mut self, alloc: Global, key: &StampedKey) -> Result<(), DebugFault>
         requires { clock_of self.old.board.plain < key.now.stamp }
         ensures first { OnOk result
