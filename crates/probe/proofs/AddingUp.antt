@@ -1,4 +1,4 @@
--- The clocks of all counts add up to those that are made.
+-- The clocks of all counts add up to those of the run.
 use Rattle.std.proofs.Common.{◌≡◌, ℕ, zero, suc, ◌+◌, ◌-◌, ◌≤◌, ◌==◌, if◌then◌else◌, true, false, List, [], ◌∷◌, ◌++◌, map, Option, None, Some, refl, sym, ap, ◌∙◌, subst, arith, append-nil}
 use Rattle.std.proofs.lemmas.Bool.Decides.{nat_tests}
 use Rattle.std.proofs.lemmas.List.{map-append}
@@ -51,7 +51,7 @@ not_in q (k ∷ ks) above = ap (λ o. is_eq o || is_in q ks) above.0 ∙ not_in 
 apart_in : (n k : ℕ) (ks : List ℕ) → nat_cmp n k ≡ Greater → is_in n ks ≡ false → is_in n (k ∷ ks) ≡ false
 apart_in n k ks is out = ap (λ o. is_eq o || is_in n ks) is ∙ out
 
--- where it isn't there before, nothing has been summed at it
+-- if a number isn't there before, nothing has been summed at it
 sum_put : (n d : ℕ) (f : ℕ → ℕ) (ks : List ℕ) → IsStrictlySortedBy nat_cmp ks → (is_in n ks ≡ false → f n ≡ 0) → sum_by (adds n d f) (insert_key nat_cmp ks n) ≡ d + sum_by f ks
 unfolding IsStrictlySortedBy
 sum_put n d f [] sorted none =
@@ -87,7 +87,7 @@ sum_same f g (k ∷ ks) same =
     let more = sum_by-cons g k ks in
     let less = sum_by-cons f k ks in omega (arith, rest, first, more, less)
 
--- the clocks of one that began come to its own line
+-- the clocks of a beginning come to its own line
 
 none_counted : (n : ℕ) → nat_lt 0 n ≡ false → n ≡ 0
 none_counted zero is = refl
@@ -118,7 +118,7 @@ all_lines (b ∷ bs) end =
     let one = one_of b.entered b.cs b.ip (next_clock bs end - b.clock) in
     let rest = all_lines bs end in omega (arith, places, types, one, rest)
 
--- what begins does so at rising clocks
+-- beginnings come at rising clocks
 
 abbrev Rise : ℕ → List Begun → ℕ → Type 0
 Rise from [] end = from ≤ end

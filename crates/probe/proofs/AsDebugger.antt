@@ -1,4 +1,4 @@
--- A probe whose stops only ask what stands answers as the debugger does.
+-- A probe whose stops are all conditions answers as the debugger does.
 use Rattle.std.proofs.Common.{◌≡◌, ℕ, ◌+◌, ◌-◌, ◌<◌, ◌≤◌, false, true, List, [], ◌∷◌, ◌++◌, length, map, Option, None, Some, Result, Ok, Err, refl, sym, ap, ◌∙◌, subst, arith}
 use Rattle.std.specs.Prelude.{MatchResult}
 use Rattle.std.proofs.lemmas.List.{length-map, map-append}
@@ -41,7 +41,7 @@ conditions_stay old new same = ap conditions_of same
 as_many : (s : ProbeState) → OnlyStand s → length s.stops ≡ length (conditions_of s.stops)
 as_many s stand = ap length stand ∙ length-map (conditions_of s.stops) Standing
 
--- a stop more
+-- one more stop
 
 adds : (condition : Condition) (old new : ProbeState) (result : Result Answer DebugFault) → OnlyStand old → MatchResult result (AddsStop (Standing condition) old new) (RefusesStop (Standing condition) old new) → AnswersStop condition (session_of old) result (session_of new) × OnlyStand new
 adds condition old new (Ok answer) stand is =

@@ -1,4 +1,4 @@
--- Bytes that change, told by the writes of a clock and a copy of what stood before it.
+-- Bytes that change, by the writes of a clock and a copy of what was there before it.
 use Rattle.std.proofs.Common.{◌≡◌, ◌≢◌, ℕ, zero, suc, ◌+◌, ◌-◌, ◌<◌, ◌≤◌, Bool, true, false, if◌then◌else◌, not, List, [], ◌∷◌, ◌++◌, length, map, get_or, inl, inr, Option, None, Some, refl, sym, ap, ◌∙◌, subst, arith}
 use Rattle.std.specs.Prelude.{◌||◌, ◌&&◌, ◌==◌, ◌⊎◌, IsTrue, nat_eq, nat_le, nat_lt, fold, slice_get}
 use Rattle.std.specs.List.{flat_map, list_any, range_with_len}
@@ -118,7 +118,7 @@ from_range q (suc n) any =
       | inr here ↦ (n, omega arith, sym (or_none (q n)) ∙ here)
     ]
 
--- the bytes that differ are written, and are told so
+-- the bytes that differ were written, and are found
 
 same_if : (a b : Bool) → (a ≡ true → b ≡ true) → (b ≡ true → a ≡ true) → a ≡ b
 same_if true b on back = sym (on refl)

@@ -63,7 +63,7 @@ copies_all now i t past so_far = λ k d within. so_far k d (omega arith) (omega 
 
 -- copies renewed
 
--- the first ones are copies of a board, and the others of the one a clock before
+-- the first copies are those of a board, and the others those of the board a clock before
 abbrev pub IsRenewedTo : ℕ → List Access → Plain → List Watched → List Watched → Type 0
 IsRenewedTo i accesses t old now =
     (s : Plain) → accesses ≡ accesses_next s → t ≡ after_clock s → AreCopies old s → AllWithin (Copies t) now 0 i × AllWithin (Copies s) now i (length now)
@@ -91,7 +91,7 @@ renewed_more i accesses t old now new d within renewed so_far = λ s are at copi
 pub renewed_all : (i : ℕ) (accesses : List Access) (t : Plain) (old now : List Watched) → length now ≤ i → IsRenewedTo i accesses t old now → StaysCopied accesses t old now
 renewed_all i accesses t old now past so_far = λ s are at copies. copies_all now i t past (so_far s are at copies).0
 
--- what is asked of all is asked of the stops
+-- what all have to look at is what the stops have to look at
 
 pub asked_is : (watches : List Watched) → asked_of watches ≡ asked_by (stops_of watches)
 asked_is watches = λ i. record {

@@ -1,4 +1,4 @@
--- Turns that are counted, one after another.
+-- Turns whose beginnings are counted, one after another.
 use Rattle.std.proofs.Common.{◌≡◌, ℕ, ◌+◌, ◌<◌, ◌≤◌, ◌^◌, Bool, true, false, List, [], ◌++◌, length, map, Option, None, Some, Result, Ok, Err, refl, sym, ap, ◌∙◌, subst, arith}
 use Rattle.std.proofs.lemmas.List.{map-append}
 use Rattle.std.specs.Prelude.{IfSome, OnOk}
@@ -20,7 +20,7 @@ use Rattle.probe.specs.Counts.{counts_of, counts_text}
 use Rattle.probe.specs.Making.{RefusesMaking}
 use Rattle.probe.specs.Tallied.{HasNoted, IsBefore}
 
--- no memory, some of the clocks being made
+-- no memory, after some of the clocks have passed
 pub stands_short : (n k : ℕ) (s t : SessionState) (fault : DebugFault) → clock_of s.board.plain + n ≤ 2 ^ 40 → k ≤ n → Ran k s.board t.board → t.stops ≡ s.stops → t.first ≡ s.first → fault ≡ Memory (Some (clock_of t.board.plain)) → RefusesMaking n s t fault
 stands_short n k s t fault all within ran stops first is = subst (RefusesMaking n s t) (sym is) (record {
   within_all = all;
@@ -32,7 +32,7 @@ stands_short n k s t fault all within ran stops first is = subst (RefusesMaking 
   clock_is = refl;
 })
 
--- what begins in some clocks and in further ones
+-- what begins in some clocks and in more after them
 begun_on : (p k : ℕ) (s t : Plain) (begun : List Begun) → t ≡ after_clocks s p → begun_in t k ≡ begun → begun_in s (p + k) ≡ begun_in s p ++ begun
 begun_on p k s t begun at is =
     ap (map begun_of) (gathered_add after_clock trail_next p k s)
@@ -64,7 +64,7 @@ before_later clock later c less before = record {
   types = before.types;
 }
 
--- what begins in a turn does so behind what began before
+-- what begins in a turn comes after what began before it
 pub begins_behind : {edges : Bool} (end clock : ℕ) (s t u : SessionState) (c : Counts) (begun : Option Begun) → IsCounted end s t c → IsOneTurn edges end end t.board u.board begun → IfSome begun (λ b. IsBefore b.clock c)
 begins_behind end clock s t u c begun counted turn = if_some begun turn.clock (λ b is. subst (λ n. IsBefore n c) (sym is) counted.before)
 
@@ -91,7 +91,7 @@ more_counted end s t u c d begun counted turn stops first notes before starts =
       started = starts (clock_of s.board.plain) (if_some begun turn.clock (λ b is. omega (arith, is, so_far))) counted.started;
     }
 
--- all are made
+-- all clocks have passed
 
 pub all_counted : (end n : ℕ) (s t : SessionState) (c : Counts) → (counted : IsCounted end s t c) → end ≡ clock_of s.board.plain + n → end ≤ clock_of t.board.plain → counted.passed ≡ n
 all_counted end n s t c counted is past =

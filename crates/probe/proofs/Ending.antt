@@ -40,7 +40,7 @@ one_end stops n s None (Some b) none is = absurd (none_ends stops n s b none is)
 one_end stops n s (Some a) None is none = absurd (none_ends stops n s a none is)
 one_end stops n s (Some a) (Some b) first second = ap Some (same_end stops n s a b first second)
 
--- a run on from where none has been met
+-- a run from a clock up to which no stop was met
 pub ends_on : (stops : List Stop) (m n : ℕ) (s p : Plain) (end : Option End) → p ≡ after_clocks s m → clock_of p ≡ clock_of s + m → NoneMet stops m s → IsEndOf stops n p end → IsEndOf stops (m + n) s end
 ends_on stops m n s p None is clock none ends = none_on stops m n s p is none ends
 ends_on stops m n s p (Some end) is clock none ends =
@@ -90,7 +90,8 @@ pub past_end_back : (stops : List Stop) (n : ℕ) (s : Plain) (key : StampedKey)
 past_end_back stops n s key None before none = none_waited stops n s key before none
 past_end_back stops n s key (Some end) before is = end_waited stops n s key end is before
 
--- a board that runs without the key up to before its stamp, gets it there and goes on, ends as one that had it from the start
+-- a board that runs without the key up to before its stamp, gets it there and goes on, ends as one that had it from the
+-- start
 pub ends_with_key : (stops : List Stop) (m n : ℕ) (s p : Plain) (key : StampedKey) (end : Option End) → p ≡ after_clocks s m → clock_of p ≡ clock_of s + m → clock_of s + m < key.stamp → NoneMet stops m s → IsEndOf stops n (with_key p key) end → IsEndOf stops (m + n) (with_key s key) end
 ends_with_key stops m n s p key end is clock before none ends =
     ends_on stops m n (with_key s key) (with_key p key) end

@@ -1,4 +1,4 @@
--- What some kinds list of a clock, told by what is seen of it.
+-- What some kinds list of a clock, by what is seen of it.
 use Rattle.keyboard.specs.Parts.{after_sending, sends}
 use Rattle.std.proofs.Common.{◌≡◌, ◌≢◌, ℕ, zero, suc, ◌+◌, ◌<◌, ◌≤◌, Bool, true, false, if◌then◌else◌, not, List, [], ◌∷◌, ◌++◌, drop, length, map, Option, None, Some, refl, sym, ap, ◌∙◌, subst, arith}
 use Rattle.std.specs.Prelude.{◌||◌, ◌&&◌, ◌==◌, IsTrue, nat_eq, fold, slice_get}
@@ -162,7 +162,7 @@ settling_listed : (kinds : List Kind) (clock : ℕ) (c : ChipsState) → list_an
 unfolding after_key_settling after_settling keys.after_settling
 settling_listed kinds clock c = moved_by kinds clock c.keyboard (has_bit (lines_b c.ppi) 7) (sends c.keyboard (lines_b c.ppi))
 
--- if codes come something happens to the keys; else it does if one fewer waits
+-- if codes come, something happens to the keys; otherwise only if one fewer waits
 
 moves : (b : Bool) (codes : List ℕ) (c d : ChipsState) (n : ℕ) → (codes ≡ [] → length d.keyboard.waiting ≡ n)
     → (b && not (nat_eq (length codes) 0) || (b && nat_eq (length (after_key_settling d).keyboard.waiting + 1) (length d.keyboard.waiting))) ≡ (b && (not (nat_eq (length codes) 0) || nat_eq (length (after_key_settling d).keyboard.waiting + 1) n))

@@ -36,7 +36,7 @@ use Rattle.probe.specs.Watched.{AreCopies, IsWatched, KeepsStops, stops_of}
 use Rattle.probe.proofs.Changing.{byte_stays, changes_seen, copy_renewed, nothing_changes}
 use Rattle.probe.proofs.Happening.{happens_seen, no_access, nothing_happens}
 
--- what all of some stops ask for
+-- what some stops together have to look at
 
 or_left : (a b : Bool) → IsTrue a → IsTrue (a || b)
 or_left true b is = refl
@@ -46,7 +46,7 @@ or_right : (a b : Bool) → IsTrue b → IsTrue (a || b)
 or_right true b is = refl
 or_right false b is = is
 
--- a stop that asks for no more than is asked for
+-- a stop that looks at no more than is looked at
 abbrev AsksFor : Asked → Stop → Type 0
 AsksFor asked stop = (IsTrue (asks_wires stop) → IsTrue asked.wires) × (IsTrue (asks_keys stop) → IsTrue asked.keys)
 
@@ -73,7 +73,7 @@ clock_met : (watches : List Watched) (s : Plain) (begun : Option Begun) → map 
 unfolding meeting met
 clock_met watches s begun begins copies watched = all_seen watches 1 (asked_by (stops_of watches)) s begun begins (λ is. is) (λ is. is) copies watched
 
--- a clock in which nothing happens: what stands alone is met
+-- a clock in which nothing happens: only conditions are met
 
 stands_still : (stop : Stop) (wires : Bool) (s : Plain) → (IsTrue (asks_wires stop) → IsTrue wires) → unwired_next s ≡ [] → (IsTrue wires → HaveSameWires s (after_clock s)) → meets stop s (after_clock s) ≡ stands stop (after_clock s)
 unfolding meets stands
@@ -93,7 +93,7 @@ clock_still : (stops : List Stop) (s : Plain) → unwired_next s ≡ [] → (IsT
 unfolding meeting standing
 clock_still stops s quiet same = all_still stops 1 (list_any asks_wires stops) s (λ is. is) quiet same
 
--- what stands is what the board's conditions say
+-- what holds as a condition is what the board's conditions say
 
 abbrev one_of : Stop → List Condition
 one_of (Standing condition) = condition ∷ []
@@ -124,7 +124,7 @@ stand_alike : (stops : List Stop) (s t : Plain) → ((conditions : List Conditio
 unfolding standing
 stand_alike stops s t same = all_alike stops 1 s t same
 
--- if nothing is met nothing stands
+-- if no stop is met, none holds as a condition
 
 none_or : (here there : Bool) (i : ℕ) (rest : Option ℕ) → (there ≡ true → here ≡ true) → cond here (Some i) rest ≡ None → (there ≡ false) × (rest ≡ None)
 none_or true there i rest so none = absurd (cc)
@@ -149,7 +149,7 @@ none_stands stops s t none = none_stands_from stops 1 s t none
 
 -- a turn
 
--- what a turn of so many clocks from t to u meets on its way, and at its end
+-- what a turn from t to u meets on its way, and at its end
 pub record Turned (stops : List Stop) (t u : BoardState) (watches : List Watched) (number : Option ℕ) : Type 0 where
   pub passed : ℕ
   pub some : 1 ≤ passed
@@ -197,7 +197,7 @@ stills stops next end t u begun at turn more =
           wires_from t.plain turn.passed j more (still.wires (not_edges (list_any asks_wires stops) asked)) (turn.wires (not_edges (list_any asks_wires stops) asked)) within (zero_or j);
     }
 
--- at each clock of a still leap what stands is met
+-- at each clock of a still leap the stop that holds as a condition is met
 still_met : (stops : List Stop) (n j : ℕ) (s : Plain) → Stills stops n s → 1 ≤ j → j ≤ n → meeting_at stops s j ≡ standing stops (after_clocks s j)
 still_met stops n j s still some within =
     let before : Plain = after_clocks s (j - 1) in
@@ -222,7 +222,7 @@ copies_stay : (stops : List Stop) (n : ℕ) (s : Plain) → Stills stops n s →
 copies_stay stops n s still watches copies =
     All-weaker (λ (w : Watched). IsCopy w.copied s) (λ (w : Watched). IsCopy w.copied (after_clocks s n)) (λ w copy k within. copy k within ∙ sym (bytes_stay stops n n s (w.copied.first + k) still (omega arith))) watches copies
 
--- what is told of a turn's end
+-- what a turn's end shows
 pub record Told (t u : BoardState) (begun : Option Begun) (old new : List Watched) (number : Option ℕ) : Type 0 where
   pub clock : clock_of u.plain ≡ clock_of t.plain + 1 → LooksOn (seen_of (asked_by (stops_of old)) t.plain) begun (accesses_next t.plain) u.plain old new number
   pub leap : clock_of t.plain + 1 < clock_of u.plain → number ≡ standing (stops_of old) u.plain
@@ -311,7 +311,7 @@ met_none stops end s watches few within are copies watched = record {
   watched = watched;
 }
 
--- what is met after some clocks is told from where the board stands then
+-- what is met some clocks after a board that is itself some clocks later
 pub met_on : (stops : List Stop) (m j : ℕ) (s p : Plain) (here : Option ℕ) → p ≡ after_clocks s m → 1 ≤ j → meeting_at stops p j ≡ here → meeting_at stops s (m + j) ≡ here
 met_on stops m j s p here is some met =
     let before : after_clocks s (m + j - 1) ≡ after_clocks p (j - 1) = ap (after_clocks s) (omega (arith, some)) ∙ iterate_add after_clock m (j - 1) s ∙ ap (λ q. after_clocks q (j - 1)) (sym is) in
@@ -327,12 +327,12 @@ none_on stops m n s p is first second j some within =
       | inr sooner ↦ first j some sooner
     ]
 
--- where it stands nothing stands, unless it is the start
+-- no stop holds as a condition at the present clock, unless that is the start
 none_standing : (stops : List Stop) (n : ℕ) (s t : BoardState) → Ran n s t → NoneMet stops n s.plain → 1 ≤ n → standing stops t.plain ≡ None
 none_standing stops n s t ran none some =
     ap (standing stops) ran.plain ∙ none_stands stops (after_clocks s.plain (n - 1)) (after_clocks s.plain n) (none n some (omega arith))
 
--- nothing is met on the way of a further turn
+-- nothing is met on the way of one more turn
 none_between : (stops : List Stop) (end : ℕ) (s t u : SessionState) (old new : List Watched) (number : Option ℕ) → (so_far : Met stops end s t old) → (turn : Turned stops t.board u.board new number) → (so_far.passed ≡ 0 → turn.passed ≡ 1) → NoneMet stops (turn.passed - 1) t.board.plain
 none_between stops end s t u old new number so_far turn first j some within =
     elim (cases_lt 0 so_far.passed) [

@@ -50,7 +50,7 @@ in_put q k (x ∷ ks) = by (nat_cmp k x) refl (in_put q k ks)
         ∙ ap (λ b. b || is_in q (x ∷ ks)) (ap (λ n. is_eq (nat_cmp q n)) (sym (equal_numbers k x is)) ∙ same_number q k)
     by Greater is rest = ap (λ b. is_eq (nat_cmp q x) || b) rest ∙ or_twice (is_eq (nat_cmp q x)) (q == k) (is_in q ks)
 
--- a number is there where something with it began
+-- a number is there if something with it began
 
 in_more : (q k c : ℕ) (here : Bool) → (k == q) ≡ here → ((q == k) || nat_lt 0 c) ≡ nat_lt 0 ((if here then 1 else 0) + c)
 in_more q k c true is = let turned : (q == k) ≡ true = grind (arith, nat_tests, is) in ap (λ b. b || nat_lt 0 c) turned ∙ (let some : nat_lt 0 (1 + c) ≡ true = grind (arith, nat_tests) in sym some)
@@ -66,7 +66,7 @@ in_numbers number (b ∷ bs) q =
     in_with (number b) q (count_by (has number q) bs) (numbers_of number bs) (in_numbers number bs q)
     ∙ ap (nat_lt 0) (sym (count_first (has number q) b bs))
 
--- they rise
+-- the numbers rise
 
 abbrev pub AreAbove : ℕ → List ℕ → Type 0
 AreAbove x ks = AllByRecursion (λ y. nat_cmp x y ≡ Less) ks

@@ -1,4 +1,4 @@
--- Each moment stands in one range, and there is one list of ranges.
+-- Each moment is in one range, and there is one list of ranges.
 use Rattle.std.proofs.Common.{◌≡◌, ◌≢◌, ℕ, zero, suc, ◌+◌, ◌-◌, ◌<◌, ◌≤◌, Bool, true, false, cond, inl, inr, List, [], ◌∷◌, Option, None, Some, refl, sym, ap, ◌∙◌, subst, arith}
 use Rattle.std.specs.Prelude.{count_by, IfSome, nat_le, ◌&&◌}
 use Rattle.std.specs.Option.{option_map}
@@ -16,7 +16,7 @@ use Rattle.probe.specs.Moments.{AreAlike, AreRanges, DiffersNext, EndsWith, IsAm
 use Rattle.probe.specs.MomentLaws.{EachMomentOnce, OneListOfRanges, PastTheEndAlike, stands_in}
 use Rattle.probe.proofs.Ending.{one_end, past_end, past_end_back}
 
--- a clock stands in one range
+-- a clock is in one range
 
 stands : (stamp : ℕ) (m : Moments) → m.first ≤ stamp → stamp ≤ m.last → stands_in stamp m ≡ true
 stands stamp m from to = grind (arith, nat_tests, from, to)
@@ -79,7 +79,7 @@ same_number stops s trial m n stamp first second mf ml nf nl =
     ∙ ap (option_map (λ (e : End). e.number)) (one_end stops trial.count (with_key s (key_tried trial stamp)) one.0 other.0 one.1.0 other.1.0)
     ∙ sym (among_number n.ends other.0 other.1.1)
 
--- of two ranges from one clock on neither goes on after the other
+-- of two ranges that begin at one clock, neither goes on after the other
 not_longer : (stops : List Stop) (s : Plain) (trial : Trial) (first last : ℕ) (m n : Moments) (ms ns : List Moments) → AreRanges stops s trial first last (m ∷ ms) → AreRanges stops s trial first last (n ∷ ns) → m.last < n.last → ⊥
 not_longer stops s trial first last m n [] ns are others less = let end = are.1.1.1.1 in let within = others.1.0 in absurd (omega (arith, end, within, less))
 not_longer stops s trial first last m n (o ∷ ms) ns are others less =
@@ -95,7 +95,7 @@ not_longer stops s trial first last m n (o ∷ ms) ns are others less =
     ∙ sym (same_number stops s trial m n first are.1.1.0 others.1.1.0 (omega (arith, m_first)) (omega (arith, m_first, m_rising)) (omega (arith, n_first)) (omega (arith, n_first, n_rising)))
     )
 
--- a clock that one range reaches stands between those of the other
+-- a clock in one range is between the first and last clock of the other
 
 reached_within : (stops : List Stop) (s : Plain) (trial : Trial) (m n : Moments) (number clock : ℕ) (f : Ends) → m.first ≡ n.first → m.last ≡ n.last → n.ends ≡ Some f → AreAlike stops s trial n → IsReached stops s trial m number clock → (f.least ≤ clock) × (clock ≤ f.greatest)
 reached_within stops s trial m n number clock f first last is alike reached =

@@ -1,4 +1,4 @@
--- What has nothing to do with stops leaves a session's stops as they are.
+-- A line that has nothing to do with stops leaves a session's stops as they are.
 use Rattle.std.proofs.Common.{◌≡◌, ℕ, List, [], ◌∷◌, Option, None, Some, Result, Ok, Err, refl, sym, ap, ◌∙◌, subst}
 use Rattle.debugger_meaning.specs.declared.answer.Answer.{Answer}
 use Rattle.debugger_meaning.specs.declared.command.Command.{Command}
@@ -128,7 +128,7 @@ pub back_keep : (n : ℕ) (s t : SessionState) (result : Result Answer DebugFaul
 back_keep n s t (Ok answer) is = is.stops
 back_keep n s t (Err fault) is = refuses_back n s t fault is
 
--- a line that has nothing to do with stops is answered of the probe as of its session
+-- a line that has nothing to do with stops is answered for the probe as for its session
 pub passes_on : (line : List ℕ) (old new : SessionState) (stops : List Stop) (result : Result Answer DebugFault) → request_of line ≡ None → old.stops ≡ conditions_of stops → AnswersProbe line old result new
     → AnswersUnless None line (record { first = old.first; board = old.board; stops = stops }) result (record { first = new.first; board = new.board; stops = stops })
 passes_on line old new stops result none is answers =

@@ -31,7 +31,7 @@ below_also t n xs e size before here k d within =
           ap (λ j. t (get_or xs j d)) same ∙ ap t (same_there n xs d e size) ∙ here
     ]
 
--- a list of what is told of each
+-- a list of what a function gives for each
 pub of_each : {K L : Type 0} (t : L → Bool) (f : K → L) (i : ℕ) (xs : List K) → position_from t i (map f xs) ≡ position_from (λ x. t (f x)) i xs
 of_each t f i [] = refl
 of_each t f i (x ∷ xs) = ap (λ rest. cond (t (f x)) (Some i) rest) (of_each t f (i + 1) xs)

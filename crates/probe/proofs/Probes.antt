@@ -1,4 +1,4 @@
--- A probe whose stops only ask what stands goes as its session does; and what a search says of one with others.
+-- A probe whose stops are all conditions does as its session does; and what a search says of a probe with others.
 use Rattle.std.proofs.Common.{◌≡◌, ℕ, ◌+◌, ◌-◌, ◌<◌, ◌≤◌, ◌^◌, Bool, true, false, List, [], ◌∷◌, ◌++◌, length, map, Option, None, Some, Result, Ok, Err, refl, sym, ap, ◌∙◌, subst, arith, append-nil}
 use Rattle.std.specs.Prelude.{◌&&◌, MatchResult}
 use Rattle.std.specs.List.{list_all}
@@ -29,7 +29,7 @@ use Rattle.arrayvec.specs.ArrayVec.{ArrayVec, with_items}
 use Rattle.arrayvec.proofs.ArrayVecLemmas.{items-with_items}
 use Rattle.probe.proofs.Standing.{here, met_alike, none_here}
 
--- stops that only ask what stands are their conditions
+-- stops that are all conditions are their conditions
 
 both_true : (a b : Bool) → (a && b) ≡ true → (a ≡ true) × (b ≡ true)
 both_true true b is = (refl, is)
@@ -263,13 +263,13 @@ finds_no_stop old stops (Memory None) some finds = (some, refl)
 finds_no_stop old stops (Memory (Some clock)) some finds = absurd finds
 finds_no_stop old stops BeforeStart some finds = (finds, refl)
 
--- stops that don't all stand are some
+-- stops that aren't all conditions are at least one
 
 pub some_stops : (stops : List Stop) → list_all is_standing stops ≡ false → 1 ≤ length stops
 some_stops [] none = absurd (cc)
 some_stops (x ∷ xs) none = omega arith
 
--- one stop more
+-- one more stop
 
 pub conditions_more : (stops : List Stop) (stop : Stop) → conditions_of (stops ++ stop ∷ []) ≡ conditions_of stops ++ conditions_of (stop ∷ [])
 conditions_more [] stop = refl
@@ -277,13 +277,13 @@ conditions_more (Standing condition ∷ stops) stop = ap (λ (xs : List Conditio
 conditions_more (When kinds ∷ stops) stop = conditions_more stops stop
 conditions_more (Changes address count ∷ stops) stop = conditions_more stops stop
 
--- a stop that doesn't ask what stands has none
+-- a stop that isn't a condition has none
 pub unstanding : (stop : Stop) → ((condition : Condition) → stop ≡ Standing condition → ⊥) → conditions_of (stop ∷ []) ≡ []
 unstanding (Standing condition) none = absurd (none condition refl)
 unstanding (When kinds) none = refl
 unstanding (Changes address count) none = refl
 
--- a probe with a stop more
+-- a probe with one more stop
 
 all_stops : (watches : List Watched) (w : Watched) → stops_of (watches ++ w ∷ []) ≡ stops_of watches ++ w.stop ∷ []
 all_stops watches w = map-append (λ (x : Watched). x.stop) watches (w ∷ [])
@@ -309,7 +309,7 @@ adds_stop session next watches w stop answer more is few tells =
       answer_is = tells ∙ ap (λ n. answers.Stop (n + 1)) (sym size);
     }
 
--- a session that takes what a stop asks
+-- a session that takes a stop's condition
 
 pub condition_added : (condition : Condition) (old new : SessionState) (result : Result Answer DebugFault) → length old.stops < 16 → AnswersStop condition old result new → new ≡ record old { stops = old.stops ++ condition ∷ [] }
 condition_added condition old new (Ok answer) few is = λ i. record { first = is.first i; board = is.board i; stops = is.stops i }
@@ -342,7 +342,7 @@ pub run_keeps : (stops : List Stop) (end : ℕ) (old new : SessionState) (result
 run_keeps stops end old new (Ok found) is = ran_keeps stops end old new found is
 run_keeps stops end old new (Err fault) is = short_keeps stops end old new fault is
 
--- a probe whose session keeps its stops, and whose copies alone differ
+-- a probe whose session keeps its stops, and of whose stops only the copies differ
 pub probe_on : (old new : SessionState) (watches more : List Watched) → IsProbe old watches → new.stops ≡ old.stops → KeepsStops watches more → IsProbe new more
 probe_on old new watches more is same keeps = record {
   conditions = same ∙ is.conditions ∙ ap conditions_of (sym keeps.stops);
@@ -365,7 +365,7 @@ probe_with old new v now more at is same keeps =
 pub stops_with : (v : ArrayVec Watched) (now more : List Watched) → now ≡ v.items → KeepsStops now more → stops_of (with_items v more).items ≡ stops_of v.items
 stops_with v now more at keeps = ap stops_of (with_more v now more at keeps) ∙ keeps.stops ∙ ap stops_of at
 
--- what a run answers of a probe so
+-- what a run answers of a probe like this
 
 pub goes_with : (p : ProbeState) (n end : ℕ) (old new : SessionState) (v : ArrayVec Watched) (now more : List Watched) (found : Option ℕ) (answer : Answer) → probe_of old (stops_of v.items) ≡ p → now ≡ v.items → KeepsStops now more → clock_of old.board.plain + n ≤ 2 ^ 40 → end ≡ clock_of old.board.plain + n → RanToStop (stops_of now) end old new found
     → answer ≡ answer_at found (clock_of new.board.plain) → GoesOn n p (probe_of new (stops_of (with_items v more).items)) answer

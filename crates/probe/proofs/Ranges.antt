@@ -1,4 +1,4 @@
--- Ranges of moments, to which one run more is added.
+-- Ranges of moments, to which one more run is added.
 use Rattle.std.proofs.Common.{◌≡◌, ◌≢◌, ℕ, zero, suc, ◌+◌, ◌-◌, ◌<◌, ◌≤◌, Bool, true, false, cond, if◌then◌else◌, inl, inr, List, [], ◌∷◌, ◌++◌, Option, None, Some, refl, sym, ap, ◌∙◌, subst, arith}
 use Rattle.std.specs.Prelude.{min, max, ◌==◌, ◌⊎◌, IfSome, nat_eq}
 use Rattle.std.specs.Option.{option_map}
@@ -13,7 +13,7 @@ use Rattle.probe.specs.declared.stops.Stop.{Stop}
 use Rattle.probe.specs.Moments.{AreAlike, AreRanges, DiffersNext, EndsWith, IsAmong, IsReached, stop_number}
 use Rattle.probe.specs.Tried.{added, ends_of, ends_with, joined, moments_of, wider}
 
--- moments with which all runs end so
+-- moments with which all runs end like this
 abbrev pub AllEnd : List Stop → Plain → Trial → ℕ → ℕ → Option End → Type 0
 AllEnd stops s trial first last end = (stamp : ℕ) → first ≤ stamp → stamp ≤ last → EndsWith stops s trial stamp end
 
@@ -37,7 +37,7 @@ alike_one stops s trial first last end rising all = record {
   greatest = reached_one_too stops s trial first last end rising all;
 }
 
--- a range and one run more that ends at its stop
+-- a range and one more run that ends at its stop
 
 wider_reached : (stops : List Stop) (s : Plain) (trial : Trial) (m : Moments) (last : ℕ) (ends : Option Ends) (number clock : ℕ) → m.last ≤ last → IsReached stops s trial m number clock → IsReached stops s trial (record m { last = last; ends = ends }) number clock
 wider_reached stops s trial m last ends number clock more is = record { stamp = is.stamp; from = is.from; to = let to = is.to in omega (arith, to, more); ends = is.ends }
@@ -100,7 +100,7 @@ alike_unstopped stops s trial first last m is next rising all alike =
       greatest = tt;
     }
 
--- the last range and one run more
+-- the last range and one more run
 
 differs_none : (end : End) → Some end.number ≢ None
 differs_none end same = let never : Some end.number ≡ None = same in absurd (cc)
@@ -204,7 +204,7 @@ ranges_added stops s trial from first last (m ∷ n ∷ ms) end within some risi
       ),
     )
 
--- the last range alone is looked at
+-- only the last range is looked at
 pub added_at_end : (ms : List Moments) (m : Moments) (first last : ℕ) (end : Option End) → added (ms ++ m ∷ []) first last end ≡ ms ++ joined m (moments_of first last end) (ends_with m.ends end)
 added_at_end [] m first last end = refl
 added_at_end (x ∷ []) m first last end = refl

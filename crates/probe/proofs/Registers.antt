@@ -1,4 +1,4 @@
--- The controller's registers, of the bytes of an image.
+-- The controller's registers, from the bytes of an image.
 use Rattle.pic8259.specs.Parts.{requests}
 use Rattle.std.proofs.Common.{◌≡◌, ℕ, ◌==◌, ◌%◌, ◌<◌, Bool, true, false, ◌&&◌, bit_and, map, if◌then◌else◌, refl, ap, ◌∙◌, sym, arith}
 use Rattle.std.specs.Prelude.{◌||◌, slice_index}
@@ -19,7 +19,8 @@ and_true : (b : Bool) → (b && true) ≡ b
 and_true true = refl
 and_true false = refl
 
--- what asks in level mode: each level whose line is high; in edge mode: each that has risen too
+-- the levels that request an interrupt: in level mode each whose line is high; in edge mode only those that have risen,
+-- too
 pub byte_of_requests : (level : Bool) (high risen : ℕ) → high < 256 → bit_and high risen < 256
     → byte_of (map (λ n. contains (levels_of high) n && (level || contains (levels_of risen) n)) all_levels) ≡ (if level then high else bit_and high risen)
 byte_of_requests true high risen within both =
@@ -27,7 +28,7 @@ byte_of_requests true high risen within both =
 byte_of_requests false high risen within both =
     ap byte_of (sym (levels_in_both high risen)) ∙ byte_of-levels_of (bit_and high risen) both
 
--- and so of an image
+-- the requests of an image
 pub requests_of : (i : PicImage) → i.high < 256 → bit_and i.high i.risen < 256
     → byte_of (requests (pic_of i)) ≡ (if flag_of i.is_level_triggered then i.high else bit_and i.high i.risen)
 unfolding pic_of

@@ -1,5 +1,5 @@
--- Counts worked out by hand: five beginnings in 100 clocks, of an instruction that runs twice, one that an interrupt comes
--- behind, and the interrupt.
+-- Counts worked out by hand: five beginnings in 100 clocks, of an instruction that runs twice, of one after which an
+-- interrupt comes, and of the interrupt.
 use Rattle.std.proofs.Common.{◌≡◌, List, [], ◌∷◌, ◌++◌, None, Some, refl, true, false}
 use Rattle.std.specs.Prelude.{codes}
 use Rattle.board.specs.declared.one_turn.Begun.{Begun}

@@ -45,7 +45,7 @@ found_here stops is_first n clock number s there is = record {
   clock_is = is;
 }
 
--- one clock more, at which this is met
+-- one more clock, at which this is met
 found_more : (stops : List Stop) (is_first : Bool) (n clock : ℕ) (s : Plain) (last : Option (ℕ × ℕ)) (number : Option ℕ) → IsFoundIn stops is_first n s last → met_after is_first stops s (n + 1) ≡ number → clock ≡ clock_of s + (n + 1) → IsFoundIn stops is_first (n + 1) s (found_at last number clock)
 found_more stops is_first n clock s last None so_far met is = found_none stops is_first n (n + 1) s last (omega arith) so_far (λ j from to. ap (met_after is_first stops s) (omega (arith, from, to)) ∙ met)
 found_more stops is_first n clock s last (Some number) so_far met is = found_here stops is_first (n + 1) clock number s met is
@@ -136,7 +136,7 @@ last_more stops is_first to s t u old new here number now last mid clock so_far 
       watched = keeps.watched;
     }
 
--- if nothing is met nothing stands
+-- if no stop is met, none holds as a condition
 pub none_here : (stops : List Stop) (t u : BoardState) (new : List Watched) → (turn : Turned stops t u new None) → standing stops u.plain ≡ None
 none_here stops t u new turn = ap (standing stops) turn.ran.plain ∙ none_stands stops (after_clocks t.plain (turn.passed - 1)) (after_clocks t.plain turn.passed) turn.there
 

@@ -1,4 +1,4 @@
--- Turns whose changes of wires are told: those of the first clock are all.
+-- Turns whose changes of wires are listed: those of the first clock are all.
 use Rattle.std.proofs.Common.{◌≡◌, ℕ, zero, suc, ◌+◌, ◌-◌, ◌<◌, ◌≤◌, Bool, true, false, if◌then◌else◌, List, [], ◌∷◌, ◌++◌, length, map, None, Some, refl, sym, ap, ◌∙◌, arith, append-nil}
 use Rattle.std.specs.Prelude.{codes}
 use Rattle.std.specs.Bool.{beq}
@@ -55,7 +55,7 @@ wires_signalled clock s t =
     by_wire clock s t all_wires
     ∙ (λ i. line Out0 i ++ (line Out2 i ++ (line Ir0 i ++ (line Ir1 i ++ (line Int i ++ (append-nil (flat_map signal_line (wire_event clock s t Speaker)) ∙ line Speaker) i)))))
 
--- and none of its other events has a line
+-- none of the other events of a clock has a line
 
 none_begun : (entries : List TrailEntry) → flat_map signal_line (map Began entries) ≡ []
 none_begun [] = refl
@@ -110,7 +110,7 @@ signalled_in s (suc n) =
     flat_map-append signal_line (events_in s n) (events_next (after_clocks s n))
     ∙ (λ i. signalled_in s n i ++ clock_signalled (after_clocks s n) i)
 
--- the same wires have the same levels
+-- levels are the same if the wires are
 same_levels : (s t : Plain) → HaveSameWires s t → levels_of t ≡ levels_of s
 unfolding levels_of
 same_levels s t same = λ i. record {

@@ -1,4 +1,4 @@
--- Stops that only ask what stands are the board's.
+-- Stops that are conditions are the board's.
 use Rattle.std.proofs.Common.{◌≡◌, ℕ, zero, suc, ◌+◌, ◌-◌, ◌≤◌, Bool, cond, List, [], ◌∷◌, map, Option, None, Some, refl, sym, ap, ◌∙◌}
 use Rattle.std.specs.List.{position_from}
 use Rattle.board_types.proofs.Iterate.{iterate_zero}

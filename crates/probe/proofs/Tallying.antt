@@ -1,4 +1,4 @@
--- Tallies of what began: one more, and their lines.
+-- Tallies of what began: one more beginning, and their lines.
 use Rattle.std.proofs.Common.{◌≡◌, ℕ, zero, suc, ◌+◌, ◌-◌, ◌==◌, if◌then◌else◌, Bool, true, false, List, [], ◌∷◌, ◌++◌, Option, None, Some, refl, sym, ap, ◌∙◌, subst, arith}
 use Rattle.std.proofs.lemmas.Bool.Decides.{nat_tests}
 use Rattle.std.proofs.lemmas.List.Sums.{sum_by-cons, sum_by_push}
@@ -12,7 +12,7 @@ use Rattle.probe.specs.declared.counts.Tally.{Tally}
 use Rattle.probe.specs.Counts.{clocks_from, is_number, next_clock, place_of, type_of}
 use Rattle.probe.specs.Tallied.{has, one_more, tallied_to, tally_at, tally_of, AreTallies, HasNoted, HasTallied}
 
--- one more
+-- one more beginning
 
 pub count_first : (is : Begun → Bool) (b : Begun) (bs : List Begun) → count_by is (b ∷ bs) ≡ (if is b then 1 else 0) + count_by is bs
 count_first is b bs = sum_by-cons (λ x. cond (is x) 1 0) b bs
@@ -32,7 +32,7 @@ clocks_more is (a ∷ bs) b end =
     ap (λ n. if is a then n - a.clock else 0) (next_more bs b end) in
     omega (arith, rest, first)
 
--- where none began no clocks passed from them
+-- if none began, no clocks passed from them
 
 none_from : (yes : Bool) (n p q : ℕ) → (if yes then 1 else 0) + n ≡ 0 → (n ≡ 0 → q ≡ 0) → (if yes then p else 0) + q ≡ 0
 none_from true n p q none rest = absurd (omega (arith, none))
@@ -42,7 +42,7 @@ pub no_clocks : (is : Begun → Bool) (bs : List Begun) (end : ℕ) → count_by
 no_clocks is [] end none = refl
 no_clocks is (a ∷ bs) end none = none_from (is a) (count_by is bs) _ _ (sym (count_first is a bs) ∙ none) (no_clocks is bs end)
 
--- so that a tally goes on
+-- one more beginning makes a tally go on
 goes_on : (count clocks more : ℕ) → (count ≡ 0 → clocks ≡ 0) → tally_of (suc count) (clocks + more) ≡ Some (one_more (tally_of count clocks) more)
 goes_on zero clocks more none = ap (λ n. Some (record { count = 1; clocks = n })) (let no = none refl in omega (arith, no))
 goes_on (suc n) clocks more none = ap (λ k. Some (record { count = k; clocks = clocks + more })) (omega arith)
@@ -64,7 +64,7 @@ tally_more number bs b end k false is =
     ap (λ n. tally_of n (clocks_from (has number k) (bs ++ b ∷ []) end)) count
     ∙ ap (tally_of (count_by (has number k) bs)) clocks
 
--- tallies of one more that has a number
+-- the tallies after one more beginning that has a number
 pub add_numbered : (number : Begun → Option ℕ) (bs : List Begun) (b : Begun) (n end : ℕ) (old new : BTreeMap ℕ Tally) → number b ≡ Some n → AreTallies number bs b.clock old → ((k : ℕ) → get nat_cmp new k ≡ (if k == n then Some (one_more (get nat_cmp old n) (end - b.clock)) else get nat_cmp old k)) → AreTallies number (bs ++ b ∷ []) end new
 add_numbered number bs b n end old new is all added k = numbered_by (k == n) refl
   where
@@ -82,7 +82,7 @@ add_numbered number bs b n end old new is all added k = numbered_by (k == n) ref
         ∙ all k
         ∙ sym (tally_more number bs b end k false (here false at))
 
--- and of one that has none
+-- the tallies after one more beginning that has none
 pub add_numberless : (number : Begun → Option ℕ) (bs : List Begun) (b : Begun) (end : ℕ) (old : BTreeMap ℕ Tally) → number b ≡ None → AreTallies number bs b.clock old → AreTallies number (bs ++ b ∷ []) end old
 add_numberless number bs b end old is all k = all k ∙ sym (tally_more number bs b end k false (ap (is_number k) is))
 

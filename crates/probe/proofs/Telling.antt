@@ -1,4 +1,4 @@
--- Clocks of which is told what happens in them.
+-- Clocks whose events are listed.
 use Rattle.keyboard.specs.Parts.{after_sending, count_after_loss, has_room, sends}
 use Rattle.std.proofs.Common.{◌≡◌, ◌≢◌, ℕ, zero, suc, ◌+◌, ◌-◌, ◌<◌, ◌≤◌, Bool, true, false, cond, if◌then◌else◌, not, List, [], ◌∷◌, ◌++◌, length, map, drop, take, get_or, Option, None, Some, refl, sym, ap, ◌∙◌, arith, append_assoc, append-nil}
 use Rattle.std.specs.Prelude.{◌||◌, ◌==◌, IsTrue, OnOk, Result, Ok, Err, codes, fold, nat_eq, nat_lt, slice_get}
@@ -203,7 +203,7 @@ one_waits held some = sym (ap (λ (room : Bool). if room then held + 1 else held
 pub none_waits : (held : ℕ) → 16 ≤ held → held ≡ waits_among held
 none_waits held full = sym (ap (λ (room : Bool). if room then held + 1 else held) (no_room_for held full))
 
--- and the one that moves into the latch
+-- the code that moves into the latch
 
 one_more_differs : (n : ℕ) → nat_eq (n + 1) n ≡ false
 one_more_differs n = grind (arith, nat_tests)
@@ -309,12 +309,12 @@ asked_wires : (kinds : List Kind) (asked : Bool) → asked ≡ list_any lists_wi
 asked_wires kinds true is clock s t = wires_told kinds clock s t
 asked_wires kinds false is clock s t = sym (quiet_wires kinds (sym is) clock s t all_wires)
 
--- what is asked for is what is listed
+-- what is looked at is what is listed
 pub record IsAsked (kinds : List Kind) (asked : Asked) : Type 0 where
   pub wires : asked.wires ≡ list_any lists_wires kinds
   pub keys : asked.keys ≡ list_any lists_keys kinds
 
--- the first clock of a turn that leads to u, where all stands as that clock left it
+-- the first clock of a turn that leads to u, at which all is as that clock left it
 
 abbrev first_lines : List Kind → Asked → Plain → Plain → List ℕ
 first_lines kinds asked s t =
@@ -448,7 +448,7 @@ events_first kinds asked end old new begun is turn =
     ∙ sym (stays asked end old new begun turn yes (1 + i) (omega arith) (omega (arith, before, some))))))
     ∙ append-nil (listed_lines kinds (events_next s))
 
--- a turn, of which is told what is seen
+-- a turn whose events are listed
 
 same_seen : (asked : Bool) (s t : Plain) → (IsTrue asked → levels_of t ≡ levels_of s) → levels_seen asked t ≡ levels_seen asked s
 same_seen true s t same = ap Some (same refl)

@@ -56,7 +56,7 @@ runs_standing watches conditions end count old new stopped stand are is stop ran
   clock = ran.clock ∙ ap (λ n. clock_of old.plain + run_length n old.plain stopped) is;
 }
 
--- where it has come to
+-- the clock that a run has reached
 pub stands_within : (stops : List Stop) (end : ℕ) (s t : Plain) (stopped : Option End) → clock_of s ≤ end → RunsTo stops end s t stopped → clock_of t ≤ end
 stands_within stops end s t None from run = let there = run.clock in omega (arith, there, from)
 stands_within stops end s t (Some stop) from run =
@@ -100,7 +100,7 @@ on_none stops s bare next trial end before stamp ranges old new so_far from earl
       watched = keeps.watched;
     }
 
--- a stop without the key is met with it, too, at whatever later clock it comes
+-- a stop that is met without the key is met with it, too, at whatever later clock the key comes
 all_stopped : (stops : List Stop) (s bare next : Plain) (trial : Trial) (end before stamp : ℕ) (ranges : List Moments) (old : List Watched) (stop : End) → (so_far : Tried stops s bare trial end stamp ranges old) → clock_of bare ≤ before → before < stamp → before ≤ end → end ≡ clock_of s + trial.count → RunsTo stops before bare next (Some stop)
     → AllEnd stops s trial stamp trial.last (Some stop)
 all_stopped stops s bare next trial end before stamp ranges old stop so_far from early within is run at low high =
@@ -108,7 +108,7 @@ all_stopped stops s bare next trial end before stamp ranges old stop so_far from
     let there = ends_on stops so_far.passed (before - clock_of bare) s bare (Some stop) so_far.plain so_far.clock so_far.none run.ends in
     end_waits stops (so_far.passed + (before - clock_of bare)) trial.count s (key_tried trial at) stop there (omega (arith, clock, from, within, is)) (omega (arith, clock, from, early, low))
 
--- so is none, if the run ends before
+-- no stop is met either with a key at any later clock, if the run ends before
 all_unstopped : (stops : List Stop) (s bare next : Plain) (trial : Trial) (end before stamp : ℕ) (ranges : List Moments) (old : List Watched) → (so_far : Tried stops s bare trial end stamp ranges old) → clock_of bare ≤ before → before < stamp → before ≡ end → end ≡ clock_of s + trial.count → RunsTo stops before bare next None
     → AllEnd stops s trial stamp trial.last None
 all_unstopped stops s bare next trial end before stamp ranges old so_far from early whole is run at low high =
@@ -158,7 +158,7 @@ rest_unstopped stops s bare next trial end before stamp ranges old so_far from r
     let some = so_far.before in
     ranges_added stops s trial trial.first stamp trial.last ranges None from (omega (arith, some)) rising so_far.are (all_unstopped stops s bare next trial end before stamp ranges old so_far start early whole is run)
 
--- the rest of the clocks is told at once, if there is a stop without the key, or the run ends before it comes
+-- the rest of the clocks is one range, if a stop is met without the key, or the run ends before the key comes
 
 equal_then : (a b : ℕ) → nat_eq a b ≡ true → a ≡ b
 equal_then a b is = grind (arith, nat_tests, is)
@@ -177,7 +177,7 @@ pub copy_ends : (stops : List Stop) (bare copy after : Plain) (key : StampedKey)
 copy_ends stops bare copy after key end stopped is run =
     subst (λ c. IsEndOf stops (end - c) (with_key bare key) stopped) (clock_same bare key) (subst (λ (p : Plain). IsEndOf stops (end - clock_of p) p stopped) is run.ends)
 
--- one clock more is tried, or all ranges are known
+-- one more clock is tried, or all ranges are known
 pub one_more : (stops same : List Stop) (s bare next : Plain) (trial : Trial) (end stamp : ℕ) (ranges more : List Moments) (old new : List Watched) (known : Bool) → same ≡ stops → (TriedSoFar same s bare trial end stamp ranges old → TriedNext known same s next trial end stamp more new) → trial.first ≤ stamp → stamp ≤ trial.last → end ≡ clock_of s + trial.count
     → Tried stops s bare trial end stamp ranges old → TriedNext known stops s next trial end stamp more new
 one_more stops same s bare next trial end stamp ranges more old new known is tries first last in_time so_far =

@@ -1,4 +1,4 @@
--- A key that is still to come changes nothing that a stop asks for before its stamp.
+-- A key that is still to come changes nothing that a stop looks at before its stamp.
 use Rattle.std.proofs.Common.{◌≡◌, ℕ, zero, suc, ◌+◌, ◌-◌, ◌<◌, ◌≤◌, Bool, true, false, cond, not, if◌then◌else◌, List, [], ◌∷◌, ◌++◌, map, Option, None, Some, refl, sym, ap, ◌∙◌, arith}
 use Rattle.std.specs.Prelude.{nat_le, nat_eq, filter, ◌==◌}
 use Rattle.std.specs.Bool.{beq}
@@ -26,7 +26,7 @@ use Rattle.probe.specs.declared.stops.Stop.TheVariants.{Standing, When, Changes}
 use Rattle.probe.specs.Listed.{is_listed}
 use Rattle.probe.specs.Stops.{any_differs, happens, meeting, meeting_at, meets, NoneMet}
 
--- another clock has the codes that it had
+-- the codes of other clocks are the same
 
 not_now : (stamp clock : ℕ) → clock < stamp → nat_eq stamp clock ≡ false
 not_now stamp clock before = grind (arith, nat_tests, before)
@@ -117,7 +117,7 @@ events_same s key before =
     (λ i. unwired_same s key before i ++ flat_map (wire_event (clock i) (with_key s key) (after i)) all_wires)
     ∙ (λ i. unwired_next s ++ wires_same (clock_of s + 1) s (after_clock s) key all_wires i)
 
--- what a stop asks for
+-- what a stop looks at
 
 holds_same : (condition : Condition) (s : Plain) (key : StampedKey) → holds condition (with_key s key) ≡ holds condition s
 unfolding holds with_key byte_of speaker_level state_of
@@ -145,7 +145,7 @@ meeting_from : (stops : List Stop) (i : ℕ) (s t : Plain) (key : StampedKey) �
 meeting_from [] i s t key before = refl
 meeting_from (x ∷ xs) i s t key before = λ j. cond (meets_same x s t key before j) (Some i) (meeting_from xs (i + 1) s t key before j)
 
--- so nothing else is met before the stamp
+-- a stop is met before the stamp if it is met without the key
 pub meeting_waits : (stops : List Stop) (n : ℕ) (s : Plain) (key : StampedKey) → 1 ≤ n → clock_of s + n < key.stamp → meeting_at stops (with_key s key) n ≡ meeting_at stops s n
 unfolding meeting
 meeting_waits stops n s key some before =

@@ -1,4 +1,4 @@
--- A probe stands some clocks after the board with which it began, whatever lines it answers.
+-- A probe's board is the one with which it began some clocks later, whatever lines it answers.
 use Rattle.std.proofs.Common.{◌≡◌, ℕ, ◌+◌, ◌<◌, ◌≤◌, List, [], ◌∷◌, ◌++◌, length, Option, None, Some, Result, Ok, Err, refl, sym, ap, ◌∙◌, subst, arith}
 use Rattle.std.specs.Prelude.{fold}
 use Rattle.board_types.specs.declared.keys.StampedKey.{StampedKey}

@@ -1,6 +1,7 @@
--- What a plain board's chips hold at its clock, and its processor between two boundaries, as text: a line a chip and
--- counter (IBM PC Technical Reference, "System Board I/O", "Keyboard", "Speaker Interface", "IBM Monochrome Display and
--- Parallel Printer Adapter"; Intel 8255A data sheet, "Operating Modes: Mode 0"; 8086 Family User's Manual, "Interrupts").
+-- What a plain board's chips hold at its clock, and its processor between two boundaries, as text: a line for each chip
+-- and counter (IBM PC Technical Reference, "System Board I/O", "Keyboard", "Speaker Interface", "IBM Monochrome Display
+-- and Parallel Printer Adapter"; Intel 8255A data sheet, "Operating Modes: Mode 0"; 8086 Family User's Manual,
+-- "Interrupts").
 -- To be believed by callers of this crate: the headline does not rest on it.
 use Rattle.wiring.specs.EachWire.{inputs_of}
 use Rattle.std.specs.Prelude.{ℕ, List, ◌++◌, codes, is_some}
@@ -33,7 +34,7 @@ abbrev pub direction_text : Direction → List ℕ
 direction_text Input = codes "in"
 direction_text Output = codes "out"
 
--- of each port its direction, of C that of either half, and the byte that a read gives
+-- the direction of each port, of either half of C, and the byte that a read gives
 unfoldable pub ports_line : PpiState → Inputs → List ℕ
 ports_line s inputs =
     codes "ports A " ++ (direction_text s.a ++ (codes " " ++ (hex_byte_text (byte_at s 0 inputs)
@@ -50,7 +51,7 @@ keyboard_line k =
 unfoldable pub speaker_line : Line → List ℕ
 speaker_line level = codes "speaker " ++ (line_text level ++ codes "\n")
 
--- the MC6845's address register, R12 and R13, R14 and R15, the video enable, and where the beam stands
+-- the MC6845's address register, R12 and R13, R14 and R15, the video enable, and the beam's place
 unfoldable pub adapter_line : Registers → List ℕ
 adapter_line r =
     codes "adapter index " ++ (hex_byte_text r.index ++ (codes " start " ++ (hex_word r.start

@@ -12,14 +12,14 @@ use Rattle.pic8259.specs.Levels.{byte_of}
 use Rattle.pic8259.specs.Pic.{PicState, is_requesting, vector}
 use Rattle.probe.specs.Shown.{flag_text}
 
--- the word that an initialisation sequence waits for
+-- the command word that an initialisation sequence waits for
 abbrev pub awaited_text : Expected → List ℕ
 awaited_text Icw2 = codes "ICW2"
 awaited_text Icw3 = codes "ICW3"
 awaited_text Icw4 = codes "ICW4"
 awaited_text Operation = codes "none"
 
--- the request lines and the three registers, a bit a level
+-- the request lines and the three registers, a bit for each level
 unfoldable pub controller_registers : PicState → List ℕ
 controller_registers s =
     codes "controller IR " ++ (hex_byte_text (byte_of s.high)
@@ -27,8 +27,8 @@ controller_registers s =
     ++ (codes " ISR " ++ (hex_byte_text (byte_of s.served)
     ++ (codes " IMR " ++ hex_byte_text (byte_of s.masked)))))))
 
--- the level with the lowest priority; the interrupt output, and the vector that an acknowledge would answer now; and the
--- word that is waited for
+-- the level with the lowest priority; the interrupt output, and the vector that an acknowledge would give now; and the
+-- command word that is awaited
 unfoldable pub controller_output : PicState → List ℕ
 controller_output s =
     codes " lowest " ++ (decimal (slice_index s.order 7)
@@ -36,8 +36,8 @@ controller_output s =
     ++ (codes " vector " ++ (hex_byte_text (vector s)
     ++ (codes " awaits " ++ awaited_text s.expected))))))
 
--- what the initialisation has set: level mode (LTIM of ICW1), 8086 mode (µPM of ICW4), automatic end of interrupt (AEOI);
--- and rotation under that
+-- what the initialisation has set: level mode (LTIM of ICW1), 8086 mode (µPM of ICW4) and automatic end of interrupt
+-- (AEOI); and rotation in that mode
 unfoldable pub controller_modes : PicState → List ℕ
 controller_modes s =
     codes " LTIM " ++ (flag_text s.is_level_triggered
@@ -45,8 +45,8 @@ controller_modes s =
     ++ (codes " AEOI " ++ (flag_text s.auto_end
     ++ (codes " rotates " ++ flag_text s.rotates))))))
 
--- what OCW3 has set: special mask mode (SMM), a poll that waits for its read (P), and that reads give the levels in service
--- (RIS)
+-- what OCW3 has set: special mask mode (SMM), a poll that waits for its read (P), and that reads give the levels in
+-- service (RIS)
 unfoldable pub controller_reads : PicState → List ℕ
 controller_reads s =
     codes " SMM " ++ (flag_text s.special_mask

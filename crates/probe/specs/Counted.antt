@@ -1,4 +1,4 @@
--- How far clocks that are counted have been made.
+-- How far a run that counts clocks has come.
 -- For proofs alone: no public contract rests on it.
 use Rattle.std.specs.Prelude.{ℕ, ◌≡◌, ◌≤◌}
 use Rattle.board.specs.OneTurn.{begun_in}
@@ -8,7 +8,7 @@ use Rattle.debugger_meaning.specs.Stands.{SessionState}
 use Rattle.probe.specs.declared.counts.Counts.{Counts}
 use Rattle.probe.specs.Tallied.{HasNoted, IsBefore}
 
--- some clocks are made, at most up to the clock `end`, and what began in them is noted
+-- some clocks have passed, at most up to the clock `end`, and what began in them is noted
 pub record IsCounted (end : ℕ) (old new : SessionState) (c : Counts) : Type 0 where
   pub passed : ℕ
   pub ran : Ran passed old.board new.board

@@ -26,8 +26,8 @@ counter_counts n c =
 abbrev pub loads_next : CounterState → Bool
 loads_next c = not (after_tick (record c { is_null = true })).is_null
 
--- whether the next tick loads the newest count; output and gate; the byte of a count whose other is still to be written;
--- the latched count; and whether the next read of the count gives its high byte
+-- whether the next tick loads the newest count; output and gate; the first byte of a count whose second is still to be
+-- written; the latched count; and whether the next read of the count gives its high byte
 unfoldable pub counter_lines : CounterState → List ℕ
 counter_lines c =
     codes " load " ++ (flag_text (loads_next c)

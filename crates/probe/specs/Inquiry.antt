@@ -1,4 +1,4 @@
--- What a line inquires.
+-- The inquiries that a line can be.
 -- To be believed by callers of this crate: the headline does not rest on it.
 use Rattle.std.specs.Prelude.{ℕ, ◌/◌, ◌*◌, ◌%◌, ◌&&◌, nat_le, if◌then◌else◌, List, [], ◌∷◌, codes, position, Option, None, Some, is_some}
 use Rattle.std.specs.Str.{bytes_eq}
@@ -35,20 +35,20 @@ list_of (Some place) (Some count) = list_within place count
 list_of (Some place) None = None
 list_of None _ = None
 
--- so many clocks that are made
+-- an inquiry that runs for some clocks
 abbrev pub run_inquiry : List ℕ → Option ℕ → Option Inquiry
 run_inquiry name None = None
 run_inquiry name (Some count) =
     if bytes_eq name (codes "counts") then Some (Counts count) else (
     if bytes_eq name (codes "signals") then Some (Signals count) else None)
 
--- what happens in so many clocks, of some kinds
+-- the events of some kinds in some clocks
 abbrev pub events_of : Option ℕ → Option (List Kind) → Option Inquiry
 events_of (Some count) (Some kinds) = Some (Events count (record { items = kinds }))
 events_of (Some count) None = None
 events_of None _ = None
 
--- a key that comes at the next clock, or at another
+-- a key that comes at the next clock, or at a given one
 abbrev pub key_of : Option ℕ → Option Inquiry
 key_of None = None
 key_of (Some code) = Some (Key code None)
@@ -58,7 +58,7 @@ key_at (Some code) (Some stamp) = Some (Key code (Some stamp))
 key_at (Some code) None = None
 key_at None _ = None
 
--- an inquiry of a word and what follows it
+-- an inquiry of a word and one more after it
 abbrev pub inquiry_with : List ℕ → List ℕ → Option Inquiry
 inquiry_with name first =
     if bytes_eq name (codes "key") then key_of (hex_number 2 first) else run_inquiry name (count_of first)

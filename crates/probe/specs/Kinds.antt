@@ -1,4 +1,4 @@
--- What is to be listed of what happens, as words name it.
+-- The kinds of events that are listed, and how words name them.
 -- To be believed by callers of this crate: the headline does not rest on it.
 use Rattle.std.specs.Prelude.{ℕ, ◌+◌, ◌==◌, Bool, nat_lt, nat_le, if◌then◌else◌, List, [], ◌∷◌, ◌++◌, codes, length, take, drop, position, Option, None, Some, option_map}
 use Rattle.std.specs.Str.{bytes_eq}
@@ -12,7 +12,7 @@ is_equals b = b == 61
 abbrev pub is_hyphen : ℕ → Bool
 is_hyphen b = b == 45
 
--- a kind of one word; all writes and all ports
+-- the kind that is named by a word alone: writes and ports are all of them
 unfoldable pub plain_kind : List ℕ → Option Kind
 plain_kind word =
     if bytes_eq word (codes "starts") then Some Starts else (
@@ -23,7 +23,7 @@ plain_kind word =
     if bytes_eq word (codes "wires") then Some Wires else (
     if bytes_eq word (codes "states") then Some States else None))))))
 
--- a range: two numbers with a hyphen between them, the second at least the first
+-- a range: two numbers with a hyphen between them, the second not less than the first
 abbrev pub range_within : Option ℕ → Option ℕ → Option (ℕ × ℕ)
 range_within (Some first) (Some last) = if nat_lt last first then None else Some (first, last)
 range_within (Some first) None = None
@@ -49,7 +49,7 @@ kind_round word (Some equals) = kind_with (take equals word) (drop (equals + 1) 
 unfoldable pub kind_of : List ℕ → Option Kind
 kind_of word = kind_round word (position is_equals word)
 
--- what words name, each one kind, after the kinds named before: at most sixteen, and one at least
+-- the kinds that words name, each one, after the kinds named before: one to sixteen
 abbrev pub then_kind : Option Kind → (Kind → Option (List Kind)) → Option (List Kind)
 then_kind None next = None
 then_kind (Some kind) next = next kind

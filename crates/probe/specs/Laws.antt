@@ -1,4 +1,4 @@
--- What holds of counts, of stops that only ask what stands, and of probes.
+-- What holds of counts, of stops that are conditions, and of probes.
 -- Laws: claims above the definitions, each proved as the contract of a function.
 use Rattle.std.specs.Prelude.{ℕ, ◌≡◌, ◌+◌, ◌-◌, ◌≤◌, ◌↔◌, List, [], ◌∷◌, ◌++◌, fold, length, map, Option, None, Some, Result, Ok, Err, sum_by}
 use Rattle.board.specs.declared.one_turn.Begun.{Begun}
@@ -30,14 +30,14 @@ use Rattle.probe.specs.Typed.{typed_key}
 abbrev pub clocks_of_lines : (Begun → Option ℕ) → List Begun → ℕ → ℕ
 clocks_of_lines number begun end = sum_by (λ k. clocks_from (λ b. is_number k (number b)) begun end) (numbers_of number begun)
 
--- those before the first beginning, those of each CS:IP and those of each type are all that are made
+-- the clocks before the first beginning, those of each CS:IP and those of each type add up to all clocks of the run
 abbrev pub CountsAddUp : Type 0
 CountsAddUp =
     (s : Plain) (n : ℕ)
     → (next_clock (begun_in s n) (clock_of s + n) - clock_of s)
     + (clocks_of_lines place_of (begun_in s n) (clock_of s + n) + clocks_of_lines type_of (begun_in s n) (clock_of s + n)) ≡ n
 
--- stops that only ask what stands are the board's: a run ends as its search says, and so does a way back
+-- stops that are conditions are the board's: a run ends as its search says, and so does a way back
 abbrev pub StandingEndsAlike : Type 0
 StandingEndsAlike =
     (conditions : List Condition) (n : ℕ) (s : Plain) (end : Option End)
@@ -48,11 +48,12 @@ StandingMetAlike =
     (conditions : List Condition) (n : ℕ) (s : Plain)
     → met_from (map Standing conditions) s n ≡ holding conditions (after_clocks s n)
 
--- a probe's stops only ask what stands
+-- a probe's stops are all conditions
 abbrev pub OnlyStand : ProbeState → Type 0
 OnlyStand s = s.stops ≡ map Standing (conditions_of s.stops)
 
--- without new commands a probe answers as the debugger does, and its stops go on asking what stands alone
+-- a probe whose stops are all conditions answers lines without new commands as the debugger does, and its stops stay
+-- conditions
 abbrev pub AnswersAsDebugger : Type 0
 AnswersAsDebugger =
     (line : List ℕ) (old new : ProbeState) (result : Result Answer DebugFault)
@@ -74,17 +75,17 @@ pub record AnsweredThen (line : List ℕ) (After : List StampedKey → ProbeStat
   pub are : keys ≡ key_typed (request_of line) (inquiry_of line) (clock_of old.board.plain) result ++ later
   pub after : After later next
 
--- a probe before a list of lines and after them, and the keys that they have typed
+-- a probe before a list of lines and after them, with the keys that they have typed
 abbrev pub Walk : List (List ℕ) → List StampedKey → ProbeState → ProbeState → Type 0
 Walk [] keys old new = (new ≡ old) × (keys ≡ [])
 Walk (line ∷ lines) keys old new = AnsweredThen line (λ later next. Walk lines later next new) keys old
 
--- what a board shows to which these keys are typed, one after another
+-- what a board shows after these keys are typed, one after another
 abbrev pub shown_with : Shown → List StampedKey → Shown
 shown_with first keys = record first { plain = fold with_key first.plain keys }
 
--- After any lines, answered or refused, a probe stands some clocks after the board with which it began, as if that had had
--- the keys that were typed.
+-- After any lines, answered or refused, a probe's board is the one with which it began some clocks later, as if that
+-- had had the keys that were typed.
 abbrev pub ProbesStand : Type 0
 ProbesStand =
     (lines : List (List ℕ)) (keys : List StampedKey) (board : BoardState) (new : ProbeState) → length board.trail ≤ 32

@@ -93,8 +93,8 @@ wire_name Speaker = codes "speaker"
 abbrev pub level_digit : Bool → List ℕ
 level_digit level = decimal (if level then 1 else 0)
 
--- its line: `59 start F000:0013 B008`, `96 entry 08`, `96 write 000BE 16`, `62 in 0020 00`, `63 out 0021 FE`, `71 halted`,
--- `100 key 1E arrives`, `96 wire OUT0 1`
+-- the line of an event: `59 start F000:0013 B008`, `96 entry 08`, `96 write 000BE 16`, `62 in 0020 00`, `63 out 0021
+-- FE`, `71 halted`, `100 key 1E arrives`, `96 wire OUT0 1`
 abbrev pub line_of : ℕ → List ℕ → List ℕ
 line_of clock text = decimal clock ++ (codes " " ++ (text ++ codes "\n"))
 
@@ -105,10 +105,10 @@ event_line (Became clock state) = line_of clock (state_word state)
 event_line (Keyed clock what code) = line_of clock (codes "key " ++ (hex_byte_text code ++ (codes " " ++ key_word what)))
 event_line (Wired clock wire level) = line_of clock (codes "wire " ++ (wire_name wire ++ (codes " " ++ level_digit level)))
 
--- the lines of those that are listed
+-- the lines of those events that are listed
 unfoldable pub listed_lines : List Kind → List Event → List ℕ
 listed_lines kinds events = flat_map event_line (filter (is_listed kinds) events)
 
--- of n clocks, and the clock that is reached
+-- the listed events of n clocks, and the clock that is reached
 unfoldable pub events_text : List Kind → Plain → ℕ → List ℕ
 events_text kinds s n = listed_lines kinds (events_in s n) ++ (codes "clock " ++ (decimal (clock_of s + n) ++ codes "\n"))

@@ -11,16 +11,16 @@ use Rattle.decode.specs.declared.decoding.Decoding.TheVariants.{Found, NoRow}
 use Rattle.decode.specs.Decoding.{code_at, decoded_from}
 use Rattle.disassembler.specs.Text.{instr_text}
 
--- what stands at a place
+-- what is decoded at a place
 abbrev pub stands_at : Plain → ℕ → ℕ → Decoded
 stands_at s segment offset = decoded_from (code_at (byte_of s) segment offset)
 
--- how many bytes of it are listed: an instruction's, or the one where none begins
+-- how many bytes a line lists: an instruction's, or the one that begins none
 abbrev pub size_listed : Decoded → ℕ
 size_listed (Found i size) = size
 size_listed NoRow = 1
 
--- those bytes; offsets wrap at 65,536
+-- the bytes that a line lists; offsets wrap at 65,536
 abbrev pub bytes_listed : Plain → ℕ → ℕ → ℕ → List ℕ
 bytes_listed s segment offset size = map (λ k. byte_of s (physical segment (offset_after offset k))) (range_with_len 0 size)
 
@@ -29,7 +29,7 @@ abbrev pub text_listed : Decoded → ℕ → ℕ → List ℕ
 text_listed (Found i size) offset byte = instr_text i offset
 text_listed NoRow offset byte = codes "DB 0" ++ (hex_byte_text byte ++ codes "h")
 
--- `F000:0013 B008 MOV AL,008h`, `F000:0017 0F DB 00Fh`
+-- a line of the listing: `F000:0013 B008 MOV AL,008h`, `F000:0017 0F DB 00Fh`
 abbrev pub line_of : Plain → ℕ → ℕ → Decoded → List ℕ
 line_of s segment offset stands =
     hex_word segment ++ (codes ":" ++ (hex_word offset ++ (codes " "
@@ -39,10 +39,10 @@ line_of s segment offset stands =
 unfoldable pub list_line : Plain → ℕ → ℕ → List ℕ
 list_line s segment offset = line_of s segment offset (stands_at s segment offset)
 
--- where the next line's begins
+-- the offset at which the next line begins
 unfoldable pub offset_listed_next : Plain → ℕ → ℕ → ℕ
 offset_listed_next s segment offset = offset_after offset (size_listed (stands_at s segment offset))
 
--- so many lines from a place on
+-- `count` lines from a place on
 abbrev pub list_text : Plain → ℕ → ℕ → ℕ → List ℕ
 list_text s segment offset count = gathered (offset_listed_next s segment) (list_line s segment) count offset

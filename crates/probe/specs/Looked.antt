@@ -24,7 +24,7 @@ pub record LooksOn (before : Seen) (begun : Option Begun) (accesses : List Acces
   pub number_is : number ≡ met old before begun accesses t
   pub copied : StaysCopied accesses t old new
 
--- how a run of so many clocks has ended: at the clock `end`, or at a stop
+-- how a run has ended after `passed` clocks: at the clock `end`, or at a stop
 abbrev pub HasEnded : List Stop → ℕ → ℕ → Plain → Option ℕ → Type 0
 HasEnded stops end passed s None = (end ≡ clock_of s + passed) × NoneMet stops passed s
 HasEnded stops end passed s (Some number) =
@@ -61,7 +61,7 @@ ShortOfMemory stops end old new (Memory None) = ⊥
 ShortOfMemory stops end old new (Memory (Some clock)) = RanShort stops end old new clock
 ShortOfMemory stops end old new BeforeStart = ⊥
 
--- what is met so many clocks after a board; at its own clock only if it is a session's first
+-- the stop that is met n clocks after a board; at its own clock only if it is a session's first
 abbrev pub met_after : Bool → List Stop → Plain → ℕ → Option ℕ
 met_after is_first stops s zero = if is_first then standing stops s else None
 met_after is_first stops s (suc n) = meeting_at stops s (suc n)
@@ -69,7 +69,7 @@ met_after is_first stops s (suc n) = meeting_at stops s (suc n)
 abbrev pub NoneAfter : Bool → List Stop → Plain → ℕ → ℕ → Type 0
 NoneAfter is_first stops s from to = (j : ℕ) → from ≤ j → j ≤ to → met_after is_first stops s j ≡ None
 
--- the last of n clocks after a board at which a stop is met
+-- the last of the n clocks after a board at which a stop is met
 pub record FoundLast (stops : List Stop) (is_first : Bool) (n : ℕ) (s : Plain) (clock number : ℕ) : Type 0 where
   pub passed : ℕ
   pub within : passed ≤ n
@@ -92,16 +92,16 @@ FindsNoStop stops n first (Memory None) = Unit {0}
 FindsNoStop stops n first (Memory (Some clock)) = ⊥
 FindsNoStop stops n first BeforeStart = NoneMetFrom stops n first
 
--- the first clock that a stretch after a board tells of
+-- the first clock for which a stretch from a board can tell what was met
 abbrev pub from_of : Bool → ℕ → ℕ
 from_of is_first clock = if is_first then clock else clock + 1
 
--- what a run's end is told
+-- the answer at the end of a run
 abbrev pub answer_at : Option ℕ → ℕ → Answer
 answer_at None clock = answers.Clock clock
 answer_at (Some number) clock = answers.StopAt number clock
 
--- what a way back to it answers
+-- the answer of a way back to a stop
 abbrev pub with_number : Result Answer DebugFault → ℕ → ℕ → Result Answer DebugFault
 with_number (Ok answer) clock number = Ok (answers.StopAt number clock)
 with_number (Err fault) clock number = Err fault

@@ -1,4 +1,4 @@
--- Clocks that are made whatever the stops say, of which a text is shown.
+-- Runs of some clocks, whatever the stops are, of which a text is shown.
 -- To be believed by callers of this crate: the headline does not rest on it.
 use Rattle.std.specs.Prelude.{ℕ, ◌≡◌, ◌+◌, ◌<◌, ◌≤◌, ◌^◌, List, None, Some, Result, MatchResult}
 use Rattle.board_plain.specs.Board.{Ran}
@@ -9,7 +9,7 @@ use Rattle.debugger_meaning.specs.declared.fault.DebugFault.TheVariants.{BadScan
 use Rattle.debugger_meaning.specs.Session.{IsText}
 use Rattle.debugger_meaning.specs.Stands.{SessionState, shown_of, StandsAt}
 
--- n clocks are made, and the text is shown; the stops stay
+-- n clocks pass, and the text is shown; the stops stay
 pub record Makes (n : ℕ) (text : List ℕ) (old new : SessionState) (answer : Answer) : Type 0 where
   pub within : clock_of old.board.plain + n ≤ 2 ^ 40
   pub ran : Ran n old.board new.board
@@ -17,7 +17,8 @@ pub record Makes (n : ℕ) (text : List ℕ) (old new : SessionState) (answer : 
   pub first : new.first ≡ old.first
   pub shows : IsText text answer
 
--- There is no memory, for clocks that end by the last one: the board stands some of the n clocks further, and its clock is told.
+-- There is no memory, and the run would end by the last clock: the board stands at some clock of the run, which the
+-- refusal names.
 pub record StandsShort (n : ℕ) (old new : SessionState) (clock : ℕ) : Type 0 where
   pub within_all : clock_of old.board.plain + n ≤ 2 ^ 40
   pub passed : ℕ

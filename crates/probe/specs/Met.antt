@@ -1,4 +1,4 @@
--- Which stop is met at a clock, by what the clock that led there has brought.
+-- Which stop is met at a clock, by what happened in the clock that led to it.
 -- For proofs alone: no public contract rests on it.
 use Rattle.std.proofs.Common.{get_or}
 use Rattle.std.specs.Prelude.{ℕ, ◌≡◌, ◌+◌, ◌-◌, ◌<◌, ◌==◌, ◌≤◌, ◌^◌, ◌⊎◌, Bool, true, false, not, ◌&&◌, ◌||◌, nat_eq, nat_le, nat_lt, if◌then◌else◌, List, Option, None, Some, length, slice_get}
@@ -22,7 +22,7 @@ use Rattle.probe.specs.declared.watched.Watched.{Watched}
 use Rattle.probe.specs.Listed.{lists_access, lists_keys, lists_states, lists_wires}
 use Rattle.probe.specs.Signalled.{levels_of}
 
--- the byte that is copied of an address, if one is
+-- the copy of the byte at an address, if there is one
 abbrev pub copied_at : ℕ → List ℕ → ℕ → Option ℕ
 copied_at first bytes address = if nat_lt address first then None else slice_get bytes (address - first)
 
@@ -41,7 +41,7 @@ IsCopy copied s = (k : ℕ) → k < length copied.bytes.items → get_or copied.
 abbrev pub HasRoom : Copied → Type 0
 HasRoom copied = copied.first + length copied.bytes.items ≤ 2 ^ 20
 
--- from an address on, and up to one, there are all bytes whose changes are a stop
+-- the copied bytes begin not after, and end not before, those whose changes a stop waits for
 abbrev pub StartsFrom : ℕ → Stop → Type 0
 StartsFrom first (Standing condition) = Unit {0}
 StartsFrom first (When kinds) = Unit {0}
@@ -67,7 +67,7 @@ writes_to address (Write at byte) = at == address
 writes_to address (In port byte) = false
 writes_to address (Out port byte) = false
 
--- the byte that an access has written is copied anew, and all others stay
+-- the copy of the byte that an access has written is renewed, and all others stay
 pub record IsOneRenewed (access : Access) (t : Plain) (old new : Copied) : Type 0 where
   pub first : new.first ≡ old.first
   pub count : length new.bytes.items ≡ length old.bytes.items
@@ -76,7 +76,7 @@ pub record IsOneRenewed (access : Access) (t : Plain) (old new : Copied) : Type 
   pub others : (k : ℕ) → k < length old.bytes.items → writes_to (old.first + k) access ≡ false
       → get_or new.bytes.items k 0 ≡ get_or old.bytes.items k 0
 
--- all bytes that some accesses have written are copied anew
+-- the copies of all bytes that some accesses have written are renewed
 pub record AreRenewed (accesses : List Access) (t : Plain) (old new : Copied) : Type 0 where
   pub first : new.first ≡ old.first
   pub count : length new.bytes.items ≡ length old.bytes.items
@@ -84,7 +84,7 @@ pub record AreRenewed (accesses : List Access) (t : Plain) (old new : Copied) : 
       → (get_or new.bytes.items k 0 ≡ byte_of t (old.first + k))
       ⊎ ((list_any (writes_to (old.first + k)) accesses ≡ false) × (get_or new.bytes.items k 0 ≡ get_or old.bytes.items k 0))
 
--- a write to one of so many addresses has changed its byte
+-- a write to one of `count` addresses has changed its byte
 abbrev pub write_differs : ℕ → ℕ → Copied → Plain → Access → Bool
 write_differs address count copied t (Write at byte) = (nat_le address at && nat_lt at (address + count)) && differs_copied copied at t
 write_differs address count copied t (In port byte) = false
@@ -114,11 +114,11 @@ lists_entered kinds (Some begun) = lists_type kinds begun.entered
 abbrev pub lists_some : List Kind → List Access → Bool
 lists_some kinds accesses = list_any (λ access. list_any (λ kind. lists_access kind access) kinds) accesses
 
--- a code came, or one fewer waits
+-- a code has arrived, or one fewer waits
 abbrev pub keys_moved : ℕ → List ℕ → ℕ → Bool
 keys_moved before codes after = not (nat_eq (length codes) 0) || nat_eq (after + 1) before
 
--- a wire is at another level
+-- no wire has taken another level
 abbrev pub same_levels : Levels → Levels → Bool
 same_levels a b =
     ((((beq a.out_0 b.out_0 && beq a.out_2 b.out_2) && beq a.ir_0 b.ir_0) && beq a.ir_1 b.ir_1) && beq a.int b.int)
@@ -128,8 +128,8 @@ abbrev pub wires_moved : Option Levels → Levels → Bool
 wires_moved None after = false
 wires_moved (Some before) after = not (same_levels before after)
 
--- something of these kinds has happened in a clock, before which this was seen, in which this began and these accesses were
--- made, and which led to t
+-- an event of these kinds has happened in the clock that led to t: `before` was seen before it, and in it this began
+-- and these accesses were made
 abbrev pub happened : List Kind → Seen → Option Begun → List Access → Plain → Bool
 happened kinds before begun accesses t =
     (((lists_entered kinds begun || lists_some kinds accesses)
@@ -146,11 +146,11 @@ is_stop_met (Changes address count) copied before begun accesses t = one_differs
 abbrev pub is_met : Watched → Seen → Option Begun → List Access → Plain → Bool
 is_met watched before begun accesses t = is_stop_met watched.stop watched.copied before begun accesses t
 
--- the least number, from 1, of one that is
+-- the least number, from 1, of a stop that is met
 unfoldable pub met : List Watched → Seen → Option Begun → List Access → Plain → Option ℕ
 met watches before begun accesses t = position_from (λ watched. is_met watched before begun accesses t) 1 watches
 
--- a stop asks for the wires, or for the keys
+-- a stop has to look at the wires, or at the keys
 abbrev pub asks_wires : Stop → Bool
 asks_wires (Standing condition) = false
 asks_wires (When kinds) = list_any lists_wires kinds.items
@@ -161,6 +161,6 @@ asks_keys (Standing condition) = false
 asks_keys (When kinds) = list_any lists_keys kinds.items
 asks_keys (Changes address count) = false
 
--- what some stops ask for
+-- what some stops have to look at
 abbrev pub asked_by : List Stop → Asked
 asked_by stops = record { wires = list_any asks_wires stops; keys = list_any asks_keys stops }

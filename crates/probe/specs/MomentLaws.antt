@@ -14,24 +14,24 @@ use Rattle.probe.specs.Probe.{GoesOn, ProbeState, session_of}
 use Rattle.probe.specs.Stops.{IsEndOf}
 use Rattle.probe.specs.Typed.{Takes}
 
--- a clock stands in a range
+-- a clock is in a range
 abbrev pub stands_in : ℕ → Moments → Bool
 stands_in stamp m = nat_le m.first stamp && nat_le stamp m.last
 
--- each clock stands in exactly one range
+-- each clock is in exactly one range
 abbrev pub EachMomentOnce : Type 0
 EachMomentOnce =
     (stops : List ProbeStop) (s : Plain) (trial : Trial) (first last : ℕ) (ranges : List Moments)
     → AreRanges stops s trial first last ranges
     → (stamp : ℕ) → first ≤ stamp → stamp ≤ last → count_by (stands_in stamp) ranges ≡ 1
 
--- no other ranges are so
+-- there is only one list of ranges
 abbrev pub OneListOfRanges : Type 0
 OneListOfRanges =
     (stops : List ProbeStop) (s : Plain) (trial : Trial) (first last : ℕ) (ranges others : List Moments)
     → AreRanges stops s trial first last ranges → AreRanges stops s trial first last others → others ≡ ranges
 
--- the answer of a run that ends as these do
+-- the answer of a run that ends as those of a range do
 abbrev pub IsAnswerOf : Option Ends → Answer → Type 0
 IsAnswerOf None (Clock clock) = Unit {0}
 IsAnswerOf (Some ends) (StopAt number clock) = (number ≡ ends.number) × ((ends.least ≤ clock) × (clock ≤ ends.greatest))

@@ -1,4 +1,4 @@
--- How a run ends with one key more, for each clock at which that could come.
+-- How a run ends with one more key, for each clock at which it could come.
 -- To be believed by callers of this crate: the headline does not rest on it.
 use Rattle.std.specs.Prelude.{ℕ, ◌≡◌, ◌≢◌, ◌+◌, ◌<◌, ◌≤◌, ◌^◌, ◌⊎◌, IsTrue, List, [], ◌∷◌, ◌++◌, codes, Option, None, Some, IfSome, Result, MatchResult}
 use Rattle.std.specs.Fmt.{decimal}
@@ -23,18 +23,18 @@ use Rattle.probe.specs.Stops.{IsEndOf}
 abbrev pub key_tried : Trial → ℕ → StampedKey
 key_tried trial stamp = record { stamp = stamp; code = trial.code }
 
--- the run with it ends so
+-- the run with the key ends like this
 abbrev pub EndsWith : List Stop → Plain → Trial → ℕ → Option End → Type 0
 EndsWith stops s trial stamp end = IsEndOf stops trial.count (with_key s (key_tried trial stamp)) end
 
--- an end at their stop, not before their least clock nor after their greatest; or no end, as they have none
+-- an end at the stop of these ends, from their least to their greatest clock; or no end, if they have none
 abbrev pub IsAmong : Option Ends → Option End → Type 0
 IsAmong None None = Unit {0}
 IsAmong None (Some end) = ⊥
 IsAmong (Some ends) None = ⊥
 IsAmong (Some ends) (Some end) = (end.number ≡ ends.number) × ((ends.least ≤ end.clock) × (end.clock ≤ ends.greatest))
 
--- one of these moments leads to an end at this clock
+-- the key at one of these clocks leads to an end at this stop and clock
 pub record IsReached (stops : List Stop) (s : Plain) (trial : Trial) (m : Moments) (number clock : ℕ) : Type 0 where
   pub stamp : ℕ
   pub from : m.first ≤ stamp
@@ -48,22 +48,22 @@ pub record AreAlike (stops : List Stop) (s : Plain) (trial : Trial) (m : Moments
   pub least : IfSome m.ends (λ ends. IsReached stops s trial m ends.number ends.least)
   pub greatest : IfSome m.ends (λ ends. IsReached stops s trial m ends.number ends.greatest)
 
--- the number of their stop, if they have one
+-- the number of the stop at which runs end, if they end at one
 abbrev pub stop_number : Moments → Option ℕ
 stop_number m = option_map (λ (ends : Ends). ends.number) m.ends
 
--- those that follow have another stop
+-- the next range has another stop
 abbrev pub DiffersNext : Moments → List Moments → Type 0
 DiffersNext m [] = Unit {0}
 DiffersNext m (next ∷ rest) = stop_number next ≢ stop_number m
 
--- all clocks from the first up to the last, each in one range
+-- the ranges cover all clocks from the first to the last, each clock once
 abbrev pub AreRanges : List Stop → Plain → Trial → ℕ → ℕ → List Moments → Type 0
 AreRanges stops s trial first last [] = last < first
 AreRanges stops s trial first last (m ∷ ms) =
     (m.first ≡ first) × ((m.last ≤ last) × (AreAlike stops s trial m × (DiffersNext m ms × AreRanges stops s trial (m.last + 1) last ms)))
 
--- `1 97 stop 1 1 97`, `98 200 none`
+-- how runs end, in a line: `1 97 stop 1 1 97`, `98 200 none`
 abbrev pub ends_text : Option Ends → List ℕ
 ends_text None = codes " none\n"
 ends_text (Some ends) =
@@ -79,14 +79,14 @@ pub record CanBeTried (clock : ℕ) (trial : Trial) : Type 0 where
   pub scan : IsTrue (names_key trial.code)
   pub later : clock < trial.first
 
--- the ranges of all its clocks are told, a line for each
+-- the answer has a line for each range of a trial
 pub record TellsMoments (stops : List Stop) (s : Plain) (trial : Trial) (answer : Answer) : Type 0 where
   pub can : CanBeTried (clock_of s) trial
   pub ranges : List Moments
   pub are : AreRanges stops s trial trial.first trial.last ranges
   pub shows : IsText (flat_map moments_line ranges) answer
 
--- why they aren't: the first of these that is so
+-- why a trial is refused: the first of these reasons that holds
 abbrev pub IsPastLimit : ℕ → Trial → Type 0
 IsPastLimit clock trial = (2 ^ 40 < trial.last) ⊎ (2 ^ 40 < clock + trial.count)
 

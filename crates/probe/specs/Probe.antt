@@ -21,32 +21,32 @@ use Rattle.probe.specs.Requests.{asks_changes, request_of}
 use Rattle.probe.specs.Session.{AnswersProbe}
 use Rattle.probe.specs.Stops.{IsEndOf, MetLast, NoneMet, NoneMetFrom}
 
--- a probe: what the board showed with which it began, the board as it stands now, and the stops
+-- a probe: what its first board showed, the board as it stands now, and the stops
 pub record ProbeState : Type 0 where
   pub first : Shown
   pub board : BoardState
   pub stops : List Stop
 
--- one that begins
+-- a probe that begins
 abbrev pub probe_about : BoardState → ProbeState
 probe_about board = record { first = shown_of board; board = board; stops = [] }
 
--- what the stops ask that ask what stands
+-- the conditions of those stops that are one
 abbrev pub conditions_of : List Stop → List Condition
 conditions_of [] = []
 conditions_of (Standing condition ∷ stops) = condition ∷ conditions_of stops
 conditions_of (When kinds ∷ stops) = conditions_of stops
 conditions_of (Changes address count ∷ stops) = conditions_of stops
 
--- the debugger's session with these stops alone
+-- the debugger's session, with only those stops that are conditions
 abbrev pub session_of : ProbeState → SessionState
 session_of s = record { first = s.first; board = s.board; stops = conditions_of s.stops }
 
--- the clocks since it began
+-- the clocks since a probe began
 abbrev pub gone_by : ProbeState → ℕ
 gone_by s = clock_of s.board.plain - clock_of s.first.plain
 
--- a stop is added, and told its number; the board stands still
+-- a stop is added, and its number answered; the board stays
 pub record AddsStop (stop : Stop) (old new : ProbeState) (answer : Answer) : Type 0 where
   pub room : length old.stops < 16
   pub stops : new.stops ≡ old.stops ++ stop ∷ []
@@ -54,7 +54,7 @@ pub record AddsStop (stop : Stop) (old new : ProbeState) (answer : Answer) : Typ
   pub first : new.first ≡ old.first
   pub answer_is : answer ≡ answers.Stop (length old.stops + 1)
 
--- it isn't: there are sixteen, or there is no memory for a copy of the bytes whose changes it asks for; nothing changes
+-- a stop is refused: there are sixteen, or there is no memory for a copy of its bytes; nothing changes
 abbrev pub RefusesStop : Stop → ProbeState → ProbeState → DebugFault → Type 0
 RefusesStop stop old new ClockLimit = ⊥
 RefusesStop stop old new BadScan = ⊥
@@ -65,7 +65,7 @@ RefusesStop stop old new (Memory None) = (length old.stops < 16) × IsTrue (asks
 RefusesStop stop old new (Memory (Some clock)) = ⊥
 RefusesStop stop old new BeforeStart = ⊥
 
--- a run of at most n clocks, up to the first one after the start at which a stop holds
+-- a run of at most n clocks, up to the first one after the start at which a stop is met
 pub record GoesOn (n : ℕ) (old new : ProbeState) (answer : Answer) : Type 0 where
   pub stopped : Option End
   pub within : clock_of old.board.plain + n ≤ 2 ^ 40
@@ -75,8 +75,8 @@ pub record GoesOn (n : ℕ) (old new : ProbeState) (answer : Answer) : Type 0 wh
   pub first : new.first ≡ old.first
   pub answer_is : answer ≡ told_of stopped (clock_of new.board.plain)
 
--- A run that found no memory for the speaker's next change stands at the clock before it, and tells that clock; no stop
--- held at any clock after the start up to that one.
+-- A run that found no memory for the speaker's next change stands at the clock before it, which the refusal names; no
+-- stop was met at any clock after the start up to that one.
 pub record StopsShort (n : ℕ) (old new : ProbeState) (clock : ℕ) : Type 0 where
   pub within : clock_of old.board.plain + n ≤ 2 ^ 40
   pub early : StoppedEarly n old.board new.board
@@ -96,7 +96,7 @@ RefusesGoing n old new (Memory None) = ⊥
 RefusesGoing n old new (Memory (Some clock)) = StopsShort n old new clock
 RefusesGoing n old new BeforeStart = ⊥
 
--- back to the last earlier clock at which a stop holds
+-- back to the last earlier clock at which a stop was met
 pub record GoesBackToStop (old new : ProbeState) (answer : Answer) : Type 0 where
   pub number : ℕ
   pub last : MetLast old.stops (gone_by old) old.first.plain (clock_of new.board.plain) number
@@ -105,7 +105,7 @@ pub record GoesBackToStop (old new : ProbeState) (answer : Answer) : Type 0 wher
   pub stops : new.stops ≡ old.stops
   pub answer_is : answer ≡ answers.StopAt number (clock_of new.board.plain)
 
--- it is refused if none holds at an earlier clock, and for want of memory; nothing changes
+-- a way back is refused if no stop was met at an earlier clock, and for want of memory; nothing changes
 abbrev pub RefusesBackToStop : ProbeState → ProbeState → DebugFault → Type 0
 RefusesBackToStop old new ClockLimit = ⊥
 RefusesBackToStop old new BadScan = ⊥
@@ -122,7 +122,7 @@ AnswersRequest (Go n) old result new = MatchResult result (GoesOn n old new) (Re
 AnswersRequest BackStop old result new = MatchResult result (GoesBackToStop old new) (RefusesBackToStop old new)
 AnswersRequest (Try trial) old result new = AnswersTrial old.stops old.board.plain trial result × (new ≡ old)
 
--- what has nothing to do with stops is answered as of the debugger's session, and leaves them
+-- a line that has nothing to do with stops is answered as by the debugger's session, and leaves the stops
 abbrev pub AnswersUnless : Option Request → List ℕ → ProbeState → Result Answer DebugFault → ProbeState → Type 0
 AnswersUnless (Some request) line old result new = AnswersRequest request old result new
 AnswersUnless None line old result new =

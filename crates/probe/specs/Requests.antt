@@ -26,7 +26,7 @@ changes_of (Some address) (Some count) = changes_within address count
 changes_of (Some address) None = None
 changes_of None _ = None
 
--- an address of one to five digits, and how many bytes: one, if that isn't said
+-- an address of one to five digits, and how many bytes: one, if no count is given
 abbrev pub changes_in : List (List ℕ) → Option Stop
 changes_in [] = None
 changes_in (address ∷ []) = option_map (λ a. Changes a 1) (hex_number 5 address)
@@ -36,7 +36,7 @@ changes_in (address ∷ count ∷ more ∷ rest) = None
 abbrev pub when_of : Option (List Kind) → Option Stop
 when_of kinds = option_map (λ (ks : List Kind). When (record { items = ks })) kinds
 
--- a stop on what happens: `when writes=400-41F keys`, `changes 400 32`
+-- a stop on events, or on changes of bytes: `when writes=400-41F keys`, `changes 400 32`
 abbrev pub stop_in : List (List ℕ) → Option Stop
 stop_in [] = None
 stop_in (name ∷ words) =
@@ -46,7 +46,7 @@ stop_in (name ∷ words) =
 unfoldable pub stop_of : List ℕ → Option Stop
 stop_of line = stop_in (words_of line)
 
--- a key that is tried at each clock from one up to another: `moments 1E 1000 4000 100000`
+-- a key that is tried at each clock from the first to the last: `moments 1E 1000 4000 100000`
 abbrev pub trial_within : Option ℕ → Option ℕ → Option ℕ → Option ℕ → Option Trial
 trial_within (Some code) (Some first) (Some last) (Some count) =
     if nat_le first last then Some (record { code = code; first = first; last = last; count = count }) else None
@@ -64,7 +64,7 @@ trial_in _ = None
 unfoldable pub trial_of : List ℕ → Option Trial
 trial_of line = trial_in (words_of line)
 
--- what a command asks for
+-- what a command of the debugger asks for
 abbrev pub request_by : Option Command → Option Request
 request_by (Some (commands.Break cs ip)) = Some (Add (Standing (conditions.At cs ip)))
 request_by (Some (commands.Byte address byte)) = Some (Add (Standing (conditions.Byte address byte)))
@@ -89,20 +89,20 @@ request_of line = request_with (trial_of line) (stop_of line) (command_of line)
 abbrev pub IsRising : Trial → Type 0
 IsRising trial = trial.first ≤ trial.last
 
--- a stop that is to be added asks for bytes that have addresses, and a trial's clocks rise
+-- a request's stop waits for changes of bytes that have addresses, and a request's trial has rising clocks
 abbrev pub IsRequest : Request → Type 0
 IsRequest (Add stop) = HasBytes stop
 IsRequest (Go count) = Unit {0}
 IsRequest BackStop = Unit {0}
 IsRequest (Try trial) = IsRising trial
 
--- a stop asks what stands
+-- a stop is a condition
 abbrev pub is_standing : Stop → Bool
 is_standing (Standing condition) = true
 is_standing (When kinds) = false
 is_standing (Changes address count) = false
 
--- it asks whether bytes change
+-- a stop waits for changes of bytes
 abbrev pub asks_changes : Stop → Bool
 asks_changes (Standing condition) = false
 asks_changes (When kinds) = false

@@ -17,8 +17,8 @@ use Rattle.probe.specs.Making.{AnswersMaking}
 use Rattle.probe.specs.Signals.{signals_text}
 use Rattle.probe.specs.Typed.{AnswersKey}
 
--- a text is shown of the board as it stands, and nothing changes; or clocks are made, and a text of them is shown; or a key is
--- taken
+-- a text is shown of the board as it stands, and nothing changes; or the board runs for some clocks, and a text of them
+-- is shown; or a key is taken
 abbrev pub AnswersInquiry : Inquiry → SessionState → Result Answer DebugFault → SessionState → Type 0
 AnswersInquiry Chips old result new = Shows (chips_text old.board.plain) result × (new ≡ old)
 AnswersInquiry (Listing place count) old result new =

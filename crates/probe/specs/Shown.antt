@@ -1,4 +1,4 @@
--- What lines of text have in common.
+-- Numbers and flags that several lines of text have.
 -- To be believed by callers of this crate: the headline does not rest on it.
 use Rattle.std.specs.Prelude.{ℕ, Bool, if◌then◌else◌, List, codes, Option, None, Some}
 use Rattle.std.specs.Fmt.{decimal}
@@ -14,7 +14,7 @@ flag_text flag = decimal (if flag then 1 else 0)
 abbrev pub line_text : Line → List ℕ
 line_text line = flag_text (is_high line)
 
--- a byte or a word in hexadecimal digits, where there is one
+-- a byte or a word in hexadecimal digits, or `none`
 abbrev pub byte_or_none : Option ℕ → List ℕ
 byte_or_none None = codes "none"
 byte_or_none (Some byte) = hex_byte_text byte

@@ -1,4 +1,4 @@
--- How far clocks have been made whose changes of wires are told.
+-- How far a run has come whose changes of wires are listed.
 -- For proofs alone: no public contract rests on it.
 use Rattle.std.specs.Prelude.{ℕ, ◌≡◌, ◌+◌, ◌≤◌, Bool, if◌then◌else◌, List, [], ◌++◌, codes}
 use Rattle.std.specs.Bool.{beq}
@@ -12,7 +12,7 @@ use Rattle.pic8259.specs.Pic.{is_requesting}
 use Rattle.probe.specs.declared.signals.Levels.{Levels}
 use Rattle.probe.specs.Listed.{level_digit, line_of}
 
--- which of them are high
+-- which wires are high
 unfoldable pub levels_of : Plain → Levels
 levels_of s = record {
   out_0 = is_high s.chips.pit.counter_0.out;
@@ -23,7 +23,7 @@ levels_of s = record {
   speaker = is_high (speaker_level s);
 }
 
--- a change, with the clock that brings it
+-- the line of a change, with the clock that brings it
 abbrev pub change_line : List ℕ → ℕ → Bool → Bool → List ℕ
 change_line name clock before after = if beq before after then [] else line_of clock (name ++ (codes " " ++ level_digit after))
 
@@ -36,11 +36,11 @@ changes_between clock before after =
     ++ (change_line (codes "INT") clock before.int after.int
     ++ change_line (codes "speaker") clock before.speaker after.speaker))))
 
--- those that the next clock brings
+-- the lines of the changes that the next clock brings
 abbrev pub changes_next : Plain → List ℕ
 changes_next s = changes_between (clock_of s + 1) (levels_of s) (levels_of (after_clock s))
 
--- some clocks are made, at most up to the clock `end`, the changes in them are told, and the levels known
+-- some clocks have passed, at most up to the clock `end`, the changes in them are listed, and the levels known
 pub record IsSignalled (end : ℕ) (old new : SessionState) (text : List ℕ) (levels : Levels) : Type 0 where
   pub passed : ℕ
   pub ran : Ran passed old.board new.board

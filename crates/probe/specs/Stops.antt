@@ -1,4 +1,4 @@
--- Stops on what stands at a clock, and on what happens in the clock that leads to it.
+-- Stops on conditions at a clock, and on what happens in the clock that leads to it.
 -- To be believed by callers of this crate: the headline does not rest on it.
 use Rattle.std.specs.Prelude.{ℕ, ◌≡◌, ◌+◌, ◌-◌, ◌<◌, ◌≤◌, ◌^◌, ◌==◌, Bool, false, not, List, Option, None, Some}
 use Rattle.std.proofs.Common.{zero, suc}
@@ -12,40 +12,40 @@ use Rattle.probe.specs.declared.stops.Stop.{Stop}
 use Rattle.probe.specs.declared.stops.Stop.TheVariants.{Standing, When, Changes}
 use Rattle.probe.specs.Listed.{is_listed}
 
--- the bytes that a stop asks for have addresses, and are few
+-- the bytes for which a stop waits have addresses, and are few
 abbrev pub HasBytes : Stop → Type 0
 HasBytes (Standing condition) = HasAddress condition
 HasBytes (When kinds) = Unit {0}
 HasBytes (Changes address count) = (1 ≤ count) × ((count ≤ 65536) × (address + count ≤ 2 ^ 20))
 
--- something of these kinds happens in the next clock
+-- an event of these kinds happens in the next clock
 abbrev pub happens : List Kind → Plain → Bool
 happens kinds s = list_any (is_listed kinds) (events_next s)
 
--- one of so many bytes from an address on differs
+-- one of `count` bytes from an address on differs
 abbrev pub any_differs : ℕ → ℕ → Plain → Plain → Bool
 any_differs address count before now =
     list_any (λ k. not (byte_of before (address + k) == byte_of now (address + k))) (range_with_len 0 count)
 
--- whether a stop holds at a clock, by the clock before and this one
+-- whether a stop is met at a clock, by the clock before and this one
 unfoldable pub meets : Stop → Plain → Plain → Bool
 meets (Standing condition) before now = holds condition now
 meets (When kinds) before now = happens kinds.items before
 meets (Changes address count) before now = any_differs address count before now
 
--- the least number, from 1, of one that does
+-- the least number, from 1, of a stop that is met
 unfoldable pub meeting : List Stop → Plain → Plain → Option ℕ
 meeting stops before now = position_from (λ stop. meets stop before now) 1 stops
 
--- at the n-th clock after the start, n being 1 at least
+-- the least number of a stop that is met at the n-th clock after the start; n is at least 1
 abbrev pub meeting_at : List Stop → Plain → ℕ → Option ℕ
 meeting_at stops s n = meeting stops (after_clocks s (n - 1)) (after_clocks s n)
 
--- no stop holds at any of the n clocks after the start
+-- no stop is met at any of the n clocks after the start
 abbrev pub NoneMet : List Stop → ℕ → Plain → Type 0
 NoneMet stops n s = (j : ℕ) → 1 ≤ j → j ≤ n → meeting_at stops s j ≡ None
 
--- the end of a run of n clocks: the first clock after the start at which a stop holds
+-- the end of a run of n clocks: the first clock after the start at which a stop is met
 pub record EndsAt (stops : List Stop) (n : ℕ) (s : Plain) (end : End) : Type 0 where
   pub passed : ℕ
   pub after_start : 1 ≤ passed
@@ -58,26 +58,27 @@ abbrev pub IsEndOf : List Stop → ℕ → Plain → Option End → Type 0
 IsEndOf stops n s None = NoneMet stops n s
 IsEndOf stops n s (Some end) = EndsAt stops n s end
 
--- whether a stop holds by what stands alone
+-- whether a stop holds as a condition
 unfoldable pub stands : Stop → Plain → Bool
 stands (Standing condition) s = holds condition s
 stands (When kinds) s = false
 stands (Changes address count) s = false
 
--- the least number, from 1, of one that does
+-- the least number, from 1, of a stop that holds as a condition
 unfoldable pub standing : List Stop → Plain → Option ℕ
 standing stops s = position_from (λ stop. stands stop s) 1 stops
 
--- seen from a session's first clock, to which no clock leads: there what stands alone can hold
+-- the stop that is met n clocks after a session's first clock; at that one, which no clock precedes, a condition can
+-- hold
 abbrev pub met_from : List Stop → Plain → ℕ → Option ℕ
 met_from stops first zero = standing stops first
 met_from stops first (suc n) = meeting_at stops first (suc n)
 
--- no stop holds at any of the first n clocks, the session's first among them
+-- no stop is met at any of the first n clocks, including the session's first
 abbrev pub NoneMetFrom : List Stop → ℕ → Plain → Type 0
 NoneMetFrom stops n first = (j : ℕ) → j < n → met_from stops first j ≡ None
 
--- the last of the first n clocks at which one holds
+-- the last of the first n clocks at which a stop is met
 pub record MetLast (stops : List Stop) (n : ℕ) (first : Plain) (clock number : ℕ) : Type 0 where
   pub passed : ℕ
   pub within : passed < n

@@ -1,4 +1,4 @@
--- What is kept of what began, while clocks are made.
+-- The tallies of what began in a run.
 -- For proofs alone: no public contract rests on it.
 use Rattle.std.specs.Prelude.{ℕ, zero, suc, ◌≡◌, ◌+◌, ◌<◌, ◌≤◌, Bool, List, [], ◌∷◌, ◌++◌, count_by, Option, None, Some, IfSome}
 use Rattle.std.specs.BTreeMap.{BTreeMap, get}
@@ -23,25 +23,25 @@ tally_of (suc n) clocks = Some (record { count = suc n; clocks = clocks })
 abbrev pub tally_at : (Begun → Option ℕ) → List Begun → ℕ → ℕ → Option Tally
 tally_at number begun end k = tally_of (count_by (has number k) begun) (clocks_from (has number k) begun end)
 
--- one more
+-- a tally of one more beginning
 abbrev pub one_more : Option Tally → ℕ → Tally
 one_more None clocks = record { count = 1; clocks = clocks }
 one_more (Some t) clocks = record { count = t.count + 1; clocks = t.clocks + clocks }
 
--- the tallies of all of these, the last of which ends at a clock
+-- the tallies of all these beginnings, the last of which ends at a clock
 abbrev pub AreTallies : (Begun → Option ℕ) → List Begun → ℕ → BTreeMap ℕ Tally → Type 0
 AreTallies number begun end tallies = (k : ℕ) → get nat_cmp tallies k ≡ tally_at number begun end k
 
--- none counts further than a clock
+-- no tally is more than a clock
 abbrev pub AreBelow : ℕ → BTreeMap ℕ Tally → Type 0
 AreBelow clock tallies = (k : ℕ) (t : Tally) → get nat_cmp tallies k ≡ Some t → (t.count ≤ clock) × (t.clocks ≤ clock)
 
--- the clock up to which is tallied
+-- the clock up to which beginnings are tallied
 abbrev pub tallied_to : Option Begun → ℕ
 tallied_to None = 0
 tallied_to (Some b) = b.clock
 
--- all of these are tallied, the last of them up to a clock
+-- all these beginnings are tallied, the last of them up to a clock
 pub record HasTallied (begun : List Begun) (end : ℕ) (c : Counts) : Type 0 where
   pub places : AreTallies place_of begun end c.places
   pub types : AreTallies type_of begun end c.types
@@ -54,18 +54,18 @@ pub record HasNoted (begun : List Begun) (c : Counts) : Type 0 where
   pub first : IfSome c.latest (λ b. c.first ≡ next_clock earlier b.clock)
   pub none : c.latest ≡ None → earlier ≡ []
 
--- the latest is this one, if there is one
+-- the latest beginning, after this one, if there is one
 abbrev pub newest : Option Begun → Option Begun → Option Begun
 newest latest None = latest
 newest latest (Some b) = Some b
 
--- counts before a clock, which are at most that clock
+-- what has begun did so before a clock, and no tally is more than it
 pub record IsBefore (clock : ℕ) (c : Counts) : Type 0 where
   pub latest : IfSome c.latest (λ b. b.clock < clock)
   pub places : AreBelow (tallied_to c.latest) c.places
   pub types : AreBelow (tallied_to c.latest) c.types
 
--- how something that began is named, and its line
+-- the name of a number in a line of counts, and that line
 abbrev pub name_of : Kind → ℕ → List ℕ
 name_of Instruction = place_name
 name_of Entry = type_name

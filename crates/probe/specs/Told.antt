@@ -1,4 +1,4 @@
--- How far clocks have been made of which is told what happens in them.
+-- How far a run has come whose events are listed.
 -- For proofs alone: no public contract rests on it.
 use Rattle.std.specs.Prelude.{ℕ, ◌≡◌, ◌+◌, ◌≤◌, ◌==◌, nat_lt, Bool, true, false, if◌then◌else◌, List, [], ◌∷◌, ◌++◌, length, map, Option, None, Some}
 use Rattle.std.specs.Bool.{beq}
@@ -22,7 +22,7 @@ use Rattle.probe.specs.declared.signals.Levels.{Levels}
 use Rattle.probe.specs.Listed.{listed_lines}
 use Rattle.probe.specs.Signalled.{levels_of}
 
--- a wire between two levels
+-- the event of a wire that goes from one level to another
 abbrev pub change_events : ℕ → Wire → Bool → Bool → List Event
 change_events clock wire before after = if beq before after then [] else Wired clock wire after ∷ []
 
@@ -36,7 +36,7 @@ lines_between kinds clock before after =
     ++ (listed_lines kinds (change_events clock Int before.int after.int)
     ++ listed_lines kinds (change_events clock Speaker before.speaker after.speaker)))))
 
--- codes that arrive while so many wait: each waits, or is lost if sixteen do
+-- how many codes wait after one more arrives: it is lost if sixteen wait
 abbrev pub waits_among : ℕ → ℕ
 waits_among waiting = if nat_lt waiting 16 then waiting + 1 else waiting
 
@@ -45,7 +45,7 @@ arrivals_from clock waiting [] = []
 arrivals_from clock waiting (code ∷ codes) =
     Keyed clock (if nat_lt waiting 16 then Arrives else IsLost) code ∷ arrivals_from clock (waits_among waiting) codes
 
--- how many wait after them
+-- how many codes wait after some more arrive
 abbrev pub held_from : ℕ → List ℕ → ℕ
 held_from waiting [] = waiting
 held_from waiting (code ∷ codes) = held_from (waits_among waiting) codes
@@ -60,7 +60,7 @@ key_lines kinds clock waiting codes after =
     listed_lines kinds (arrivals_from clock waiting codes)
     ++ listed_lines kinds (latched_from clock (held_from waiting codes) after)
 
--- if they are asked for
+-- the lines of the keys, if those are asked for
 abbrev pub keys_seen : Bool → List Kind → ℕ → ℕ → List ℕ → KeyboardState → List ℕ
 keys_seen true kinds clock waiting codes after = key_lines kinds clock waiting codes after
 keys_seen false kinds clock waiting codes after = []
@@ -86,7 +86,7 @@ lines_seen kinds clock (Some before) (Some after) = lines_between kinds clock be
 lines_seen kinds clock (Some before) None = []
 lines_seen kinds clock None _ = []
 
--- the lines of a clock that leads from what was seen to a board
+-- the lines of a clock that leads from what was seen before it to a board
 unfoldable pub clock_lines : List Kind → Asked → Seen → List TrailEntry → List Access → Plain → List ℕ
 clock_lines kinds asked before entries accesses s =
     listed_lines kinds (map Began entries)
@@ -95,13 +95,13 @@ clock_lines kinds asked before entries accesses s =
     ++ (keys_seen asked.keys kinds (before.clock + 1) before.waiting (codes_at s.keys (before.clock + 1)) s.chips.keyboard
     ++ lines_seen kinds (before.clock + 1) before.levels (levels_seen asked.wires s))))
 
--- a kind that lists what begins: an instruction, or, if there is a type, an entry
+-- a kind that lists what begins: an instruction, or an entry, which has a type
 abbrev pub lists_beginning : Kind → Option ℕ → Bool
 lists_beginning Starts None = true
 lists_beginning Entries (Some type) = true
 lists_beginning _ _ = false
 
--- some clocks are made, at most up to the clock `end`, and what happens in them is told
+-- some clocks have passed, at most up to the clock `end`, and their events are listed
 pub record IsTold (kinds : List Kind) (end : ℕ) (old new : SessionState) (text : List ℕ) : Type 0 where
   pub passed : ℕ
   pub ran : Ran passed old.board new.board

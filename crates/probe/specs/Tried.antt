@@ -1,4 +1,4 @@
--- A run with a key that is tried, and the ranges of moments to which it is added.
+-- A run with a key that is tried, and the ranges to which it is added.
 -- For proofs alone: no public contract rests on it.
 use Rattle.std.specs.Prelude.{ℕ, ◌≡◌, ◌+◌, ◌-◌, ◌<◌, ◌≤◌, ◌==◌, All, Bool, true, false, min, max, if◌then◌else◌, List, [], ◌∷◌, Option, None, Some}
 use Rattle.board_plain.specs.declared.stop.Stop.{Stop as End}
@@ -19,12 +19,12 @@ pub record RunsTo (stops : List Stop) (end : ℕ) (s t : Plain) (stopped : Optio
   pub plain : t ≡ after_clocks s (run_length (end - clock_of s) s stopped)
   pub clock : clock_of t ≡ clock_of s + run_length (end - clock_of s) s stopped
 
--- the ends of runs of which one ends so
+-- the ends of runs, the first of which ends like this
 abbrev pub ends_of : Option End → Option Ends
 ends_of None = None
 ends_of (Some end) = Some (record { number = end.number; least = end.clock; greatest = end.clock })
 
--- the ends of runs and of one more, if that ends at their stop, or at none as they do
+-- the ends of runs and of one more, if that ends at their stop, or, as they do, at none
 abbrev pub wider : Ends → End → Ends
 wider ends end = record { number = ends.number; least = min ends.least end.clock; greatest = max ends.greatest end.clock }
 
@@ -34,7 +34,7 @@ ends_with None (Some end) = None
 ends_with (Some ends) None = None
 ends_with (Some ends) (Some end) = if ends.number == end.number then Some (Some (wider ends end)) else None
 
--- further moments, from one clock up to another, with which runs end so
+-- the clocks from one to another, with which runs end like this
 abbrev pub moments_of : ℕ → ℕ → Option End → Moments
 moments_of first last end = record { first = first; last = last; ends = ends_of end }
 
@@ -47,7 +47,8 @@ added [] first last end = moments_of first last end ∷ []
 added (m ∷ []) first last end = joined m (moments_of first last end) (ends_with m.ends end)
 added (m ∷ n ∷ ms) first last end = m ∷ added (n ∷ ms) first last end
 
--- the key was tried at each clock before this one, and without it no stop was met up to the clock before the last of them
+-- the key was tried at each clock before this one, and without it no stop was met up to the clock before the last of
+-- them
 pub record Tried (stops : List Stop) (s bare : Plain) (trial : Trial) (end stamp : ℕ) (ranges : List Moments) (watches : List Watched) : Type 0 where
   pub passed : ℕ
   pub plain : bare ≡ after_clocks s passed
@@ -59,7 +60,7 @@ pub record Tried (stops : List Stop) (s bare : Plain) (trial : Trial) (end stamp
   pub stops_are : stops_of watches ≡ stops
   pub watched : All IsWatched watches
 
--- it can be tried at this clock
+-- the key can be tried at this clock
 pub record TriedSoFar (stops : List Stop) (s bare : Plain) (trial : Trial) (end stamp : ℕ) (ranges : List Moments) (watches : List Watched) : Type 0 where
   pub first : trial.first ≤ stamp
   pub last : stamp ≤ trial.last

@@ -21,17 +21,17 @@ stamp_of clock (Some at) = at
 abbrev pub typed_key : ℕ → ℕ → Option ℕ → StampedKey
 typed_key clock code at = record { stamp = stamp_of clock at; code = code }
 
--- one that is still to come
+-- a key that is still to come
 pub record IsToCome (clock : ℕ) (key : StampedKey) : Type 0 where
   pub within : key.stamp ≤ 2 ^ 40
   pub scan : IsTrue (names_key key.code)
   pub later : clock < key.stamp
 
--- `key 1E 72`
+-- the line of a key: `key 1E 72`
 unfoldable pub key_text : StampedKey → List ℕ
 key_text key = codes "key " ++ (hex_byte_text key.code ++ (codes " " ++ (decimal key.stamp ++ codes "\n")))
 
--- It is as if the key had been there when the session began: the first board has it, too. The stops stay.
+-- The session is as if the key had been there when it began: its first board has it, too. The stops stay.
 pub record Takes (key : StampedKey) (old new : SessionState) (answer : Answer) : Type 0 where
   pub to_come : IsToCome (clock_of old.board.plain) key
   pub first : new.first ≡ record old.first { plain = with_key old.first.plain key }
@@ -39,7 +39,7 @@ pub record Takes (key : StampedKey) (old new : SessionState) (answer : Answer) :
   pub stops : new.stops ≡ old.stops
   pub shows : IsText (key_text key) answer
 
--- why it isn't taken: the first of these that is so
+-- why a key isn't taken: the first of these reasons that holds
 abbrev pub IsRefused : ℕ → StampedKey → DebugFault → Type 0
 IsRefused clock key ClockLimit = 2 ^ 40 < key.stamp
 IsRefused clock key BadScan = (key.stamp ≤ 2 ^ 40) × ¬ (IsTrue (names_key key.code))
@@ -50,7 +50,7 @@ IsRefused clock key BadCommand = ⊥
 IsRefused clock key TooManyStops = ⊥
 IsRefused clock key BeforeStart = ⊥
 
--- nothing changes then
+-- a key isn't taken, and nothing changes
 abbrev pub RefusesKey : StampedKey → SessionState → SessionState → DebugFault → Type 0
 RefusesKey key old new fault = IsRefused (clock_of old.board.plain) key fault × (new ≡ old)
 

@@ -1,4 +1,4 @@
-//! A copy of the bytes whose changes a stop asks for, as they stand at a board's clock.
+//! A copy of the bytes whose changes a stop waits for, as they were at a board's clock.
 ghost use Rattle.std.specs.Prelude.{◌≡◌, ◌<◌, ◌^◌, IfOk, IsTrue, OnErr, length};
 ghost use Rattle.probe.specs.Met.{AreRenewed, HasRoom, IsCopy, IsCovered, IsOneRenewed, IsRecopied, differs_copied};
 ghost use Rattle.probe.specs.Requests.{asks_changes};
@@ -9,7 +9,7 @@ use board::board::Board;
 use events::access::Access;
 use std::alloc::{AllocError, Global};
 
-/// Bytes from an address on.
+/// Copies of the bytes from an address on.
 #[derive(Drop)]
 pub(crate) struct Copied {
     first: u32,
@@ -28,7 +28,7 @@ impl Copied {
         }
     }
 
-    /// Room for the bytes whose changes a stop asks for.
+    /// A copy with room for the bytes whose changes a stop waits for.
     pub(crate) fn new(alloc: Global, stop: &Stop) -> Result<Copied, AllocError>
         requires { HasBytes stop.now }
         ensures covers { IfOk result (λ copied. IsCovered copied stop.now) }
@@ -41,7 +41,7 @@ impl Copied {
         }
     }
 
-    /// Room for so many bytes from an address on.
+    /// A copy with room for `count` bytes from `first` on.
     fn zeros(alloc: Global, first: u32, count: u32) -> Result<Copied, AllocError>
         ensures first { IfOk result (λ copied. copied.first ≡ first) }
         ensures count { IfOk result (λ copied. length copied.bytes.items ≡ count) }
@@ -50,7 +50,7 @@ impl Copied {
         Ok(Copied { first, bytes })
     }
 
-    /// Copies all of them anew.
+    /// Copies all its bytes anew.
     pub(crate) fn copy(&mut self, board: &Board)
         requires { HasRoom self.old }
         ensures { IsRecopied board.now.plain self.old self.new }
@@ -60,7 +60,7 @@ impl Copied {
         }
     }
 
-    /// Whether the byte at an address differs from the copied one, if it is among these.
+    /// Whether the byte at an address differs from its copy; no if it has none.
     pub(crate) fn differs(&self, address: u32, board: &Board) -> bool
         requires { address < 2 ^ 20 }
         ensures { result ≡ differs_copied self.now address board.now.plain }
@@ -74,7 +74,7 @@ impl Copied {
         }
     }
 
-    /// Copies the bytes that these accesses have written.
+    /// Renews the copies of the bytes that these accesses have written.
     pub(crate) fn renew(&mut self, accesses: &[Access], board: &Board)
         requires { HasRoom self.old }
         ensures { AreRenewed accesses.now board.now.plain self.old self.new }
@@ -84,7 +84,7 @@ impl Copied {
         }
     }
 
-    /// Copies the byte that an access has written, if it has.
+    /// Renews the copy of the byte that an access has written, if there is one.
     fn renew_by(&mut self, access: Access, board: &Board)
         requires { HasRoom self.old }
         ensures { IsOneRenewed access board.now.plain self.old self.new }

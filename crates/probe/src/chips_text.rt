@@ -21,7 +21,7 @@ use pit8253::pit::Pit;
 use ppi8255::ppi::{Direction, Inputs, Ppi};
 use std::alloc::{AllocError, Global};
 
-/// What the board's chips hold, a line for each chip and counter, and the processor's last.
+/// What the board's chips hold: a line for each chip and counter, and the processor's last.
 #[tactic(auto, unfolding(crate::specs::Chips::chips_text))]
 pub(crate) fn chips_text(alloc: Global, board: &Board) -> Result<String, AllocError>
     ensures { IfOk result (λ text. string_bytes text ≡ chips_text board.now.plain) }
@@ -55,7 +55,7 @@ fn timer_lines(alloc: Global, pit: &Pit) -> Result<String, AllocError>
     Ok(text)
 }
 
-/// What the board brings to the parallel port's pins.
+/// The levels and bytes that the board brings to the parallel port's pins.
 fn inputs(board: &Board) -> Inputs
     ensures { result ≡ inputs_of board.now.plain.chips }
 {
@@ -98,7 +98,7 @@ fn keyboard_line(alloc: Global, keyboard: &Keyboard) -> Result<String, AllocErro
     Ok(text)
 }
 
-/// The codes that wait, a blank before each.
+/// Adds the codes that wait, with a blank before each.
 fn push_waiting(alloc: Global, text: &mut String, keyboard: &Keyboard) -> Result<(), AllocError>
     ensures { OnOk result (string_bytes text.new ≡ string_bytes text.old ++ flat_map spaced_byte keyboard.now.waiting) }
 {

@@ -13,7 +13,7 @@ use pic8259::Pic;
 use pic8259::image::PicImage;
 use std::alloc::{AllocError, Global};
 
-/// The line of the controller that an image stands for.
+/// The line of the controller with this image.
 #[tactic(auto, unfolding(crate::specs::Controller::controller_line))]
 pub(crate) fn controller_line(alloc: Global, image: &PicImage) -> Result<String, AllocError>
     ensures { IfOk result (λ text. string_bytes text ≡ controller_line (pic_of image.now)) }
@@ -84,7 +84,7 @@ fn controller_kept(alloc: Global, image: &PicImage) -> Result<String, AllocError
     format!(in alloc; " risen {risen} SNGL {sngl} IC4 {ic4}")
 }
 
-/// The request lines that are high, a bit a level, as in the registers.
+/// The request lines that are high, a bit for each level, as in the registers.
 #[tactic(auto, using(crate::proofs::Registers::byte_of_set), unfolding(pic8259::specs::Image::pic_of))]
 fn line_register(image: &PicImage) -> u8
     ensures { result ≡ byte_of (pic_of image.now).high }
@@ -141,14 +141,14 @@ fn lowest(image: &PicImage) -> u8
     image.lowest % 8
 }
 
-/// 1 where the interrupt output is high.
+/// 1 if the interrupt output is high, else 0.
 fn interrupt_output(image: &PicImage) -> u8
     ensures { result ≡ (if is_requesting (pic_of image.now) then 1 else 0) }
 {
     digit(Pic::from_image(image).request())
 }
 
-/// What an acknowledge would answer.
+/// The vector that an acknowledge would give now.
 fn vector(image: &PicImage) -> u8
     ensures { result ≡ vector (pic_of image.now) }
 {

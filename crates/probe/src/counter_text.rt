@@ -14,7 +14,7 @@ use pit8253::counter::Counter;
 use pit8253::image::CounterImage;
 use std::alloc::{AllocError, Global};
 
-/// The line of the counter that an image stands for, `number` being the counter's.
+/// The line of the counter `number` with this image.
 #[tactic(auto, unfolding(crate::specs::Counter::counter_line))]
 pub(crate) fn counter_line(
     alloc: Global,
@@ -71,7 +71,7 @@ fn loads_next(image: &CounterImage) -> u8
     digit(counter.image().is_null == 0)
 }
 
-/// 1 where the next read of the count gives its high byte.
+/// 1 if the next read of the count gives its high byte, else 0.
 #[tactic(auto, unfolding(pit8253::specs::Image::counter_of))]
 fn reads_high(image: &CounterImage) -> u8
     ensures { result ≡ (if reads_high (counter_of image.now).access (counter_of image.now).high_next then 1 else 0) }
@@ -94,7 +94,7 @@ fn counter_running(alloc: Global, image: &CounterImage) -> Result<String, AllocE
     format!(in alloc; " loaded {loaded} due {due} strobe {strobe} decimal {decimal}")
 }
 
-/// Adds the status of an 8254's counter.
+/// Adds the status, if the counter is an 8254's.
 #[tactic(auto, unfolding(pit8253::specs::Image::counter_of))]
 fn push_status(alloc: Global, text: &mut String, image: &CounterImage) -> Result<(), AllocError>
     ensures { OnOk result (string_bytes text.new ≡ string_bytes text.old
@@ -145,7 +145,7 @@ fn access_digit(image: &CounterImage) -> u8
     }
 }
 
-/// 1 where counts are written in decimal digits.
+/// 1 if counts are written in decimal digits, else 0.
 #[tactic(auto, unfolding(pit8253::specs::Image::counter_of))]
 fn radix_digit(image: &CounterImage) -> u8
     ensures digit { result ≡ radix_number (counter_of image.now).radix }
@@ -154,7 +154,7 @@ fn radix_digit(image: &CounterImage) -> u8
     digit(image.radix != 0)
 }
 
-/// The running count as it is read.
+/// The running count, as it would be read.
 #[tactic(auto, unfolding(pit8253::specs::Image::counter_of))]
 fn count_digits(image: &CounterImage) -> u16
     ensures { result ≡ digits_of (counter_of image.now).count_radix (counter_of image.now).count }
@@ -162,7 +162,7 @@ fn count_digits(image: &CounterImage) -> u16
     digits_in(image.count_radix, image.count)
 }
 
-/// The newest full count, if there is one since the control word.
+/// The newest full count since the control word, if there is one.
 #[tactic(auto, unfolding(pit8253::specs::Image::counter_of))]
 fn newest(image: &CounterImage) -> Option<u16>
     ensures { result ≡ newest_of (counter_of image.now) }
@@ -173,7 +173,7 @@ fn newest(image: &CounterImage) -> Option<u16>
     Some(digits_in(image.radix, image.newest))
 }
 
-/// A count as its radix shows it.
+/// A count as its radix shows it: in BCD, four decimal digits.
 fn digits_in(radix: u8, count: u16) -> u16
     ensures { result ≡ digits_of (radix_of radix) (count % modulus (radix_of radix)) }
 {

@@ -1,4 +1,4 @@
-//! Where a run's clocks went.
+//! How the clocks of a run are counted by what began.
 ghost use Rattle.std.specs.Prelude.{ℕ, ◌≡◌, ◌+◌, ◌-◌, ◌*◌, ◌<◌, ◌≤◌, ◌^◌, ◌==◌, ◌++◌, if◌then◌else◌, [], ◌∷◌, List, IfErr, IfOk, IfSome, MatchResult, None, OnErr, OnOk, Some};
 ghost use Rattle.std.specs.BTreeMap.{get, IsOrdered};
 ghost use Rattle.std.specs.List.{flat_map};
@@ -24,7 +24,7 @@ use std::alloc::{AllocError, Global};
 use std::collections::BTreeMap;
 use std::fmt;
 
-/// How often something began, and the clocks from it up to the next beginning.
+/// How often something began, and the clocks from each beginning up to the next.
 #[derive(Clone, Copy)]
 pub(crate) struct Tally {
     count: u64,
@@ -36,11 +36,11 @@ pub(crate) struct Tally {
 pub(crate) struct Counts {
     /// The clock of the first beginning, once there was one.
     first: Clock,
-    /// What began last: it is tallied once its clocks are known.
+    /// What began last. It is tallied once its clocks are known.
     latest: Option<Begun>,
-    /// Of instructions, by CS:IP.
+    /// The tallies of instructions, by CS:IP.
     places: BTreeMap<u32, Tally>,
-    /// Of entries, by their types.
+    /// The tallies of entries, by their types.
     types: BTreeMap<u32, Tally>,
 }
 
@@ -58,7 +58,7 @@ impl Counts {
         }
     }
 
-    /// Notes what begins, if something does.
+    /// Notes what begins, if anything does.
     fn note(&mut self, begun: Option<Begun>) -> Result<(), AllocError>
         requires { IfSome begun (λ b. IsBefore b.clock self.old) }
         ensures noted { OnOk result ((all : List Begun) → HasNoted all self.old
@@ -74,7 +74,7 @@ impl Counts {
         }
     }
 
-    /// Something begins.
+    /// Notes what begins, and tallies what began before it.
     fn begin(&mut self, begun: Begun) -> Result<(), AllocError>
         requires { IsBefore begun.clock self.old }
         ensures noted { OnOk result ((all : List Begun) → HasNoted all self.old
@@ -88,7 +88,8 @@ impl Counts {
         Ok(())
     }
 
-    /// Tallies what began last, whose clocks end at this one. If nothing has begun, the clocks before the first beginning end there.
+    /// Tallies what began last, whose clocks end at this one. If nothing has begun yet, the clocks before the first
+    /// beginning end here.
     fn tally_latest(&mut self, clock: Clock) -> Result<(), AllocError>
         requires { IsBefore clock self.old }
         ensures tallied { OnOk result ((all : List Begun) → HasNoted all self.old → HasTallied all clock self.new) }
@@ -109,7 +110,7 @@ impl Counts {
         }
     }
 
-    /// The clocks before the first beginning, and a line for each CS:IP and each type. The run ends at `end`.
+    /// The clocks before the first beginning, and a line for each CS:IP and each type, for a run from `start` to `end`.
     fn text(&mut self, alloc: Global, start: Clock, end: Clock) -> Result<String, AllocError>
         requires before { IsBefore end self.old }
         requires started { start ≤ self.old.first }
@@ -127,14 +128,14 @@ impl Counts {
     }
 }
 
-/// CS:IP as a number, the segment above the offset.
+/// CS:IP as one number, with the segment above the offset.
 fn place_of(begun: Begun) -> u32
     ensures { result ≡ 65536 * begun.cs + begun.ip }
 {
     65536 * u32::from(begun.cs) + u32::from(begun.ip)
 }
 
-/// Counts one more that began, with the clocks from it.
+/// Tallies one more beginning, with the clocks from it.
 #[inline(always)]
 fn add(tallies: &mut BTreeMap<u32, Tally>, number: u32, clocks: u64) -> Result<(), AllocError>
     requires below { AreBelow (2 ^ 40) tallies.old }
@@ -150,7 +151,8 @@ fn add(tallies: &mut BTreeMap<u32, Tally>, number: u32, clocks: u64) -> Result<(
     add_first(tallies, number, clocks)
 }
 
-/// Counts the first that began there. It is kept out of the loop, which mostly counts one more.
+/// Tallies the first beginning at this number. Kept out of the loop of turns, which mostly comes to numbers that it
+/// has.
 #[inline(never)]
 fn add_first(tallies: &mut BTreeMap<u32, Tally>, number: u32, clocks: u64) -> Result<(), AllocError>
     ensures { OnOk result ((k : ℕ) → get nat_cmp tallies.new k
@@ -194,7 +196,7 @@ impl fmt::Display for Name {
     }
 }
 
-/// A line for each number.
+/// A line for each number, rising.
 fn lines_of(alloc: Global, kind: Kind, tallies: &BTreeMap<u32, Tally>) -> Result<String, AllocError>
     ensures lines { IfOk result (λ text. string_bytes text ≡ flat_map (tally_line kind) tallies.now.entries) }
     ensures ordered { OnOk result (IsOrdered nat_cmp tallies.now) }
@@ -218,8 +220,9 @@ fn push_line(text: &mut String, name: Name, tally: Tally) -> Result<(), AllocErr
     write!(text, "{name} {count} {clocks}\n")
 }
 
-/// Makes `count` clocks, whatever the stops say, and tells where they went. Refused as `ClockLimit` past the last clock,
-/// and as `Memory`, with the clock that was reached, where there is none.
+/// Runs for `count` clocks, whatever the stops are, and answers what began how often and the clocks from it. Refused as
+/// `ClockLimit`, with nothing changed, if it would go past the last clock, and as `Memory`, with the clock that was
+/// reached, if there is none.
 pub(crate) fn tell_counts(
     session: &mut Session,
     alloc: Global,

@@ -1,4 +1,4 @@
-//! What happens while clocks are made.
+//! The events of clocks that are made, as lines.
 ghost use Rattle.std.specs.Prelude.{ℕ, ◌≡◌, ◌+◌, ◌-◌, ◌<◌, ◌≤◌, ◌^◌, ◌++◌, [], ◌∷◌, IfOk, OnOk, Some, List, length, map, slice_get};
 ghost use Rattle.std.specs.List.{list_any};
 ghost use Rattle.std.specs.Option.{option_to_list};
@@ -37,7 +37,7 @@ use keyboard::keyboard::Keyboard;
 use std::alloc::{AllocError, Global};
 use std::fmt;
 
-/// What begins.
+/// What begins, as the words of its line.
 #[derive(Drop)]
 struct BegunText<'a>(&'a TrailEntry);
 
@@ -60,7 +60,7 @@ impl fmt::Display for BegunText<'_> {
     }
 }
 
-/// An access.
+/// An access, as the words of its line.
 #[derive(Clone, Copy)]
 struct AccessText(Access);
 
@@ -88,7 +88,7 @@ impl fmt::Display for AccessText {
     }
 }
 
-/// The word of a state that the processor comes to.
+/// The word for a new state of the processor.
 fn state_word(state: State) -> &'static str
     ensures { result.now ≡ state_word state }
 {
@@ -170,7 +170,7 @@ pub(crate) fn lists_keys(kinds: &[Kind]) -> bool
     kinds.iter().any(|kind| matches!(kind, Kind::Keys))
 }
 
-/// The word of what becomes of a key's code.
+/// The word for what becomes of a key's code.
 fn key_word(what: KeyEvent) -> &'static str
     ensures { result.now ≡ key_word what }
 {
@@ -201,7 +201,7 @@ fn push_key(
     write!(text, "{clock} key {code} {word}\n")
 }
 
-/// Adds the lines of the codes that arrive while so many wait, and answers how many wait then.
+/// Adds the lines of the codes that arrive while `waiting` wait. Answers how many wait then.
 fn push_arrivals(
     text: &mut String,
     kinds: &[Kind],
@@ -238,7 +238,8 @@ pub(crate) fn waiting_of(keyboard: &Keyboard) -> usize
     count
 }
 
-/// Adds the line of the code that has moved into the latch, if one has and it is listed; before that so many waited.
+/// Adds the line of the code that has moved into the latch, if one has and keys are listed; `held` codes waited before
+/// that.
 fn push_latched(
     text: &mut String,
     kinds: &[Kind],
@@ -258,8 +259,8 @@ fn push_latched(
     }
 }
 
-/// Adds the lines of what becomes of the keys at a clock before which so many codes waited; at the board's clock the keyboard
-/// still stands as that clock left it.
+/// Adds the lines of what becomes of the keys at `clock`, before which `waiting` codes waited. At the board's clock the
+/// keyboard must still be as `clock` left it.
 #[tactic(auto, unfolding(crate::specs::Told::key_lines))]
 fn push_keys(
     text: &mut String,
@@ -292,7 +293,7 @@ fn push_begun(text: &mut String, kinds: &[Kind], entry: &TrailEntry) -> Result<(
     write!(text, "{clock} {begun}\n")
 }
 
-/// Adds the line of an access in the clock that begins at this one, if it is listed.
+/// Adds the line of an access in the clock that begins at `clock`, if it is listed.
 #[tactic(auto, using(crate::proofs::Listing::told_listed, crate::proofs::Listing::not_told), unfolding(crate::specs::Listed::event_line))]
 fn push_access(
     text: &mut String,
@@ -310,7 +311,7 @@ fn push_access(
     write!(text, "{clock} {access}\n")
 }
 
-/// Adds the lines of a clock's accesses that are listed.
+/// Adds the lines of those accesses of a clock that are listed.
 #[tactic(auto, using(crate::proofs::Listing::listed_append, crate::proofs::Listing::listed_none))]
 fn push_accesses(
     text: &mut String,
@@ -327,7 +328,7 @@ fn push_accesses(
     Ok(())
 }
 
-/// Adds the line of a state that the processor comes to, if it is listed.
+/// Adds the line of a new state of the processor, if states are listed.
 #[tactic(auto, using(crate::proofs::Listing::told_listed, crate::proofs::Listing::not_told), unfolding(crate::specs::Listed::event_line))]
 fn push_state(text: &mut String, kinds: &[Kind], clock: u64, state: State) -> Result<(), AllocError>
     ensures { OnOk result (string_bytes text.new
@@ -340,7 +341,7 @@ fn push_state(text: &mut String, kinds: &[Kind], clock: u64, state: State) -> Re
     write!(text, "{clock} {word}\n")
 }
 
-/// Adds the line of a wire that comes to another level, if it is listed.
+/// Adds the line of a wire that takes another level, if wires are listed.
 #[tactic(auto, using(crate::proofs::Listing::told_listed, crate::proofs::Listing::not_told), unfolding(crate::specs::Listed::event_line))]
 fn push_wire(
     text: &mut String,
@@ -360,7 +361,7 @@ fn push_wire(
     write!(text, "{clock} wire {name} {level}\n")
 }
 
-/// Adds the line of a wire, if its level changes and it is listed.
+/// Adds the line of a wire, if it takes another level and wires are listed.
 fn push_change(
     text: &mut String,
     kinds: &[Kind],
@@ -378,7 +379,7 @@ fn push_change(
     push_wire(text, kinds, clock, wire, after)
 }
 
-/// Adds the lines of the wires that change, if they are listed.
+/// Adds the lines of the wires that take another level, if wires are listed.
 #[tactic(auto, unfolding(crate::specs::Told::lines_between))]
 fn push_changes(
     text: &mut String,
@@ -404,15 +405,15 @@ fn push_changes(
     )
 }
 
-/// Which parts of a board are looked at, since they are listed: its wires, and its keys.
+/// Which parts of a board have to be looked at: its wires, and its keys.
 #[derive(Clone, Copy)]
 pub(crate) struct Asked {
     pub(crate) wires: bool,
     pub(crate) keys: bool,
 }
 
-/// What is seen of a board before a turn: its clock, the processor's state, how many codes wait, and the wires; the last two if
-/// they are asked for.
+/// What is seen of a board before a turn: its clock, the processor's state, how many codes wait, and the wires; the
+/// last two only if they are asked for.
 #[derive(Clone, Copy)]
 pub(crate) struct Seen {
     pub(crate) clock: u64,
@@ -447,14 +448,14 @@ fn waiting_seen(board: &Board, keys: bool) -> usize
     }
 }
 
-/// The levels of the wires, if they are asked for.
+/// The levels of the wires, if those are asked for.
 fn levels_seen(board: &Board, wires: bool) -> Option<Levels>
     ensures { result ≡ levels_seen wires board.now.plain }
 {
     if wires { Some(levels_of(board)) } else { None }
 }
 
-/// Whether two states are one.
+/// Whether two states are the same.
 pub(crate) fn is_same_state(before: State, after: State) -> bool
     ensures { result ≡ is_same_state before after }
 {
@@ -466,7 +467,7 @@ pub(crate) fn is_same_state(before: State, after: State) -> bool
     }
 }
 
-/// Adds the line of the processor's state, if it changes and is listed.
+/// Adds the line of the processor's state, if it changes and states are listed.
 fn push_new_state(
     text: &mut String,
     kinds: &[Kind],
@@ -510,7 +511,7 @@ fn push_last(text: &mut String, kinds: &[Kind], board: &Board) -> Result<(), All
     }
 }
 
-/// Whether one of these kinds lists an instruction that begins, or, if there is a type, the entry of an interrupt.
+/// Whether one of these kinds lists what begins: an instruction, or the entry of an interrupt, which has a type.
 fn lists_beginning(kinds: &[Kind], entered: Option<u8>) -> bool
     ensures { result ≡ list_any (λ kind. lists_beginning kind entered) kinds.now }
 {
@@ -529,7 +530,7 @@ fn kind_lists_beginning(kind: Kind, entered: Option<u8>) -> bool
     }
 }
 
-/// Adds the line of what began last, if something began and is listed.
+/// Adds the line of what began last, if anything began and it is listed.
 fn push_begun_last(
     text: &mut String,
     kinds: &[Kind],
@@ -569,7 +570,7 @@ fn push_seen(
     }
 }
 
-/// Adds the lines of the keys, if they are asked for.
+/// Adds the lines of the keys, if those are asked for.
 fn push_asked_keys(
     text: &mut String,
     kinds: &[Kind],
@@ -591,8 +592,8 @@ fn push_asked_keys(
     push_keys(text, kinds, clock, before.waiting, board)
 }
 
-/// Adds the lines of a turn's first clock. It began at what was seen before; the board stands where the turn ends, and what is
-/// asked for is there as that clock left it.
+/// Adds the lines of a turn's first clock, which began with what was seen `before`. The board stands at the end of the
+/// turn, and what is asked for is still as that clock left it.
 #[tactic(auto, unfolding(crate::specs::Told::clock_lines))]
 fn push_turn(
     text: &mut String,
@@ -620,8 +621,9 @@ fn push_turn(
     push_seen(text, kinds, before.clock + 1, before.levels, levels)
 }
 
-/// Makes `count` clocks, whatever the stops say, and tells what happens in them, of these kinds. Refused as `ClockLimit` past
-/// the last clock, and as `Memory`, with the clock that was reached, if there is none.
+/// Runs for `count` clocks, whatever the stops are, and answers a line for each event of these kinds. Refused as
+/// `ClockLimit`, with nothing changed, if it would go past the last clock, and as `Memory`, with the clock that was
+/// reached, if there is none.
 pub(crate) fn tell_events(
     session: &mut Session,
     alloc: Global,

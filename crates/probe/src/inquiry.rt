@@ -1,4 +1,4 @@
-//! Inquiries, and the reading of a line as one.
+//! Inquiries, and how a line is read as one.
 ghost use Rattle.std.specs.Prelude.{◌≡◌, []};
 ghost use Rattle.debugger_meaning.specs.Words.{count_of, hex_number, words_of};
 ghost use Rattle.probe.specs.Inquiry.{events_of, inquiry_of, inquiry_with, inquiry_with_two, key_at, key_of, list_of, place_of, run_inquiry};
@@ -15,24 +15,24 @@ pub struct Place {
     pub offset: u16,
 }
 
-/// What a line inquires of a session's board, beside the debugger's commands.
+/// An inquiry into a session's board, beside the debugger's commands.
 #[derive(Drop)]
 pub enum Inquiry {
     /// What the chips hold.
     Chips,
-    /// So many instructions, 1 to 4,096, from a place on.
+    /// Lists this many instructions, 1 to 4,096, from a place on.
     List(Place, u16),
-    /// Where so many clocks went, which are made.
+    /// Runs for this many clocks, and counts them by what began.
     Counts(u64),
-    /// The changes of wires in so many clocks, which are made.
+    /// Runs for this many clocks, and lists the changes of wires.
     Signals(u64),
-    /// What happens, of these kinds, in so many clocks, which are made.
+    /// Runs for this many clocks, and lists the events of these kinds.
     Events(u64, Kinds),
-    /// A key that is typed: its code, and the clock at which it comes, which is the next one if none is given.
+    /// Types a key: its code, and the clock at which it comes, the next one if none is given.
     Key(u8, Option<u64>),
 }
 
-/// The inquiry that a line is, if it is one. Its words are parted by spaces, and written in lower case; a place is a
+/// The inquiry that a line is, if it is one. Its words are separated by spaces, and written in lower case; a place is a
 /// segment and an offset of at most four hexadecimal digits with a colon between them, or a physical address of at most
 /// five; counts are decimal.
 #[tactic(auto, unfolding(crate::specs::Inquiry::inquiry_of))]
@@ -59,7 +59,7 @@ pub fn read_inquiry(line: &str) -> Option<Inquiry>
     }
 }
 
-/// An inquiry of a word and what follows it.
+/// The inquiry of a word and one more after it.
 fn inquiry_with(name: &[u8], first: &[u8]) -> Option<Inquiry>
     ensures { result ≡ inquiry_with name.now first.now }
 {
@@ -69,7 +69,7 @@ fn inquiry_with(name: &[u8], first: &[u8]) -> Option<Inquiry>
     run_inquiry(name, first)
 }
 
-/// An inquiry of a word and two that follow it.
+/// The inquiry of a word and two more after it.
 fn inquiry_with_two(name: &[u8], first: &[u8], second: &[u8]) -> Option<Inquiry>
     ensures { result ≡ inquiry_with_two name.now first.now second.now }
 {
@@ -99,7 +99,7 @@ fn key_at(code: &[u8], stamp: &[u8]) -> Option<Inquiry>
     Some(Inquiry::Key(code as u8, Some(stamp)))
 }
 
-/// What happens, of the kinds that these words name, in so many clocks.
+/// An inquiry for the events of the kinds that these words name.
 fn events(count: &[u8], words: &[u8]) -> Option<Inquiry>
     ensures { result ≡ events_of (count_of count.now) (kinds_from [] (words_of words.now)) }
 {
@@ -108,7 +108,7 @@ fn events(count: &[u8], words: &[u8]) -> Option<Inquiry>
     Some(Inquiry::Events(count, kinds))
 }
 
-/// An inquiry about clocks that are made.
+/// An inquiry that runs for some clocks.
 fn run_inquiry(name: &[u8], count: &[u8]) -> Option<Inquiry>
     ensures { result ≡ run_inquiry name.now (count_of count.now) }
 {
@@ -122,7 +122,7 @@ fn run_inquiry(name: &[u8], count: &[u8]) -> Option<Inquiry>
     None
 }
 
-/// So many instructions from a place on.
+/// An inquiry for some instructions from a place on.
 fn list(place: &[u8], count: &[u8]) -> Option<Inquiry>
     ensures { result ≡ list_of (place_of place.now) (count_of count.now) }
 {
@@ -134,7 +134,7 @@ fn list(place: &[u8], count: &[u8]) -> Option<Inquiry>
     Some(Inquiry::List(place, count as u16))
 }
 
-/// A place in memory. A physical address is taken by the segment of its 64 KB.
+/// A place in memory. A physical address gets the segment of its 64 KB.
 #[tactic(auto, unfolding(crate::specs::Inquiry::place_of))]
 fn place_of(word: &[u8]) -> Option<Place>
     ensures { result ≡ place_of word.now }

@@ -1,4 +1,4 @@
-//! What is to be listed of what happens, as words name it.
+//! The kinds of events that are listed, and how words name them.
 ghost use Rattle.std.specs.Prelude.{◌≡◌, ◌^◌, ◌<◌, ◌≤◌, [], length, option_map, position, IfSome};
 ghost use Rattle.debugger_meaning.specs.Words.{words_of};
 ghost use Rattle.probe.specs.Kinds.{is_equals, is_hyphen, kind_of, kind_with, kinds_from, plain_kind, range_of};
@@ -6,7 +6,7 @@ ghost use Rattle.probe.specs.Kinds.{is_equals, is_hyphen, kind_of, kind_with, ki
 use arrayvec::ArrayVec;
 use debugger_meaning::word::{hex_number, next_word};
 
-/// What is to be listed.
+/// A kind of events.
 #[derive(Clone, Copy, Debug, PartialEq, Eq, Default)]
 pub enum Kind {
     /// Instructions that begin.
@@ -14,22 +14,22 @@ pub enum Kind {
     Starts,
     /// Interrupts that are entered at a boundary.
     Entries,
-    /// Bytes written to the addresses from the first up to the second.
+    /// Bytes written to the addresses from the first to the second.
     Writes(u32, u32),
-    /// Accesses to the ports from the first up to the second.
+    /// Accesses to the ports from the first to the second.
     Ports(u16, u16),
     /// What becomes of keys' codes.
     Keys,
-    /// Wires that change their levels.
+    /// Wires that take another level.
     Wires,
-    /// States to which the processor comes.
+    /// New states of the processor.
     States,
 }
 
 /// One to sixteen kinds.
 pub type Kinds = ArrayVec<Kind, 16>;
 
-/// The kinds that the words of a line name: one to sixteen, each by a word.
+/// The kinds that the words of a line name, one to sixteen, each by a word.
 pub(crate) fn read_kinds(line: &[u8]) -> Option<Kinds>
     ensures { option_map (λ kinds. kinds.items) result ≡ kinds_from [] (words_of line.now) }
 {
@@ -74,7 +74,7 @@ fn hyphen_place(word: &[u8]) -> Option<usize>
     word.iter().position(|byte| *byte == b'-')
 }
 
-/// A kind of one word.
+/// The kind that is named by a word alone.
 #[tactic(auto, unfolding(crate::specs::Kinds::plain_kind))]
 fn plain_kind(word: &[u8]) -> Option<Kind>
     ensures { result ≡ plain_kind word.now }
@@ -98,7 +98,7 @@ fn plain_kind(word: &[u8]) -> Option<Kind>
     }
 }
 
-/// A kind with a range after it.
+/// The kind that is named by a word and a range.
 #[tactic(auto, unfolding(crate::specs::Kinds::kind_with))]
 fn kind_with(name: &[u8], range: &[u8]) -> Option<Kind>
     ensures { result ≡ kind_with name.now range.now }
@@ -114,7 +114,7 @@ fn kind_with(name: &[u8], range: &[u8]) -> Option<Kind>
     }
 }
 
-/// Two numbers of at most `most` hexadecimal digits, the second at least the first, with a hyphen between them.
+/// Two numbers of at most `most` hexadecimal digits, with a hyphen between them, the second not less than the first.
 #[tactic(auto, unfolding(crate::specs::Kinds::range_of))]
 fn range_of(most: usize, word: &[u8]) -> Option<(u32, u32)>
     requires { most ≤ 5 }

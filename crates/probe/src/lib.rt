@@ -1,5 +1,5 @@
-//! Inquiries into a session's board beyond the debugger's commands: what its chips hold, and what stands in its memory as
-//! instructions.
+//! Inquiries into a session's board beyond the debugger's commands: what its chips hold, what stands in its memory as
+//! instructions, and what happens in its clocks; and stops on events and on changes of bytes.
 #![tactic(auto)]
 
 mod board_bytes;

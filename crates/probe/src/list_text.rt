@@ -16,7 +16,7 @@ use disassembler::text::InstrText;
 use std::alloc::{AllocError, Global};
 use std::fmt;
 
-/// An instruction that stands at an offset, or a byte that begins none.
+/// What is listed at an offset: an instruction, or a byte that begins none.
 #[derive(Drop)]
 struct Listed<'a> {
     stands: &'a Decoding,
@@ -44,7 +44,7 @@ impl fmt::Display for Listed<'_> {
     }
 }
 
-/// `count` instructions from a place on, a line each.
+/// `count` instructions from a place on, a line for each.
 pub(crate) fn list_text(
     alloc: Global,
     board: &Board,
@@ -62,7 +62,7 @@ pub(crate) fn list_text(
     Ok(text)
 }
 
-/// Adds the line of what stands at a place, and answers the offset of the next.
+/// Adds the line of what stands at a place. Answers the offset of the next line.
 #[tactic(auto, unfolding(crate::specs::Listing::list_line, crate::specs::Listing::offset_listed_next))]
 fn push_line(
     alloc: Global,
@@ -80,14 +80,14 @@ fn push_line(
     Ok(offset.wrapping_add(size_listed(&stands)))
 }
 
-/// What stands at a place.
+/// What is decoded at a place.
 fn stands_at(board: &Board, segment: u16, offset: u16) -> Decoding
     ensures { result ≡ stands_at board.now.plain segment offset }
 {
     decode(&BoardBytes(board), segment, offset).unpack()
 }
 
-/// How many bytes of it are listed.
+/// How many bytes a line lists: the instruction's, or the one that begins none.
 fn size_listed(stands: &Decoding) -> u16
     ensures { result ≡ size_listed stands.now }
 {
@@ -97,7 +97,7 @@ fn size_listed(stands: &Decoding) -> u16
     }
 }
 
-/// The line of what stands at a place.
+/// The line of what was decoded at a place.
 fn line_of(
     alloc: Global,
     board: &Board,

@@ -22,8 +22,8 @@ use debugger_meaning::fault::DebugFault;
 use events::access::Access;
 use execute_noted::notes::Accesses;
 
-/// The least number of a stop that is met at the end of a turn of the board. It was one clock, or a leap in which nothing has
-/// happened.
+/// The least number of a stop that is met at the end of a turn of the board. The turn was one clock, or a leap in which
+/// nothing happened.
 pub(crate) fn found(
     watches: &mut [Watched],
     before: Seen,
@@ -50,7 +50,7 @@ pub(crate) fn found(
     number
 }
 
-/// Which parts of a board these stops ask for.
+/// Which parts of a board these stops have to look at.
 pub(crate) fn asked_by(watches: &[Watched]) -> Asked
     ensures { result ≡ asked_of watches.now }
 {
@@ -60,14 +60,14 @@ pub(crate) fn asked_by(watches: &[Watched]) -> Asked
     }
 }
 
-/// Whether one of these stops asks for the wires.
+/// Whether one of these stops has to look at the wires.
 fn ask_wires(watches: &[Watched]) -> bool
     ensures { result ≡ (asked_of watches.now).wires }
 {
     watches.iter().any(|watched| asks_wires(&watched.stop))
 }
 
-/// Whether one of these stops asks for the keys.
+/// Whether one of these stops has to look at the keys.
 fn ask_keys(watches: &[Watched]) -> bool
     ensures { result ≡ (asked_of watches.now).keys }
 {
@@ -92,8 +92,8 @@ fn asks_keys(stop: &Stop) -> bool
     }
 }
 
-/// The clock up to which a turn may lead in a run from `start` to `end`. What holds at the start may hold on, so the first clock
-/// is looked at by itself.
+/// The clock up to which a turn may lead in a run from `start` to `end`. The run's first clock is a turn of its own:
+/// what holds at the start may still hold after it.
 pub(crate) fn turn_end(clock: u64, start: u64, end: Clock) -> Clock
     requires { clock < end }
     ensures first { clock ≡ start → result ≡ clock + 1 }
@@ -115,8 +115,8 @@ pub(crate) fn next_clock(clock: u64, end: Clock) -> Clock
     Clock::new(clock + 1).unwrap()
 }
 
-/// Runs a session to the clock `end`, or up to the first clock after the start at which a stop is met, and answers the least
-/// number of one there.
+/// Runs a session to the clock `end`, or up to the first clock after the start at which a stop is met. Answers the
+/// least number of those that are met there.
 pub(crate) fn run_to_stop(
     session: &mut Session,
     watches: &mut [Watched],
@@ -148,8 +148,8 @@ pub(crate) fn run_to_stop(
     Ok(None)
 }
 
-/// The last clock up to `to`, after the board's own, at which a stop is met, with the least number of one there; the board's own
-/// clock too, if it is a session's first, to which no clock leads.
+/// The last clock up to `to`, after the board's own, at which a stop is met, with the least number of those that are;
+/// the board's own clock, too, if it is a session's first (`is_first`), which no clock precedes.
 pub(crate) fn last_met(
     board: &mut Board,
     watches: &mut [Watched],
@@ -185,7 +185,7 @@ pub(crate) fn last_met(
     Ok(last)
 }
 
-/// What is found at a session's first clock, at which this holds, if it is that.
+/// What a search has found at a session's first clock, if the board stands there: `here` is the stop that holds.
 fn found_first(is_first: bool, here: Option<usize>, clock: Clock) -> Option<(Clock, usize)>
     ensures { result ≡ (if is_first then found_at None here clock else None) }
 {
@@ -196,7 +196,7 @@ fn found_first(is_first: bool, here: Option<usize>, clock: Clock) -> Option<(Clo
     }
 }
 
-/// What is found up to the clock before the end of a turn: a leap goes over clocks at which that holds which held `here`.
+/// What a search has found up to the clock before a turn's end: the stop `here` holds at each clock that a leap passes.
 fn found_before(
     last: Option<(Clock, usize)>,
     here: Option<usize>,
@@ -213,7 +213,7 @@ fn found_before(
     found_at(last, here, Clock::new(end.get() - 1).unwrap())
 }
 
-/// The least number of a stop that holds by what stands; none does if none is met.
+/// The least number of a stop that holds as a condition; `number` is one that is met, and without one none holds.
 fn standing_now(number: Option<usize>, watches: &[Watched], board: &Board) -> Option<usize>
     requires within { All IsWatched watches.now }
     requires none { number ≡ None → standing (stops_of watches.now) board.now.plain ≡ None }
@@ -225,7 +225,7 @@ fn standing_now(number: Option<usize>, watches: &[Watched], board: &Board) -> Op
     }
 }
 
-/// A number with its clock, or what was found before.
+/// What a search has found last: this stop at this clock, or what it found before.
 fn found_at(
     last: Option<(Clock, usize)>,
     number: Option<usize>,

@@ -1,11 +1,11 @@
-//! Why clocks that are made for an inquiry end too soon.
+//! The refusal of an inquiry whose run finds no memory.
 ghost use Rattle.std.specs.Prelude.{◌≡◌, Some};
 ghost use Rattle.board_plain.specs.Plain.{clock_of};
 
 use debugger::session::Session;
 use debugger_meaning::fault::DebugFault;
 
-/// There is no memory at the clock that was reached.
+/// No memory, at the clock that was reached.
 pub(crate) fn lacking(session: &Session) -> DebugFault
     ensures { result ≡ DebugFault.Memory (Some (clock_of session.now.board.plain)) }
 {

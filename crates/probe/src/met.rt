@@ -1,4 +1,4 @@
-//! Which stop is met at a clock, by what the clock that led there has brought.
+//! Which stop is met at a clock, by what happened in the clock that led to it.
 ghost use Rattle.std.specs.Prelude.{◌≡◌, ◌+◌, ◌<◌, ◌≤◌, ◌^◌, All, length};
 ghost use Rattle.std.specs.List.{list_any};
 ghost use Rattle.board_plain.specs.Plain.{clock_of, codes_at};
@@ -20,8 +20,8 @@ use board::one_turn::Begun;
 use board_types::clock::Clock;
 use events::access::Access;
 
-/// The least number, from 1, of a stop that is met at the board's clock: before the clock that led there this was seen,
-/// and in it this began and these accesses were made.
+/// The least number, from 1, of a stop that is met at the board's clock: `before` was seen before the clock that led to
+/// it, in which this began and these accesses were made.
 #[tactic(auto, unfolding(crate::specs::Met::met))]
 pub(crate) fn met(
     watches: &[Watched],
@@ -44,7 +44,7 @@ pub(crate) fn met(
     None
 }
 
-/// The least number, from 1, of a stop that holds by what stands at the board's clock.
+/// The least number, from 1, of a stop that holds as a condition at the board's clock.
 #[tactic(auto, unfolding(crate::specs::Stops::standing))]
 pub(crate) fn standing(watches: &[Watched], board: &Board) -> Option<usize>
     requires { All IsWatched watches.now }
@@ -58,7 +58,7 @@ pub(crate) fn standing(watches: &[Watched], board: &Board) -> Option<usize>
     None
 }
 
-/// Whether a stop holds by what stands.
+/// Whether a stop holds as a condition.
 #[tactic(auto, unfolding(crate::specs::Stops::stands))]
 fn stands(stop: &Stop, board: &Board) -> bool
     requires { HasBytes stop.now }
@@ -70,7 +70,7 @@ fn stands(stop: &Stop, board: &Board) -> bool
     }
 }
 
-/// Whether a stop is met.
+/// Whether a stop is met at the board's clock.
 fn is_met(
     watched: &Watched,
     before: Seen,
@@ -93,7 +93,7 @@ fn is_met(
     }
 }
 
-/// Whether something of these kinds has happened.
+/// Whether an event of these kinds has happened.
 fn happened(
     kinds: &[Kind],
     before: Seen,
@@ -150,7 +150,7 @@ fn lists_some(kinds: &[Kind], accesses: &[Access]) -> bool
     accesses.iter().any(|access| lists_access(kinds, *access))
 }
 
-/// Whether a code came, or one moved into the latch.
+/// Whether a code has arrived or moved into the latch.
 fn keys_moved(before: Seen, board: &Board) -> bool
     requires room { before.waiting ≤ 16 }
     requires limit { before.clock < 2 ^ 40 }
@@ -165,7 +165,7 @@ fn keys_moved(before: Seen, board: &Board) -> bool
     waiting_of(board.keyboard()) + 1 == before.waiting
 }
 
-/// Whether a wire is at another level than before.
+/// Whether a wire has taken another level.
 fn wires_changed(before: Option<Levels>, board: &Board) -> bool
     ensures { result ≡ wires_moved before (levels_of board.now.plain) }
 {
@@ -186,7 +186,7 @@ fn are_same_levels(before: Levels, after: Levels) -> bool
         && before.speaker == after.speaker
 }
 
-/// Whether one of so many bytes from an address on has been written and differs from what is copied.
+/// Whether one of `count` bytes from `address` on has been written and differs from its copy.
 fn one_differs(
     address: u32,
     count: u32,
@@ -205,7 +205,7 @@ fn one_differs(
     false
 }
 
-/// Whether an access has written one of so many bytes from an address on, and this differs from what is copied.
+/// Whether an access has written one of `count` bytes from `address` on, which now differs from its copy.
 fn write_differs(address: u32, count: u32, access: Access, copied: &Copied, board: &Board) -> bool
     requires { address + count ≤ 2 ^ 20 }
     ensures { result ≡ write_differs address count copied.now board.now.plain access }

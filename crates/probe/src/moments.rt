@@ -1,4 +1,4 @@
-//! How a run ends with one key more, for each clock at which that could come.
+//! How runs end with one more key, for each clock at which it could come.
 ghost use Rattle.std.specs.Prelude.{ℕ, ◌≡◌, ◌+◌, ◌-◌, ◌<◌, ◌≤◌, ◌^◌, ◌++◌, ◌∷◌, [], All, IfOk, MatchResult, OnOk, true, length, min, max};
 ghost use Rattle.std.specs.List.{flat_map};
 ghost use Rattle.std.specs.Result.{IfErr};
@@ -26,7 +26,7 @@ use debugger_meaning::fault::DebugFault;
 use execute_noted::notes::Accesses;
 use std::alloc::{AllocError, Global};
 
-/// A key's code that is tried at each clock from the first up to the last, in a run of so many clocks.
+/// A key's code that is tried at each clock from the first to the last, in runs of `count` clocks.
 #[derive(Clone, Copy, Debug, PartialEq, Eq)]
 pub struct Trial {
     pub code: u8,
@@ -35,7 +35,7 @@ pub struct Trial {
     pub count: u64,
 }
 
-/// The stop at which some runs end, and the least and the greatest clock of their ends.
+/// The stop at which some runs end, and the least and the greatest clock at which they do.
 #[derive(Clone, Copy, Debug, PartialEq, Eq)]
 pub struct Ends {
     pub number: usize,
@@ -51,9 +51,9 @@ pub struct Moments {
     pub ends: Option<Ends>,
 }
 
-/// How runs from where the board stands end with one key more, for each clock of the trial. Refused as `ClockLimit` if the last of
-/// them, or the end of the run, is past the last clock, as `BadScan` if no key sends the code, as `StampsFall` if the first one
-/// isn't above the board's, and as `Memory`, in this order.
+/// How runs from the board's clock end with one more key, for each clock of the trial. Refused in this order: as
+/// `ClockLimit` if the last of those clocks, or the end of the run, is past the last clock there is; as `BadScan` if no
+/// key sends the code; as `StampsFall` if the first clock isn't later than the board's; as `Memory` if there is none.
 pub(crate) fn tell_moments(
     board: &Board,
     alloc: Global,
@@ -71,7 +71,7 @@ pub(crate) fn tell_moments(
     Ok(Answer::Text(moments_text(alloc, ranges.as_slice())?))
 }
 
-/// The clock up to which the runs go, if the key can be tried.
+/// The clock up to which the runs go, if the key can be tried; otherwise as `tell_moments` refuses it.
 fn end_of(clock: Clock, trial: Trial) -> Result<Clock, DebugFault>
     ensures { MatchResult result (λ end. (end ≡ clock + trial.count) × CanBeTried clock trial) (CannotBeTried clock trial) }
 {
@@ -106,7 +106,7 @@ fn try_key(
     ensures keeps { KeepsStops watches.old watches.new }
 {
     let mut ranges = Vec::new(alloc);
-    // without the key, up to the clock before each at which that is tried
+    // the board without the key, at the clock before each at which the key is tried
     let mut bare = copy_of(board)?;
     'stamps: for stamp in trial.first..trial.last + 1 {
         if try_at(&mut bare, alloc, watches, trial, end, stamp, &mut ranges)? {
@@ -116,8 +116,8 @@ fn try_key(
     Ok(ranges)
 }
 
-/// Lets the board without the key go on to the clock before the stamp, and tries the key there. Answers whether all ranges are
-/// known: a key that comes there or later is too late to change how the run ends.
+/// Lets the board without the key run to the clock before the stamp, and tries the key there. Answers whether all
+/// ranges are known: if that run has ended, a key at this stamp or later changes nothing.
 fn try_at(
     bare: &mut Board,
     alloc: Global,
@@ -153,7 +153,7 @@ fn try_at(
     };
     let mut tried = copy_with(bare, alloc, key)?;
     let stopped = run(&mut tried, watches, end)?;
-    // while the copy is there, so that its memory isn't given back and asked for again
+    // while the copy still exists, so that its memory isn't given back only to be asked for again
     add(ranges, stamp, stamp, &stopped)?;
     drop(tried);
     Ok(false)
@@ -196,7 +196,7 @@ fn copy_of(board: &Board) -> Result<Board, DebugFault>
     }
 }
 
-/// Runs a board to the clock `end`, or up to the first one after the start at which a stop is met.
+/// Runs a board to the clock `end`, or up to the first clock after the start at which a stop is met.
 fn run(board: &mut Board, watches: &mut [Watched], end: Clock) -> Result<Stopped, DebugFault>
     requires from { clock_of board.old.plain ≤ end }
     requires trail { length board.old.trail ≤ 32 }
@@ -219,8 +219,8 @@ fn run(board: &mut Board, watches: &mut [Watched], end: Clock) -> Result<Stopped
     }
 }
 
-/// Runs a board to the clock `end`, or up to the first clock after the start at which a stop is met, and answers the least number of
-/// one there.
+/// Runs a board to the clock `end`, or up to the first clock after the start at which a stop is met. Answers the least
+/// number of those that are met there.
 fn run_board(
     board: &mut Board,
     watches: &mut [Watched],
@@ -254,7 +254,7 @@ fn run_board(
     Ok(None)
 }
 
-/// Runs a board by its own search, if each stop asks what stands.
+/// Runs a board by its own search, if all stops are conditions.
 fn run_standing(board: &mut Board, watches: &[Watched], end: Clock) -> Result<Stopped, DebugFault>
     requires from { clock_of board.old.plain ≤ end }
     requires within { All IsWatched watches.now }
@@ -271,7 +271,7 @@ fn run_standing(board: &mut Board, watches: &[Watched], end: Clock) -> Result<St
     }
 }
 
-/// Adds clocks with which runs end so to the end of the list.
+/// Adds the clocks from `first` to `last`, with which runs end like this, to the list of ranges.
 fn add(
     ranges: &mut Vec<Moments>,
     first: u64,
@@ -287,7 +287,7 @@ fn add(
     }
 }
 
-/// Adds a range with the clocks of the next one, if its runs end as those do, else both.
+/// Adds a range widened by the next clocks, if their runs end as its own do, else both.
 fn push_joined(
     ranges: &mut Vec<Moments>,
     range: &Moments,
@@ -309,7 +309,7 @@ fn push_joined(
     }
 }
 
-/// A range up to a later clock.
+/// A range that goes on to a later clock.
 fn with_ends(range: &Moments, last: u64, ends: Option<Ends>) -> Moments
     ensures { result ≡ record range.now { last = last; ends = ends } }
 {
@@ -336,7 +336,7 @@ fn moments_of(first: u64, last: u64, stopped: &Stopped) -> Moments
     }
 }
 
-/// The ends of runs of which one ends so.
+/// The ends of runs, the first of which ends like this.
 fn ends_of(stopped: &Stopped) -> Option<Ends>
     ensures { result ≡ ends_of stopped.now }
 {
@@ -350,7 +350,7 @@ fn ends_of(stopped: &Stopped) -> Option<Ends>
     }
 }
 
-/// The ends of runs and of one more, if that ends at their stop, or at none as they do.
+/// The ends of runs and of one more, if that ends at their stop, or, as they do, at none.
 fn ends_with(ends: &Option<Ends>, stopped: &Stopped) -> Option<Option<Ends>>
     ensures { result ≡ ends_with ends.now stopped.now }
 {
@@ -382,7 +382,7 @@ fn later(a: Clock, b: Clock) -> Clock
     if a <= b { b } else { a }
 }
 
-/// A line for each.
+/// A line for each range.
 fn moments_text(alloc: Global, ranges: &[Moments]) -> Result<String, AllocError>
     ensures { IfOk result (λ text. string_bytes text ≡ flat_map moments_line ranges.now) }
 {

@@ -1,4 +1,4 @@
-//! A probe: a session that is inquired of, with its own stops.
+//! A probe: a session that answers inquiries, and has stops of its own.
 ghost use Rattle.std.specs.Prelude.{◌≡◌, ◌==◌, ◌<◌, ◌≤◌, ◌^◌, ◌++◌, [], ◌∷◌, All, IfOk, MatchResult, length};
 ghost use Rattle.std.specs.Result.{IfErr};
 ghost use Rattle.debugger_meaning.specs.Stands.{Stands, gone};
@@ -22,10 +22,11 @@ use debugger_meaning::fault::DebugFault;
 use std::alloc::Global;
 use std::marker::Model;
 
-/// The last clocks that a way back looks through first, after a leap to them: what is met often is met there.
+/// A way back searches this many clocks before the present one first, after one run to them: what is met often is met
+/// there.
 const NEAR: u64 = 1024;
 
-/// A session, and what its runs stop at. The session's own stops are those of them that ask what stands, in order.
+/// A session, and the stops of its runs. The session itself has those of them that are conditions, in order.
 #[derive(Drop)]
 pub struct Probe {
     session: Session,
@@ -44,7 +45,8 @@ impl Model for Probe {
 }
 
 impl Probe {
-    /// A probe of the board where it stands, without stops. The board is dropped if there is no memory.
+    /// A probe of the board, as it stands, without stops. Refused as `Memory` if there is none; the board is dropped
+    /// then.
     pub fn new(alloc: Global, board: Board) -> Result<Probe, DebugFault>
         ensures session { IfOk result (λ probe. probe ≡ probe_about board) }
         ensures stands { IfOk result (λ probe. Stands (session_of probe)) }
@@ -57,14 +59,14 @@ impl Probe {
         })
     }
 
-    /// Does what the line commands, and answers: what has to do with stops by the probe's, and any other line as its session
-    /// does. After each line the board stands where it stood so many clocks after the first one.
+    /// Does what the line commands, and answers: by the probe's own stops if the line has to do with stops, and else as
+    /// its session does. After each line the board is the one with which the probe began, some clocks later.
     pub fn command(&mut self, alloc: Global, line: &str) -> Result<Answer, DebugFault>
         ensures answers { AnswersStopping line.now self.old result self.new }
         ensures stands { Stands (session_of self.new) }
     {
         let answer = self.answer(alloc, line);
-        // whatever the answer is, the board stands some clocks after the first one
+        // whatever the answer, the board stands some clocks after the first one
         let _board = self.session.board();
         answer
     }
@@ -81,7 +83,7 @@ impl Probe {
         }
     }
 
-    /// Adds a stop, if there are fewer than sixteen, and memory for a copy of the bytes that it asks for.
+    /// Adds a stop, if there are fewer than sixteen, and memory for a copy of the bytes whose changes it waits for.
     fn add(&mut self, alloc: Global, stop: Stop) -> Result<Answer, DebugFault>
         requires { HasBytes stop }
         ensures { MatchResult result (AddsStop stop self.old self.new) (RefusesStop stop self.old self.new) }
@@ -95,7 +97,7 @@ impl Probe {
         }
     }
 
-    /// Adds a stop with its room, and tells its number.
+    /// Adds a stop with the room for its copy. Answers its number.
     fn push(&mut self, watched: Watched) -> Answer
         requires room { length self.old.stops < 16 }
         requires watched { IsWatched watched }
@@ -106,7 +108,7 @@ impl Probe {
         Answer::Stop(self.watches.len())
     }
 
-    /// Runs for `count` clocks, or up to the first stop after the start.
+    /// Runs for `count` clocks, or up to the first clock after the start at which a stop is met.
     fn go(&mut self, count: u64) -> Result<Answer, DebugFault>
         ensures { MatchResult result (GoesOn count self.old self.new) (RefusesGoing count self.old self.new) }
     {
@@ -137,7 +139,7 @@ impl Probe {
         }
     }
 
-    /// Goes back to a clock that was found, and tells it with the stop's number.
+    /// Goes back to a clock that was found. Answers it with the stop's number.
     fn go_back_to(&mut self, clock: Clock, number: usize) -> Result<Answer, DebugFault>
         requires last { MetLast self.old.stops (gone_by self.old) self.old.first.plain clock number }
         requires some { 1 ≤ length self.old.stops }
@@ -147,7 +149,7 @@ impl Probe {
         with_number(self.session.back(count), clock, number)
     }
 
-    /// How runs would end with a key more, for each clock of the trial.
+    /// How runs would end with one more key, for each clock of the trial.
     fn moments(&mut self, alloc: Global, trial: Trial) -> Result<Answer, DebugFault>
         requires { IsRising trial }
         ensures answers { AnswersTrial self.old.stops self.old.board.plain trial result }
@@ -161,7 +163,7 @@ impl Probe {
         )
     }
 
-    /// The last earlier clock at which a stop was met, and the least number of one there.
+    /// The last earlier clock at which a stop was met, and the least number of those that were.
     fn last_met(&mut self) -> Result<(Clock, usize), DebugFault>
         ensures kept { self.new ≡ self.old }
         ensures found { MatchResult result
@@ -172,7 +174,7 @@ impl Probe {
     }
 }
 
-/// The last clock before a session's at which a stop was met, and the least number of one there.
+/// The last clock before a session's own at which a stop was met, and the least number of those that were.
 fn search_back(session: &Session, watches: &mut [Watched]) -> Result<(Clock, usize), DebugFault>
     requires { All IsWatched watches.old }
     ensures keeps { KeepsStops watches.old watches.new }
@@ -183,7 +185,7 @@ fn search_back(session: &Session, watches: &mut [Watched]) -> Result<(Clock, usi
     let first = session.first_clock().get();
     let mut bound = session.board().clock().get();
     let mut near = NEAR;
-    // stretch by stretch, each after a board that is kept
+    // stretch by stretch, each from a copy that is kept
     'stretches: while first < bound {
         let before = first.max(bound.saturating_sub(2));
         let Ok(mut board) = session.board_near(before, near) else {
@@ -205,8 +207,8 @@ fn search_back(session: &Session, watches: &mut [Watched]) -> Result<(Clock, usi
     Err(DebugFault::BeforeStart)
 }
 
-/// The first clock of a stretch after a board at `from`: what was met at that board's clock it can't tell, unless that is the
-/// session's first.
+/// The first clock of a stretch from a board at `from`. The search can't tell what was met at that board's own clock,
+/// unless it is the session's first.
 fn stretch_start(from: u64, first: u64) -> u64
     requires { from < 2 ^ 40 }
     ensures { result ≡ from_of (from == first) from }
@@ -214,7 +216,7 @@ fn stretch_start(from: u64, first: u64) -> u64
     if from == first { from } else { from + 1 }
 }
 
-/// Adds what a stop asks to a session's stops, if it asks what stands.
+/// Adds a stop's condition to a session's stops, if it is one.
 fn add_condition(session: &mut Session, stop: &Stop)
     requires within { HasBytes stop.now }
     requires room { length session.old.stops < 16 }
@@ -227,7 +229,7 @@ fn add_condition(session: &mut Session, stop: &Stop)
     }
 }
 
-/// What a run's end is told: the number of the stop that was met, or none, at a clock.
+/// The answer at the end of a run: the clock, with the number of the stop that was met, if any.
 fn told(found: Option<usize>, clock: Clock) -> Answer
     ensures { result ≡ answer_at found clock }
 {
@@ -237,7 +239,7 @@ fn told(found: Option<usize>, clock: Clock) -> Answer
     }
 }
 
-/// What a way back answers, with the number of the stop that was found at its clock.
+/// The answer of a way back, with the number of the stop that was found at its clock.
 fn with_number(
     back: Result<Answer, DebugFault>,
     clock: Clock,

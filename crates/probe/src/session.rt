@@ -1,4 +1,4 @@
-//! A session that is inquired of.
+//! A session that answers inquiries.
 ghost use Rattle.std.specs.Prelude.{◌≡◌};
 ghost use Rattle.probe.specs.Chips.{chips_text};
 ghost use Rattle.probe.specs.Listing.{list_text};
@@ -18,9 +18,10 @@ use debugger_meaning::answer::Answer;
 use debugger_meaning::fault::DebugFault;
 use std::alloc::Global;
 
-/// Does what the line commands, and answers: an inquiry by itself, and any other line as the session does. `chips` and
-/// `list` change nothing; `counts`, `signals` and `events` make clocks; `key` adds a key that is still to come. Where memory is
-/// wanted, an inquiry is refused as `Memory`. After each line the board stands where it stood so many clocks after the first one.
+/// Does what the line commands, and answers: an inquiry itself, and any other line as the session does. `chips` and
+/// `list` change nothing; `counts`, `signals` and `events` run for some clocks; `key` adds a key that is still to come.
+/// An inquiry is refused as `Memory` if there is none. After each line the board is the session's first one some clocks
+/// later.
 pub fn command(session: &mut Session, alloc: Global, line: &str) -> Result<Answer, DebugFault>
     ensures answers { AnswersProbe line.now session.old result session.new }
     ensures stands { Stands session.new }
@@ -29,7 +30,7 @@ pub fn command(session: &mut Session, alloc: Global, line: &str) -> Result<Answe
         None => session.command(alloc, line),
         Some(inquiry) => answer(session, alloc, inquiry),
     };
-    // whatever the answer is, the board stands some clocks after the first one
+    // whatever the answer, the board stands some clocks after the first one
     let _board = session.board();
     answer
 }

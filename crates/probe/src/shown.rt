@@ -1,4 +1,4 @@
-//! What lines of text have in common.
+//! Numbers and flags that several lines of text have.
 ghost use Rattle.std.specs.Prelude.{◌≡◌, ◌≤◌, Some, if◌then◌else◌};
 ghost use Rattle.board_types.specs.Lines.{is_high};
 ghost use Rattle.probe.specs.Shown.{byte_or_none, word_or_none};

@@ -1,4 +1,4 @@
-//! The changes of wires while clocks are made.
+//! The changes of wires in clocks that are made.
 ghost use Rattle.std.specs.Prelude.{◌≡◌, ◌++◌, IfOk, OnOk, codes};
 ghost use Rattle.std.specs.Fmt.{decimal};
 ghost use Rattle.std.specs.String.{string_bytes};
@@ -57,7 +57,7 @@ fn lines_of(controller: &Pic) -> (bool, bool)
     (lines % 2 == 1, lines / 2 % 2 == 1)
 }
 
-/// Adds a line for each wire that a clock has changed.
+/// Adds a line for each wire that takes another level.
 #[tactic(auto, unfolding(crate::specs::Signalled::changes_between))]
 fn push_changes(
     text: &mut String,
@@ -75,7 +75,7 @@ fn push_changes(
     push_change(text, "speaker", clock, before.speaker, after.speaker)
 }
 
-/// Adds a line, if the wire has changed.
+/// Adds a line, if the wire takes another level.
 fn push_change(
     text: &mut String,
     name: &str,
@@ -92,8 +92,9 @@ fn push_change(
     write!(text, "{clock} {name} {level}\n")
 }
 
-/// Makes `count` clocks, whatever the stops say, and tells each change of the wires. Refused as `ClockLimit` past the
-/// last clock, and as `Memory`, with the clock that was reached, where there is none.
+/// Runs for `count` clocks, whatever the stops are, and answers a line for each change of the wires. Refused as
+/// `ClockLimit`, with nothing changed, if it would go past the last clock, and as `Memory`, with the clock that was
+/// reached, if there is none.
 pub(crate) fn tell_signals(
     session: &mut Session,
     alloc: Global,
@@ -123,7 +124,7 @@ pub(crate) fn tell_signals(
     }
 }
 
-/// A text, and behind it the clock that is reached.
+/// A text, followed by the clock that is reached.
 pub(crate) fn with_clock(alloc: Global, text: &str, clock: Clock) -> Result<String, AllocError>
     ensures { IfOk result (λ whole. string_bytes whole ≡ text.now ++ (codes "clock " ++ (decimal clock ++ codes "\n"))) }
 {

@@ -1,4 +1,4 @@
-//! What a probe's run may stop at, and the reading of a line as what has to do with stops.
+//! The stops of a probe's runs, and how a line that has to do with stops is read.
 ghost use Rattle.std.specs.Prelude.{◌≡◌, ◌<◌, ◌^◌, IfSome, length};
 ghost use Rattle.debugger_meaning.specs.Words.{words_of};
 ghost use Rattle.probe.specs.Stops.{HasBytes};
@@ -11,37 +11,38 @@ use board_plain::stop::Condition;
 use debugger_meaning::command::{Command, read_command};
 use debugger_meaning::word::{count_of, hex_number, next_word};
 
-/// What a probe's run may stop at, at any clock.
+/// A stop of a probe's runs.
 #[derive(Drop)]
 pub enum Stop {
-    /// A condition of the board holds.
+    /// This condition of the board holds.
     Standing(Condition),
-    /// Something of these kinds has happened in the clock that led there.
+    /// An event of these kinds has happened in the clock that led here.
     When(Kinds),
-    /// One of so many bytes from an address on, 1 to 65,536 of them, all below 100000h, differs from the clock before.
+    /// One of this many bytes from an address on differs from what it was a clock before: 1 to 65,536 bytes, all below
+    /// 100000h.
     Changes(u32, u32),
 }
 
-/// A stop that isn't used.
+/// A stop that isn't used, for `ArrayVec`.
 impl Default for Stop {
     fn default() -> Stop {
         Stop::Changes(0, 1)
     }
 }
 
-/// What a probe's run may stop at, numbered from 1.
+/// The stops of a probe's runs, numbered from 1.
 pub type Stops = ArrayVec<Stop, 16>;
 
 /// What a line asks for that has to do with stops.
 #[derive(Drop)]
 pub(crate) enum Request {
-    /// One stop more.
+    /// Adds a stop.
     Add(Stop),
-    /// On to the next stop, for at most so many clocks.
+    /// Runs up to the next stop, for at most this many clocks.
     Go(u64),
-    /// Back to the last earlier clock at which a stop held.
+    /// Goes back to the last earlier clock at which a stop was met.
     BackStop,
-    /// How a run would end with a key more, for each of some clocks.
+    /// Answers how a run would end with one more key, for each clock of the trial.
     Try(Trial),
 }
 
@@ -73,7 +74,7 @@ fn standing(condition: Condition) -> Request
     Request::Add(Stop::Standing(condition))
 }
 
-/// A stop on what happens, as `when` and `changes` name one.
+/// The stop on events or changes of bytes that a line names, by `when` or `changes`.
 #[tactic(auto, unfolding(crate::specs::Requests::stop_of))]
 fn read_stop(line: &str) -> Option<Stop>
     ensures value { result ≡ stop_of line.now }
@@ -90,7 +91,8 @@ fn read_stop(line: &str) -> Option<Stop>
     None
 }
 
-/// A key that is tried, as `moments` names one: its code, the first and the last clock, and how many clocks a run has.
+/// The trial of a key that a line names, by `moments`: its code, the first and the last clock, and how many clocks a
+/// run has.
 #[tactic(auto, unfolding(crate::specs::Requests::trial_of))]
 fn read_trial(line: &str) -> Option<Trial>
     ensures value { result ≡ trial_of line.now }
@@ -122,7 +124,8 @@ fn read_trial(line: &str) -> Option<Trial>
     })
 }
 
-/// The bytes whose changes are a stop: an address, and how many from it on, one if that isn't said.
+/// The stop on changes of bytes that these words name: an address, and how many bytes from it on, one if no count is
+/// given.
 fn changes(words: &[u8]) -> Option<Stop>
     ensures value { result ≡ changes_in (words_of words.now) }
     ensures within { IfSome result HasBytes }
@@ -142,7 +145,7 @@ fn changes(words: &[u8]) -> Option<Stop>
     Some(Stop::Changes(address, count as u32))
 }
 
-/// Whether a stop asks what stands.
+/// Whether a stop is a condition.
 pub(crate) fn is_standing(stop: &Stop) -> bool
     ensures { result ≡ is_standing stop.now }
 {

@@ -11,9 +11,10 @@ use debugger_meaning::answer::Answer;
 use debugger_meaning::fault::DebugFault;
 use std::alloc::{AllocError, Global};
 
-/// Takes a key's code, stamped `at`, or if that isn't given, the next clock: it is then as if it had been there when the session
-/// began. Refused as `ClockLimit` if the stamp is past the last clock, as `BadScan` if no key sends the code, as `StampsFall` if
-/// the stamp isn't above the present clock, and as `Memory`, in this order; a refusal changes nothing.
+/// Takes a key's code, stamped `at`, or with the next clock if no stamp is given, as if it had been there when the
+/// session began. Refused in this order, with nothing changed: as `ClockLimit` if the stamp is past the last clock, as
+/// `BadScan` if no key sends the code, as `StampsFall` if the stamp isn't later than the present clock, and as `Memory`
+/// if there is none.
 pub(crate) fn type_key(
     session: &mut Session,
     alloc: Global,
@@ -29,7 +30,7 @@ pub(crate) fn type_key(
     Ok(Answer::Text(text))
 }
 
-/// The key that is typed at this clock, if it is one that is still to come.
+/// The key that is typed at this clock, if it is still to come; otherwise as `type_key` refuses it.
 fn key_to_come(clock: Clock, code: u8, at: Option<u64>) -> Result<StampedKey, DebugFault>
     ensures { MatchResult result (λ key. (key ≡ typed_key clock code at) × IsToCome clock key)
         (IsRefused clock (typed_key clock code at)) }
@@ -46,7 +47,7 @@ fn key_to_come(clock: Clock, code: u8, at: Option<u64>) -> Result<StampedKey, De
     Ok(StampedKey { stamp, code })
 }
 
-/// The stamp that is asked for: the next clock, if none is.
+/// The stamp that is asked for, or the next clock.
 fn stamp_of(clock: Clock, at: Option<u64>) -> u64
     ensures { result ≡ stamp_of clock at }
 {
@@ -56,7 +57,7 @@ fn stamp_of(clock: Clock, at: Option<u64>) -> u64
     }
 }
 
-/// The line that tells a key.
+/// The line of a key that was typed.
 #[tactic(auto, unfolding(crate::specs::Typed::key_text))]
 fn key_text(alloc: Global, key: &StampedKey) -> Result<String, AllocError>
     ensures { IfOk result (λ text. string_bytes text ≡ key_text key.now) }

@@ -1,4 +1,4 @@
-//! Stops, each with a copy of the bytes whose changes it asks for.
+//! Stops, each with a copy of the bytes whose changes it waits for.
 ghost use Rattle.std.specs.Prelude.{◌≡◌, ◌≤◌, All, IfOk, IsTrue, OnErr, length};
 ghost use Rattle.probe.specs.Probe.{conditions_of};
 ghost use Rattle.probe.specs.Requests.{asks_changes};
@@ -14,14 +14,14 @@ use events::access::Access;
 use std::alloc::{AllocError, Global};
 use std::default::MadeWith;
 
-/// A stop, and a copy of the bytes whose changes it asks for.
+/// A stop with a copy of the bytes whose changes it waits for.
 #[derive(Drop)]
 pub(crate) struct Watched {
     pub(crate) stop: Stop,
     pub(crate) copied: Copied,
 }
 
-/// One that isn't used.
+/// A stop that isn't used, for `ArrayVec`.
 impl MadeWith<Global> for Watched {
     fn made_with(alloc: Global) -> Watched {
         Watched {
@@ -31,10 +31,10 @@ impl MadeWith<Global> for Watched {
     }
 }
 
-/// At most sixteen of them, numbered from 1.
+/// At most sixteen stops, numbered from 1.
 pub(crate) type Watches = ArrayVec<Watched, 16, Global>;
 
-/// A stop, with room for the bytes whose changes it asks for.
+/// A stop with room for a copy of the bytes whose changes it waits for.
 pub(crate) fn with_room(alloc: Global, stop: Stop) -> Result<Watched, AllocError>
     requires { HasBytes stop }
     ensures stop { IfOk result (λ watched. watched.stop ≡ stop) }
@@ -47,14 +47,14 @@ pub(crate) fn with_room(alloc: Global, stop: Stop) -> Result<Watched, AllocError
     }
 }
 
-/// Whether each stop asks what stands.
+/// Whether all stops are conditions.
 pub(crate) fn all_stand(watches: &[Watched]) -> bool
     ensures { result ≡ all_standing watches.now }
 {
     watches.iter().all(|watched| is_standing(&watched.stop))
 }
 
-/// What the stops ask that ask what stands.
+/// The conditions of those stops that are one.
 pub(crate) fn conditions_of(watches: &[Watched]) -> Conditions
     requires few { length (stops_of watches.now) ≤ 16 }
     ensures { result.items ≡ conditions_of (stops_of watches.now) }
@@ -79,7 +79,8 @@ pub(crate) fn copy_bytes(watches: &mut [Watched], board: &Board)
     }
 }
 
-/// Copies the bytes of all stops that these accesses, those of the clock that led to the board's, have written.
+/// Renews the copies of those bytes of all stops that these accesses have written, in the clock that led to the
+/// board's.
 pub(crate) fn renew_bytes(watches: &mut [Watched], accesses: &[Access], board: &Board)
     requires { All IsWatched watches.old }
     ensures keeps { KeepsStops watches.old watches.new }

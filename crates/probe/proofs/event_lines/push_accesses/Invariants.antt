@@ -1,4 +1,4 @@
--- The lines so far are told.
+-- The lines so far are added.
 use Rattle.std.proofs.Common.{◌≡◌, ◌++◌, map, take}
 use Rattle.std.specs.String.{string_bytes}
 use Rattle.events.specs.declared.event.Event.TheVariants.{Reached}

@@ -1,4 +1,4 @@
--- The keys so far are told, and how many codes wait is known.
+-- The lines of the keys so far are added, and how many codes wait is known.
 use Rattle.std.proofs.Common.{◌≡◌, ◌≤◌, ◌++◌, map, take}
 use Rattle.std.specs.String.{string_bytes}
 use Rattle.board_types.specs.declared.keys.StampedKey.{StampedKey}

@@ -1,4 +1,4 @@
--- What has happened so far is told.
+-- The events so far are listed.
 use Rattle.std.proofs.Common.{◌-◌}
 use Rattle.std.specs.String.{string_bytes}
 use Rattle.board_plain.specs.Plain.{clock_of}

@@ -1,4 +1,4 @@
--- At least so many codes wait.
+-- At least `count` codes wait.
 use Rattle.std.proofs.Common.{◌≤◌, ◌-◌, length}
 use Rattle.probe.proofs.event_lines.waiting_of.Given as goal
 

@@ -4,7 +4,7 @@ use Rattle.board_types.specs.Iterate.{gathered, iterate}
 use Rattle.probe.specs.Listing.{list_line, offset_listed_next}
 use Rattle.probe.proofs.list_text.list_text.Given as goal
 
--- the lines so far, and where the next begins
+-- the lines so far, and the offset at which the next begins
 abbrev pub invariant-loop : goal.invariant-loop
 invariant-loop l = record {
   text : string_bytes l.text ≡ gathered (offset_listed_next l.board.plain l.segment) (list_line l.board.plain l.segment) l.counter l.fn.place.offset;

@@ -1,4 +1,4 @@
--- None of the accesses so far has changed such a byte.
+-- None of the accesses so far has changed a byte for which the stop waits.
 use Rattle.std.proofs.Common.{◌≡◌, false, take}
 use Rattle.std.specs.List.{list_any}
 use Rattle.probe.specs.Met.{write_differs}

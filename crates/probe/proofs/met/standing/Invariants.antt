@@ -1,4 +1,4 @@
--- None of the stops so far holds by what stands.
+-- None of the stops so far holds as a condition.
 use Rattle.std.proofs.Common.{◌≡◌, ℕ, ◌<◌, false}
 use Rattle.std.specs.Prelude.{slice_index_or}
 use Rattle.probe.specs.declared.watched.Watched.{Watched}

@@ -1,4 +1,4 @@
--- The last range alone is looked at.
+-- Only the last range is looked at.
 use Rattle.std.proofs.Common.{◌≡◌, List, ◌++◌, ap, sym, subst, ◌∙◌}
 use Rattle.std.specs.Prelude.{OnOk}
 use Rattle.probe.specs.declared.moments.Moments.{Moments}

@@ -1,4 +1,4 @@
--- The rest is told at once, or the key is tried at this clock.
+-- The rest is one range, or the key is tried at this clock.
 use Rattle.std.proofs.Common.{◌≡◌, ◌+◌, ◌<◌, ◌≤◌, Bool, List, true, false, ap, sym, subst, ◌∙◌, arith}
 use Rattle.std.specs.Prelude.{◌||◌, is_some, nat_eq}
 use Rattle.board_plain.specs.Plain.{Plain, clock_of}

@@ -1,4 +1,4 @@
--- Each clock is tried, up to the last or to where all ranges are known.
+-- Each clock is tried, up to the last one or until all ranges are known.
 use Rattle.std.proofs.Common.{◌≡◌, ◌-◌, ◌≤◌, Bool, List, refl, subst, sym, arith}
 use Rattle.board_plain.specs.Plain.{clock_of}
 use Rattle.probe.specs.declared.moments.Moments.{Moments}
