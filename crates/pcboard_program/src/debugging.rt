@@ -1,4 +1,4 @@
-//! What is typed, answered line by line as it comes.
+//! A session on a board: typed lines, answered one by one as they come.
 ghost use Rattle.std.specs.Prelude.{◌≡◌, ◌⊎◌, IfErr, IfSome, OnOk};
 ghost use Rattle.loader.specs.ByteInput.{CountsNone};
 ghost use Rattle.pcboard_texts.specs.Answer.{AppendsA};
@@ -35,7 +35,7 @@ pub(crate) fn print_session<T: Tool, I: ByteInput, O: Write>(
 {
     let mut session = T::begin(alloc, board)?;
     let answered = answer_lines::<T, I, O>(alloc, &mut session, input, out);
-    // let go by one call, whatever came of it: each place that lets one go is proved anew
+    // dropped here whatever the outcome: each place that drops a session needs a proof of its own
     drop(session);
     answered
 }
@@ -69,7 +69,7 @@ fn answer_lines<T: Tool, I: ByteInput, O: Write>(
     Err(Unanswered::Failed)
 }
 
-/// What the session answers to a line, or why it refuses it.
+/// What the session answers to a line, or why it refuses it. A line that isn't UTF-8 is no command.
 fn reply_to<T: Tool>(
     alloc: Global,
     session: &mut T::Session,

@@ -1,5 +1,5 @@
 //! What the program `pcboard` does: it reads sources, HEX texts and run files, runs the board, and prints reports and
-//! HEX texts. Another program may be the same but for its words and for what it answers to a typed line.
+//! HEX texts. Another program can share all but its words and its answers to typed lines.
 #![tactic(auto)]
 
 mod debugging;

@@ -22,9 +22,9 @@ use pcboard_words::task::{LineFault, Task};
 use std::alloc::Global;
 use std::io::Write;
 
-/// Does what `words`, those after the program's name, ask for, and answers the exit status: 0; 1 for a refusal,
-/// which `err` tells in a line; 2 for words that aren't the program's, with their usage on `err`; 3, with no
-/// text, for an opening, a read or a write that failed.
+/// Does what `words`, those after the program's name, ask for, and answers the exit status: 0; 1 for a refusal, which
+/// is a line on `err`; 2 for words that aren't the program's, with their usage on `err`; 3, with no text, if an
+/// opening, a read or a write failed.
 pub fn program<F: Opener, I: ByteInput, O: Write, E: Write>(
     alloc: Global,
     words: &[&str],
@@ -39,7 +39,7 @@ pub fn program<F: Opener, I: ByteInput, O: Write, E: Write>(
     ensures printed { result ≡ 0 → Prints (map (λ word. word.now) words.entry.now) (F.file_bytes files.now)
         (I.remaining input.old) (O.contents out.old) (O.contents out.new) }
 
-    // At status 0 nothing is told.
+    // At status 0 nothing is written to `err`.
     ensures untold { result ≡ 0 → E.contents err.new ≡ E.contents err.old }
 
     // At status 1 what `err` holds has grown by the line of a refusal that is true of the task that the words name.
@@ -58,18 +58,18 @@ pub fn program<F: Opener, I: ByteInput, O: Write, E: Write>(
     // At status 2 nothing is printed.
     ensures unprinted { result ≡ 2 → O.contents out.new ≡ O.contents out.old }
 
-    // Where a file that the words name can't be opened, nothing is judged.
+    // If a file that the words name can't be opened, nothing is judged.
     ensures lacking { (task : Task) → AnswersWords (map (λ word. word.now) words.entry.now) (Ok task)
         → LacksFile task (F.lacks files.now) → EndsUnjudged task result (E.contents err.old) (E.contents err.new) }
 
-    // At any status but 3 the input hasn't failed.
+    // At any status but 3 no read of the input has failed.
     ensures unfailed { result ≢ 3 → CountsNone (I.failures input.old) (I.failures input.new) }
 {
     program_of::<Pcboard, F, I, O, E>(alloc, words, files, input, out, err)
 }
 
-/// What `program` does, with a tool's words and its answers to typed lines. The clauses are those of `program`, by what the
-/// tool reads and answers.
+/// Does what `program` does, with a tool's words and its answers to typed lines. The clauses are those of `program`, in
+/// terms of what the tool reads and answers.
 pub fn program_of<T: Tool, F: Opener, I: ByteInput, O: Write, E: Write>(
     alloc: Global,
     words: &[&str],
@@ -141,7 +141,7 @@ fn print_task<T: Tool, F: Opener, I: ByteInput, O: Write>(
     }
 }
 
-/// Prints a report, and lets go of it.
+/// Prints a report, and drops it.
 fn print_report<O: Write>(report: Report, out: &mut O) -> Result<(), Unanswered>
     ensures printed { OnOk result (Appends (O.contents out.old) (O.contents out.new)
         (string_bytes report.text)) }

@@ -1,4 +1,4 @@
-//! What a task's files and input give: the report of a run, or a board that is ready for a session.
+//! What a task's files and input give: the report of a run, or a board for a session.
 ghost use Rattle.std.specs.Prelude.{◌≡◌, false, ◌⊎◌, IfErr, IfOk, IfSome, IsErrAnd, string_bytes};
 ghost use Rattle.loader.specs.ByteInput.{CountsNone};
 ghost use Rattle.pcboard_texts.specs.Answer.{IsBoardOf, IsReport, IsTrueRefusal, run_text_of, source_of};
@@ -17,7 +17,7 @@ use pcboard_texts::texts::{parted, read_texts};
 use pcboard_texts::unanswered::Unanswered;
 use std::alloc::Global;
 
-/// The report of a stored run: the input's first line is the run file, and the rest the source.
+/// The report of a stored run: the first line of the input is the run file, and the rest the source.
 pub(crate) fn stored_report<I: ByteInput>(
     alloc: Global,
     input: &mut I,
@@ -33,7 +33,7 @@ pub(crate) fn stored_report<I: ByteInput>(
     Ok(run_texts(alloc, false, source, run)?)
 }
 
-/// The report of a program's file, a HEX text if `hex`, else a source, under a run file.
+/// The report of a program's file (a HEX text if `hex`, else a source) under a run file.
 pub(crate) fn read_report<F: Opener>(
     alloc: Global,
     files: &F,
@@ -53,7 +53,8 @@ pub(crate) fn read_report<F: Opener>(
     Ok(run_texts(alloc, hex, bytes.as_slice(), said.as_slice())?)
 }
 
-/// The board at power-on of a program's file, a HEX text if `hex`, else a source, under a run file.
+/// The board at power-on of a program's file (a HEX text if `hex`, else a source) under a run file. Refused with the
+/// first fault of the two files, and for want of memory; fails if one can't be opened or read.
 pub fn read_board<F: Opener>(
     alloc: Global,
     files: &F,
@@ -73,7 +74,7 @@ pub fn read_board<F: Opener>(
 }
 
 /// The board at power-on of a HEX text, if `hex`, else of a source, under the text of a run file; or the first refusal,
-/// as `run_texts` tells it.
+/// in the order of `run_texts`.
 pub fn board_of(alloc: Global, hex: bool, bytes: &[u8], run: &[u8]) -> Result<Board, Fault>
     ensures board { IfOk result (IsBoardOf hex bytes.now run.now) }
     ensures fault { IfErr result (IsTrueRefusal hex bytes.now run.now) }

@@ -23,14 +23,14 @@ use pcboard_texts::fault::Fault;
 use pcboard_texts::texts::read_texts;
 use std::alloc::Global;
 
-/// Assembles `source`, runs its image on the board that the run file describes, with the file's stamped key codes,
-/// for the file's budget, and reports that board. Refused with the source's first fault, with `RamSize` where the
-/// board can't have that RAM or the image doesn't keep within it, and for want of memory.
+/// Assembles `source`, runs its image on the board that the run file describes, with the file's stamped key codes, for
+/// the file's budget, and reports that board. Refused with the source's first fault, with `RamSize` if the board can't
+/// have that RAM or the image doesn't fit in it, and for want of memory.
 pub fn run_source(alloc: Global, source: &[u8], run: &RunFile) -> Result<Report, Fault>
     ensures report { IfOk result (λ report. ReportsSource source.now run.now report) }
     ensures fault { IfErr result (λ fault. IsTrueOfSource source.now run.now fault) }
 
-    // Where the source gives an image that fits the board, only the want of memory refuses it.
+    // If the source gives an image that fits the board, only the want of memory refuses it.
     ensures accepted { (image : List (ℕ × ℕ)) → Gives source.now image → FitsBoard image run.now
         → IfErr result IsWantOfMemory }
 {
@@ -38,13 +38,13 @@ pub fn run_source(alloc: Global, source: &[u8], run: &RunFile) -> Result<Report,
     run_image(alloc, listing.image(), run)
 }
 
-/// Runs a HEX text, if `hex`, else a source, under the text of a run file, as `run_image` runs its image. The program's
-/// fault is told before the run file's, and both before the board's.
+/// Runs a HEX text, if `hex`, else a source, under the text of a run file, as `run_image` runs its image. Refused with
+/// the program's fault before the run file's, and with both before the board's.
 pub fn run_texts(alloc: Global, hex: bool, bytes: &[u8], run: &[u8]) -> Result<Report, Fault>
     ensures report { IfOk result (λ report. IsReport hex bytes.now run.now (string_bytes report.text)) }
     ensures fault { IfErr result (IsTrueRefusal hex bytes.now run.now) }
 
-    // Where the bytes give an image and the run file a board that can have it, only the want of memory refuses them.
+    // If the bytes give an image and the run file a board that can have it, only the want of memory refuses them.
     ensures accepted { (image : List (ℕ × ℕ)) → GivesImage hex bytes.now image → (run_file : RunFile)
         → Answers (Ok run_file) (run_of_text run.now) → FitsBoard image run_file → IfErr result IsWantOfMemory }
 {
@@ -53,27 +53,27 @@ pub fn run_texts(alloc: Global, hex: bool, bytes: &[u8], run: &[u8]) -> Result<R
 }
 
 /// Runs an image on the board that the run file describes, with the file's stamped key codes, for the file's budget,
-/// and reports that board. Refused with `RamSize` where the board can't have that RAM or the image doesn't keep
-/// within it, and for want of memory.
+/// and reports that board. Refused with `RamSize` if the board can't have that RAM or the image doesn't fit in it, and
+/// for want of memory.
 pub fn run_image(alloc: Global, image: &Image, run: &RunFile) -> Result<Report, Fault>
     ensures report { IfOk result (λ report. ReportsImage image.now run.now report) }
     ensures fault { IfErr result (λ fault. IsTrueOfImage image.now run.now fault) }
 
-    // Where the image fits the board, only the want of memory refuses it.
+    // If the image fits the board, only the want of memory refuses it.
     ensures accepted { FitsBoard image.now run.now → IfErr result IsWantOfMemory }
 {
     let mut board = new_board(alloc, image, run)?;
     match text_after(alloc, &mut board, run.budget.get()) {
         Ok(text) => Ok(Report { board, text }),
         Err(fault) => {
-            // let go by a call, which is proved once
+            // dropped by a call, so that this is proved once
             drop(board);
             Err(fault)
         }
     }
 }
 
-/// Runs a board for `count` clocks, and gives the text of its report.
+/// Runs a board for `count` clocks. Answers its report as text.
 fn text_after(alloc: Global, board: &mut Board, count: u64) -> Result<String, Fault>
     requires { clock_of board.old.plain + count ≤ 2 ^ 40 }
     ensures plain { OnOk result (board.new.plain ≡ after_clocks board.old.plain count) }
@@ -86,7 +86,7 @@ fn text_after(alloc: Global, board: &mut Board, count: u64) -> Result<String, Fa
     Ok(report_text(alloc, board)?)
 }
 
-/// The board of an image at power-on, as the run file says.
+/// The board of an image at power-on, as the run file describes it.
 pub(crate) fn new_board(alloc: Global, image: &Image, run: &RunFile) -> Result<Board, Fault>
     ensures start { IfOk result (IsAtPowerOn image.now run.now) }
     ensures clock { IfOk result (λ board. clock_of board.plain ≡ 0) }

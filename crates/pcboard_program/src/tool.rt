@@ -1,4 +1,4 @@
-//! A program as a tool: what words it takes, and what it answers to a line that is typed.
+//! A program as a tool: the words that it takes, and its answers to typed lines.
 ghost use Rattle.std.specs.Prelude.{◌≡◌, map, ℕ, IfOk, List, None, Result, Ok};
 ghost use Rattle.std.specs.Result.{IfErr};
 ghost use Rattle.pcboard_words.specs.CommandLine.{Answers as AnswersWords};
@@ -17,7 +17,7 @@ use pcboard_words::line::read_words;
 use pcboard_words::task::{LineFault, Task};
 use std::alloc::Global;
 
-/// What words a program takes, and what it answers to a line that is typed.
+/// The words that a program takes, and its answers to typed lines.
 pub trait Tool {
     // How the words are read.
     ghost reads: { Reading };
@@ -32,16 +32,16 @@ pub trait Tool {
     fn read<'a>(alloc: Global, words: &'a [&'a str]) -> Result<Task<'a>, LineFault>
         ensures { reads (map (λ word. word.now) words.entry.now) result };
 
-    /// A session about a board. The board is dropped if there is no memory.
+    /// A session on a board. Refused as `Memory` if there is none; the board is dropped then.
     fn begin(alloc: Global, board: Board) -> Result<Self::Session, DebugFault>
         ensures session { IfOk result (λ session. session ≡ answers.begins board) }
         ensures fault { IfErr result (λ fault. fault ≡ DebugFault.Memory None) };
 
-    /// Answers a line, or says why it is refused.
+    /// Answers a line, or refuses it.
     fn answer(alloc: Global, session: &mut Self::Session, line: &str) -> Result<Answer, DebugFault>
         ensures { answers.answers line.now session.old result session.new };
 
-    // Words name one task.
+    // The words name one task.
     ghost one_task: { (words : List (List ℕ)) (task : TaskType) (read : Result TaskType LineFaultType)
         → reads words (Ok task) → reads words read → IsReadAs task read };
 }
