@@ -1,4 +1,4 @@
-//! What words the program takes, and what it answers to a line that is typed.
+//! The words that the program takes, and its answers to typed lines.
 ghost use Rattle.pcboard_words.specs.ProbeLine.{AnswersProbe as AnswersWords};
 ghost use Rattle.pcboard_words.proofs.Files.{one_session};
 ghost use Rattle.probe.specs.Probe.{AnswersStopping, probe_about};
