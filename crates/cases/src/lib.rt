@@ -1,6 +1,6 @@
-//! The frame of a program of cases: it reads cases of outside values from standard input, a line each, has them judged,
-//! and prints the first that differ, each with its line's number, and then how many cases there were and how many of
-//! them differ. A blank line and a line that begins with `#` are no cases.
+//! The frame of a program of cases: it reads cases of outside values from standard input, one a line, has them judged,
+//! and prints the first that differ, each with the number of its line, and then how many cases there were and how many
+//! of them differ. A blank line and a line that begins with `#` are no cases.
 #![tactic(auto)]
 
 ghost use Rattle.std.specs.Prelude.{◌≡◌};
@@ -16,19 +16,19 @@ use std::io;
 use std::io::{BufRead, BufReader, Write};
 use tally::Tally;
 
-/// How many cases that differ are printed.
+/// At most this many of the cases that differ are printed.
 const SHOWN: u64 = 20;
 
-/// What a line is that came out as it says.
+/// What a line was that didn't differ.
 #[derive(Clone, Copy)]
 pub enum Judged {
-    /// It only sets up what the cases behind it are judged on, and doesn't count.
+    /// A setting for the cases after it, which doesn't count as one.
     Setting,
-    /// It is a case.
+    /// A case.
     Case,
 }
 
-/// Where a judge says no more, each line is a case.
+/// A judge that answers nothing judges cases alone.
 impl From<()> for Judged {
     ghost from_gives = { λ _ judged. judged ≡ Case };
 
@@ -40,7 +40,7 @@ impl From<()> for Judged {
 /// Judges the cases on standard input. `judge` fails with what differs, or with why the line can't be read; the line is
 /// then a case that differs.
 ///
-/// Fails where standard input can't be read, standard output can't be written, or there is no memory.
+/// Fails if standard input can't be read, standard output can't be written, or there is no memory.
 pub fn judge_cases<R, A, J>(rt: &R, judge: J) -> io::Result<()>
 where
     R: Input + Print + AllocGlobal,
@@ -53,7 +53,7 @@ where
     judge_from(alloc, cases, &mut io::writer(rt), judge)
 }
 
-/// Judges the cases that `cases` reads, and writes to `out` what is printed.
+/// Judges the cases that `cases` reads, and prints to `out`.
 fn judge_from<B, W, A, J>(alloc: Global, cases: B, out: &mut W, mut judge: J) -> io::Result<()>
 where
     B: BufRead + Drop,

@@ -6,7 +6,7 @@ ghost use Rattle.cases.specs.declared.Judged.TheVariants.{Setting};
 use crate::Judged;
 use anyhow::Result;
 
-/// How many cases there were, and how many of them differ; the greatest u64 stands for any number from there on.
+/// How many cases there were, and how many of them differ; the greatest u64 stands for any number from it on.
 #[derive(Clone, Copy)]
 pub struct Tally {
     pub cases: u64,
@@ -25,8 +25,8 @@ impl Tally {
         }
     }
 
-    /// The tally behind one line more. However many there are, no case is counted only where none was one, and none
-    /// differs only where none of them did.
+    /// The tally after one more line. However many lines there are, it has no case only if none of them was one, and
+    /// none that differs only if none of them did.
     pub fn with(self, answer: &Result<Judged>) -> Tally
         ensures cases { result.cases ≡ 0 ↔ (self.cases ≡ 0 × answer.now ≡ Ok Setting) }
         ensures differing { result.differing ≡ 0 ↔ (self.differing ≡ 0 × IsOk answer.now) }

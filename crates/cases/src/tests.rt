@@ -5,7 +5,7 @@ use std::alloc::Global;
 use std::io::Cursor;
 use std::test::Fail;
 
-/// Cases and what only sets them up, among lines that are neither.
+/// Cases and settings, among lines that are neither.
 const LINES: &str = "# a head\nset\nso\n\nnot so\n  \nset\nnot so\nso\n";
 
 fn judge(_: Global, case: &str) -> Result<Judged> {
