@@ -2,14 +2,14 @@
 use crate::words::Words;
 use anyhow::{Result, ensure};
 
-/// What a case's steps are made on.
+/// What the steps of a case are made on.
 pub trait Bench {
-    /// Makes a step. Answers whether it came out as it says, or `None` where there is no such step.
+    /// Makes a step. Answers whether it came out as the case says, or `None` if there is no such step.
     fn make(&mut self, verb: &str, words: Words) -> Option<bool>;
 }
 
-/// Makes `steps`, parted by semicolons, up to the first that doesn't come out, which the error names; and lets go of the
-/// bench, which is dear to prove of one that has boards, and here is proved of any.
+/// Makes `steps`, which are separated by semicolons, up to the first that doesn't come out, which the error names. Then
+/// the bench is dropped, here for any bench: for one that has boards that would take long to prove.
 pub fn follow<B: Bench + Drop>(mut bench: B, steps: &str) -> Result<()> {
     follow_on(&mut bench, steps)
 }

@@ -1,6 +1,6 @@
 //! Steps on a whole board.
 //!
-//! A function that may let go of a board on many ways is dear to prove. So boards are lent, and let go by `drop`.
+//! A function that may drop a board on many ways takes long to prove. So boards are lent, and dropped by `drop`.
 use crate::bench::Bench;
 use crate::cuts::{come_out_joined, comes_out_cut, comes_out_single, comes_out_ticking};
 use crate::lasts::lasts_so;
@@ -22,14 +22,14 @@ use std::alloc::{Allocator, Global};
 pub struct BoardBench {
     parts: Parts,
     board: Option<Board>,
-    /// The board that `again` goes on from.
+    /// The board from which `again` goes on.
     kept: Option<Board>,
-    /// The turns that were judged already.
+    /// The turns that were judged before.
     judged: u64,
 }
 
 impl BoardBench {
-    /// Parts and no board.
+    /// Parts without a board.
     pub fn new(alloc: Global) -> Self {
         BoardBench {
             parts: Parts::new(alloc),
@@ -55,7 +55,7 @@ impl BoardBench {
         Some(true)
     }
 
-    /// Keeps the board as it stands.
+    /// Keeps a copy of the board as it stands.
     fn keep(&mut self) -> Option<bool> {
         let copy = copy_of(&self.board)?;
         put(&mut self.kept, copy);
@@ -81,7 +81,7 @@ impl Bench for BoardBench {
     }
 }
 
-/// Puts a copy of the board that was kept in the place of the other, and runs it.
+/// Replaces the board by a copy of the one that was kept, and runs it.
 fn run_again(
     kept: &Option<Board>,
     board: &mut Option<Board>,
@@ -94,8 +94,8 @@ fn run_again(
     change(board, "run", words)
 }
 
-/// Whether the turns since those that were judged last are at least the steps and at most three times the work and
-/// three more.
+/// Whether the turns since those that were judged last are at least the steps and at most three times the work plus
+/// three.
 fn took_turns(board: &Board, judged: &mut u64, mut words: Words) -> Option<bool> {
     let (steps, work) = (words.count()?, words.count()?);
     let turns = board.turns();
@@ -104,7 +104,7 @@ fn took_turns(board: &Board, judged: &mut u64, mut words: Words) -> Option<bool>
     Some(steps <= grown && grown <= work.saturating_mul(3).saturating_add(3))
 }
 
-/// Makes a step that compares runs of copies of a board, or one on the board itself.
+/// Makes a step that compares runs of copies of a board, or a step on the board itself.
 fn go_on(alloc: Global, board: &mut Board, verb: &str, mut words: Words) -> Option<bool> {
     match verb {
         "cut" => comes_out_cut(alloc, board, words.count()?),
@@ -119,7 +119,7 @@ fn copy_of(board: &Option<Board>) -> Option<Board> {
     board.as_ref()?.copy().ok()
 }
 
-/// Puts a board in the place of another.
+/// Replaces a board by another.
 fn put(place: &mut Option<Board>, board: Board) {
     drop(place.replace(board));
 }
@@ -169,7 +169,7 @@ fn shows(screen: &str, verb: &str, mut words: Words) -> Option<bool> {
     }
 }
 
-/// Whether so many decodings are at least the first of the words and at most the second.
+/// Whether this many decodings are at least the first of the words and at most the second.
 fn were_decoded(decodes: u64, mut words: Words) -> Option<bool> {
     Some(words.count()? <= decodes && decodes <= words.count()?)
 }
@@ -226,7 +226,7 @@ fn words_of(regs: Regs) -> [u16; 14] {
     ]
 }
 
-/// Whether the words name all registers that aren't 0, in the order above, each with what it holds.
+/// Whether the words name all registers that aren't 0, in the order of `NAMES`, each with what it holds.
 fn hold(regs: Regs, words: Words) -> Option<bool> {
     let mut wanted = words.0.split_whitespace();
     let values = words_of(regs);
@@ -244,7 +244,7 @@ fn is_named(word: &str, name: &str, value: u16) -> Option<bool> {
     Some(register == name && u16::from_str_radix(digits, 16).ok()? == value)
 }
 
-/// Whether the words are the changes, each a clock and a level.
+/// Whether the words are these changes, each a clock and a level.
 fn are_listed(changes: &[SpeakerChange], words: Words) -> Option<bool> {
     let mut wanted = words.0.split_whitespace();
     for change in changes {

@@ -16,7 +16,7 @@ pub struct ChipsBench {
 }
 
 impl ChipsBench {
-    /// Parts and no chips.
+    /// Parts without chips.
     pub fn new(alloc: Global) -> Self {
         ChipsBench {
             parts: Parts::new(alloc),
@@ -65,7 +65,7 @@ fn act(chips: &mut Chips, verb: &str, mut words: Words) -> Option<bool> {
     Some(true)
 }
 
-/// Puts a copy in the place of the chips.
+/// Replaces the chips by a copy.
 pub fn go_on_with_a_copy(chips: &mut Chips) -> Option<bool> {
     let copy = chips.copy().ok()?;
     drop(mem::replace(chips, copy));

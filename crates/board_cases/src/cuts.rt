@@ -14,12 +14,12 @@ const NEVER: Words<'static> = Words("at FFFF FFFF");
 enum Way {
     /// By `run`.
     Plain,
-    /// By `run_until`, with a stop that doesn't hold. It makes the first clock by itself, without a leap.
+    /// By `run_until`, with a stop that doesn't hold. Its first clock is a turn of its own, without a leap.
     PastStop,
 }
 
-/// Whether a run of so many clocks shows the same where it is cut in two, at each clock, by `run` and by `run_until`;
-/// `None` where a run is refused.
+/// Whether a run of `clocks` clocks shows the same if it is cut in two, at any clock, by `run` and by `run_until`;
+/// `None` if a run is refused.
 pub fn comes_out_cut(alloc: Global, board: &Board, clocks: u64) -> Option<bool> {
     let whole = shown_cut(alloc, board, Way::Plain, clocks, 0)?;
     are_cut_so(alloc, board, clocks, whole.as_str())
@@ -35,7 +35,7 @@ fn are_cut_so(alloc: Global, board: &Board, clocks: u64, whole: &str) -> Option<
     Some(true)
 }
 
-/// Whether two runs show this text, made either way.
+/// Whether two runs, made in either way, show this text.
 fn is_cut_so(alloc: Global, board: &Board, first: u64, rest: u64, whole: &str) -> Option<bool> {
     let cut = shown_cut(alloc, board, Way::Plain, first, rest)?;
     let stopped = shown_cut(alloc, board, Way::PastStop, first, rest)?;
@@ -47,7 +47,8 @@ pub fn comes_out_single(alloc: Global, board: &Board, clocks: u64) -> Option<boo
     comes_out_beside(alloc, board, Way::Plain, clocks)
 }
 
-/// The same of a run that makes each clock by itself, and never leaps.
+/// Whether a run that makes each clock as a turn of its own, and never leaps, shows at each clock what one run up to
+/// there shows.
 pub fn comes_out_ticking(alloc: Global, board: &Board, clocks: u64) -> Option<bool> {
     comes_out_beside(alloc, board, Way::PastStop, clocks)
 }
@@ -78,7 +79,7 @@ fn go_on_alike(
     Some(true)
 }
 
-/// Whether a run of so many clocks comes to what another board is.
+/// Whether a board is after `clocks` clocks what another one is.
 fn comes_to(alloc: Global, board: &Board, clocks: u64, other: &Board) -> Option<bool> {
     let mut later = board.copy().ok()?;
     let answer = is_like(alloc, &mut later, clocks, other);
@@ -91,7 +92,7 @@ fn is_like(alloc: Global, board: &mut Board, clocks: u64, other: &Board) -> Opti
     Some(has_same_memory(board, other) && shows_the_same(alloc, board, other)?)
 }
 
-/// Of memory the first and the last 64 bytes of each 4,096 are read.
+/// Whether the first and the last 64 bytes of each 4,096 of memory are the same.
 fn has_same_memory(one: &Board, other: &Board) -> bool {
     for index in 0..256 * 64_u32 {
         let page = index / 64 * 4_096;
@@ -110,7 +111,7 @@ fn shows_the_same(alloc: Global, one: &Board, other: &Board) -> Option<bool> {
     Some(one.as_str() == other.as_str())
 }
 
-/// Whether runs of so many clocks, one after another, show what one run of their sum shows.
+/// Whether runs of these clocks, one after another, show what one run of their sum shows.
 pub fn come_out_joined(alloc: Global, board: &Board, words: Words) -> Option<bool> {
     let whole = shown_cut(alloc, board, Way::Plain, sum_of(words)?, 0)?;
     let pieces = shown_in_pieces(alloc, board, words)?;
@@ -125,7 +126,7 @@ fn sum_of(words: Words) -> Option<u64> {
     Some(sum)
 }
 
-/// What a board shows behind two runs.
+/// What a board shows after two runs.
 fn shown_cut(alloc: Global, board: &Board, way: Way, first: u64, rest: u64) -> Option<String> {
     let mut later = board.copy().ok()?;
     let text = run_twice(alloc, &mut later, way, first, rest);
@@ -139,7 +140,7 @@ fn run_twice(alloc: Global, board: &mut Board, way: Way, first: u64, rest: u64) 
     shown(alloc, board)
 }
 
-/// What a board shows behind runs of these clocks.
+/// What a board shows after runs of these clocks.
 fn shown_in_pieces(alloc: Global, board: &Board, words: Words) -> Option<String> {
     let mut later = board.copy().ok()?;
     let text = run_pieces(alloc, &mut later, words);
@@ -154,7 +155,7 @@ fn run_pieces(alloc: Global, board: &mut Board, words: Words) -> Option<String> 
     shown(alloc, board)
 }
 
-/// Runs the board; `None` where that is refused, or a stop is told.
+/// Runs the board; `None` if that is refused, or ends at a stop.
 fn run(board: &mut Board, way: Way, clocks: u64) -> Option<()> {
     match way {
         Way::Plain => board.run(clocks).ok(),

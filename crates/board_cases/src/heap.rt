@@ -1,4 +1,4 @@
-//! Steps on a board whose list of the speaker's changes lies in a heap of its own, which can be full.
+//! Steps on a board with its list of the speaker's changes in a heap of its own, which can be full.
 use crate::bench::{Bench, follow};
 use crate::boards::{change, is_fault};
 use crate::parts::Parts;
@@ -24,12 +24,12 @@ struct HeapBench<'h> {
     heap: &'h LocalHeap,
     parts: Parts,
     board: Option<Board<&'h LocalHeap>>,
-    /// What is taken of the heap besides.
+    /// Takes up the rest of the heap.
     filler: Option<Vec<u8, &'h LocalHeap>>,
 }
 
 impl<'h> HeapBench<'h> {
-    /// Parts and no board.
+    /// Parts without a board.
     fn new(alloc: Global, heap: &'h LocalHeap) -> Self {
         HeapBench {
             heap,
@@ -39,7 +39,7 @@ impl<'h> HeapBench<'h> {
         }
     }
 
-    /// Makes the board, whose list has room for so many changes.
+    /// Makes the board, with room for a number of changes in its list.
     fn build(&mut self, mut words: Words) -> Option<bool> {
         let ram_kb = words.size()?;
         let changes = Vec::with_capacity(self.heap, words.index()?).ok()?;
@@ -52,7 +52,7 @@ impl<'h> HeapBench<'h> {
         Some(true)
     }
 
-    /// Takes all of the heap but so many bytes.
+    /// Takes up all of the heap but `left` bytes.
     fn fill(&mut self, left: usize) -> Option<bool> {
         let size = self.heap.free().checked_sub(left)?;
         let filler = Vec::with_capacity(self.heap, size).ok()?;
@@ -85,7 +85,7 @@ impl<'h> Bench for HeapBench<'h> {
     }
 }
 
-/// Whether room is made for so many changes, or is refused by this fault.
+/// Whether room is made for a number of changes, or refused with this fault.
 fn reserves<A: Allocator>(board: &mut Board<A>, mut words: Words) -> Option<bool> {
     match board.reserve_speaker(words.index()?) {
         Ok(()) => Some(words.word()? == "taken"),

@@ -4,8 +4,8 @@ use crate::words::Words;
 use board::board::Board;
 use std::alloc::Allocator;
 
-/// Whether a run of so many clocks tells this clock and the condition of this number as the last that held, or none where
-/// the number is 0, and comes to its end. The conditions stand behind.
+/// Whether a run, to its end, answers this clock and the condition of this number as the last that held, or none if the
+/// number is 0. The words are the count of clocks, the clock, the number, and the conditions.
 pub fn lasts_so<A: Allocator>(board: &mut Board<A>, mut words: Words) -> Option<bool> {
     let count = words.count()?;
     let clock = words.clock()?;

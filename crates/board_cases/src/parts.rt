@@ -38,7 +38,7 @@ impl Parts {
         }
     }
 
-    /// The chips that are made of them.
+    /// Chips that are made of these parts.
     pub fn chips(&self, ram_kb: u16) -> Result<Chips, MemoryFault> {
         Chips::new(
             self.alloc,
@@ -50,7 +50,7 @@ impl Parts {
         )
     }
 
-    /// A board that is made of them.
+    /// A board that is made of these parts.
     pub fn board(&self, ram_kb: u16) -> Result<Board, BoardFault>
         ensures { IfOk result (λ board. board.changes ≡ []) }
     {

@@ -7,7 +7,7 @@ use debugger_meaning::answer::Answer;
 use linked_list_allocator::LocalHeap;
 use std::alloc::{Allocator, Global};
 
-/// Makes the steps behind `heap SIZE CLOCK`, up to the first that doesn't come out, which the error names.
+/// Makes the steps after `heap SIZE CLOCK`, up to the first that doesn't come out, which the error names.
 pub fn follow_session(alloc: Global, steps: &str) -> Result<()> {
     let (made, steps) = steps.split_once(';').context("no steps")?;
     let made = made.trim().strip_prefix("heap ").context("no heap")?;
@@ -17,7 +17,7 @@ pub fn follow_session(alloc: Global, steps: &str) -> Result<()> {
     follow_in_heap(alloc, &heap, number(Some(clock))?, steps)
 }
 
-/// Makes the steps of a session that begins at a clock, and whose copies are listed in this heap.
+/// Makes the steps of a session that begins at a clock, with its copies listed in this heap.
 fn follow_in_heap(alloc: Global, heap: &LocalHeap, clock: u64, steps: &str) -> Result<()> {
     let board = board_at(alloc, clock)?;
     let mut session = Session::with_checkpoints_in(heap, board)?;
@@ -88,13 +88,13 @@ fn replies<A: Allocator>(
     }
 }
 
-/// Whether an answer's text is this.
+/// Whether this is an answer's text.
 fn reads(alloc: Global, answer: &Answer, reply: &str) -> Result<bool> {
     let text = format!(in alloc; "{answer}")?;
     Ok(text.as_str().trim_end() == reply)
 }
 
-/// Whether a board shows what one shows that is run there from power-on.
+/// Whether a board shows what one shows that is run to its clock from power-on.
 fn stands_as_run(alloc: Global, board: &Board) -> Result<bool> {
     let mut other = tone_board(alloc)?;
     let same = shows_after(&mut other, board.clock().get(), board);
@@ -102,7 +102,7 @@ fn stands_as_run(alloc: Global, board: &Board) -> Result<bool> {
     same
 }
 
-/// Whether a board that is run for so many clocks shows what `wanted` shows.
+/// Whether a board shows after `count` clocks what `wanted` shows.
 fn shows_after(board: &mut Board, count: u64, wanted: &Board) -> Result<bool> {
     board.run(count)?;
     let is_there = board.clock() == wanted.clock() && board.lost() == wanted.lost();

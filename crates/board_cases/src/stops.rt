@@ -7,8 +7,8 @@ use board::board::Board;
 use board_plain::stop::{Condition, Stops};
 use std::alloc::Allocator;
 
-/// Whether a run up to a stop comes to the clock, at the stop of this number, or at none where it is 0. The conditions
-/// stand behind.
+/// Whether a run up to a stop ends at this clock, by the stop of this number, or at none if the number is 0. The words
+/// are the count of clocks, the clock, the number, and the conditions.
 pub fn stops_so<A: Allocator>(board: &mut Board<A>, mut words: Words) -> Option<bool> {
     let count = words.count()?;
     let clock = words.clock()?;
@@ -21,7 +21,7 @@ pub fn stops_so<A: Allocator>(board: &mut Board<A>, mut words: Words) -> Option<
     Some(told && board.clock() == clock)
 }
 
-/// The conditions of the words.
+/// The conditions that the words name, at most sixteen.
 pub fn read_stops(mut words: Words) -> Option<Stops>
     ensures { IfSome result (λ stops. All HasAddress stops.items) }
 {

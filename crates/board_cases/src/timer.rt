@@ -1,5 +1,5 @@
-//! Steps on the timer of the chips, which makes its ticks late and many at once, beside a timer that is ticked one tick
-//! at a time.
+//! Steps on the timer of the chips, which makes its ticks late and many at once, beside a timer that is ticked one by
+//! one.
 ghost use Rattle.std.specs.Prelude.{◌<◌, IfSome};
 
 use crate::bench::Bench;
@@ -15,7 +15,7 @@ use pit8253::pit::Pit;
 use std::alloc::Global;
 use wiring::chips::Chips;
 
-/// An output that stays for so many ticks stays for good: no count is above 65,536.
+/// An output that stays for this many ticks stays for good: no count is above 65,536.
 const TICKS_TO_TRY: u64 = 70_000;
 
 /// The chips, and a timer that gets the same calls.
@@ -26,7 +26,7 @@ pub struct TimerBench {
 }
 
 impl TimerBench {
-    /// Both at power-on, with port B of the 8255A as an output. `None` where there is no memory.
+    /// Both at power-on, with port B of the 8255A as an output. `None` if there is no memory.
     pub fn new(alloc: Global, kind: TimerKind) -> Option<Self> {
         let image = Image::new(alloc);
         let mut chips = Chips::new(alloc, &image, 16, 0, 0, kind).ok()?;
@@ -37,7 +37,7 @@ impl TimerBench {
         })
     }
 
-    /// Writes to a port of the timer.
+    /// Writes to a port of both timers.
     fn write(&mut self, mut words: Words) -> Option<bool> {
         let (port, value) = (timer_port(&mut words)?, words.byte()?);
         self.chips.out8(0x40 + u16::from(port), value);
@@ -45,13 +45,13 @@ impl TimerBench {
         Some(true)
     }
 
-    /// Whether both answer the same byte at a port of the timer.
+    /// Whether both timers give the same byte at a port.
     fn read(&mut self, mut words: Words) -> Option<bool> {
         let port = timer_port(&mut words)?;
         Some(self.chips.in8(0x40 + u16::from(port)) == self.pit.read(port))
     }
 
-    /// Sets gate 2, by bit 0 of port B.
+    /// Sets gate 2 of both timers, by bit 0 of port B.
     fn set_gate(&mut self, mut words: Words) -> Option<bool> {
         let high = words.high()?;
         self.chips.out8(0x61, u8::from(high));
@@ -61,7 +61,7 @@ impl TimerBench {
         Some(true)
     }
 
-    /// Passes clocks, so many; every fourth clock has a tick.
+    /// Passes clocks, every fourth of which has a tick. Answers whether OUT2 agrees after them.
     fn pass(&mut self, mut words: Words) -> Option<bool> {
         let from = self.chips.clock().get();
         let to = Clock::new(from.checked_add(words.count()?)?)?;
@@ -73,7 +73,7 @@ impl TimerBench {
         Some(out_2 == self.pit.out(2).is_high())
     }
 
-    /// Whether the chips foresee the clock at which an output turns next.
+    /// Whether the chips foresee the next edge of an output.
     fn foresees(&self, mut words: Words) -> Option<bool> {
         let n = words.byte()?;
         if n != 0 && n != 2 {
@@ -98,7 +98,7 @@ impl Bench for TimerBench {
     }
 }
 
-/// The number of a port of the timer, from 0.
+/// The number of a port of the timer, from 0, if it is one.
 fn timer_port(words: &mut Words) -> Option<u8>
     ensures { IfSome result (λ port. port < 4) }
 {
@@ -106,7 +106,7 @@ fn timer_port(words: &mut Words) -> Option<u8>
     (0x40 <= port && port < 0x44).then_some((port % 4) as u8)
 }
 
-/// The clock after `from` at whose tick an output turns, found by making the ticks.
+/// The clock at whose tick an output turns first after `from`, found by making the ticks.
 fn edge_by_ticks(pit: &Pit, n: u8, from: Clock) -> Option<u64>
     requires { n < 3 }
 {

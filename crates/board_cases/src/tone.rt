@@ -8,7 +8,7 @@ use board_types::image::{Image, is_loadable};
 use board_types::keys::Keys;
 use std::alloc::Global;
 
-/// JMP FAR 0F000h:0, from the reset vector.
+/// JMP FAR 0F000h:0, at the reset vector.
 const JUMP: [u8; 5] = [0xEA, 0x00, 0x00, 0x00, 0xF0];
 
 /// MOV AL,94h; OUT 43h,AL; MOV AL,2; OUT 42h,AL; MOV AL,99h; OUT 63h,AL; MOV AL,3; OUT 61h,AL; MUL BL; HLT.
@@ -17,10 +17,10 @@ const TONE: [u8; 19] = [
     0xF6, 0xE3, 0xF4,
 ];
 
-/// The clocks at which twenty keys each are struck. Nothing takes them, so some are lost.
+/// The clocks at which twenty keys each are struck. Nothing takes their codes, so some are lost.
 const STRUCK: [u64; 2] = [80, 200];
 
-/// The board at power-on.
+/// The board of the sessions at power-on.
 pub fn tone_board(alloc: Global) -> Result<Board> {
     let keys = struck(alloc)?;
     let image = tone_image(alloc)?;

@@ -4,12 +4,12 @@ use board::board::Board;
 use board_plain::trail::{TRAIL_LENGTH, TrailEntry, TrailEvent};
 use std::alloc::{Allocator, Global};
 
-/// Whether the trail has so many entries.
+/// Whether the trail has exactly `count` entries.
 pub fn has_entries<A: Allocator>(board: &Board<A>, count: usize) -> bool {
     board.trail(count).is_none() && (count == 0 || board.trail(count - 1).is_some())
 }
 
-/// Whether an instruction with these bytes is begun at this clock, CS and IP.
+/// Whether the entry is an instruction with these bytes that began at this clock, CS and IP.
 pub fn is_begun(entry: &TrailEntry, mut words: Words) -> Option<bool> {
     let here = stands_at(entry, &mut words)?;
     let TrailEvent::Instruction { instr, bytes } = &entry.event else {
@@ -24,7 +24,7 @@ pub fn is_begun(entry: &TrailEntry, mut words: Words) -> Option<bool> {
     Some(here && wanted.next().is_none() && bytes.len() == usize::from(instr.length()))
 }
 
-/// Whether an interrupt of this type is entered at this clock, CS and IP.
+/// Whether the entry is an interrupt of this type that was entered at this clock, CS and IP.
 pub fn is_entered(entry: &TrailEntry, mut words: Words) -> Option<bool> {
     let here = stands_at(entry, &mut words)?;
     let wanted = words.byte()?;
@@ -42,7 +42,7 @@ fn stands_at(entry: &TrailEntry, words: &mut Words) -> Option<bool> {
     Some(entry.clock == clock && entry.cs == cs && entry.ip == ip)
 }
 
-/// Writes a board's trail behind a text.
+/// Adds a board's trail to a text.
 pub fn push_trail(alloc: Global, text: &mut String, board: &Board) -> Option<()> {
     for index in 0..TRAIL_LENGTH {
         let Some(entry) = board.trail(index) else {
@@ -64,7 +64,7 @@ fn place_text(alloc: Global, entry: &TrailEntry) -> Option<String> {
     format!(in alloc; "\n{clock} {cs}:{ip}").ok()
 }
 
-/// Writes an entry's type, or an instruction's bytes.
+/// Adds an entry's type, or an instruction's bytes.
 fn push_event(alloc: Global, text: &mut String, event: &TrailEvent) -> Option<()> {
     match event {
         TrailEvent::Instruction { bytes, .. } => push_bytes(alloc, text, bytes.as_slice()),

@@ -49,7 +49,7 @@ impl<'a> Words<'a> {
         u16::try_from(self.count()?).ok()
     }
 
-    /// A number of things in memory, in decimal.
+    /// An index or a number of bytes, in decimal.
     pub fn index(&mut self) -> Option<usize> {
         self.word()?.parse::<usize>().ok()
     }
@@ -86,8 +86,8 @@ impl<'a> Words<'a> {
         }
     }
 
-    /// Whether the screen's text has 25 lines of 80 characters, and the one of this number, from 0, is the quoted
-    /// text and spaces.
+    /// Whether the screen's text has 25 lines of 80 characters, and the line of this number, from 0, is the quoted text
+    /// and spaces.
     pub fn are_shown(&mut self, screen: &str) -> Option<bool> {
         let number = usize::try_from(self.count()?).ok()?;
         let wanted = self.0.trim().strip_prefix('\'')?.strip_suffix('\'')?;
