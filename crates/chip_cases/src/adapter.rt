@@ -1,4 +1,4 @@
-//! A command to the text adapter, with what has to come of it.
+//! Commands to the text adapter, each with what must come of it.
 ghost use Rattle.std.specs.Prelude.{◌<◌, IfSome};
 
 use anyhow::{Result, ensure};
@@ -37,14 +37,14 @@ impl<'a> Operands<'a> {
     }
 }
 
-/// Makes a command. Fails where it doesn't come out as it says, or can't be read.
+/// Makes a command. Fails if it doesn't come out as it says, or can't be read.
 pub fn obey(mda: &mut Mda, alloc: Global, command: &str) -> Result<()> {
     let command = command.trim_start();
     ensure!(comes_out(mda, alloc, command) == Some(true), "{command}");
     Ok(())
 }
 
-/// Makes the command, and tells whether it came out as it says; `None` where it can't be read, or there is no memory.
+/// Makes the command. Answers whether it came out as it says; `None` if it can't be read, or there is no memory.
 fn comes_out(mda: &mut Mda, alloc: Global, command: &str) -> Option<bool> {
     let mut words = Operands(command.split_whitespace());
     match words.0.next()? {
@@ -60,7 +60,7 @@ fn comes_out(mda: &mut Mda, alloc: Global, command: &str) -> Option<bool> {
     }
 }
 
-/// Puts an adapter in the place of another.
+/// Replaces an adapter by another.
 fn put(place: &mut Mda, made: Result<Mda, AllocError>) -> Option<bool> {
     drop(mem::replace(place, made.ok()?));
     Some(true)
@@ -77,7 +77,7 @@ fn access(mda: &mut Mda, verb: &str, mut words: Operands) -> Option<bool> {
     Some(true)
 }
 
-/// Makes one that only looks at the adapter.
+/// Makes a command that only looks at the adapter.
 fn tells(mda: &Mda, verb: &str, mut words: Operands) -> Option<bool> {
     Some(match verb {
         "in" => mda.read_port(words.word()?) == words.byte()?,
@@ -88,7 +88,7 @@ fn tells(mda: &Mda, verb: &str, mut words: Operands) -> Option<bool> {
     })
 }
 
-/// Writes bytes from an offset of text memory on, one by one.
+/// Writes bytes one by one, from an offset of text memory on.
 fn poke(mda: &mut Mda, mut words: Operands) -> Option<bool> {
     let mut offset = words.offset()?;
     for word in words.0 {

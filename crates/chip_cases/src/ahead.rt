@@ -8,14 +8,15 @@ use pit8253::pit::Pit;
 use std::alloc::Global;
 use std::str::{Split, SplitWhitespace};
 
-/// A control word for counter 0: mode 0, two bytes, binary. It leaves the count, which then reads low byte first.
+/// A control word for counter 0: mode 0, two bytes, binary. The running count stays, and is then read low byte first.
 const READS_BOTH: u8 = 0x30;
 
 /// A read-back of counter 0's status.
 const READS_STATUS: u8 = 0xE2;
 
-/// Makes the operations that a case begins with on counter 0 of a timer of the kind at power-on; and then, on a copy for each, as
-/// many ticks as each of the other parts says, which tells what must come of them. The first of these makes none.
+/// Makes the operations with which a case begins on counter 0 of a timer of this kind at power-on. Then, on a copy for
+/// each of the other parts, makes the part's ticks and compares the counter with its words; the first of these parts
+/// makes no ticks.
 pub fn follow_counter(kind: TimerKind, case: &str) -> Result<()> {
     let mut parts = case.split('|');
     let mut pit = Pit::with(kind);
@@ -25,7 +26,7 @@ pub fn follow_counter(kind: TimerKind, case: &str) -> Result<()> {
     compare_ahead(kind, pit, parts)
 }
 
-/// Compares a counter, so many ticks ahead, with what each part says behind their number.
+/// Compares a counter with each part's words, as many ticks ahead as its first word says.
 fn compare_ahead(kind: TimerKind, pit: Pit, parts: Split<char>) -> Result<()> {
     for part in parts {
         let mut words = part.split_whitespace();
@@ -40,7 +41,7 @@ fn ahead(mut pit: Pit, ticks: u64) -> Pit {
     pit
 }
 
-/// Makes the operations in their order.
+/// Makes the operations in order.
 fn operate(pit: &mut Pit, operations: &str) -> Result<()> {
     for operation in operations.split_whitespace() {
         ensure!(comes_out(pit, operation) == Some(true), "{operation}");
@@ -48,8 +49,8 @@ fn operate(pit: &mut Pit, operations: &str) -> Result<()> {
     Ok(())
 }
 
-/// Makes an operation, and tells whether it came out as it says: a level of the gate, ticks, an access of a byte, or none.
-/// `None` where it can't be read.
+/// Makes an operation: a level of the gate, ticks, an access of a byte, or none. Answers whether it came out as it
+/// says, or `None` if it can't be read.
 fn comes_out(pit: &mut Pit, operation: &str) -> Option<bool> {
     let (name, value) = operation.split_at_checked(1)?;
     match name {
@@ -61,7 +62,7 @@ fn comes_out(pit: &mut Pit, operation: &str) -> Option<bool> {
     Some(true)
 }
 
-/// A control word or a read-back, or a byte that is written or read.
+/// Makes an access: a control word or a read-back, or a byte that is written or read.
 fn access(pit: &mut Pit, name: &str, byte: u8) -> Option<bool> {
     match name {
         "C" | "B" => pit.write(3, byte),
@@ -72,7 +73,7 @@ fn access(pit: &mut Pit, name: &str, byte: u8) -> Option<bool> {
     Some(true)
 }
 
-/// Compares counter 0 with what the words say: OUT, the count as it reads, the status of an 8254, and the ticks until OUT
+/// Compares counter 0 with the words: OUT, the count as it reads, the status of an 8254, and the ticks until OUT
 /// changes.
 fn compare(kind: TimerKind, pit: Pit, part: &str, words: SplitWhitespace) -> Result<()> {
     let count = count_of(pit);
@@ -83,7 +84,7 @@ fn compare(kind: TimerKind, pit: Pit, part: &str, words: SplitWhitespace) -> Res
     Ok(())
 }
 
-/// Whether these words tell of counter 0; `None` where one isn't there.
+/// Whether these words are true of counter 0; `None` if one is missing.
 fn shows(kind: TimerKind, pit: Pit, count: u16, mut words: SplitWhitespace) -> Option<bool> {
     let high = words.next()? == "1";
     let same = hexadecimal(words.next())? == count;
@@ -106,8 +107,8 @@ fn status_of(mut pit: Pit) -> u16 {
     u16::from(pit.read(0))
 }
 
-/// Lets the raster of an adapter at power-on go on by as many clocks as each part says, one after another, and compares
-/// the status and the clocks until its bit 0 changes with what it says.
+/// Lets the raster of an adapter at power-on go on by as many clocks as each part says, one part after another, and
+/// compares the status and the clocks until its bit 0 changes with the part.
 pub fn follow_raster(alloc: Global, case: &str) -> Result<()> {
     let mut mda = Mda::new(alloc)?;
     let answer = follow_parts(&mut mda, case);
@@ -133,7 +134,7 @@ fn follow_part(mda: &mut Mda, part: &str) -> Result<()> {
     Ok(())
 }
 
-/// Whether these words tell of the raster; `None` where one isn't there.
+/// Whether these words are true of the raster; `None` if one is missing.
 fn stands(mda: &Mda, status: u8, mut words: SplitWhitespace) -> Option<bool> {
     let same = hexadecimal(words.next())? == u16::from(status);
     Some(same && is_told(mda.until_change(), words.next()))

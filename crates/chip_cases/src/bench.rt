@@ -2,14 +2,15 @@
 use crate::verb::{Verb, number, verb_of};
 use anyhow::{Context, Result, ensure};
 
-/// What a case's steps are made on.
+/// What the steps of a case are made on.
 pub trait Bench {
-    /// Makes one access: writes `value`, or answers where a value is wanted. Gives the answer, or `value` where the
-    /// access answers nothing, or `None` where there is no such access.
+    /// Makes one access: writes `value`, or reads if a value is wanted. Answers what is read, or `value` if nothing is,
+    /// or `None` if there is no such access.
     fn access(&mut self, verb: Verb, place: u64, value: u64) -> Option<u64>;
 }
 
-/// Makes `steps`, parted by semicolons, up to the first that fails, which the error names; and lets go of the bench.
+/// Makes `steps`, which are separated by semicolons, up to the first that fails, which the error names. Then the bench
+/// is dropped.
 pub fn follow<B: Bench + Drop>(mut bench: B, steps: &str) -> Result<()> {
     follow_on(&mut bench, steps)
 }
@@ -21,7 +22,7 @@ fn follow_on<B: Bench>(bench: &mut B, steps: &str) -> Result<()> {
     Ok(())
 }
 
-/// Makes a step: an access for each of its values, or the one of a verb that has none.
+/// Makes a step: one access for each of its values, or the one of a verb that has none.
 fn make<B: Bench>(bench: &mut B, step: &str) -> Result<()> {
     let (verb, place, values, radix) = read(step).context("no such verb or place")?;
     ensure!(
@@ -35,7 +36,7 @@ fn make<B: Bench>(bench: &mut B, step: &str) -> Result<()> {
     make_accesses(bench, verb, place, values, radix)
 }
 
-/// A step's verb, its place, its values, and their radix, 0 of a verb that has none.
+/// A step's verb, its place, its values, and their radix (0 for a verb that has none).
 fn read(step: &str) -> Option<(Verb, u64, &str, u32)> {
     let (name, operands) = first_word(step);
     let (verb, place_radix, radix) = verb_of(name)?;
@@ -57,7 +58,7 @@ fn make_accesses<B: Bench>(
     Ok(())
 }
 
-/// The place that stands first, where the verb has one, and what follows it.
+/// The place, if the verb has one, and what follows it.
 fn place_in(operands: &str, radix: u32) -> Option<(u64, &str)> {
     if radix == 0 {
         return Some((0, operands));
@@ -66,7 +67,7 @@ fn place_in(operands: &str, radix: u32) -> Option<(u64, &str)> {
     Some((number(place, radix)?, values))
 }
 
-/// Makes the access of one value, which stands as `word`.
+/// Makes the access of one value, which the step has as `word`.
 fn make_access<B: Bench>(
     bench: &mut B,
     verb: Verb,

@@ -67,7 +67,7 @@ pub struct Memories {
 }
 
 impl Memories {
-    /// An empty image and no memory.
+    /// An empty image, without a memory.
     pub fn new(alloc: Global) -> Self {
         Memories {
             alloc,
@@ -76,7 +76,7 @@ impl Memories {
         }
     }
 
-    /// Makes a memory of so many KB. Answers the fault's number, or 0.
+    /// Makes a memory of `ram_kb` KB. Answers the fault's number, or 0.
     fn make(&mut self, ram_kb: u16) -> u64 {
         match Memory::new(self.alloc, ram_kb, &self.image) {
             Ok(memory) => {

@@ -40,7 +40,7 @@ pub enum Verb {
     Clock,
 }
 
-/// Each verb with its name, the radix of its place and that of its values (0 where it has none).
+/// Each verb with its name, the radix of its place and that of its values (0 if it has none).
 static VERBS: [(&str, Verb, u32, u32); 35] = [
     ("write", Verb::Write, 16, 16),
     ("read", Verb::Read, 16, 16),
@@ -101,13 +101,14 @@ static NAMES: [(&str, u64); 15] = [
     ("overflow", 8),
 ];
 
-/// The verb of this name, the radix of its place and that of its values (0 where it has none).
+/// The verb of this name, the radix of its place and that of its values (0 if it has none).
 pub fn verb_of(name: &str) -> Option<(Verb, u32, u32)> {
     let (_, verb, place, value) = VERBS.iter().find(|form| form.0 == name)?;
     Some((*verb, *place, *value))
 }
 
-/// The number that a word stands for: a name's, or digits, behind which an `L` adds nothing and an `H` 100h.
+/// The number that a word stands for: a name's, or digits, followed by `L`, which adds nothing, or by `H`, which adds
+/// 100h.
 pub fn number(word: &str, radix: u32) -> Option<u64> {
     if let Some((_, value)) = NAMES.iter().find(|name| name.0 == word) {
         return Some(*value);

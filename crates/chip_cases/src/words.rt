@@ -53,7 +53,7 @@ impl Bench for KeyCodes {
     }
 }
 
-/// A segment and flags; the rest has no state.
+/// A segment and flags; the other verbs need no state.
 #[derive(Drop)]
 pub struct Words {
     segment: u16,
