@@ -1,4 +1,4 @@
-//! Memory and the cache of its instructions, to which each write is told.
+//! Memory with a cache of its instructions, which each write passes.
 ghost use Rattle.std.specs.Prelude.{◌<◌, ◌^◌};
 
 use crate::judge::{judge, judge_found};
@@ -38,7 +38,7 @@ impl CachedMemory {
         })
     }
 
-    /// Does what a line says. Fails with what differs then, or with why the line can't be read.
+    /// Does what a line says. Fails with what differs, or with why the line can't be read.
     pub fn follow_line(&mut self, alloc: Global, line: &str) -> Result<Judged> {
         let words: Vec<&str> = line.split_whitespace().collect(alloc)?;
         self.follow(alloc, line, &words)
@@ -69,7 +69,7 @@ impl CachedMemory {
         }
     }
 
-    /// Makes the memory clear, with an empty cache.
+    /// Clears the memory, and empties the cache.
     fn clear(&mut self, alloc: Global) -> Result<()> {
         let cache = Cache::new(alloc)?;
         self.memory.clear();
@@ -85,7 +85,7 @@ impl CachedMemory {
         self.cache.wrote(addr);
     }
 
-    /// What stands at CS:IP.
+    /// What is decoded at CS:IP.
     fn fetch(&mut self, cs: u16, ip: u16) -> Decoded {
         self.cache.fetch(&self.memory, cs, ip)
     }
@@ -102,8 +102,8 @@ impl CachedMemory {
         Ok(())
     }
 
-    /// Fails unless what stands at CS:IP has this length and text, or the length `none`; now, and when it is fetched
-    /// again.
+    /// Fails unless what stands at CS:IP has this length and text, or is no row if the length is `none`; now, and when
+    /// it is fetched again.
     fn judge_fetch(
         &mut self,
         alloc: Global,
@@ -120,7 +120,7 @@ impl CachedMemory {
         Ok(())
     }
 
-    /// Fails if so many rounds of fetches at these offsets read more than so many bytes.
+    /// Fails if `rounds` rounds of fetches at these offsets read more than `most` bytes.
     fn judge_reads(&mut self, rounds: u32, most: u64, cs: &str, offsets: &[&str]) -> Result<()> {
         let cs = u16::from_str_radix(cs, 16)?;
         let before = self.memory.reads();
@@ -132,7 +132,7 @@ impl CachedMemory {
         Ok(())
     }
 
-    /// Fetches what stands at each offset; `None` where one can't be read.
+    /// Fetches what stands at each offset; `None` if one can't be read.
     fn fetch_each(&mut self, cs: u16, offsets: &[&str]) -> Option<()> {
         for offset in offsets {
             let _ = self.fetch(cs, u16::from_str_radix(offset, 16).ok()?);

@@ -4,10 +4,10 @@ use anyhow::{Context, Result, bail};
 use arrayvec::ArrayVec;
 use board_types::bytes::Bytes;
 
-/// The segment. Its offsets from 8000h on wrap at 2^20.
+/// The segment of all cases. Its offsets from 8000h on wrap at 2^20.
 pub const SEGMENT: u16 = 0xF800;
 
-/// Some bytes at an offset of the segment; all others are 90h.
+/// The first bytes from an offset of the segment on; all others are 90h.
 #[derive(Drop)]
 pub struct Code {
     pub ip: u16,
@@ -15,7 +15,7 @@ pub struct Code {
 }
 
 impl Code {
-    /// The bytes that a word's digits give, two for each.
+    /// The bytes of a word's digits, two for each, from the offset `ip` on.
     pub fn read(ip: &str, digits: &str) -> Result<Code> {
         let mut bytes = ArrayVec::new();
         for i in 0..digits.len() / 2 {
@@ -30,7 +30,7 @@ impl Code {
         })
     }
 
-    /// The byte that stands so far behind the offset.
+    /// The byte that stands `index` bytes after the offset.
     pub fn at(&self, index: usize) -> u8 {
         self.bytes.as_slice().get(index).copied().unwrap_or(0x90)
     }

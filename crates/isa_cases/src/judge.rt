@@ -34,7 +34,7 @@ fn judge_code(alloc: Global, code: &Code, length: &str, text: Option<&str>) -> R
     judge_found(alloc, &found, code.ip, length, text)
 }
 
-/// Whether an instruction of this length, encoded again, gives the bytes.
+/// Whether the instruction, encoded again, gives its own bytes, `length` of them.
 fn is_encoded(instr: &Instr, length: u8, code: &Code) -> bool
     requires form { IsForm instr.now.form }
     requires values { FitsForm instr.now.form instr.now.values }
@@ -64,7 +64,8 @@ fn has_bytes(code: &Code, start: usize, bytes: &[u8]) -> bool {
     true
 }
 
-/// Fails unless what was found at an offset has this length and, where one is wanted, this text, or is `none`.
+/// Fails unless what was found at an offset has this length and, if one is wanted, this text, or is no row if the
+/// length is `none`.
 pub fn judge_found(
     alloc: Global,
     found: &Decoding,

@@ -1,17 +1,17 @@
 //! Cases of outside values for the instructions. A case is one line:
 //!
 //! `IP BYTES LENGTH TEXT`, `IP BYTES LENGTH` or `IP BYTES none`: the instruction that stands at the offset IP, how many
-//! bytes it has, and its text, one blank behind the length. Its bytes, encoded again, must be those that stand there.
-//! BYTES may go on behind it; all further bytes are 90h.
+//! bytes it has, and its text, one blank after the length. Encoded again, it must give the bytes that stand there.
+//! BYTES may go on after it; all further bytes are 90h.
 //!
 //! `cost BYTES CL FOUND CLOCKS`: what a step of the instruction costs that found CL and `t`, a jump or interrupt that
 //! is taken; `f`, the first step; `z`, CX 0; `d`, a division without a quotient; `-`, none of them.
 //!
-//! `fetch CS IP LENGTH TEXT` or `fetch CS IP none`: what a decode cache gives at CS:IP, each time that it is asked. It
-//! stands over a megabyte of memory, of which every byte is 90h at first. `new ..`, which is no case, makes memory
-//! clear and the cache empty; `set AAAAA BYTES`, which is none either, writes bytes from that address on.
+//! `fetch CS IP LENGTH TEXT` or `fetch CS IP none`: what a decode cache gives at CS:IP, each time that it is asked. The
+//! cache is over a megabyte of memory, of which every byte is 90h at first. `new ..`, which is no case, clears memory
+//! and empties the cache; `set AAAAA BYTES`, which is no case either, writes bytes from that address on.
 //!
-//! `rounds N READS CS IP ..`: so many rounds of fetches at these offsets read at most READS bytes of the memory.
+//! `rounds N READS CS IP ..`: N rounds of fetches at these offsets read at most READS bytes of the memory.
 //!
 //! BYTES, AAAAA, CS and IP are hexadecimal, the other numbers decimal.
 #![tactic(auto)]

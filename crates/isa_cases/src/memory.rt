@@ -7,10 +7,10 @@ use std::alloc::{AllocError, Global};
 use std::cell::Cell;
 use std::marker::Model;
 
-/// The byte that every address has at first.
+/// The byte at every address of a clear memory.
 const CLEAR: u8 = 0x90;
 
-/// A byte for each address; each can be written.
+/// A byte for each address, all of which can be written.
 #[derive(Drop)]
 pub struct Memory {
     cells: Vec<u8>,
@@ -28,7 +28,7 @@ impl Model for Memory {
 }
 
 impl Memory {
-    /// A clear memory, which wasn't read.
+    /// A clear memory that hasn't been read.
     pub fn new(alloc: Global) -> Result<Memory, AllocError> {
         Ok(Memory {
             cells: vec![in alloc; CLEAR; ADDRESS_COUNT as usize]?,
@@ -37,7 +37,7 @@ impl Memory {
         })
     }
 
-    /// Makes the memory clear again.
+    /// Clears the memory.
     pub fn clear(&mut self) {
         for &addr in &self.touched {
             if let Some(cell) = self.cells.get_mut(addr as usize) {
