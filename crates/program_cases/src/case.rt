@@ -1,6 +1,6 @@
 //! A case and its parts.
 
-/// A case, as it stands in its line.
+/// The line of a case.
 #[derive(Clone, Copy)]
 pub struct Case<'a> {
     pub text: &'a str,
@@ -23,7 +23,7 @@ impl<'a> Case<'a> {
         self.part(name)?.parse::<u64>().ok()
     }
 
-    /// The text of a file.
+    /// The text of the file of this name.
     pub fn file(self, path: &str) -> Option<&'a str> {
         for part in self.text.split(" ;; ") {
             if let Some(("file", file)) = part.split_once(' ') {

@@ -1,15 +1,14 @@
-//! Cases of whole runs of the program, from words and files to what it prints. Of a case that differs the part that
-//! isn't so is printed.
+//! Cases of whole runs of the program, from words and files to what it prints. Of a case that differs, what differs is
+//! printed.
 //!
-//! A case is one line of parts, parted by ` ;; `. In texts `|` stands for a line feed, `\HH` for the byte of two
-//! hexadecimal digits, `\_HH` for so many blanks. The parts:
-//! `words WORD ..` (those after the program's name; without this part there are none), `file NAME TEXT` (no other file
-//! can be opened), `input TEXT` (on standard input), `reads N` (the read after the first N, of the files and standard
-//! input together, fails), `writes N` (the same of the writes of each output), `each` (besides, each read and each write
-//! of standard output fails in turn, and no other: the status is 3, nothing is told, and what is printed is a front of
-//! what is printed without the failure), `status N`; `out TEXT` and `err TEXT` (all that is printed and told; nothing
-//! without this part), `begins TEXT` and `usage TEXT` (how what is printed begins, and what stands in
-//! what is told).
+//! A case is one line of parts, separated by ` ;; `. In texts `|` stands for a line feed, `\HH` for the byte of two
+//! hexadecimal digits, `\_HH` for HH blanks. The parts: `words WORD ..` (those after the program's name; without this
+//! part there are none), `file NAME TEXT` (no other file can be opened), `input TEXT` (on standard input), `reads N`
+//! (the read after the first N, of the files and standard input together, fails), `writes N` (likewise a write of each
+//! output), `each` (besides, each read and each write of standard output fails in turn, and no other: the status is 3,
+//! standard error stays empty, and what is printed is the beginning of what is printed without the failure), `status
+//! N`; `out TEXT` and `err TEXT` (all of standard output and of standard error; nothing without this part), `begins
+//! TEXT` (how standard output begins) and `usage TEXT` (which stands in standard error).
 #![tactic(auto)]
 
 mod case;
@@ -62,7 +61,7 @@ fn judge_answer(case: Case<'_>, ran: &Ran) -> Result<()> {
     Ok(())
 }
 
-/// Has each read that a run makes fail in turn.
+/// Makes each read of a run fail in turn.
 fn judge_failing_reads(alloc: Global, case: Case<'_>, whole: &Ran) -> Result<()> {
     for number in 0..whole.reads {
         let failing = Failing {
@@ -75,7 +74,7 @@ fn judge_failing_reads(alloc: Global, case: Case<'_>, whole: &Ran) -> Result<()>
     Ok(())
 }
 
-/// Has each write of standard output that a run makes fail in turn.
+/// Makes each write of standard output in a run fail in turn.
 fn judge_failing_writes(alloc: Global, case: Case<'_>, whole: &Ran) -> Result<()> {
     for number in 0..whole.out.writes() {
         let failing = Failing {

@@ -17,6 +17,7 @@ pub struct Failing {
 }
 
 impl Failing {
+    /// No call fails.
     pub const NONE: Failing = Failing {
         read: None,
         out: None,
@@ -35,7 +36,8 @@ pub struct Ran {
 }
 
 impl Ran {
-    /// Whether it ended with a read or a write that failed: nothing is told, and what was printed before is a front of what `whole` printed.
+    /// Whether the run ended at a read or a write that failed: standard error is empty, and standard output is the
+    /// beginning of that of `whole`.
     pub fn is_cut_off(&self, whole: &Ran) -> bool {
         self.status == 3 && self.err.is("") && whole.out.begins_with(&self.out)
     }
@@ -59,7 +61,7 @@ impl<'a> Opener for Files<'a> {
     }
 }
 
-/// Runs the program on a case. Fails where there is no memory for it.
+/// Runs the program on a case. Fails if there is no memory for it.
 pub fn run(alloc: Global, case: Case<'_>, failing: Failing) -> Result<Ran> {
     let mut words = Vec::new(alloc);
     for word in case.part("words").unwrap_or("").split(' ') {

@@ -1,5 +1,5 @@
 //! The bytes that a case's text stands for. `|` is a line feed, `\HH` the byte of these two hexadecimal digits in upper
-//! case, `\_HH` so many blanks; every other byte is itself.
+//! case, `\_HH` is HH blanks; every other byte is itself.
 
 /// What is left of a text.
 #[derive(Clone, Copy)]

@@ -5,7 +5,7 @@ use std::cell::Cell;
 use std::io;
 use std::io::{Read, Write};
 
-/// How many bytes a read gives or a write takes at most, so that most calls are made in parts.
+/// The most bytes that a read gives or a write takes, few enough that most calls are made in parts.
 const PIECE: usize = 7;
 
 /// Calls of one kind, numbered from 0, of which one may fail.
@@ -16,7 +16,7 @@ pub struct Calls {
 }
 
 impl Calls {
-    /// The one of this number fails, and no other.
+    /// Calls of which the one of this number fails, and no other.
     pub fn new(failing: Option<u64>) -> Self {
         Calls {
             made: Cell::new(0),
@@ -29,7 +29,7 @@ impl Calls {
         self.made.get()
     }
 
-    /// Makes the next one.
+    /// Makes the next call.
     fn make(&self) -> io::Result<()> {
         let number = self.made.get();
         self.made.set(number.saturating_add(1));
@@ -49,7 +49,7 @@ pub struct Input<'a> {
 }
 
 impl<'a> Input<'a> {
-    /// Its reads are among these.
+    /// An input of this text, whose reads are counted among `reads`.
     pub fn new(text: &'a str, reads: &'a Calls) -> Self {
         Input {
             text: Spelled::new(text),
@@ -85,7 +85,7 @@ pub struct Output {
 }
 
 impl Output {
-    /// The write of this number fails.
+    /// An output of which the write of this number fails.
     pub fn new(alloc: Global, failing: Option<u64>) -> Self {
         Output {
             bytes: Vec::new(alloc),
@@ -98,7 +98,7 @@ impl Output {
         self.writes.made()
     }
 
-    /// Whether what was written begins with what was written here.
+    /// Whether what was written here begins with what was written to `front`.
     pub fn begins_with(&self, front: &Output) -> bool {
         self.bytes.as_slice().starts_with(front.bytes.as_slice())
     }
