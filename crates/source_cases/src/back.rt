@@ -6,16 +6,16 @@ use isa::form::Instr;
 use isa::layout::Second;
 use std::alloc::Global;
 
-/// How many bytes are tried behind an opcode whose second byte is a number.
+/// How many values are tried of the byte after an opcode, if it is a number.
 const NUMBERS: u8 = 16;
 
-/// What stands around an opcode and its addressing byte.
+/// What stands before and after an opcode and its addressing byte.
 #[derive(Clone, Copy)]
 struct Setting {
     prefix: Option<u8>,
-    /// The four bytes behind the addressing byte.
+    /// The four bytes after the addressing byte.
     tail: [u8; 4],
-    /// Each addressing byte is tried that is a multiple of this.
+    /// Each addressing byte that is a multiple of this is tried.
     step: u8,
 }
 
@@ -34,13 +34,13 @@ impl Setting {
         })
     }
 
-    /// The instruction that is tried of these two bytes, if they give one.
+    /// The instruction of these two bytes, if they give one that is tried.
     fn instruction(self, opcode: u8, second: u8) -> Option<Instr> {
         let instr = Code::new(self.prefix, opcode, second, self.tail).instruction()?;
         (second < NUMBERS || has_addressing(&instr)).then_some(instr)
     }
 
-    /// How many instructions there are. Fails with the text of the first that doesn't come back.
+    /// Counts the instructions of the setting. Fails with the text of the first that doesn't come back.
     fn count(self, alloc: Global) -> Result<u64> {
         let mut count = 0u64;
         for opcode in 0..=255u8 {

@@ -8,20 +8,20 @@ use decode::decode::decode;
 use decode::decoding::Decoding;
 use isa::form::Instr;
 
-/// The segment in which an instruction stands.
+/// The segment of the instructions.
 pub const SEGMENT: u16 = 0x1000;
 
-/// Its offset. No short target wraps there.
+/// The offset of the instructions. No short target wraps from there.
 pub const OFFSET: u16 = 0x4000;
 
-/// Some bytes at the offset; all others are 0.
+/// The first bytes at the offset; all others are 0.
 #[derive(Drop)]
 pub struct Code {
     bytes: ArrayVec<u8, 16>,
 }
 
 impl Code {
-    /// An opcode, perhaps behind a prefix, with what follows it.
+    /// An opcode, after a prefix if there is one, with what follows it.
     pub fn new(prefix: Option<u8>, opcode: u8, addressing: u8, tail: [u8; 4]) -> Code {
         let mut bytes = ArrayVec::new();
         if let Some(prefix) = prefix {
@@ -33,7 +33,7 @@ impl Code {
         Code { bytes }
     }
 
-    /// The first bytes that an image has there.
+    /// The first bytes that an image has at the offset.
     pub fn of_image(image: &Image) -> Code {
         let mut bytes = ArrayVec::new();
         for n in 0..16u16 {
@@ -43,7 +43,7 @@ impl Code {
         Code { bytes }
     }
 
-    /// The instruction that stands there, if one does.
+    /// The instruction that stands at the offset, if one does.
     pub fn instruction(&self) -> Option<Instr> {
         match decode(self, SEGMENT, OFFSET).unpack() {
             Decoding::Found(instr, _) => Some(instr),

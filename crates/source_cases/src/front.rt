@@ -1,4 +1,4 @@
-//! Fronts of a source.
+//! The first bytes of a source.
 use crate::placed::push_bytes;
 use anyhow::{Context, Result};
 use assembler::assembly::assemble;
@@ -10,16 +10,16 @@ use std::alloc::{AllocError, Global};
 const SOURCE: &str =
     "SEGMENT M AT 0F000h\ngo: MOV AX,0B000h\n MOV ES,AX\n MOV DI,0\n MOV AX,0748h\n STOSW\n MOV AX,0749h\n STOSW\n MOV DX,3B8h\n MOV AL,8\n OUT DX,AL\n HLT\nENDS\nSEGMENT R AT 0FFFFh\n JMP FAR go\nENDS\n";
 
-/// Where its bytes stand: the first address of each run, and one that lies behind it.
+/// The first address of each run of bytes of the image, and one after its end.
 const PLACES: [(u32, u32); 2] = [(0xF_0000, 0xF_0040), (0xF_FFF0, 0x10_0030)];
 
-/// What the assembler makes of the first bytes of the source, as many as the text says.
+/// What the assembler makes of as many bytes of the source as the text says.
 pub fn answer_to(alloc: Global, text: &str) -> Result<String> {
     let front = front_in(text).context("no front")?;
     Ok(assembled(alloc, front)?)
 }
 
-/// The first bytes of the source, as many as `front SIZE` says.
+/// As many bytes of the source as `front SIZE` says.
 fn front_in(text: &str) -> Option<&'static [u8]> {
     let digits = text.strip_prefix("front ")?;
     let size = digits.parse::<u8>().ok()?;
@@ -33,7 +33,7 @@ fn assembled(alloc: Global, source: &[u8]) -> Result<String, AllocError> {
     }
 }
 
-/// The bytes at each place up to the first address without one.
+/// The bytes of each run, up to the first address without one.
 fn image_text(alloc: Global, image: &Image) -> Result<String, AllocError> {
     let mut text = String::from_str(alloc, "front")?;
     for (place, end) in PLACES {

@@ -4,7 +4,7 @@ ghost use Rattle.std.specs.Prelude.{if◌then◌else◌, Some};
 use loader::byte_input::{ByteInput, Failed};
 use std::io::Read;
 
-/// Bytes, some at a time. One read may fail; those behind it go on where it stood.
+/// Bytes, some at a time. One read may fail; the reads after it go on from there.
 #[derive(Drop)]
 pub struct Pieces<'a> {
     rest: &'a [u8],
@@ -16,6 +16,7 @@ pub struct Pieces<'a> {
 }
 
 impl<'a> Pieces<'a> {
+    /// These bytes, of which a read gives at most `most`; the read after the first `reads_left` fails.
     pub fn new(bytes: &'a [u8], most: usize, reads_left: u64) -> Self {
         Pieces {
             rest: bytes,

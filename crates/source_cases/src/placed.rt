@@ -8,16 +8,16 @@ use std::alloc::{AllocError, Global};
 const BEFORE: &str =
     "five EQU 5\nlow EQU -3\nbig EQU 1234h\nSEGMENT A AT 1000h\n ORG 0FF0h\nback: DB 0\n ORG 1000h\n";
 
-/// The lines behind it.
+/// The lines after the case's.
 const BEHIND: &str = "\n ORG 1040h\nfore: DB 0\nlater EQU 7\n";
 
-/// The case's line in the source.
+/// The number of the case's line in the source.
 const LINE: u32 = 8;
 
-/// Where the case's bytes begin.
+/// The address at which the case's bytes begin.
 const PLACE: u32 = 0x11000;
 
-/// Where `fore` stands.
+/// The address of `fore`.
 const END: u32 = 0x11040;
 
 /// What the assembler makes of the line.
@@ -56,7 +56,7 @@ pub fn push_bytes(
     Ok(())
 }
 
-/// The fault's number, and its line where it isn't the case's.
+/// The fault's number, and its line if it isn't the case's.
 fn fault_text(alloc: Global, fault: AsmFault) -> Result<String, AllocError> {
     let number = fault.number();
     match fault.line() {

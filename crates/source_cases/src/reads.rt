@@ -7,7 +7,7 @@ use std::alloc::{AllocError, Global};
 /// How many bytes the loader asks for at once.
 const PIECE: usize = 4096;
 
-/// How many bytes are read, and by how many reads. Fails where one of these reads fails and the whole isn't refused.
+/// How many bytes are read, and by how many reads. Fails if one of these reads fails and the whole isn't refused.
 pub fn answer_to(alloc: Global, text: &str) -> Result<String> {
     let (size, most, limit) = numbers(text).context("no numbers")?;
     let bytes = counted(alloc, size)?;
@@ -31,7 +31,7 @@ fn numbers(text: &str) -> Option<(u64, u64, u64)> {
     Some((size, most, limit))
 }
 
-/// How many of the bytes are read, and by how many reads, where none fails.
+/// How many of the bytes are read, and by how many reads, if none fails.
 fn count_reads(alloc: Global, bytes: &[u8], most: usize, limit: u64) -> Result<(usize, u64)> {
     let mut input = Pieces::new(bytes, most, u64::MAX);
     let read = read_all(alloc, &mut input, limit)?;
@@ -40,7 +40,7 @@ fn count_reads(alloc: Global, bytes: &[u8], most: usize, limit: u64) -> Result<(
     Ok((read.len(), reads))
 }
 
-/// So many bytes, which no shift leaves as they are.
+/// `size` bytes that any shift would change.
 fn counted(alloc: Global, size: u64) -> Result<Vec<u8>, AllocError> {
     let mut bytes = Vec::new(alloc);
     for i in 0..size {
@@ -49,7 +49,7 @@ fn counted(alloc: Global, size: u64) -> Result<Vec<u8>, AllocError> {
     Ok(bytes)
 }
 
-/// Fails where the whole isn't refused, though the read after so many fails, or where bytes are taken behind that.
+/// Fails if the read after the first `reads` fails and the whole isn't refused, or bytes are taken after that.
 fn judge_failure(alloc: Global, bytes: &[u8], most: usize, limit: u64, reads: u64) -> Result<()> {
     let mut input = Pieces::new(bytes, most, reads);
     let read = read_all(alloc, &mut input, limit);
