@@ -1,4 +1,4 @@
--- What the bus keeps.
+-- The test memory keeps the laws of a bus.
 -- For proofs alone: no public contract rests on it.
 use Rattle.std.proofs.Common.{refl, arith}
 use Rattle.std.proofs.lemmas.Grind.{common_steps}

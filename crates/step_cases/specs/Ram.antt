@@ -1,4 +1,4 @@
--- A bus over memory where every address takes a byte, and ports that keep nothing.
+-- A bus over memory that takes a byte at every address, and ports that keep nothing.
 -- For proofs alone: no public contract rests on it.
 use Rattle.std.specs.Prelude.{ℕ, ◌+◌, ◌*◌, ◌%◌, List, length, nat_lt, slice_index, slice_set}
 use Rattle.bus.specs.Bus.{BusMeaning}

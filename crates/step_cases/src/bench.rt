@@ -1,4 +1,4 @@
-//! A processor over memory that lines set up and bring forward.
+//! A processor over memory that lines of a case set up and bring forward.
 
 use crate::judge::{Wanted, judge, judge_kept, judge_registers};
 use crate::ram::Ram;
@@ -19,7 +19,7 @@ use std::alloc::{AllocError, Global};
 /// The type of the interrupt that a single step enters.
 const SINGLE_STEP: u8 = 1;
 
-/// What was done at a boundary: the clocks that it took, and the port writes that were told before it.
+/// What was done at a boundary: the clocks that it took, and the port writes that were predicted.
 #[derive(Drop)]
 pub struct Done {
     pub clocks: u16,
@@ -31,7 +31,7 @@ pub struct Done {
 pub struct Bench {
     pub cpu: Cpu,
     pub ram: Ram,
-    /// By which table clocks count.
+    /// The table by which clocks count.
     table: ClockTable,
 }
 
@@ -45,7 +45,7 @@ impl Bench {
         })
     }
 
-    /// Does what a line says. Fails with what differs then, or with why the line can't be read.
+    /// Does what a line says. Fails with what differs, or with why the line can't be read.
     pub fn follow_line(&mut self, alloc: Global, line: &str) -> Result<Judged> {
         let (name, rest) = line.split_once(' ').context("no such line")?;
         match name {
@@ -70,19 +70,19 @@ impl Bench {
         }
     }
 
-    /// A new processor with the registers of the text, which keeps nothing.
+    /// Makes a new processor with the registers of the text, which keeps nothing.
     fn begin_at(&mut self, text: &str) -> Result<()> {
         self.begin(read_regs(text)?);
         judge_kept(self, "none")
     }
 
-    /// A new processor with these registers, over clear memory.
+    /// Makes a new processor with these registers, and clears memory.
     fn begin(&mut self, regs: Regs) {
         self.cpu = Cpu::new(regs);
         self.ram.clear();
     }
 
-    /// The bytes that `AAAAA BYTES` gives memory.
+    /// Puts the bytes of `AAAAA BYTES` into memory.
     fn fill(&mut self, alloc: Global, text: &str) -> Result<()> {
         let (start, digits) = text.split_once(' ').context("no bytes")?;
         let mut addr = u32::from_str_radix(start, 16)?;
@@ -120,8 +120,8 @@ impl Bench {
         self.make_and_judge(alloc, boundary, kind, rest)
     }
 
-    /// What a boundary finds: registers, but where an iteration is done, and an instruction's code. Answers the code's
-    /// first byte, which is an interrupt's type.
+    /// Sets up a new processor with these registers, unless an iteration is next, and an instruction's code. Answers
+    /// the code's first byte, which is an interrupt's type.
     fn set_up(&mut self, alloc: Global, boundary: Boundary, regs: Regs, code: &str) -> Result<u8> {
         if boundary != Boundary::Iteration {
             self.begin(regs);
@@ -129,7 +129,7 @@ impl Bench {
         self.put_next(alloc, boundary, code)
     }
 
-    /// Puts an instruction's code at CS:IP, and answers its first byte.
+    /// Puts an instruction's code at CS:IP. Answers its first byte.
     fn put_next(&mut self, alloc: Global, boundary: Boundary, code: &str) -> Result<u8> {
         let code = read_bytes(alloc, code)?;
         if boundary == Boundary::Instruction {
@@ -138,7 +138,7 @@ impl Bench {
         Ok(code.first().copied().unwrap_or(SINGLE_STEP))
     }
 
-    /// Does what stands at a boundary, and judges by these fields what came of it.
+    /// Does what is due at a boundary, and judges by these fields what came of it.
     fn make_and_judge(
         &mut self,
         alloc: Global,
@@ -165,7 +165,7 @@ impl Bench {
         Ok(())
     }
 
-    /// The clocks of a step by this table, which must make so many calls.
+    /// The clocks of a step by this table, which must make this number of calls.
     fn clocks_by(
         &mut self,
         alloc: Global,
@@ -203,7 +203,7 @@ impl Bench {
         judge_kept(self, kept)
     }
 
-    /// Puts the bytes of a list `AAAAA=VV ..` there.
+    /// Puts the bytes of a list `AAAAA=VV ..` into memory.
     fn put_cells(&mut self, alloc: Global, list: &str) -> Result<()> {
         for word in &words_in(alloc, list)? {
             let (addr, byte) = cell_in(word).context("no byte")?;
@@ -223,7 +223,7 @@ impl Bench {
         Ok(())
     }
 
-    /// Does what stands at a free boundary; an interrupt's type is `kind`.
+    /// Does what is due at a free boundary; `kind` is an interrupt's type.
     fn make(&mut self, boundary: Boundary, kind: u8) -> Done {
         self.ram.begin_step();
         let mut told = ArrayVec::new();
@@ -264,7 +264,7 @@ fn table_named(name: &str) -> Option<ClockTable> {
     }
 }
 
-/// Whether there is a request, and what its type is, in `R TYPE`.
+/// Whether there is a request, and its type, from `R TYPE`.
 fn request_in(place: &str) -> Option<(bool, &str)> {
     let (request, kind) = place.split_once(' ')?;
     match request {
@@ -274,7 +274,7 @@ fn request_in(place: &str) -> Option<(bool, &str)> {
     }
 }
 
-/// The calls of words and of bytes in `WORDS BYTES`.
+/// The calls for words and for bytes, from `WORDS BYTES`.
 fn calls_in(text: &str) -> Option<(usize, usize)> {
     let (words, bytes) = text.trim().split_once(' ')?;
     Some((words.parse().ok()?, bytes.parse().ok()?))
@@ -291,7 +291,7 @@ fn boundary_named(name: &str) -> Option<Boundary> {
     }
 }
 
-/// What a boundary is, as lines name it.
+/// The name of a boundary in a line.
 pub fn boundary_name(boundary: Boundary) -> &'static str {
     match boundary {
         Boundary::Request => "request",

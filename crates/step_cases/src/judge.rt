@@ -8,7 +8,7 @@ use board_types::state::State;
 use execute::cpu::Cpu;
 use std::alloc::Global;
 
-/// The fields of a line that tell what is found after a step.
+/// The fields of a line that say what is found after a step.
 #[derive(Clone, Copy)]
 pub struct Wanted<'a> {
     after: &'a str,
@@ -46,7 +46,7 @@ pub fn judge(alloc: Global, bench: &Bench, done: &Done, wanted: &Wanted) -> Resu
     judge_due(&bench.cpu, wanted.due)
 }
 
-/// The registers and the flags word are these.
+/// Fails unless these are the registers and the flags word.
 pub fn judge_registers(bench: &Bench, text: &str) -> Result<()> {
     let wanted = read_words(text)?;
     let found = words_of(bench.cpu.regs());
@@ -58,7 +58,7 @@ pub fn judge_registers(bench: &Bench, text: &str) -> Result<()> {
     Ok(())
 }
 
-/// The processor keeps these operands and this result, or `none`.
+/// Fails unless the processor keeps these operands and this result, or nothing if the text is `none`.
 pub fn judge_kept(bench: &Bench, text: &str) -> Result<()> {
     match bench.cpu.kept() {
         Some((first, second, value)) => ensure!(
@@ -80,7 +80,7 @@ fn are_kept(kept: [u16; 3], text: &str) -> Option<bool> {
     Some(true)
 }
 
-/// Each byte in the list was written, and no other.
+/// Fails unless each byte of the list was written, and no other.
 fn judge_written(alloc: Global, ram: &Ram, list: &str) -> Result<()> {
     let words = words_in(alloc, list)?;
     if let Some(word) = unwritten(ram, &words) {
@@ -103,7 +103,7 @@ fn unwritten<'a>(ram: &Ram, words: &[&'a str]) -> Option<&'a str> {
     None
 }
 
-/// The first address that was written and is in none of the words.
+/// The first address that was written and that none of the words names.
 fn unnamed(ram: &Ram, words: &[&str]) -> Option<u32> {
     for addr in ram.written() {
         if !names(words, *addr) {
@@ -124,7 +124,7 @@ fn names(words: &[&str], addr: u32) -> bool {
     false
 }
 
-/// The port accesses are those in the list, in order.
+/// Fails unless the port accesses are those of the list, in order.
 fn judge_accesses(alloc: Global, found: &[Access], list: &str) -> Result<()> {
     let words = words_in(alloc, list)?;
     let same = found.len() == words.len() && are_accesses(found, &words);
@@ -141,7 +141,7 @@ fn are_accesses(found: &[Access], words: &[&str]) -> bool {
     true
 }
 
-/// The port writes are those that were told, in order.
+/// Fails unless the port writes are those that were predicted, in order.
 fn judge_told(found: &[Access], told: &[(u16, u8)]) -> Result<()> {
     ensure!(are_told(found, told), "other port writes than told");
     Ok(())
@@ -160,8 +160,8 @@ fn are_told(found: &[Access], told: &[(u16, u8)]) -> bool {
     told.next().is_none()
 }
 
-/// `STATE MARKS` and what the next boundary is without a request and with one. The marks aren't seen by
-/// themselves.
+/// Fails unless `STATE MARKS ..` is true of the state, and of the next boundary without a request and with one. The
+/// marks can't be seen.
 fn judge_due(cpu: &Cpu, text: &str) -> Result<()> {
     let state = state_name(cpu.state());
     let alone = boundary_name(cpu.may_take(false));

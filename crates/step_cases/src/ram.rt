@@ -14,14 +14,14 @@ pub enum Access {
     Write(u16, u8),
 }
 
-/// A megabyte of memory that takes a byte at every address, and ports of which `port` gives 7 times its number and 3,
+/// A megabyte of memory that takes a byte at every address, and ports, each of which gives 7 times its number plus 3,
 /// modulo 256. A clear memory is 00h.
 #[derive(Drop)]
 pub struct Ram {
     cells: Vec<u8>,
     /// The addresses that were written since the memory was clear, in order.
     touched: Vec<u32>,
-    /// How many of them the step found.
+    /// How many of `touched` were there before the step.
     found: usize,
     /// How often the step has read a byte of memory.
     reads: Cell<usize>,
@@ -40,7 +40,7 @@ impl Ram {
         })
     }
 
-    /// Makes the memory clear again.
+    /// Clears the memory.
     pub fn clear(&mut self) {
         for &addr in &self.touched {
             if let Some(cell) = self.cells.get_mut(addr as usize) {
@@ -60,7 +60,7 @@ impl Ram {
         Ok(())
     }
 
-    /// From here on it notes what the step does.
+    /// Begins to note what the step does.
     pub fn begin_step(&mut self) {
         self.found = self.touched.len();
         self.reads.set(0);

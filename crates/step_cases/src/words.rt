@@ -5,7 +5,7 @@ use anyhow::{Context, Result, bail};
 use board_types::regs::{Flags, Regs};
 use std::alloc::Global;
 
-/// What the words of a list of registers are, in their order.
+/// The names of the words of a list of registers, in order.
 pub const NAMES: [&str; 14] = [
     "AX",
     "CX",
@@ -23,7 +23,7 @@ pub const NAMES: [&str; 14] = [
     "the flags",
 ];
 
-/// Reads the 14 hexadecimal words of a case's registers; refused where there are more or fewer.
+/// Reads the 14 hexadecimal words of a case's registers; refused if there are more or fewer.
 pub fn read_words(text: &str) -> Result<[u16; 14]> {
     let mut words = [0u16; 14];
     let mut count = 0usize;
@@ -40,7 +40,7 @@ pub fn read_words(text: &str) -> Result<[u16; 14]> {
     Ok(words)
 }
 
-/// The registers in a case's order.
+/// The registers in the order of a case.
 pub fn words_of(regs: Regs) -> [u16; 14] {
     [
         regs.ax,
@@ -104,7 +104,7 @@ pub fn words_in(alloc: Global, list: &str) -> Result<Vec<&str>> {
     Ok(list.split_whitespace().collect(alloc)?)
 }
 
-/// Bytes of two digits each; none are `-`.
+/// Bytes of two digits each; `-` stands for none.
 pub fn read_bytes(alloc: Global, digits: &str) -> Result<Vec<u8>> {
     let digits = digits.trim();
     let mut bytes = Vec::new(alloc);
