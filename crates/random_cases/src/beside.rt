@@ -1,4 +1,4 @@
-//! Runs beside the board that makes each clock by itself.
+//! Runs beside a board that makes each clock as a turn of its own.
 ghost use Rattle.std.specs.Prelude.{All};
 ghost use Rattle.board_plain.specs.Stops.{HasAddress};
 
@@ -14,28 +14,28 @@ use board_types::image::Image;
 use board_types::keys::Keys;
 use std::alloc::Global;
 
-/// The paragraph of the random code.
+/// The segment of the random code.
 const CODE_SEGMENT: u16 = 0x100;
 
-/// Before the last of so many clocks a key may be stamped.
+/// A key is stamped at least this many clocks before the last one.
 const AFTER_KEYS: u64 = 300;
 
-/// How many clocks a run may go on to a stop.
+/// At most this many clocks lead from a run to a stop.
 const TO_STOPS: u64 = 2_000;
 
 /// The first offset of a stop: before it the random code gives the timer a count.
 const FIRST_OFFSET: u16 = 9;
 
-/// At how many offsets stops are.
+/// Stops are at this many offsets.
 const OFFSETS: u64 = 100;
 
-/// A byte of ROM, which isn't 0.
+/// The address of a byte of ROM that isn't 0.
 const IN_ROM: u32 = 0xF_0000;
 
 /// The code of a key that is struck.
 const STRUCK: u8 = 0x1E;
 
-/// A board at power-on, with a key stamped at a clock, if one is given.
+/// A board at power-on, with a key stamped with a clock, if one is given.
 fn board_at_power_on(
     alloc: Global,
     image: &Image,
@@ -60,7 +60,8 @@ fn board_at_power_on(
     Ok(Board::new(alloc, image, config, keys)?)
 }
 
-/// Compares a run of each number of clocks, from `clocks` down, with the board that makes them one by one.
+/// Compares a run of each number of clocks, from `clocks - width` to `clocks`, with the board that makes them one by
+/// one.
 pub fn compare_budgets(alloc: Global, seed: u64, clocks: u64, width: u64) -> Result<()> {
     let image = random_image(alloc, seed)?;
     let mut ticking = board_at_power_on(alloc, &image, seed, None)?;
@@ -91,7 +92,7 @@ fn compare_from(
     Ok(())
 }
 
-/// Compares a run of so many clocks with a board that stands at its end.
+/// Compares a run of `count` clocks with a board that stands at its end.
 fn compare_run(board: &mut Board, count: u64, other: &Board, whole: bool) -> Result<()> {
     board.run(count)?;
     match difference(board, other, whole) {
@@ -100,7 +101,7 @@ fn compare_run(board: &mut Board, count: u64, other: &Board, whole: bool) -> Res
     }
 }
 
-/// Compares runs of so many clocks with a key stamped at each of `width` clocks.
+/// Compares runs of `clocks` clocks with a key stamped at each of `width` clocks.
 pub fn compare_keys(alloc: Global, seed: u64, clocks: u64, width: u64) -> Result<()> {
     let image = random_image(alloc, seed)?;
     let last = clocks.saturating_sub(AFTER_KEYS);
@@ -131,7 +132,8 @@ fn compare_struck(
     }
 }
 
-/// Compares what follows so many clocks, up to where the processor is free at each of `width` offsets of the code.
+/// Compares runs of `clocks` clocks that go on until the processor is free at an offset of the code, for `width`
+/// offsets.
 pub fn compare_stops(alloc: Global, seed: u64, clocks: u64, width: u64) -> Result<()> {
     let image = random_image(alloc, seed)?;
     let mut ticking = board_at_power_on(alloc, &image, seed, None)?;
@@ -159,7 +161,7 @@ fn compare_stops_after(
     Ok(())
 }
 
-/// Compares a board that has made so many clocks and goes on to a stop with one that goes on to it clock by clock.
+/// Compares a board that has made `clocks` clocks and goes on to a stop with one that goes on to it clock by clock.
 fn compare_stopped(
     alloc: Global,
     image: &Image,
@@ -198,7 +200,7 @@ fn compare_stop(
     }
 }
 
-/// The stop of a processor that is free at an offset of the code.
+/// A stop that waits for a free processor at an offset of the code.
 fn stop_at(offset: u16) -> Stops
     ensures { All HasAddress result.items }
 {
@@ -207,7 +209,7 @@ fn stop_at(offset: u16) -> Stops
     stops
 }
 
-/// Makes so many clocks one by one: a stop keeps each from being part of a leap.
+/// Makes clocks one by one, each as a run of its own up to a stop that never holds: so none is part of a longer leap.
 fn tick(board: &mut Board, clocks: u64) -> Result<()> {
     tick_to(board, clocks, &stop_never())?;
     Ok(())
@@ -222,7 +224,7 @@ fn stop_never() -> Stops
     stops
 }
 
-/// Makes so many clocks one by one, or up to the first one at which a stop holds.
+/// Makes clocks one by one, up to the first one at which a stop holds.
 fn tick_to(board: &mut Board, clocks: u64, stops: &Stops) -> Result<Option<Stop>>
     requires { All HasAddress stops.now.items }
 {

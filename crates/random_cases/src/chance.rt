@@ -4,7 +4,7 @@ ghost use Rattle.std.specs.Prelude.{◌≤◌, ◌-◌};
 use rand_core::utils::NextWord;
 use rand_pcg::Pcg32;
 
-/// A sequence of random numbers, which its seed decides.
+/// A sequence of random numbers that its seed decides.
 #[derive(Drop)]
 pub struct Chance(Pcg32);
 
@@ -27,7 +27,7 @@ impl Chance {
         (self.0.next_word() % 256) as u8
     }
 
-    /// Whether something happens that happens once in so many times.
+    /// Whether something happens that happens once in `times` times.
     pub fn once_in(&mut self, times: u16) -> bool {
         self.below(times) == 0
     }

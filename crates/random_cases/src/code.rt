@@ -1,4 +1,4 @@
-//! Code that is put together.
+//! Machine code that is put together.
 
 ghost use Rattle.std.specs.Prelude.{◌<◌};
 
@@ -48,14 +48,14 @@ impl Code {
         self.put_all(&word.to_le_bytes())
     }
 
-    /// An instruction ends here.
+    /// Ends an instruction here.
     pub fn close(&mut self) -> Result<(), AllocError> {
         let last = self.here().saturating_sub(1);
         self.lasts.push(last)?;
         Ok(())
     }
 
-    /// The last byte of one of the instructions, which is mostly part of a number.
+    /// The offset of the last byte of one of the instructions, which is mostly part of a number.
     pub fn some_last(&self, chance: &mut Chance) -> u16 {
         let index = chance.below((self.lasts.len() % 4096) as u16);
         self.lasts.get(usize::from(index)).copied().unwrap_or(0)

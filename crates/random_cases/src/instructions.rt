@@ -6,23 +6,23 @@ use crate::operands::{byte_register, offset, put_memory, put_register, register,
 use crate::program::ROUTINE_AT;
 use std::alloc::AllocError;
 
-/// Opcodes of two operands, of bytes: ADD, OR, ADC, SBB, AND, SUB, XOR, CMP, TEST, XCHG, MOV.
+/// Opcodes of two byte operands: ADD, OR, ADC, SBB, AND, SUB, XOR, CMP, TEST, XCHG, MOV.
 const OF_TWO: [u8; 11] = [
     0x00, 0x08, 0x10, 0x18, 0x20, 0x28, 0x30, 0x38, 0x84, 0x86, 0x88,
 ];
 
-/// Prefixes and string instructions: MOVSB, MOVSW, CMPSB, STOSB, STOSW, LODSB, LODSW, SCASW.
+/// String instructions: MOVSB, MOVSW, CMPSB, STOSB, STOSW, LODSB, LODSW, SCASW.
 const STRINGS: [u8; 8] = [0xA4, 0xA5, 0xA6, 0xAA, 0xAB, 0xAC, 0xAD, 0xAF];
 
-/// CLI, STI, CBW, CWD, LAHF, SAHF, XLAT, DAA, CMC, CLD, NOP.
+/// Opcodes without operands: CLI, STI, CBW, CWD, LAHF, SAHF, XLAT, DAA, CMC, CLD, NOP.
 const ALONE: [u8; 11] = [
     0xFA, 0xFB, 0x98, 0x99, 0x9F, 0x9E, 0xD7, 0x27, 0xF5, 0xFC, 0x90,
 ];
 
-/// The high bytes of segments: RAM, text memory, ROM, and none.
+/// The high bytes of segments in RAM, text memory, ROM and unused addresses.
 const SEGMENTS: [u8; 4] = [0x01, 0xB0, 0xF0, 0x40];
 
-/// Puts an instruction, or a few that belong together, after `bytes`.
+/// Puts an instruction, or a few that belong together.
 pub fn put_instruction(chance: &mut Chance, code: &mut Code) -> Result<(), AllocError> {
     match chance.below(24) {
         0..=3 => put_two_operands(chance, code),
@@ -102,7 +102,7 @@ fn put_compare_and_jump(chance: &mut Chance, code: &mut Code) -> Result<(), Allo
     put_jump(chance, code)
 }
 
-/// A store into one of the last and next few bytes.
+/// A store into one of the bytes shortly before or after this place.
 fn put_store_nearby(chance: &mut Chance, code: &mut Code) -> Result<(), AllocError> {
     let near = (code.here() + 24).saturating_sub(chance.below(40));
     match chance.below(3) {
@@ -137,7 +137,7 @@ fn put_shift(chance: &mut Chance, code: &mut Code) -> Result<(), AllocError> {
     put_register(code, operation, register)
 }
 
-/// TEST, NOT, NEG, MUL, IMUL, DIV, IDIV.
+/// NOT, NEG, MUL, IMUL, DIV or IDIV.
 fn put_unary(chance: &mut Chance, code: &mut Code) -> Result<(), AllocError> {
     let is_word = chance.once_in(2);
     let operation = chance.pick(&[2, 3, 4, 5, 6, 7]) % 8;
@@ -149,7 +149,7 @@ fn put_unary(chance: &mut Chance, code: &mut Code) -> Result<(), AllocError> {
     put_register(code, operation, register)
 }
 
-/// A push, of a register, memory or a segment register, and a pop.
+/// A push of a register, memory or a segment register, and a pop.
 fn put_stack(chance: &mut Chance, code: &mut Code) -> Result<(), AllocError> {
     match chance.below(4) {
         0 => {
@@ -165,7 +165,7 @@ fn put_stack(chance: &mut Chance, code: &mut Code) -> Result<(), AllocError> {
     code.put(0x58 + word_register(chance))
 }
 
-/// ES is loaded, and what follows may use it.
+/// A load of ES, and mostly something that uses it.
 fn put_segment(chance: &mut Chance, code: &mut Code) -> Result<(), AllocError> {
     code.put(0xB8)?;
     code.put_word(u16::from(chance.pick(&SEGMENTS)) * 256)?;
@@ -190,14 +190,14 @@ fn put_string(chance: &mut Chance, code: &mut Code) -> Result<(), AllocError> {
     code.put(chance.pick(&STRINGS))
 }
 
-/// CALL of the routine that stands after the code.
+/// A CALL of the routine after the code.
 fn put_call(code: &mut Code) -> Result<(), AllocError> {
     let next = code.here() + 3;
     code.put(0xE8)?;
     code.put_word(ROUTINE_AT.wrapping_sub(next))
 }
 
-/// A loop of a few rounds: LOOP to itself, DEC and JNZ, or around an instruction.
+/// A loop of a few rounds: a LOOP to itself, DEC and JNZ, or a loop around an instruction.
 fn put_loop(chance: &mut Chance, code: &mut Code) -> Result<(), AllocError> {
     code.put(0xB9)?;
     code.put_word(1 + chance.below(40))?;
@@ -225,7 +225,7 @@ fn put_port(chance: &mut Chance, code: &mut Code) -> Result<(), AllocError> {
     code.put(chance.pick(&[0x40, 0x42, 0x61, 0x20]))
 }
 
-/// INC or DEC, of a register or of memory.
+/// INC or DEC of a register or of memory.
 fn put_step(chance: &mut Chance, code: &mut Code) -> Result<(), AllocError> {
     if chance.once_in(2) {
         code.put(0xFE + chance.byte() % 2)?;

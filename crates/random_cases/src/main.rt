@@ -1,12 +1,14 @@
-//! Random programs: each board that runs one has to show what the board shows that makes each clock by itself.
+//! Random programs: each board that runs one must show what a board shows that makes each clock as a turn of its own.
 //!
-//! A case is one line: what is compared, a seed, the clocks of a run, and a width, all in decimal. The seed decides the program
-//! (`program.rt`): loops of random instructions in RAM that store into one another, into themselves and into what follows, jump
-//! into the middle of instructions, load segment registers, and are interrupted by timer and keyboard.
+//! A case is one line: what is compared, a seed, the clocks of a run, and a width, all in decimal. The seed decides the
+//! program (`program.rt`): loops of random instructions in RAM that store into one another, into themselves and into
+//! what follows, jump into the middle of instructions, load segment registers, and are interrupted by timer and
+//! keyboard.
 //!
-//! `budgets`: runs from power-on, of so many clocks and each of the `width` numbers below. `keys`: runs of so many clocks with a key
-//! stamped at each of the `width` clocks before the last 300. `stops`: runs of so many clocks, and from there up to where the
-//! processor is free at an offset, for `width` offsets one after the other. Registers, state, trail, speaker changes and RAM are compared.
+//! `budgets`: runs from power-on, of this number of clocks and of each of the `width` numbers below. `keys`: runs with
+//! a key stamped at each of the `width` clocks before the last 300. `stops`: runs that go on until the processor is
+//! free at an offset, for `width` offsets one after the other. Registers, state, trail, speaker changes and RAM are
+//! compared.
 #![tactic(auto)]
 
 mod beside;

@@ -7,10 +7,10 @@ use crate::code::Code;
 use crate::program::{CODE_SIZE, DATA_AT};
 use std::alloc::AllocError;
 
-/// All word registers but DX, which counts the rounds, and SP.
+/// All word registers except DX, which counts the rounds, and SP.
 const WORD_REGISTERS: [u8; 6] = [0, 1, 3, 5, 6, 7];
 
-/// All byte registers but those of DX.
+/// All byte registers except those of DX.
 const BYTE_REGISTERS: [u8; 6] = [0, 1, 3, 4, 5, 7];
 
 /// `[SI]`, `[DI]` and `[BX]`.
@@ -33,7 +33,7 @@ pub fn byte_register(chance: &mut Chance) -> u8
     chance.pick(&BYTE_REGISTERS) % 8
 }
 
-/// A register of this width.
+/// The number of a register of this width that a random instruction may change.
 pub fn register(chance: &mut Chance, is_word: bool) -> u8
     ensures { result < 8 }
 {
@@ -44,7 +44,7 @@ pub fn register(chance: &mut Chance, is_word: bool) -> u8
     }
 }
 
-/// The offset of a byte: of data, or of code.
+/// The offset of a byte of data, or of code.
 pub fn offset(chance: &mut Chance) -> u16 {
     if chance.once_in(4) {
         chance.below(CODE_SIZE)
@@ -53,7 +53,7 @@ pub fn offset(chance: &mut Chance) -> u16 {
     }
 }
 
-/// The byte that names an operand in a register, and another one.
+/// Puts the addressing byte of a register operand and another register or operation.
 pub fn put_register(code: &mut Code, reg: u8, register: u8) -> Result<(), AllocError>
     requires reg { reg < 8 }
     requires register { register < 8 }
@@ -61,7 +61,7 @@ pub fn put_register(code: &mut Code, reg: u8, register: u8) -> Result<(), AllocE
     code.put(0xC0 + 8 * reg + register)
 }
 
-/// The bytes that name an operand in memory, and another one.
+/// Puts the addressing byte, and a displacement, of a memory operand and a register or operation.
 pub fn put_memory(chance: &mut Chance, code: &mut Code, reg: u8) -> Result<(), AllocError>
     requires { reg < 8 }
 {

@@ -8,19 +8,20 @@ use assembler::assembly::assemble;
 use board_types::image::{Image, is_loadable};
 use std::alloc::{AllocError, Global};
 
-/// The random code has about so many bytes, from 0100:0000 on.
+/// The random code has about this many bytes, from 0100:0000 on.
 pub const CODE_SIZE: u16 = 0x180;
 
-/// Where the random code's data begin.
+/// The offset at which the random code's data begin.
 pub const DATA_AT: u16 = 0x300;
 
-/// Where the routine stands that it calls.
+/// The offset of the routine that the random code calls.
 pub const ROUTINE_AT: u16 = 0x2F0;
 
-/// Where random code stands.
+/// The address at which the random code begins.
 const CODE_AT: u32 = 0x1000;
 
-/// The segments are set, timer and keyboard may interrupt, and the random code begins. All interrupts have one handler.
+/// The source around the random code: it sets the segments, lets timer and keyboard interrupt, and jumps to the random
+/// code. All interrupts have one handler.
 const AROUND: &str = "SEGMENT BEFORE AT 0F000h
 start:  MOV AX,100h
         MOV DS,AX
@@ -93,7 +94,7 @@ pub fn random_image(alloc: Global, seed: u64) -> Result<Image> {
     Ok(image)
 }
 
-/// Puts a byte into the image, if it may stand there.
+/// Puts a byte into the image, if its address is loadable.
 fn put_in(image: &mut Image, addr: u32, byte: u8) -> Result<(), AllocError> {
     if !is_loadable(addr) {
         return Ok(());
@@ -101,7 +102,7 @@ fn put_in(image: &mut Image, addr: u32, byte: u8) -> Result<(), AllocError> {
     image.put(addr, byte)
 }
 
-/// Loops of random instructions, again and again, and stores into them between.
+/// Loops of random instructions, with stores into them in between, again and again.
 fn random_code(alloc: Global, chance: &mut Chance) -> Result<Code, AllocError> {
     let mut code = Code::new(alloc);
     put_counts(chance, &mut code)?;
@@ -114,7 +115,7 @@ fn random_code(alloc: Global, chance: &mut Chance) -> Result<Code, AllocError> {
     Ok(code)
 }
 
-/// Counter 0's count, and whether interrupts are enabled.
+/// Gives counter 0 a count, and enables interrupts or disables them.
 fn put_counts(chance: &mut Chance, code: &mut Code) -> Result<(), AllocError> {
     for byte in [chance.byte(), 1 + chance.byte() % 4] {
         code.put_all(&[0xB0, byte, 0xE6, 0x40])?;
@@ -144,7 +145,8 @@ fn put_rounds(chance: &mut Chance, code: &mut Code) -> Result<(), AllocError> {
     put_round_back(code, begin)
 }
 
-/// MOV BX,an offset some bytes from here: a store at BX, which is one less in each round, comes to the loop itself after some.
+/// MOV BX with an offset some bytes from here: the stores at BX, which goes down by one each round, come to the loop
+/// itself after some rounds.
 fn put_start_of_creep(chance: &mut Chance, code: &mut Code) -> Result<(), AllocError> {
     let offset = code.here() + 10 + chance.below(30);
     code.put(0xBB)?;
@@ -152,7 +154,7 @@ fn put_start_of_creep(chance: &mut Chance, code: &mut Code) -> Result<(), AllocE
     code.close()
 }
 
-/// JNZ, or JZ over a JMP, to a place that stands before.
+/// JNZ, or JZ over a JMP, back to a place in the code.
 fn put_round_back(code: &mut Code, begin: u16) -> Result<(), AllocError> {
     let size = code.here().saturating_sub(begin);
     if size < 120 {
@@ -178,7 +180,7 @@ fn put_stores(chance: &mut Chance, code: &mut Code) -> Result<(), AllocError> {
     Ok(())
 }
 
-/// JMP to a place that stands before.
+/// JMP back to a place in the code.
 fn put_jump_back(code: &mut Code, to: u16) -> Result<(), AllocError> {
     let next = code.here() + 3;
     code.put(0xE9)?;

@@ -3,7 +3,8 @@
 use board::board::Board;
 use board_plain::trail::{TRAIL_LENGTH, TrailEntry, TrailEvent};
 
-/// What two boards show differently, if anything; of RAM the first 16 KB are compared, or the code and its data alone.
+/// What two boards show differently, if anything. The first 16 KB of RAM are compared if `whole`, else only the code
+/// and its data.
 pub fn difference(one: &Board, other: &Board, whole: bool) -> Option<&'static str> {
     if one.clock() != other.clock() {
         return Some("the clocks");
