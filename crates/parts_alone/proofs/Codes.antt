@@ -6,11 +6,11 @@ use Rattle.keyboard.specs.Keyboard.{KeyboardState, power_on, after_arrival, afte
 abbrev pub arrived : ℕ → ℕ → KeyboardState
 arrived first second = after_arrival (after_arrival power_on first) second
 
--- the latch once the keyboard may send, 0 where it is empty
+-- the latch once the keyboard may send; 0 if it is empty
 abbrev pub taken : KeyboardState → ℕ
 taken s = unwrap_or (after_settling s 0x40).latch 0
 
--- and the latch cleared
+-- the keyboard after its latch is cleared
 abbrev pub after_take : KeyboardState → KeyboardState
 after_take s = after_settling (after_settling s 0x40) 0xC0
 

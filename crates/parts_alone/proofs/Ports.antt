@@ -18,7 +18,7 @@ pub shows_bit_3 : byte_at with_bit_3 2 (inputs High) ≡ 0x28
 unfolding after_write byte_at
 shows_bit_3 = refl
 
--- the lines of port B that a program reads the switches with, one after another
+-- the states in which a program reads the switches, by lines of port B, one after another
 abbrev pub at_sw1 : ℕ → ℕ → PpiState
 at_sw1 sw1 sw2 = after_write (after_write (power_on sw1 sw2) 3 0x99) 1 0x80
 

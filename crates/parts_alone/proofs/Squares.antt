@@ -60,7 +60,7 @@ makes_square count more fits (suc n) =
     ∙ told
     ∙ ap (λ size. if nat_lt (n % size) ((size + 1) / 2) then High else Low) (bytes_of count more)
 
--- the ticks of one tick more, by a test that the levels before and after it differ
+-- one more tick, by a test whether the levels before and after it differ
 change : (before after : Line) (tick : ℕ)
     → (if beq (is_high before) (is_high after) then [] else tick ∷ []) ≡ (if not (sameb the_type after before) then tick ∷ [] else [])
 change Low Low tick = refl

@@ -5,12 +5,12 @@ use Rattle.pic8259.specs.Pic.{PicState, power_on, level_to_take, vector, after_t
 use Rattle.pic8259.specs.Laws.{after_words}
 use Rattle.pic8259.proofs.Order.{by_level}
 
--- after the words, and then both rises
+-- both lines rise after the words of the initialisation
 abbrev pub with_both : ℕ → ℕ → ℕ → PicState
 with_both base first second =
     after_line (after_line (after_words (after_write power_on false 0x13) (base ∷ 1 ∷ [])) second High) first High
 
--- after an acknowledge and a plain end of interrupt
+-- the controller after an acknowledge and a plain end of interrupt
 abbrev pub with_one_ended : ℕ → ℕ → ℕ → PicState
 with_one_ended base first second = after_write (after_acknowledge (with_both base first second)) false 0x20
 

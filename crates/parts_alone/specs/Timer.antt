@@ -8,7 +8,7 @@ use Rattle.board_types.specs.declared.line.Line.{Line}
 use Rattle.board_types.specs.declared.line.Line.TheVariants.{Low, High}
 use Rattle.pit8253.specs.Pit.{PitState, after_ticks}
 
--- the level of OUT 2 after n ticks
+-- the level of OUT2 after n ticks
 abbrev pub level_after : PitState → ℕ → Line
 level_after timer n = (after_ticks timer n).counter_2.out
 
@@ -18,7 +18,7 @@ abbrev pub square : ℕ → ℕ → Line
 square count zero = High
 square count (suc n) = if nat_lt (n % count) ((count + 1) / 2) then High else Low
 
--- the ticks, of the first n, after which a level isn't what it was before
+-- the ticks, of the first n, at which a level changes
 abbrev pub changes : (ℕ → Line) → ℕ → List ℕ
 changes level zero = []
 changes level (suc n) =

@@ -1,4 +1,4 @@
-//! An 8259A alone in a test bench: the words of its initialisation through its two ports, lines that rise, and the
+//! An 8259A alone on a test bench: the words of its initialisation through its two ports, lines that rise, and the
 //! vectors that the bench gets.
 ghost use Rattle.std.specs.Prelude.{◌≡◌, ◌+◌, ◌*◌, ◌/◌, ◌<◌, ◌∷◌, [], false};
 ghost use Rattle.pic8259.specs.Pic.{power_on, after_write};
@@ -7,8 +7,8 @@ ghost use Rattle.pic8259.specs.Laws.{after_words, HasEnded};
 use board_types::line::Line;
 use pic8259::controller::Pic;
 
-/// A controller after its initialisation: edge mode, no slaves, 8086 mode, nothing masked, and the vectors from
-/// `base` on, whose low three bits don't count.
+/// A controller after its initialisation: edge mode, no slaves, 8086 mode, nothing masked, and vectors from `base` on,
+/// whose low three bits don't matter.
 pub fn initialised(base: u8) -> Pic
     ensures words { result ≡ after_words (after_write power_on false 0x13) (base ∷ 1 ∷ []) }
     ensures ended { HasEnded result 0x13 base 1 }
@@ -20,8 +20,8 @@ pub fn initialised(base: u8) -> Pic
     pic
 }
 
-/// The vectors that a bench gets of two lines, the lower priority rising first: an acknowledge, a plain end of
-/// interrupt, and another acknowledge.
+/// The vectors that a bench gets of two lines, of which the one with the lower priority rises first: an acknowledge, a
+/// plain end of interrupt, and another acknowledge.
 pub fn vectors_of(base: u8, first: u8, second: u8) -> (u8, u8)
     requires order { first < second }
     requires within { second < 8 }

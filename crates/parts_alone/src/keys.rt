@@ -5,7 +5,7 @@ ghost use Rattle.keyboard.specs.Keyboard.{after_settling};
 use keyboard::keyboard::Keyboard;
 use std::alloc::{AllocError, Global};
 
-/// What a program reads that takes a code three times, where two have arrived; an empty latch reads 0.
+/// The codes that a program reads which takes one three times, after two have arrived; an empty latch reads 0.
 pub fn codes_of(alloc: Global, first: u8, second: u8) -> Result<(u8, u8, u8), AllocError>
     ensures { IfOk result (λ codes. codes ≡ (first, second, 0)) }
 {

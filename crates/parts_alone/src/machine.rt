@@ -1,4 +1,4 @@
-//! The board driven from code: an image, key codes that are stamped with clocks, a run up to a stop.
+//! The board driven from code: an image, key codes that are stamped with clocks, and a run up to a stop.
 ghost use Rattle.std.specs.Prelude.{◌≡◌, ◌↔◌, ◌<◌, ◌*◌, ◌^◌, ◌∷◌, [], IfOk};
 ghost use Rattle.std.specs.Result.{IsErrOf};
 ghost use Rattle.memory.specs.Map.{IsRamSize, FitsRam};
@@ -23,7 +23,7 @@ pub const CONFIG: Config = Config {
     clocks: ClockTable::C1,
 };
 
-/// A source that waits for a key's code, shows a character, for the key A an A, and halts.
+/// A source that waits for a key's code, shows a character for it (for the key A an A), and halts.
 pub fn program() -> &'static [u8] {
     b"SEGMENT MAIN AT 0F000h
 start:  MOV AL,99h
@@ -49,9 +49,9 @@ ENDS
 "
 }
 
-/// The board of an image with these keys, at the first clock at which its processor is halted, or after `limit` clocks
-/// if it isn't halted by then; and which of the two. Refused as `RamSize` where the image doesn't fit the RAM, as
-/// `ClockLimit` only where `limit` is above 2^40, and for want of memory.
+/// The board of an image with these keys at the first clock at which its processor is halted, or after `limit` clocks
+/// if it isn't halted by then; and which of the two it was. Refused as `RamSize` if the image doesn't fit the RAM, as
+/// `ClockLimit` only if `limit` is above 2^40, and for want of memory.
 pub fn run_to_halt(
     alloc: Global,
     image: &Image,

@@ -1,6 +1,6 @@
 //! Eight parts of the board, each used alone: the interrupt controller, the timer, the parallel port, the keyboard, the
-//! text adapter, the memory, the assembler and the board itself. A module each, written to be copied; docs/parts.md
-//! goes with them.
+//! text adapter, the memory, the assembler and the board itself. Each has a module of its own, written to be copied;
+//! docs/parts.md goes with them.
 #![tactic(auto)]
 
 mod controller;
@@ -50,7 +50,7 @@ fn print_changes(rt: &HostRuntime) -> Result<()> {
     Ok(())
 }
 
-/// SW1 has 6Dh and SW2 1Ah.
+/// SW1 is 6Dh and SW2 1Ah.
 fn print_port(rt: &HostRuntime) -> Result<()> {
     let (sw1, sw2) = parallel_port::switches_of(0x6D, 0x1A);
     let port_c = parallel_port::port_c();
@@ -65,14 +65,14 @@ fn print_codes(rt: &HostRuntime) -> Result<()> {
     Ok(())
 }
 
-/// A cell that an A is written to, and the status twice.
+/// A cell to which an A is written, and the status twice.
 fn print_cell(rt: &HostRuntime) -> Result<()> {
     let (character, before, after) = screen::shown(rt.alloc())?;
     println!(rt; "cell {character:02X}, status {before:02X} {after:02X}")?;
     Ok(())
 }
 
-/// RAM, the ROM, and where nothing answers.
+/// RAM, the ROM, and an address at which nothing answers.
 fn print_bytes(rt: &HostRuntime) -> Result<()> {
     let (ram, rom, nothing) = ram_and_rom::bytes_read(rt.alloc())?;
     println!(rt; "bytes {ram:02X} {rom:02X} {nothing:02X}")?;
@@ -86,7 +86,7 @@ fn print_hex(rt: &HostRuntime) -> Result<()> {
     Ok(())
 }
 
-/// The same source with a name mistyped.
+/// The source of `print_hex` with a name mistyped.
 fn print_fault(rt: &HostRuntime) -> Result<()> {
     if let Err(fault) = source::hex_of(rt.alloc(), source::MISTYPED) {
         println!(rt; "fault {} {}: {fault}", fault.number(), fault.name())?;
@@ -94,7 +94,7 @@ fn print_fault(rt: &HostRuntime) -> Result<()> {
     Ok(())
 }
 
-/// The machine's program, with the key A.
+/// The program of `machine`, with the key A.
 fn print_machine(rt: &HostRuntime) -> Result<()> {
     let alloc = rt.alloc();
     let listing = assemble(alloc, machine::program())?;
@@ -110,7 +110,7 @@ fn key_a(alloc: Global) -> Result<Keys, KeyFault> {
     Ok(keys)
 }
 
-/// Where the board stands, its registers, and the screen's first line.
+/// The processor's state and clock, its registers, and the screen's first line.
 fn print_board(rt: &HostRuntime, board: &Board) -> Result<()> {
     println!(rt; "{:?} at clock {}", board.state(), board.clock().get())?;
     print_registers(rt, &board.regs())?;

@@ -26,7 +26,7 @@ pub fn switches_of(sw1: u8, sw2: u8) -> (u8, u8)
     (first, four + 16 * fifth)
 }
 
-/// What port C reads where counter 2's output is high and bit 3 of its lower half, an output, was set.
+/// What port C reads if counter 2's output is high and bit 3 of its lower half, an output, was set.
 pub fn port_c() -> u8
     ensures { result ≡ 0x28 }
 {

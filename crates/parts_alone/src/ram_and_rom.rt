@@ -1,4 +1,4 @@
-//! The memory alone: an image, writes, and what is read at an address of RAM, of the ROM and where nothing answers.
+//! The memory alone: an image, writes, and what is read at an address of RAM, of the ROM and of neither.
 ghost use Rattle.std.specs.Prelude.{◌≡◌, IfOk};
 
 use anyhow::Result;
@@ -6,7 +6,7 @@ use board_types::image::Image;
 use memory::map::Memory;
 use std::alloc::Global;
 
-/// What is read at 00400h, at F0000h and at 10000h of a memory of 64 KB after 55h was written to each. The image has
+/// What is read at 00400h, at F0000h and at 10000h of a memory of 64 KB, after 55h was written to each. The image has
 /// EAh at F0000h.
 pub fn bytes_read(alloc: Global) -> Result<(u8, u8, u8)> {
     let mut image = Image::new(alloc);
@@ -14,7 +14,7 @@ pub fn bytes_read(alloc: Global) -> Result<(u8, u8, u8)> {
     let mut memory = Memory::new(alloc, 64, &image)?;
     memory.write(0x0_0400, 0x55); // RAM
     memory.write(0xF_0000, 0x55); // the ROM keeps the image's byte
-    memory.write(0x1_0000, 0x55); // behind the RAM nothing answers
+    memory.write(0x1_0000, 0x55); // after the end of the RAM nothing answers
     Ok((
         memory.read(0x0_0400),
         memory.read(0xF_0000),

@@ -3,15 +3,15 @@ use board_types::timed::Timed;
 use mda_text::mda::{INDEX_PORT, MODE_PORT, Mda, REGISTER_PORT, STATUS_PORT};
 use std::alloc::{AllocError, Global};
 
-/// Where the beam first goes back, in processor clocks from power-on.
+/// When the beam first goes back, in processor clocks from power-on.
 const FIRST_RETRACE: u64 = 219;
 
-/// The character of the cell at row 2 and column 0, once the words 1,920 and on are shown and its word is an `A`; and
-/// the status at power-on and as the beam first goes back.
+/// The character of the cell at row 2 and column 0, after the start address was set to word 1,920 and an `A` written to
+/// the cell's word; and the status at power-on and when the beam first goes back.
 pub fn shown(alloc: Global) -> Result<(u8, u8, u8), AllocError> {
     let mut mda = Mda::new(alloc)?;
     mda.write_port(INDEX_PORT, 12);
-    mda.write_port(REGISTER_PORT, 0x07); // the start address' high part
+    mda.write_port(REGISTER_PORT, 0x07); // the start address's high part
     mda.write_port(INDEX_PORT, 13);
     mda.write_port(REGISTER_PORT, 0x80); // its low part: 780h, which is 24 times 80
     mda.write_port(MODE_PORT, 0x08); // video enable

@@ -1,4 +1,5 @@
-//! The assembler as a library: a source becomes the HEX text of its bytes, or its first fault is told with its line.
+//! The assembler as a library: a source becomes the HEX text of its bytes, or is refused with its first fault and that
+//! one's line.
 ghost use Rattle.std.specs.Prelude.{◌≡◌, ℕ, List, IfOk, MatchResult};
 ghost use Rattle.std.specs.Result.{IfErr};
 ghost use Rattle.assembler.specs.Gives.{Gives};
@@ -18,7 +19,7 @@ again:  IN AL,60h
 ENDS
 ";
 
-/// The same with a name that no line defines.
+/// The source `GOOD` with a name that no line defines.
 pub const MISTYPED: &[u8] = b"SEGMENT MAIN AT 40h
 again:  IN AL,60h
         JMP SHORT agian
@@ -30,7 +31,7 @@ pub fn hex_of(alloc: Global, source: &[u8]) -> Result<Vec<u8>, AsmFault>
     ensures hex { IfOk result (λ text. IsHexOf source.now text.items) }
     ensures fault { IfErr result (IsFirst source.now) }
 
-    // Where the source gives an image, no other text comes, and no fault but the want of memory.
+    // If the source gives an image, no other text comes, and no fault but the want of memory.
     ensures refused { (image : List (ℕ × ℕ)) → Gives source.now image
         → MatchResult result (λ text. text.items ≡ hex_text image) (λ fault. fault ≡ AsmFault.Memory) }
 {

@@ -1,5 +1,5 @@
-//! An 8253 alone, as a model of a timer: counter 2 is programmed through the ports, ticks, and tells when its output
-//! changes.
+//! An 8253 alone, as a model of a timer: counter 2 is programmed through the ports, ticks, and is watched for changes
+//! of its output.
 ghost use Rattle.std.specs.Prelude.{◌≡◌, ◌<◌, ℕ, IfOk};
 ghost use Rattle.parts_alone.specs.Timer.{changes, level_after, square};
 
@@ -20,7 +20,7 @@ pub fn square_timer(count: u16) -> Pit
     pit
 }
 
-/// The ticks, of the next `ticks`, at which OUT 2 changes.
+/// The ticks at which OUT2 changes, among the next `ticks`, which are counted from 1.
 pub fn changes(alloc: Global, pit: &mut Pit, ticks: u64) -> Result<Vec<u64>, AllocError>
     ensures { IfOk result (λ found. found.items ≡ changes (level_after pit.old) ticks) }
 {
