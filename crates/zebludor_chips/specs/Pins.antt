@@ -1,4 +1,4 @@
--- What numbers bring to the parallel port's pins.
+-- What two numbers bring to the parallel port's pins.
 -- To be believed by callers of this crate: the headline does not rest on it.
 use Rattle.std.specs.Prelude.{ℕ, Some}
 use Rattle.ppi8255.specs.declared.ppi.Inputs.{Inputs}

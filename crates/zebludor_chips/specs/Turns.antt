@@ -1,4 +1,4 @@
--- How a number tells when an output changes.
+-- How a number says when an output changes.
 -- To be believed by callers of this crate: the headline does not rest on it.
 use Rattle.std.specs.Prelude.{ℕ, ◌==◌, if◌then◌else◌, Option, None, Some}
 

@@ -8,8 +8,8 @@ use crate::levels::line_of;
 use pic8259::controller::Pic;
 use pic8259::image::PicImage;
 
-/// Power-on: every line low, nothing masked or in service, edge mode, no initialisation sequence begun. Any bytes may
-/// stand there.
+/// Power-on: every line low, nothing masked or in service, edge mode, no initialisation sequence begun. The image may
+/// hold any bytes before.
 #[unsafe(no_mangle)]
 pub extern "C" fn zebludor_pic_power_on(pic: &mut PicImage)
     ensures { pic_of pic.new ≡ power_on }
@@ -17,7 +17,7 @@ pub extern "C" fn zebludor_pic_power_on(pic: &mut PicImage)
     *pic = Pic::new().image();
 }
 
-/// Sets the request line of level `n` modulo 8.
+/// Sets the request line of level `n` modulo 8: low if `level` is 0, else high.
 #[unsafe(no_mangle)]
 pub extern "C" fn zebludor_pic_set_line(pic: &mut PicImage, n: u8, level: u8)
     ensures { pic_of pic.new ≡ after_line (pic_of pic.old) (n % 8) (line_of level) }
@@ -58,7 +58,7 @@ pub extern "C" fn zebludor_pic_request(pic: &PicImage) -> u8
     if Pic::from_image(pic).request() { 1 } else { 0 }
 }
 
-/// The processor's interrupt acknowledge: the vector of the level that is taken, or of level 7 where none is.
+/// The processor's interrupt acknowledge: the vector of the level that is taken, or of level 7 if none is.
 #[unsafe(no_mangle)]
 pub extern "C" fn zebludor_pic_acknowledge(pic: &mut PicImage) -> u8
     ensures vector { result ≡ vector (pic_of pic.old) }

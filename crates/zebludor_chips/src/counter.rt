@@ -13,7 +13,8 @@ use board_types::timed::Timed;
 use pit8253::counter::Counter;
 use pit8253::image::CounterImage;
 
-/// Power-on of a counter of an 8253, with the gate at a level: mode 0, no count, OUT low. Any bytes may stand there.
+/// Power-on of a counter of an 8253, with the gate at a level: mode 0, no count, OUT low. The image may hold any bytes
+/// before.
 #[unsafe(no_mangle)]
 pub extern "C" fn zebludor_counter_power_on(counter: &mut CounterImage, gate: u8)
     ensures { counter_of counter.new ≡ power_on I8253 (line_of gate) }
@@ -21,7 +22,8 @@ pub extern "C" fn zebludor_counter_power_on(counter: &mut CounterImage, gate: u8
     *counter = Counter::new(TimerKind::I8253, line_of(gate)).image();
 }
 
-/// The same of the kind: 0 an 8253, else an 8254.
+/// Power-on of a counter of either kind (0 for an 8253, else an 8254), with the gate at a level: mode 0, no count, OUT
+/// low. The image may hold any bytes before.
 #[unsafe(no_mangle)]
 pub extern "C" fn zebludor_counter_power_on_as(counter: &mut CounterImage, kind: u8, gate: u8)
     ensures { counter_of counter.new ≡ power_on (kind_of kind) (line_of gate) }
@@ -29,8 +31,8 @@ pub extern "C" fn zebludor_counter_power_on_as(counter: &mut CounterImage, kind:
     *counter = Counter::new(kind_of(kind), line_of(gate)).image();
 }
 
-/// A read-back that names the counter: an 8254 latches the count where bit 5 of `word` is 0, and the status where bit 4
-/// is 0; an 8253 does nothing.
+/// A read-back that names the counter: an 8254 latches the count if bit 5 of `word` is 0, and the status if bit 4 is 0;
+/// an 8253 does nothing.
 #[unsafe(no_mangle)]
 pub extern "C" fn zebludor_counter_read_back(counter: &mut CounterImage, word: u8)
     ensures { counter_of counter.new ≡ after_read_back (counter_of counter.old) word }
@@ -40,7 +42,8 @@ pub extern "C" fn zebludor_counter_read_back(counter: &mut CounterImage, word: u
     *counter = chip.image();
 }
 
-/// A control word, of which bits 5 to 0 count here: access 00 latches, any other programs the counter anew.
+/// Writes a control word, of which only bits 5 to 0 matter here: access 00 latches the count, any other programs the
+/// counter anew.
 #[unsafe(no_mangle)]
 pub extern "C" fn zebludor_counter_write_control(counter: &mut CounterImage, word: u8)
     ensures { counter_of counter.new ≡ after_control_word (counter_of counter.old) word }
@@ -72,7 +75,7 @@ pub extern "C" fn zebludor_counter_read(counter: &mut CounterImage) -> u8
     byte
 }
 
-/// The gate takes a level.
+/// Sets the gate: low if `level` is 0, else high.
 #[unsafe(no_mangle)]
 pub extern "C" fn zebludor_counter_set_gate(counter: &mut CounterImage, level: u8)
     ensures { counter_of counter.new ≡ after_gate (counter_of counter.old) (line_of level) }
@@ -90,7 +93,7 @@ pub extern "C" fn zebludor_counter_out(counter: &CounterImage) -> u8
     number_of(Counter::from_image(counter).out())
 }
 
-/// `ticks` ticks, falling edges of CLK. Has no loop over them.
+/// Lets `ticks` ticks pass, which are falling edges of CLK, in closed form.
 #[unsafe(no_mangle)]
 pub extern "C" fn zebludor_counter_advance(counter: &mut CounterImage, ticks: u64)
     ensures { counter_of counter.new ≡ after_ticks (counter_of counter.old) ticks }
@@ -100,8 +103,8 @@ pub extern "C" fn zebludor_counter_advance(counter: &mut CounterImage, ticks: u6
     *counter = chip.image();
 }
 
-/// After how many ticks, from 1 to 65,537, OUT first changes as long as nothing is written and the gate stays; 0 where
-/// it never does.
+/// After how many ticks, from 1 to 65,537, OUT first changes, as long as nothing is written and the gate stays; 0 if it
+/// never does.
 #[unsafe(no_mangle)]
 pub extern "C" fn zebludor_counter_until_change(counter: &CounterImage) -> u64
     ensures turn { IsUntilTurn after_ticks out_of (counter_of counter.now) (turn_of result) }

@@ -1,6 +1,6 @@
 //! The timer, the interrupt controller and the parallel port for callers in C: a chip is an image of numbers, in the
-//! caller's memory. Each call is total. Numbers are taken modulo what there is, a level or a flag of 0 is low or no,
-//! and any other high or yes. `c/zebludor.h` declares them.
+//! caller's memory. Every call is total: numbers are taken modulo what there is; 0 is a low level or false, and any
+//! other number is high or true. `c/zebludor.h` declares the calls.
 #![tactic(auto)]
 
 pub mod controller;

@@ -8,8 +8,8 @@ use crate::levels::line_of;
 use ppi8255::image::PpiImage;
 use ppi8255::ppi::{Inputs, Ppi};
 
-/// Reset, with the eight switches of SW1 and the five of SW2: every port is an input, the latches are clear. Any bytes
-/// may stand there.
+/// Reset, with the eight switches of SW1 and the five of SW2: every port is an input, the latches are clear. The image
+/// may hold any bytes before.
 #[unsafe(no_mangle)]
 pub extern "C" fn zebludor_ppi_power_on(ppi: &mut PpiImage, sw1: u8, sw2: u8)
     ensures { ppi_of ppi.new ≡ power_on sw1 sw2 }
@@ -17,8 +17,8 @@ pub extern "C" fn zebludor_ppi_power_on(ppi: &mut PpiImage, sw1: u8, sw2: u8)
     *ppi = Ppi::new(sw1, sw2).image();
 }
 
-/// Reads port `port` modulo 4, with the keyboard's latch, 0 where it is empty, and the level of the timer's OUT 2 on
-/// the pins; port 3 gives FFh.
+/// Reads port `port` modulo 4, with the keyboard's latch (0 if it is empty) and the level of the timer's OUT2 on the
+/// pins; port 3 gives FFh.
 #[unsafe(no_mangle)]
 pub extern "C" fn zebludor_ppi_read(ppi: &PpiImage, port: u8, latch: u8, out2: u8) -> u8
     ensures { result ≡ byte_at (ppi_of ppi.now) (port % 4) (inputs_of latch out2) }

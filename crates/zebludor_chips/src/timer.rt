@@ -15,8 +15,8 @@ use pit8253::counter::Counter;
 use pit8253::image::{CounterImage, PitImage};
 use pit8253::pit::Pit;
 
-/// Power-on of an 8253: each counter in mode 0 with no count, OUT low; gates 0 and 1 high, gate 2 low. Any bytes may
-/// stand there.
+/// Power-on of an 8253: each counter in mode 0 with no count, OUT low; gates 0 and 1 high, gate 2 low. The image may
+/// hold any bytes before.
 #[unsafe(no_mangle)]
 pub extern "C" fn zebludor_pit_power_on(pit: &mut PitImage)
     ensures { pit_of pit.new ≡ power_on I8253 }
@@ -24,7 +24,8 @@ pub extern "C" fn zebludor_pit_power_on(pit: &mut PitImage)
     *pit = Pit::new().image();
 }
 
-/// The same of the kind: 0 an 8253, else an 8254.
+/// Power-on of either kind (0 for an 8253, else an 8254): each counter in mode 0 with no count, OUT low; gates 0 and 1
+/// high, gate 2 low. The image may hold any bytes before.
 #[unsafe(no_mangle)]
 pub extern "C" fn zebludor_pit_power_on_as(pit: &mut PitImage, kind: u8)
     ensures { pit_of pit.new ≡ power_on (kind_of kind) }
@@ -55,7 +56,7 @@ pub extern "C" fn zebludor_pit_write(pit: &mut PitImage, port: u8, value: u8)
     *pit = chip.image();
 }
 
-/// Gate `n` modulo 3 takes a level.
+/// Sets gate `n` modulo 3: low if `level` is 0, else high.
 #[unsafe(no_mangle)]
 pub extern "C" fn zebludor_pit_set_gate(pit: &mut PitImage, n: u8, level: u8)
     ensures { pit_of pit.new ≡ after_gate (pit_of pit.old) (n % 3) (line_of level) }
@@ -73,7 +74,7 @@ pub extern "C" fn zebludor_pit_out(pit: &PitImage, n: u8) -> u8
     number_of(Counter::from_image(counter_image(pit, n % 3)).out())
 }
 
-/// `ticks` ticks of the three counters, falling edges of CLK. Has no loop over them.
+/// Lets `ticks` ticks of the three counters pass, which are falling edges of CLK, in closed form.
 #[unsafe(no_mangle)]
 pub extern "C" fn zebludor_pit_advance(pit: &mut PitImage, ticks: u64)
     ensures { pit_of pit.new ≡ after_ticks (pit_of pit.old) ticks }
@@ -83,8 +84,8 @@ pub extern "C" fn zebludor_pit_advance(pit: &mut PitImage, ticks: u64)
     *pit = chip.image();
 }
 
-/// After how many ticks, from 1 to 65,537, OUT `n` modulo 3 first changes as long as nothing is written and its gate
-/// stays; 0 where it never does.
+/// After how many ticks, from 1 to 65,537, OUT `n` modulo 3 first changes, as long as nothing is written and its gate
+/// stays; 0 if it never does.
 #[unsafe(no_mangle)]
 pub extern "C" fn zebludor_pit_until_change(pit: &PitImage, n: u8) -> u64
     ensures turn { IsUntilTurn one.after_ticks out_of (counter (pit_of pit.now) (n % 3)) (turn_of result) }
@@ -94,7 +95,7 @@ pub extern "C" fn zebludor_pit_until_change(pit: &PitImage, n: u8) -> u64
     counter.until_change().unwrap_or(0)
 }
 
-// one counter of an image, where the others don't matter
+// one counter of an image, by a clause that says nothing of the others
 #[tactic(auto, unfolding(pit8253::specs::Image::pit_of))]
 fn counter_image(pit: &PitImage, n: u8) -> &CounterImage
     ensures { counter_of result.now ≡ counter (pit_of pit.now) n }
