@@ -1,4 +1,4 @@
--- What is told of a result is told to the caller.
+-- What a result says is handed to the caller.
 use Rattle.std.proofs.Common.{◌≡◌, ℕ, List, length, inl, inr, Result, Ok, Err, IfOk, IfErr}
 use Rattle.std.specs.Prelude.{MatchResult}
 use Rattle.pcboard_texts.specs.declared.fault.Fault.{Fault}

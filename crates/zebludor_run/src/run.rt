@@ -22,14 +22,14 @@ pub const TOO_LONG: u8 = 2;
 #[repr(C)]
 #[derive(Clone, Copy)]
 pub struct Outcome {
-    /// How many bytes the report has; 0 where the run was refused.
+    /// How many bytes the report has; 0 if the run was refused.
     pub length: u64,
-    /// The refused line of the source or of the HEX text, from 1 on; 0 where there is none.
+    /// The refused line of the source or of the HEX text, from 1 on; 0 if there is none.
     pub line: u64,
-    /// 0: `out` begins with the report, and is as it was behind it. 1: the run was refused. 2: the report is longer
-    /// than `out`. But at 0 `out` is as it was.
+    /// 0: `out` begins with the report, and is as it was after it. 1: the run was refused. 2: the report is longer than
+    /// `out`. Unless it is 0, all of `out` is as it was.
     pub status: u8,
-    /// The fault's number; 0 where the run wasn't refused.
+    /// The fault's number; 0 if the run wasn't refused.
     pub fault: u8,
 }
 
@@ -39,7 +39,7 @@ pub extern "C" fn zebludor_run(alloc: Global, source: &[u8], run: &[u8], out: &m
     ensures told { Tells (IsReport false source.now run.now) (IsTrueRefusal false source.now run.now) out.old out.new
         result }
 
-    // Where the source gives an image and the run file a board that can have it, only the want of memory refuses them.
+    // If the source gives an image and the run file a board that can have it, only the want of memory refuses them.
     ensures accepted { Accepts false source.now run.now → Tells (IsReport false source.now run.now) IsWantOfMemory
         out.old out.new result }
 {
@@ -56,7 +56,7 @@ pub extern "C" fn zebludor_run_hex(
 ) -> Outcome
     ensures told { Tells (IsReport true text.now run.now) (IsTrueRefusal true text.now run.now) out.old out.new result }
 
-    // Where the text gives an image and the run file a board that can have it, only the want of memory refuses them.
+    // If the text gives an image and the run file a board that can have it, only the want of memory refuses them.
     ensures accepted { Accepts true text.now run.now → Tells (IsReport true text.now run.now) IsWantOfMemory
         out.old out.new result }
 {
@@ -75,7 +75,7 @@ fn tell(report: Result<Report, Fault>, out: &mut [u8]) -> Outcome
     }
 }
 
-// The text into the buffer, where it has room for it.
+// Writes the text into the buffer, if there is room for it.
 fn put(text: &[u8], out: &mut [u8]) -> Outcome
     ensures outcome { result ≡ text_outcome text.now (length out.old) }
     ensures buffer { out.new ≡ buffer_after text.now out.old }
