@@ -257,6 +257,15 @@ class Probed(ToolCase):
         seen = self.probed(lines, 'go 62\nchips\ngo 2\nchips\ngo 12\nchips\n', timer='8254')
         self.assertEqual([(it.value('counter 2', 'status'), it.value('counter 2', 'latched')) for it in seen], [('D6', 'none'), ('96', 'none'), ('16', '96')])
 
+    def test_what_is_kept_off_in_an_entry(self) -> None:
+        # STI, with TF set, begins in clock 38 and ends before 40; the entry takes 50 clocks, and then the handler begins
+        lines = ' MOV AX,100h\n PUSH AX\n POPF\n STI\n'
+        seen = self.probed(lines, 'go 40\nchips\ngo 1\nchips\ngo 49\nchips\ngo 1\nchips\n')
+        self.assertEqual(
+            [self.words(it, 'processor', 'IF inhibits step') for it in seen],
+            ['1 requests 1', '0 requests 0', '0 requests 0', '0 none 0'],
+        )
+
     def test_ports(self) -> None:
         for value, a, c in (('00', '1E', '21'), ('04', '1E', '2A'), ('80', '6D', '21'), ('CC', '6D', '2A')):
             # line 6 lets the key into the latch; the control word of counter 2 sets OUT2
