@@ -43,6 +43,7 @@ impl fmt::Display for HexWord {
 }
 
 /// The registers of an address.
+#[tactic(auto, unfolding(dialect::specs::Words::words))]
 fn base_text(base: Base) -> &'static str
     ensures { result.now ≡ base_text base }
 {
