@@ -145,7 +145,7 @@ pub same_by_enter : {S T : Type 0} (bus : BusMeaning S) (other : BusMeaning T) (
 unfolding after_enter
 same_by_enter bus other table R alike p s t kind cause related =
     let same = same_by_entry bus other R alike (machine p.registers s) (machine p.registers t) kind kind refl (unchanged R p.registers s t related) in record {
-      cpu = ap (λ (r : Registers). record { registers = r; state = Running; shadow = Nothing; step_due = still_due p.step_due cause; repeat = None }) same.registers;
+      cpu = ap (λ (r : Registers). record { registers = r; state = Running; shadow = p.shadow; step_due = still_due p.step_due cause; repeat = None }) same.registers;
       bus = same.bus;
       clocks = refl;
     }
