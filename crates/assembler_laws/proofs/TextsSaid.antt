@@ -317,6 +317,7 @@ module _ (words : AreRead) where
       (open_says (93 ∷ []) (tokens.Mark marks.CloseBracket ∷ []) closes_bracket)))
 
   says_operand : (w : Written) → IsWritten w → Says (operand_text w) (operand_tokens (operand_said w))
+  unfolding words
   says_operand Nothing is = absurd is
   says_operand (Register r) is = says_register r
   says_operand One is = says_one
