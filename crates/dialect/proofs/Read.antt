@@ -157,7 +157,7 @@ processor_read Std = refl
 processor_read Wait = refl
 processor_read Esc = refl
 
--- an operation's first mnemonic, read again, stands for it
+-- an operation's first mnemonic stands for it when it is read
 abbrev IsRead : Operation → Type 0
 IsRead operation = (m : Mnemonic) × (meaning_of (operation_name operation) ≡ Some (meanings.Mnemonic m)) × StandsFor m operation
 

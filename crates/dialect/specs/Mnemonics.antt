@@ -9,14 +9,14 @@ use Rattle.isa.specs.declared.operation.Control.TheVariants.{Jmp, Call, JmpFar, 
 use Rattle.dialect.specs.declared.mnemonic.Mnemonic.{Mnemonic}
 use Rattle.dialect.specs.declared.mnemonic.Mnemonic.TheVariants as mnemonics
 
--- the operation; of JMP and CALL the one within the segment, of NOP XCHG
+-- the operation that a mnemonic stands for: JMP and CALL for the one within the segment, NOP for XCHG
 abbrev pub near_operation : Mnemonic → Operation
 near_operation (mnemonics.Plain operation) = operation
 near_operation mnemonics.Jmp = Control Jmp
 near_operation mnemonics.Call = Control Call
 near_operation mnemonics.Nop = Transfer Xchg
 
--- of JMP and CALL the operation that leaves the segment
+-- the operation of JMP and CALL that leaves the segment; other mnemonics have none
 abbrev pub far_operation : Mnemonic → Option Operation
 far_operation (mnemonics.Plain operation) = None
 far_operation mnemonics.Jmp = Some (Control JmpFar)

@@ -1,4 +1,4 @@
--- The names under which operations, registers, prefixes and keywords are written: of several words the first.
+-- The names by which operations, registers, prefixes and keywords are written: the first of the words for each.
 -- To be believed: the headline rests on it.
 use Rattle.std.specs.Prelude.{ℕ, Bool, true, false, List, [], find}
 use Rattle.std.specs.Option.{option_map_or}
@@ -34,7 +34,7 @@ use Rattle.dialect.specs.declared.meaning.Meaning.{Meaning}
 use Rattle.dialect.specs.declared.meaning.Meaning.TheVariants as meanings
 use Rattle.dialect.specs.Words.{words}
 
--- two are the same: `sameb` tells it of two values of an enum without fields
+-- whether two operations are the same; `sameb` compares two values of an enum without fields
 abbrev pub is_same_operation : Operation → Operation → Bool
 is_same_operation (Arithmetic a) (Arithmetic b) = sameb arithmetics a b
 is_same_operation (Shift a) (Shift b) = sameb shifts a b
@@ -74,11 +74,11 @@ is_same_meaning (meanings.Prefix a) (meanings.Prefix b) = is_same_prefix a b
 is_same_meaning (meanings.Keyword a) (meanings.Keyword b) = sameb keywords a b
 is_same_meaning a b = false
 
--- the first word that means this
+-- the first word with this meaning
 abbrev pub name_of : Meaning → List ℕ
 name_of meaning = option_map_or (λ e. e.0) (find (λ e. is_same_meaning meaning e.1) words) []
 
--- the far jump and the far call have the names of the near ones
+-- the mnemonic of an operation, as it is written; a far jump or call has the name of the near one
 abbrev pub operation_name : Operation → List ℕ
 operation_name (Control control.Jmp) = name_of (meanings.Mnemonic mnemonics.Jmp)
 operation_name (Control control.JmpFar) = name_of (meanings.Mnemonic mnemonics.Jmp)
@@ -96,7 +96,7 @@ register_name r = name_of (meanings.Register r)
 abbrev pub word_register_name : WordRegister → List ℕ
 word_register_name r = register_name (registers.Word r)
 
--- of an override the segment register, behind which a colon is written
+-- a prefix as it is written; a segment override is its register, which a colon follows
 abbrev pub prefix_name : Prefix → List ℕ
 prefix_name (prefixes.Segment r) = register_name (registers.Segment r)
 prefix_name prefix = name_of (meanings.Prefix prefix)

@@ -1,5 +1,5 @@
 -- The words of the dialect: mnemonics with their aliases (8086 Family User's Manual, "Instruction Set"), registers,
--- prefixes, and the words of statements and operands. Of several words for one thing the first is the one that is
+-- prefixes, and the words of statements and operands. If several words mean the same, the first is the one that is
 -- written.
 -- To be believed: the headline rests on it.
 use Rattle.std.specs.Prelude.{ℕ, Bool, List, [], ◌∷◌, codes, map, find, Option, is_some}
@@ -35,11 +35,11 @@ use Rattle.dialect.specs.declared.meaning.Entry.{Entry as Kept}
 use Rattle.dialect.specs.declared.meaning.Meaning.{Meaning}
 use Rattle.dialect.specs.declared.meaning.Meaning.TheVariants as meanings
 
--- a word in upper case and what it means
+-- a word in upper case, and what it means
 abbrev pub Entry : Type 0
 Entry = List ℕ × Meaning
 
--- as the code keeps it
+-- an entry, from the form in which the code keeps it
 abbrev pub entry_of : Kept → Entry
 entry_of e = (e.word.now, e.meaning)
 
@@ -213,11 +213,11 @@ words =
     keyword (codes "FAR") keywords.Far ∷
     keyword (codes "SHORT") keywords.Short ∷ []
 
--- the word is this one, in any case
+-- whether a word spells a keyword, in upper or lower case
 unfoldable pub spells : List ℕ → List ℕ → Bool
 spells word keyword = bytes_eq (map to_ascii_lowercase word) (map to_ascii_lowercase keyword)
 
--- what a word means, in any case; none where it isn't among the words
+-- what a word means, in upper or lower case; `None` if it isn't among the words
 unfoldable pub meaning_of : List ℕ → Option Meaning
 meaning_of word = option_map (λ e. e.1) (find (λ e. spells word e.0) words)
 

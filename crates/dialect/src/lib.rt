@@ -1,5 +1,5 @@
-//! The words of the assembler's dialect: mnemonics with their aliases, registers, prefixes and the words of
-//! statements and operands. The assembler reads them and the disassembler writes them; they stand here alone.
+//! The words of the assembler's dialect: mnemonics with their aliases, registers, prefixes and the words of statements
+//! and operands. The assembler reads them and the disassembler writes them; both take them from here.
 #![tactic(auto)]
 
 pub mod keyword;

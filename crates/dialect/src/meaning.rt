@@ -1,4 +1,4 @@
-//! The words, and what each of them means.
+//! The words of the dialect, and what each of them means.
 ghost use Rattle.std.specs.Prelude.{◌≡◌, find, is_some, map};
 ghost use Rattle.dialect.specs.Words.{entry_of, is_reserved, meaning_of, spells, words};
 
@@ -17,7 +17,7 @@ use isa::register::{ByteRegister, SegmentRegister, WordRegister};
 pub enum Meaning {
     Mnemonic(Mnemonic),
     Register(Register),
-    /// LOCK or a repeat. An override is a segment register and a colon, and so no word.
+    /// LOCK or a repeat. An override is none: it is written as a segment register and a colon.
     Prefix(Prefix),
     Keyword(Keyword),
 }
@@ -29,7 +29,7 @@ struct Entry {
     meaning: Meaning,
 }
 
-/// A word, and what it means.
+/// An entry of `WORDS`.
 macro_rules! word {
     ($word:literal, Mnemonic::$mnemonic:ident) => {
         word!(@ $word, Meaning::Mnemonic(Mnemonic::$mnemonic))
@@ -218,21 +218,21 @@ static WORDS: [Entry; 152] = [
     word!(b"SHORT", Keyword::Short),
 ];
 
-/// The words.
+/// All entries, in the definition's order.
 fn entries() -> &'static [Entry]
     ensures { map entry_of result.now ≡ words }
 {
     &WORDS
 }
 
-/// What the word means, in any case. `None` where it is none of the dialect's.
+/// What the word means, in upper or lower case. `None` if it isn't one of the dialect's.
 pub fn meaning_of(word: &[u8]) -> Option<Meaning>
     ensures { result ≡ meaning_of word.now }
 {
     Some(first_of(entries(), word)?.meaning)
 }
 
-/// The first entry of the word.
+/// The first entry that is spelled like the word.
 fn first_of(entries: &[Entry], word: &[u8]) -> Option<Entry>
     ensures { result ≡ find (λ e. spells word.now e.word.now) entries.now }
 {
@@ -242,14 +242,14 @@ fn first_of(entries: &[Entry], word: &[u8]) -> Option<Entry>
         .find(|entry| spells(word, entry.word))
 }
 
-/// Whether the word is one of the dialect's, so that no name may be it.
+/// Whether the word is one of the dialect's, in upper or lower case, and so can't be a name.
 pub fn is_reserved(word: &[u8]) -> bool
     ensures { result ≡ is_reserved word.now }
 {
     meaning_of(word).is_some()
 }
 
-/// Whether the word is this keyword, in any case.
+/// Whether the word spells this keyword, in upper or lower case.
 #[tactic(auto, unfolding(crate::specs::Words::spells))]
 fn spells(word: &[u8], keyword: &[u8]) -> bool
     ensures { result ≡ spells word.now keyword.now }

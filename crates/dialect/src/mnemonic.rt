@@ -7,18 +7,18 @@ use isa::operation::{Control, Operation, Transfer};
 /// What a mnemonic stands for.
 #[derive(Clone, Copy)]
 pub enum Mnemonic {
-    /// One operation, which isn't JMP's or CALL's.
+    /// One operation, other than those of JMP and CALL.
     Plain(Operation),
-    /// A jump within the segment or, where its operand is far, to another one.
+    /// A jump within the segment, or to another one if its operand is far.
     Jmp,
-    /// A call within the segment or, where its operand is far, into another one.
+    /// A call within the segment, or into another one if its operand is far.
     Call,
     /// XCHG AX,AX, written without operands.
     Nop,
 }
 
 impl Mnemonic {
-    /// The operation; of JMP and CALL the one within the segment, of NOP XCHG.
+    /// The operation that the mnemonic stands for: JMP and CALL for the one within the segment, NOP for XCHG.
     pub fn near(self) -> Operation
         ensures { result ≡ near_operation self }
     {
@@ -30,7 +30,7 @@ impl Mnemonic {
         }
     }
 
-    /// Of JMP and CALL the operation that leaves the segment. Others have none.
+    /// The operation of JMP and CALL that leaves the segment. Other mnemonics have none.
     pub fn far(self) -> Option<Operation>
         ensures { result ≡ far_operation self }
     {

@@ -1,4 +1,4 @@
-//! The names under which operations, registers, prefixes and keywords are written: of several the first.
+//! The names by which operations, registers, prefixes and keywords are written: the first of the words for each.
 ghost use Rattle.std.specs.Prelude.{◌≡◌};
 ghost use Rattle.isa.specs.declared.operation.Operation.TheVariants as operations;
 ghost use Rattle.dialect.specs.declared.register.Register.TheVariants as registers;
@@ -14,7 +14,7 @@ use isa::operation::{
 };
 use isa::register::{ByteRegister, SegmentRegister, WordRegister};
 
-/// The operation's first mnemonic. The far jump and the far call have those of the near ones.
+/// The operation's first mnemonic. A far jump or call has that of the near one.
 pub fn operation_name(operation: Operation) -> &'static str
     ensures { result.now ≡ operation_name operation }
 {
@@ -233,7 +233,7 @@ impl Mnemonic {
 }
 
 impl Register {
-    /// Its name.
+    /// The register's name in upper case.
     pub fn name(self) -> &'static str
         ensures { result.now ≡ register_name self }
     {
@@ -289,7 +289,7 @@ fn segment_register_name(register: SegmentRegister) -> &'static str
     }
 }
 
-/// The first word for a prefix; of an override its segment register, behind which a colon is written.
+/// The first word for a prefix; for an override its segment register, which a colon follows in a text.
 #[tactic(auto, unfolding(crate::specs::Words::words))]
 pub fn prefix_name(prefix: Prefix) -> &'static str
     ensures { result.now ≡ prefix_name prefix }
@@ -303,7 +303,7 @@ pub fn prefix_name(prefix: Prefix) -> &'static str
 }
 
 impl Keyword {
-    /// Its word.
+    /// The keyword's word in upper case.
     #[tactic(auto, unfolding(crate::specs::Words::words))]
     pub fn name(self) -> &'static str
         ensures { result.now ≡ keyword_name self }
