@@ -1,4 +1,4 @@
--- Readers that put one thing after another behind those before.
+-- Readers that put one thing after another into a list.
 use Rattle.std.proofs.Common.{◌≡◌, List, [], ◌∷◌, ◌++◌, append_assoc, refl, sym, ap, ◌∙◌, Result, Ok, Err}
 use Rattle.assembler_lexeme.specs.declared.fault.SyntaxFault.{SyntaxFault}
 use Rattle.assembler_lexeme.specs.Faults.{◌>>=◌, all_of, with_front}

@@ -79,7 +79,7 @@ all_pass f u p n each (x ∷ xs) ys le is =
     let behind : total u xs ≤ n = omega arith in
     pass_by p (f x) (all_of f xs) ys (λ y. each x y here) (λ zs. all_pass f u p n each xs zs behind) is
 
--- the lexemes of a text have no more bytes than it
+-- the lexemes of a text have no more bytes than the text
 abbrev bytes : List (List ℕ) → ℕ
 bytes ls = total (λ (l : List ℕ). length l) ls
 

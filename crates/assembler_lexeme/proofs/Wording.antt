@@ -29,7 +29,7 @@ stops_at base n i digits within high =
     ltb_no : (m k : ℕ) → k ≤ m → nat_lt m k ≡ false
     ltb_no m k low = grind (arith, nat_tests)
 
--- with a digit that makes it too large there is none
+-- at a digit that makes it too large there is no number
 pub large_at : (base n i : ℕ) (digits : List ℕ) → 0 < base → i < length digits → 4294967296 ≤ n * base + digit_of (get_or digits i 0) → None ≡ option_and_then in_bounds (spelled base n (drop i digits))
 large_at base n i digits some within large =
     rw (drop-cons digits i 0)
@@ -40,7 +40,7 @@ drop-replicate zero m = let same : m - 0 ≡ m = omega arith in rw same refl
 drop-replicate (suc n) zero = let none : 0 - suc n ≡ 0 = omega arith in rw none refl
 drop-replicate (suc n) (suc m) = let less : suc m - suc n ≡ m - n = omega arith in rw less (drop-replicate n m)
 
--- a word in upper case, with zeros behind it
+-- a word in upper case, with zeros after it
 pub name_is : (word copied upper : List ℕ) → copied ≡ word → upper ≡ map to_ascii_uppercase (take (length word) (copied ++ drop (length word) (replicate 31 0)))
     → upper ++ drop (length word) (copied ++ drop (length word) (replicate 31 0)) ≡ map to_ascii_uppercase word ++ replicate (31 - length word) 0
 name_is word copied upper same is =

@@ -17,25 +17,25 @@ use Rattle.board_types.specs.TextLines.{begins_with}
 use Rattle.assembler_lexeme.specs.Numbers.{number_of, last_byte}
 use Rattle.assembler_lexeme.specs.Faults.{wanted, all_of}
 
--- the name that a word is: in upper case, filled up with zeros to 31 characters
+-- a word as a name: in upper case, filled up with zeros to 31 characters
 abbrev pub name_of : List ℕ → Name
 name_of word = record { letters = map to_ascii_uppercase word ++ replicate (31 - length word) 0 }
 
--- a word has at most 31 characters; it is one of the dialect's, or a name
+-- the token of a word of at most 31 characters: a word of the dialect, or else a name
 unfoldable pub word_token : List ℕ → Option Token
 word_token word =
     if nat_lt 31 (length word) then None else Some (option_map_or Word (meaning_of word) (Named (name_of word)))
 
--- a number that is written `1` is told apart from all others
+-- the token of a number; `1` has a token of its own, because it may be a shift count
 unfoldable pub number_token : List ℕ → Option Token
 number_token word = if bytes_eq word (codes "1") then Some One else option_map Number (number_of word)
 
--- a single character is its code
+-- the token of a quoted text; a single character is the number that is its code
 abbrev pub text_token : List ℕ → Token
 text_token (c ∷ []) = Number c
 text_token text = Quoted text
 
--- between two quotes one or more characters
+-- what stands between the quotes of a quoted text
 abbrev pub between_quotes : List ℕ → List ℕ
 between_quotes lexeme = take (length lexeme - 2) (drop 1 lexeme)
 
@@ -59,8 +59,8 @@ abbrev pub mark_token : List ℕ → Option Token
 mark_token (b ∷ []) = option_map kinds.Mark (mark_of b)
 mark_token lexeme = None
 
--- the token that a lexeme is; none is a word that is too long, a number that is none, a quoted text without
--- characters or without its end, or another character
+-- The token of a lexeme. A word that is too long, a number that can't be read, a quoted text without characters or
+-- without its end, and any other character have none.
 unfoldable pub token_of : List ℕ → Option Token
 token_of lexeme =
     if begins_with is_letter lexeme then word_token lexeme else (

@@ -7,15 +7,15 @@ use std::alloc::AllocError;
 /// Why a line isn't one of the dialect's, whatever the other lines are.
 #[derive(Clone, Copy, Drop)]
 pub enum SyntaxFault {
-    /// A character that is neither printable ASCII nor a tabulator.
+    /// A character that is neither printable ASCII nor a tab.
     BadCharacter,
-    /// The line isn't in the grammar.
+    /// A line that isn't in the grammar.
     BadLine,
-    /// No statement has this name.
+    /// A name that no statement has.
     UnknownName,
 }
 
-/// Why a line isn't read.
+/// Why a line can't be read.
 #[derive(Clone, Copy, Drop)]
 pub enum SyntaxError {
     Fault(SyntaxFault),

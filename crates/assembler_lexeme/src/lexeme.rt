@@ -3,7 +3,7 @@ ghost use Rattle.std.specs.Prelude.{false, ◌≡◌, ◌<◌, ◌≤◌, [], �
 ghost use Rattle.assembler_lexeme.specs.Lexemes.{is_blank, is_character, is_digit, is_letter, is_word_byte, lexemes, text_size, word_size};
 ghost use Rattle.board_types.specs.TextLines.{begins_with};
 
-/// Whether a line may have the character.
+/// Whether a line may have the character: printable ASCII or a tab.
 pub fn is_character(byte: u8) -> bool
     ensures { result ≡ is_character byte }
 {
@@ -68,7 +68,7 @@ fn skip_blanks(text: &[u8]) -> &[u8]
     rest
 }
 
-/// The first lexeme of the text and what follows it; none where only blanks and a comment are left.
+/// The first lexeme of the text, and what follows it. `None` if only blanks and a comment are left.
 #[tactic(auto, using(crate::proofs::Scanning::word_split, crate::proofs::Scanning::text_split), unfolding(crate::specs::Lexemes::lexemes))]
 pub(crate) fn next_lexeme(text: &[u8]) -> Option<(&[u8], &[u8])>
     ensures some { IfSome result (λ p. lexemes text.now ≡ p.0.now ∷ lexemes p.1.now) }
@@ -84,7 +84,7 @@ pub(crate) fn next_lexeme(text: &[u8]) -> Option<(&[u8], &[u8])>
     }
 }
 
-/// How many bytes a quoted text takes behind its first quote.
+/// How many bytes a quoted text takes after its first quote, its last quote included.
 fn text_length(text: &[u8]) -> usize
     ensures size { result ≡ text_size text.now }
     ensures within { result ≤ length text.now }
@@ -101,7 +101,7 @@ fn text_length(text: &[u8]) -> usize
     length
 }
 
-/// How many bytes of a word stand at the front.
+/// How many bytes at the front belong to a word.
 fn word_length(text: &[u8]) -> usize
     ensures size { result ≡ word_size text.now }
     ensures within { result ≤ length text.now }

@@ -1,4 +1,4 @@
-//! Names.
+//! Names of labels, constants and segments.
 ghost use Rattle.std.specs.Prelude.{◌≡◌, ◌≤◌, length};
 ghost use Rattle.assembler_lexeme.specs.Tokens.{name_of};
 
@@ -8,7 +8,7 @@ pub struct Name {
     pub letters: [u8; 31],
 }
 
-/// The name that the word is.
+/// The word as a name.
 pub(crate) fn name_of(word: &[u8]) -> Name
     requires { length word.now ≤ 31 }
     ensures { result ≡ name_of word.now }

@@ -1,4 +1,4 @@
-//! Numbers.
+//! Numbers as they are spelled.
 ghost use Rattle.std.specs.Prelude.{◌≡◌, ◌≤◌, ◌<◌};
 ghost use Rattle.assembler_lexeme.specs.Numbers.{number_of, number_to};
 

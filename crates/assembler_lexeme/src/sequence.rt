@@ -19,7 +19,7 @@ impl<T> Model for Sequence<T> {
 }
 
 impl<T> Sequence<T> {
-    /// An empty one.
+    /// An empty list.
     pub fn new(alloc: Global) -> Sequence<T>
         ensures { result ≡ [] }
     {
@@ -28,7 +28,7 @@ impl<T> Sequence<T> {
         }
     }
 
-    /// A copy of the items.
+    /// A list with copies of these items.
     pub fn from_slice(alloc: Global, items: &[T]) -> Result<Sequence<T>, AllocError>
     where
         T: Copy,
@@ -39,21 +39,21 @@ impl<T> Sequence<T> {
         })
     }
 
-    /// Whether there is no item.
+    /// Whether the list has no item.
     pub fn is_empty(&self) -> bool
         ensures { result ≡ (length self.now == 0) }
     {
         self.items.is_empty()
     }
 
-    /// Its items.
+    /// The items of the list, in order.
     pub fn as_slice(&self) -> &[T]
         ensures { result.now ≡ self.now }
     {
         self.items.as_slice()
     }
 
-    /// Puts an item behind the others.
+    /// Puts an item after the others.
     pub fn push(&mut self, item: T) -> Result<(), AllocError>
     where
         T: Drop,

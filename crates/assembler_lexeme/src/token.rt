@@ -43,7 +43,7 @@ impl<'a> Model for Characters<'a> {
 }
 
 impl<'a> Characters<'a> {
-    /// The characters.
+    /// The characters of the text, without its quotes.
     pub fn as_slice(&self) -> &'a [u8]
         ensures { result.now ≡ self.now }
     {
@@ -66,7 +66,7 @@ pub enum Token<'a> {
     Mark(Mark),
 }
 
-/// The tokens of a line, or BadLine where a lexeme is none.
+/// The tokens of a line; `BadLine` if one of its lexemes is no token.
 #[tactic(auto, unfolding(crate::specs::Tokens::tokens_of))]
 pub fn read_tokens<'a>(alloc: Global, text: &'a [u8]) -> Result<Sequence<Token<'a>>, SyntaxError>
     ensures { Gives result (tokens_of (lexemes text.now)) }
