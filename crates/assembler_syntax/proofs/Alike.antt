@@ -211,7 +211,8 @@ mark_alike OpenBracket = refl
 mark_alike Dollar = refl
 mark_alike _ = refl
 
--- an operand of one token that is no register and not `1` is a value; the words that begin others by themselves say nothing
+-- an operand of one token that is no register and not `1` is a value; the words that begin other operands say nothing
+-- by themselves
 one_alike : (t : Token) → operand_steps.single_operand t ≡ operand_of (t ∷ [])
 unfolding operand_of operand_steps.value_of value_of expression_of expression_steps.expression_of expression_steps.atom_of atom_of brackets_of memory_of
 one_alike (Word (Register r)) = refl

@@ -17,7 +17,7 @@ use Rattle.assembler_syntax.specs.Spellings.{Exactly, InTurn, WithCommas}
 abbrev pub AllPass : (Token → Bool) → List Token → Type 0
 AllPass p ts = list_all p ts ≡ true
 
--- as all spellings of a kind do
+-- all spellings of a kind pass a test
 abbrev pub EachPasses : (Token → Bool) → (List Token → Type 0) → Type 0
 EachPasses p Spells = (ts : List Token) → Spells ts → AllPass p ts
 
@@ -54,7 +54,7 @@ is_plain t = true
 abbrev pub fails : (Token → Bool) → Token → Bool
 fails p t = not (p t)
 
--- what each token that passes one test passes, all of a list do that passes it
+-- if each token that passes one test passes another, then a list that passes the one passes the other
 pub pass_too : (p q : Token → Bool) → ((t : Token) → p t ≡ true → q t ≡ true) → (ts : List Token) → AllPass p ts → AllPass q ts
 pass_too p q passes [] all = refl
 pass_too p q passes (t ∷ ts) all =

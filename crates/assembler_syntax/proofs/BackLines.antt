@@ -1,4 +1,4 @@
--- What is read as a line is spelled so.
+-- Tokens that are read as a line are a spelling of it.
 use Rattle.std.proofs.Common.{◌≡◌, ◌∙◌, Bool, true, false, List, [], ◌∷◌, ◌++◌, append_assoc, refl, sym, ap, subst, inl, inr, Option, Some, None, Result, Ok, Err, if◌then◌else◌}
 use Rattle.isa.specs.declared.form.Prefix.{Prefix}
 use Rattle.isa.specs.declared.form.Prefix.TheVariants as prefixes

@@ -1,4 +1,4 @@
--- What is read as an operand is spelled so.
+-- Tokens that are read as an operand are a spelling of it.
 use Rattle.std.proofs.Common.{◌≡◌, ◌∙◌, Bool, true, false, ◌&&◌, List, [], ◌∷◌, ◌++◌, append_assoc, append-nil, flat_map, refl, sym, ap, ap₂, subst, inl, inr, Option, Some, None, Ok, Err, if◌then◌else◌}
 use Rattle.std.proofs.lemmas.Bool.{and_parts}
 use Rattle.isa.specs.declared.form.Base.{Base}
@@ -290,7 +290,7 @@ unfolding brackets_of
 brackets_are [] b is = absurd (cc)
 brackets_are (t ∷ ts) b is = by_first t ts b is
 
--- behind a size, or none
+-- an operand in memory after its size, or without one
 in_brackets : (size : Option Size) (ts : List Token) (b : Option SegmentRegister × List Token) (o : Operand) → brackets_of ts ≡ Some b → memory_of size b.0 b.1 ≡ Ok o
     → SpellsOperand o (size_tokens size ++ ts)
 in_brackets size ts b o at is =

@@ -1,4 +1,4 @@
--- What is read as an expression, or between commas, is spelled so.
+-- Tokens that are read as an expression, or between commas, are a spelling of it.
 use Rattle.std.proofs.Common.{◌≡◌, ◌∙◌, ℕ, suc, ◌+◌, ◌<◌, Bool, true, false, not, List, [], ◌∷◌, ◌++◌, length, take, drop, nat_lt, refl, sym, ap, ap₂, subst, arith, inl, inr, Option, Some, None, Result, Ok, Err, if◌then◌else◌}
 use Rattle.std.specs.List.{list_all, position_or_len}
 use Rattle.std.proofs.lemmas.Bool.{ltb-true}

@@ -156,7 +156,7 @@ pub items_read : (width : DataWidth) (its : List Item) (ts : List Token) → Wit
 unfolding items_of
 items_read width its ts is = commas_read (item_of width) (SpellsItem width) (whole_item width) (item_read width) its ts is
 
--- ---- no EQU stands among them
+-- ---- no EQU is among the tokens of an item
 plain_no_equ : (t : Token) → is_plain t ≡ true → fails is_equ t ≡ true
 plain_no_equ (Word (meanings.Keyword keywords.Equ)) is = cc
 plain_no_equ t is = refl

@@ -44,7 +44,7 @@ not_true : (b : Bool) → not b ≡ true → b ≡ false
 not_true true e = absurd (cc)
 not_true false e = refl
 
--- ---- a statement without EQU behind its first token
+-- ---- a statement without EQU after its first token
 without_equ : (t : Token) (ts : List Token) → AllPass (fails is_equ) ts → statement_of (t ∷ ts) ≡ prefixed_statement (t ∷ ts)
 unfolding statement_of
 without_equ t [] none = refl

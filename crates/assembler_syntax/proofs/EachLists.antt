@@ -1,4 +1,4 @@
--- What stands with commas between is parted there.
+-- Things with commas between them are parted at the commas.
 use Rattle.std.proofs.Common.{◌≡◌, ◌∙◌, Bool, true, false, List, [], ◌∷◌, ◌++◌, append_assoc, append-nil, refl, sym, ap, Result, Ok}
 use Rattle.std.proofs.lemmas.Bool.{and_parts}
 use Rattle.std.specs.List.{list_all}
@@ -14,7 +14,7 @@ use Rattle.assembler_syntax.specs.Spellings.{WithCommas}
 use Rattle.assembler_syntax.proofs.Around.{AllPass, is_plain}
 use Rattle.assembler_syntax.proofs.EachTerms.{led}
 
--- put before the first of the parts
+-- tokens put at the front of the first of the parts
 abbrev onto_parts : List Token → List (List Token) → List (List Token)
 onto_parts [] ps = ps
 onto_parts (t ∷ ts) ps = onto_part t (onto_parts ts ps)
@@ -66,7 +66,7 @@ keeps_calm inside (t ∷ ts) calm back =
     calm_step inside t (ts ++ back) ((and_parts (is_calm t) (list_all is_calm ts) calm).0)
     ∙ ap (onto_part t) (keeps_calm inside ts ((and_parts (is_calm t) (list_all is_calm ts) calm).1) back)
 
--- between parentheses none opens or closes
+-- the tokens that neither open nor close a parenthesis
 abbrev pub is_enclosed : Token → Bool
 is_enclosed (Mark OpenParenthesis) = false
 is_enclosed (Mark CloseParenthesis) = false

@@ -460,7 +460,7 @@ operands_read [] ts is = ap operands_of is ∙ no_operands
 operands_read (op ∷ ops) ts is =
     operands_by ts (commas_some (op ∷ ops) ts is) ∙ commas_read operand_of SpellsOperand whole_operand operand_read (op ∷ ops) ts is
 
--- ---- no EQU stands among them
+-- ---- no EQU is among the tokens of an operand
 pub calm_no_equ : (t : Token) → is_calm t ≡ true → fails is_equ t ≡ true
 calm_no_equ (Word (meanings.Keyword keywords.Equ)) is = cc
 calm_no_equ t is = refl

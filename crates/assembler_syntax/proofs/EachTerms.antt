@@ -52,7 +52,7 @@ atom_read a ts is = of_atoms AtomRead (λ n. refl) refl (λ name. refl) refl (λ
 pub term_read : (n : Bool) (a : Atom) (ts : List Token) → SpellsAtom a ts → term_of (signed_part n ts) ≡ Ok (record { is_negative = n; atom = a })
 term_read n a ts is = ap (λ (r : Result Atom SyntaxFault). r >>= λ a. Ok (record { is_negative = n; atom = a })) (atom_read a ts is)
 
--- what no sign stands in is a part, up to the sign behind it
+-- tokens without a sign are a part, up to the sign that follows them
 abbrev pub IsPart : List Token → Type 0
 IsPart ts = (n : Bool) (back : List Token) (rest : List Signed) → signed_from n back ≡ signed_part n [] ∷ rest → signed_from n (ts ++ back) ≡ signed_part n ts ∷ rest
 
@@ -64,7 +64,7 @@ atom_is_part = of_atoms (λ a. IsPart)
     (λ n back rest is. ap (onto_signed n (Mark Dollar)) is)
     (λ name n back rest is. ap (λ (r : List Signed). onto_signed n (keyword keywords.Seg) (onto_signed n (Named name) r)) is)
 
--- nor does a minus stand at its front
+-- tokens that don't begin with a minus
 abbrev pub NoMinus : List Token → Type 0
 NoMinus ts = (back : List Token) → signed_parts (ts ++ back) ≡ signed_from false (ts ++ back)
 

@@ -1,4 +1,4 @@
--- A term behind those before.
+-- One more term after the others.
 use Rattle.std.proofs.Common.{◌≡◌, List, [], ◌∷◌, ◌++◌, Ok}
 use Rattle.assembler_lexeme.specs.Faults.{all_of, with_front}
 use Rattle.assembler_lexeme.proofs.Gathering.{one_behind}

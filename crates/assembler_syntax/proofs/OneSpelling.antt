@@ -1,4 +1,4 @@
--- The spelling that is told of a line is one of its spellings.
+-- The one spelling that is defined for a line is one of its spellings.
 use Rattle.std.proofs.Common.{◌≡◌, ◌≢◌, ◌∙◌, Bool, true, false, List, [], ◌∷◌, ◌++◌, map, flat_map, append_assoc, append-nil, refl, sym, ap, subst, inl, Option, Some, None}
 use Rattle.std.specs.List.{AllByRecursion}
 use Rattle.isa.specs.declared.form.Base.{Base}
@@ -109,7 +109,7 @@ terms_spelled (t ∷ ts) is = record {
   second = more_spelled ts;
 }
 
--- one register, or two, and terms behind them
+-- one register, or two, and terms after them
 one_spelled : (r : WordRegister) (ts : List Term) → SpellsParts (a_register r ∷ term_parts ts) (word r ∷ signed_tokens ts)
 one_spelled r ts = record { front = word r ∷ []; back = signed_tokens ts; are = refl; first = refl; second = more_spelled ts }
 
@@ -220,7 +220,7 @@ operand_spelled (operands.FarPointer s o) is = record {
   };
 }
 
--- ---- what stands with commas between
+-- ---- things with commas between them
 commas_spelled : {A : Type 0} (tokens : A → List Token) (Spells : A → List Token → Type 0) (Is : A → Type 0) → ((x : A) → Is x → Spells x (tokens x))
     → (x : A) (xs : List A) → Is x → AllByRecursion Is xs → WithCommas Spells (x ∷ xs) (with_commas (map tokens (x ∷ xs)))
 commas_spelled tokens Spells Is each x [] is all = each x is

@@ -50,7 +50,7 @@ use Rattle.assembler_syntax.specs.Weights.{is_expression_within, is_displacement
 use Rattle.assembler_syntax.proofs.Alike.{text_alike}
 use Rattle.assembler_syntax.specs.Laws.{HoldsNoMore}
 
--- the parts of some tokens weigh no more than these
+-- the parts of tokens weigh no more than the tokens
 onto_weight : (t : Token) (ps : List (List Token)) → total weight (onto_part t ps) ≡ token_weight t + total weight ps
 onto_weight t [] = omega arith
 onto_weight t (p ∷ ps) = omega arith

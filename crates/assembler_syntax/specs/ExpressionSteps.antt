@@ -27,7 +27,7 @@ abbrev pub segment_atom : Token → Token → Result Atom SyntaxFault
 segment_atom (Word (Keyword Seg)) (Named name) = Ok (atoms.SegmentOf name)
 segment_atom s t = Err BadLine
 
--- a number, a name, $, or SEG and a name
+-- an atom: a number, a name, $, or SEG and a name
 unfoldable pub atom_of : List Token → Result Atom SyntaxFault
 atom_of (t ∷ []) = single_atom t
 atom_of (s ∷ t ∷ []) = segment_atom s t
@@ -39,6 +39,6 @@ term_of part = atom_of part.tokens >>= (λ atom. Ok (record { is_negative = part
 unfoldable pub expression_of : List Token → Result (List Term) SyntaxFault
 expression_of ts = all_of term_of (signed_parts ts)
 
--- an expression that must be a constant
+-- an expression that must be a constant: without $ and SEG
 unfoldable pub constant_of : List Token → Result (List Term) SyntaxFault
 constant_of ts = expression_of ts >>= (λ terms. if list_all is_constant terms then Ok terms else Err BadLine)

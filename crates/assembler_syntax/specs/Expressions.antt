@@ -15,7 +15,7 @@ use Rattle.assembler_lexeme.specs.declared.token.Mark.TheVariants.{Dollar}
 use Rattle.assembler_lexeme.specs.Faults.{◌>>=◌, all_of}
 use Rattle.assembler_syntax.specs.Parts.{Signed, signed_parts}
 
--- a number, a name, $, or SEG and a name
+-- an atom: a number, a name, $, or SEG and a name
 unfoldable pub atom_of : List Token → Result Atom SyntaxFault
 atom_of (One ∷ []) = Ok (atoms.Number 1)
 atom_of (Number n ∷ []) = Ok (atoms.Number n)
@@ -32,7 +32,7 @@ term_of part = do
 unfoldable pub expression_of : List Token → Result (List Term) SyntaxFault
 expression_of ts = all_of term_of (signed_parts ts)
 
--- neither $ nor SEG
+-- whether an atom may stand in a constant, as $ and SEG may not
 abbrev pub is_constant_atom : Atom → Bool
 is_constant_atom (atoms.Number n) = true
 is_constant_atom (atoms.Named name) = true
@@ -41,7 +41,7 @@ is_constant_atom _ = false
 abbrev pub is_constant : Term → Bool
 is_constant term = is_constant_atom term.atom
 
--- an expression that must be a constant
+-- an expression that must be a constant: without $ and SEG
 unfoldable pub constant_of : List Token → Result (List Term) SyntaxFault
 constant_of ts = do
   terms ← expression_of ts

@@ -18,7 +18,7 @@ use Rattle.assembler_syntax.specs.ExpressionSteps.{expression_of, constant_of}
 abbrev pub value_piece : List Token → Result Piece SyntaxFault
 value_piece ts = expression_of ts >>= (λ value. Ok (pieces.Value value))
 
--- an expression, or in DB a quoted text
+-- a piece of one token: an expression, or in DB a quoted text
 abbrev pub single_piece : DataWidth → Token → Result Piece SyntaxFault
 single_piece widths.Byte (Quoted text) = Ok (pieces.Text text)
 single_piece width t = value_piece (t ∷ [])
@@ -30,7 +30,7 @@ piece_of width ts = value_piece ts
 unfoldable pub pieces_of : DataWidth → List Token → Result (List Piece) SyntaxFault
 pieces_of width ts = all_of (piece_of width) (parts ts)
 
--- what stands behind DUP: pieces in parentheses
+-- the tokens of the pieces that DUP repeats, which are in parentheses
 abbrev pub in_parentheses : List Token → Result (List Token) SyntaxFault
 in_parentheses [] = Err BadLine
 in_parentheses (t ∷ ts) = if is_open_parenthesis t then closed (around is_close_parenthesis ts) else Err BadLine
@@ -47,7 +47,7 @@ abbrev pub item_by : Option (List Token × List Token) → DataWidth → List To
 item_by (Some dup) width ts = repeated width dup.0 dup.1
 item_by None width ts = once width ts
 
--- pieces that DUP repeats, or one piece
+-- an item of a data line: pieces that DUP repeats, or one piece
 unfoldable pub item_of : DataWidth → List Token → Result Item SyntaxFault
 item_of width ts = item_by (around is_dup ts) width ts
 

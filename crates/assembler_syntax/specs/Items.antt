@@ -16,7 +16,7 @@ use Rattle.assembler_lexeme.specs.Faults.{◌>>=◌, all_of}
 use Rattle.assembler_syntax.specs.Parts.{parts, around, closed, is_dup, is_close_parenthesis}
 use Rattle.assembler_syntax.specs.Expressions.{expression_of, constant_of}
 
--- an expression, or in DB a quoted text
+-- a piece: an expression, or in DB a quoted text
 unfoldable pub piece_of : DataWidth → List Token → Result Piece SyntaxFault
 piece_of widths.Byte (Quoted text ∷ []) = Ok (pieces.Text text)
 piece_of width ts = do
@@ -26,7 +26,7 @@ piece_of width ts = do
 unfoldable pub pieces_of : DataWidth → List Token → Result (List Piece) SyntaxFault
 pieces_of width ts = all_of (piece_of width) (parts ts)
 
--- what stands behind DUP: pieces in parentheses
+-- the tokens of the pieces that DUP repeats, which are in parentheses
 abbrev pub in_parentheses : List Token → Result (List Token) SyntaxFault
 in_parentheses (Mark OpenParenthesis ∷ ts) = closed (around is_close_parenthesis ts)
 in_parentheses ts = Err BadLine
@@ -44,7 +44,7 @@ item_by None width ts = do
   piece ← piece_of width ts
   Ok (items.Once piece)
 
--- pieces that DUP repeats, or one piece
+-- an item of a data line: pieces that DUP repeats, or one piece
 unfoldable pub item_of : DataWidth → List Token → Result Item SyntaxFault
 item_of width ts = item_by (around is_dup ts) width ts
 

@@ -21,7 +21,7 @@ abbrev pub labelled : Token → Token → List Token → Result Line SyntaxFault
 labelled (Named label) (Mark Colon) ts = with_label (Some label) ts
 labelled t u ts = with_label None (t ∷ u ∷ ts)
 
--- a name with a colon behind it is a label
+-- the line that tokens are; a name followed by a colon is its label
 unfoldable pub line_of : List Token → Result Line SyntaxFault
 line_of (t ∷ u ∷ ts) = labelled t u ts
 line_of ts = with_label None ts

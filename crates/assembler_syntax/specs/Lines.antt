@@ -19,12 +19,12 @@ with_label label ts = do
   statement ← statement_of ts
   Ok (record { label = label; statement = statement })
 
--- a name with a colon behind it is a label
+-- the line that tokens are; a name followed by a colon is its label
 unfoldable pub line_of : List Token → Result Line SyntaxFault
 line_of (Named label ∷ Mark Colon ∷ ts) = with_label (Some label) ts
 line_of ts = with_label None ts
 
--- What a line of the source says: a fault of its characters comes first, then one of its tokens, then one of its
--- grammar.
+-- What a line of the source says. A fault of its characters comes before a fault of its tokens, and that before a fault
+-- of its grammar.
 unfoldable pub read_line : List ℕ → Result Line SyntaxFault
 read_line text = if list_all is_character text then (tokens_of (lexemes text) >>= line_of) else Err BadCharacter

@@ -22,7 +22,7 @@ use Rattle.assembler_syntax.specs.PartSteps.{Signed, parts, signed_parts, around
 use Rattle.assembler_syntax.specs.ExpressionSteps.{expression_of, term_of}
 pub use Rattle.assembler_syntax.specs.Operands.{base_with, empty_address, terms_with, with_register, with_term}
 
--- the register that a part in brackets is
+-- the register that a token is, if it is one
 abbrev pub single_register : Token → Option RegisterType
 single_register (Word (Register r)) = Some r
 single_register t = None
@@ -31,7 +31,7 @@ abbrev pub register_of : List Token → Option RegisterType
 register_of (t ∷ []) = single_register t
 register_of ts = None
 
--- no minus stands before a register
+-- an address with one more part, a register or a term; no minus may stand before a register
 abbrev pub with_part_by : Option RegisterType → Address → Signed → Result Address SyntaxFault
 with_part_by (Some r) a part = if part.is_negative then Err BadLine else with_register a r
 with_part_by None a part = term_of part >>= (λ term. Ok (with_term a term))
@@ -43,7 +43,7 @@ abbrev pub with_parts : Address → List Signed → Result Address SyntaxFault
 with_parts a [] = Ok a
 with_parts a (part ∷ parts) = with_part a part >>= (λ b. with_parts b parts)
 
--- what stands behind an open bracket: parts, and the other bracket
+-- an operand in memory, from the tokens after its open bracket: parts, and the closing bracket
 unfoldable pub memory_of : Option Size → Option SegmentRegister → List Token → Result Operand SyntaxFault
 memory_of size segment ts =
     closed (around is_close_bracket ts)
@@ -52,13 +52,13 @@ memory_of size segment ts =
 unfoldable pub value_of : List Token → Result Operand SyntaxFault
 value_of ts = expression_of ts >>= (λ value. Ok (operands.Value value))
 
--- as the code gives it
+-- what `brackets_of` gives, from the slice that the code gives
 abbrev pub brackets_view : Option (Option SegmentRegister × Bor (List Token))
     → Option (Option SegmentRegister × List Token)
 brackets_view (Some b) = Some (b.0, b.1.now)
 brackets_view None = None
 
--- what stands behind the open bracket of a place in memory, and the segment register before it, if there is one
+-- the tokens after the open bracket of an operand in memory, if it follows this segment register and a colon
 abbrev pub behind_segment : RegisterType → List Token → Option (Option SegmentRegister × List Token)
 behind_segment (registers.Segment s) (t ∷ u ∷ ts) = if is_colon t && is_open_bracket u then Some (Some s, ts) else None
 behind_segment r ts = None
@@ -76,7 +76,7 @@ abbrev pub memory_in : Option Size → Option (Option SegmentRegister × List To
 memory_in size (Some brackets) = memory_of size brackets.0 brackets.1
 memory_in size None = Err BadLine
 
--- FAR label, or FAR segment:offset
+-- a far operand of one token: FAR and a label
 abbrev pub single_label : Token → Result Operand SyntaxFault
 single_label (Named label) = Ok (operands.FarLabel label)
 single_label t = Err BadLine
@@ -113,7 +113,7 @@ abbrev pub place_or_value : Option (Option SegmentRegister × List Token) → Li
 place_or_value (Some brackets) ts = memory_of None brackets.0 brackets.1
 place_or_value None ts = value_of ts
 
--- an operand of more tokens, by its first
+-- an operand of more than one token, by its first
 abbrev pub led_operand : Token → List Token → Result Operand SyntaxFault
 led_operand (Word (Keyword keywords.Short)) ts = short_of ts
 led_operand (Word (Keyword keywords.Byte)) ts = memory_in (Some sizes.Byte) (brackets_of ts)
@@ -126,7 +126,7 @@ operand_of [] = Err BadLine
 operand_of (t ∷ []) = single_operand t
 operand_of (t ∷ u ∷ ts) = led_operand t (u ∷ ts)
 
--- none, or some with commas between them
+-- the operands of an instruction: none, or some with commas between them
 unfoldable pub operands_of : List Token → Result (List Operand) SyntaxFault
 operands_of [] = Ok []
 operands_of (t ∷ ts) = all_of operand_of (parts (t ∷ ts))

@@ -25,7 +25,7 @@ use Rattle.assembler_lexeme.specs.Faults.{◌>>=◌, wanted, all_of}
 use Rattle.assembler_syntax.specs.Parts.{Signed, parts, signed_parts, around, closed, is_colon, is_close_bracket}
 use Rattle.assembler_syntax.specs.Expressions.{expression_of, term_of}
 
--- at most one of BX and BP, and at most one of SI and DI
+-- a base with one more register: at most one of BX and BP, and at most one of SI and DI
 abbrev pub base_with : Option Base → WordRegister → Option Base
 base_with None Bx = Some bases.Bx
 base_with None Bp = Some bases.Bp
@@ -54,12 +54,12 @@ terms_with (Some terms) term = terms ++ term ∷ []
 abbrev pub with_term : Address → Term → Address
 with_term a term = record a { displacement = Some (terms_with a.displacement term) }
 
--- the register that a part in brackets is
+-- the register that a part in brackets is, if it is one
 abbrev pub register_of : List Token → Option RegisterType
 register_of (Word (Register r) ∷ []) = Some r
 register_of ts = None
 
--- no minus stands before a register
+-- an address with one more part, a register or a term; no minus may stand before a register
 abbrev pub with_part_by : Option RegisterType → Address → Signed → Result Address SyntaxFault
 with_part_by (Some r) a part = if part.is_negative then Err BadLine else with_register a r
 with_part_by None a part = do
@@ -78,7 +78,7 @@ with_parts a (part ∷ parts) = do
 abbrev pub empty_address : Option Size → Option SegmentRegister → Address
 empty_address size segment = record { size = size; segment = segment; base = None; displacement = None }
 
--- what stands behind an open bracket: parts, and the other bracket
+-- an operand in memory, from the tokens after its open bracket: parts, and the closing bracket
 unfoldable pub memory_of : Option Size → Option SegmentRegister → List Token → Result Operand SyntaxFault
 memory_of size segment ts = do
   inner ← closed (around is_close_bracket ts)
@@ -90,23 +90,24 @@ value_of ts = do
   value ← expression_of ts
   Ok (operands.Value value)
 
--- what stands behind the open bracket of a place in memory, and the segment register before it, if there is one
+-- the tokens after the open bracket of an operand in memory, with the segment register before it, if there is one
 unfoldable pub brackets_of : List Token → Option (Option SegmentRegister × List Token)
 brackets_of (Mark OpenBracket ∷ ts) = Some (None, ts)
 brackets_of (Word (Register (registers.Segment s)) ∷ Mark Colon ∷ Mark OpenBracket ∷ ts) = Some (Some s, ts)
 brackets_of ts = None
 
--- a place in memory, or what else stands there
+-- an operand in memory, if brackets were found, or else another one
 abbrev pub memory_or : Option Size → Option (Option SegmentRegister × List Token) → Result Operand SyntaxFault
     → Result Operand SyntaxFault
 memory_or size (Some brackets) other = memory_of size brackets.0 brackets.1
 memory_or size None other = other
 
--- FAR label, or FAR segment:offset
+-- a far operand without a colon: FAR and a label
 abbrev pub far_label : List Token → Result Operand SyntaxFault
 far_label (Named label ∷ []) = Ok (operands.FarLabel label)
 far_label ts = Err BadLine
 
+-- a far operand with a colon: FAR segment:offset
 abbrev pub far_pointer : List Token → List Token → Result Operand SyntaxFault
 far_pointer segment offset = do
   s ← expression_of segment
@@ -132,7 +133,7 @@ operand_of (Word (Keyword keywords.Far) ∷ ts) =
     memory_or (Some sizes.Far) (brackets_of ts) (far_target (around is_colon ts) ts)
 operand_of ts = memory_or None (brackets_of ts) (value_of ts)
 
--- none, or some with commas between them
+-- the operands of an instruction: none, or some with commas between them
 unfoldable pub operands_of : List Token → Result (List Operand) SyntaxFault
 operands_of [] = Ok []
 operands_of (t ∷ ts) = all_of operand_of (parts (t ∷ ts))

@@ -19,21 +19,21 @@ abbrev pub is_open_parenthesis : Token → Bool
 is_open_parenthesis (Mark OpenParenthesis) = true
 is_open_parenthesis t = false
 
--- what stands before the token at a place, and what stands behind it
+-- the tokens before the one at a place, and those after it
 abbrev pub at_place : List Token → Option ℕ → Option (List Token × List Token)
 at_place ts (Some k) = Some (take k ts, drop (k + 1) ts)
 at_place ts None = None
 
--- what stands before the first token that passes, and what stands behind it
+-- the tokens before the first one that passes, and those after it
 abbrev pub around : (Token → Bool) → List Token → Option (List Token × List Token)
 around passes ts = at_place ts (position passes ts)
 
--- as the code gives it
+-- what `around` gives, from the slices that the code gives
 abbrev pub around_view : Option (Bor (List Token) × Bor (List Token)) → Option (List Token × List Token)
 around_view (Some p) = Some (p.0.now, p.1.now)
 around_view None = None
 
--- whether parentheses are open behind a token
+-- whether parentheses are open after a token
 abbrev pub is_open_after : Bool → Token → Bool
 is_open_after is_open (Mark OpenParenthesis) = true
 is_open_after is_open (Mark CloseParenthesis) = false
@@ -47,31 +47,31 @@ parts_from is_open [] = [] ∷ []
 parts_from is_open (t ∷ ts) =
     if parts_here is_open t then [] ∷ parts_from false ts else onto_part t (parts_from (is_open_after is_open t) ts)
 
--- the parts between commas; a comma in parentheses parts nothing
+-- the parts between commas; a comma in parentheses separates nothing
 unfoldable pub parts : List Token → List (List Token)
 parts ts = parts_from false ts
 
--- the tokens behind the first one, if there is one
+-- the tokens after the first one, if there is one
 abbrev pub tail_of : List Token → Option (List Token)
 tail_of [] = None
 tail_of (t ∷ ts) = Some ts
 
--- as the code gives it
+-- what `tail_of` gives, from the slice that the code gives
 abbrev pub tail_view : Option (Bor (List Token)) → Option (List Token)
 tail_view (Some ts) = Some ts.now
 tail_view None = None
 
--- the parts behind a comma, if there was one
+-- the parts after a comma, if there was one
 abbrev pub parts_left : Option (List Token) → List (List Token)
 parts_left (Some ts) = parts ts
 parts_left None = []
 
--- how many tokens stand before the first comma
+-- how many tokens stand before the first comma, from a place within parentheses or outside
 abbrev pub part_size : Bool → List Token → ℕ
 part_size is_open [] = 0
 part_size is_open (t ∷ ts) = if parts_here is_open t then 0 else 1 + part_size (is_open_after is_open t) ts
 
--- whether a sign is a minus; other tokens are no signs
+-- whether a sign is a minus; `None` for a token that is no sign
 abbrev pub sign_of : Token → Option Bool
 sign_of (Mark Plus) = Some false
 sign_of (Mark Minus) = Some true
@@ -85,7 +85,7 @@ abbrev pub signed_from : Bool → List Token → List Signed
 signed_from is_negative [] = signed_part is_negative [] ∷ []
 signed_from is_negative (t ∷ ts) = signed_by (sign_of t) is_negative t (λ next. signed_from next ts)
 
--- the parts behind a sign, if there was one
+-- the parts after a sign, if there was one
 abbrev pub signed_left : Bool → Option (List Token) → List Signed
 signed_left is_negative (Some ts) = signed_from is_negative ts
 signed_left is_negative None = []

@@ -26,21 +26,21 @@ abbrev pub is_dup : Token → Bool
 is_dup (Word (Keyword Dup)) = true
 is_dup t = false
 
--- what stands before the first token that passes, and what stands behind it
+-- the tokens before the first one that passes, and those after it
 abbrev pub around : (Token → Bool) → List Token → Option (List Token × List Token)
 around passes ts = option_map (λ k. (take k ts, drop (k + 1) ts)) (position passes ts)
 
--- nothing stands behind it
+-- the tokens before a closing token, which must be the last
 abbrev pub closed : Option (List Token × List Token) → Result (List Token) SyntaxFault
 closed (Some (inner, [])) = Ok inner
 closed found = Err BadLine
 
--- the token, put before the first of the parts
+-- the parts, with the token put at the front of the first
 abbrev pub onto_part : Token → List (List Token) → List (List Token)
 onto_part t [] = (t ∷ []) ∷ []
 onto_part t (part ∷ parts) = (t ∷ part) ∷ parts
 
--- the parts between commas, where parentheses are open or not; a comma in parentheses parts nothing
+-- the parts between commas, from a place within parentheses or outside; a comma in parentheses separates nothing
 abbrev pub parts_from : Bool → List Token → List (List Token)
 parts_from is_open [] = [] ∷ []
 parts_from false (Mark Comma ∷ ts) = [] ∷ parts_from false ts
@@ -51,7 +51,7 @@ parts_from is_open (t ∷ ts) = onto_part t (parts_from is_open ts)
 unfoldable pub parts : List Token → List (List Token)
 parts ts = parts_from false ts
 
--- tokens with a sign before them
+-- tokens, and whether a minus stands before them
 pub record Signed : Type 0 where
   pub is_negative : Bool
   pub tokens : List Token

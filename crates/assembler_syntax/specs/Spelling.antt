@@ -58,7 +58,7 @@ abbrev pub signed_tokens : List Term → List Token
 signed_tokens [] = []
 signed_tokens (t ∷ ts) = sign_token t.is_negative ∷ (atom_tokens t.atom ++ signed_tokens ts)
 
--- no plus stands before the first term of an expression
+-- the first term of an expression, before which no plus is written
 abbrev pub first_tokens : Bool → Atom → List Token
 first_tokens false atom = atom_tokens atom
 first_tokens true atom = Mark Minus ∷ atom_tokens atom
@@ -112,7 +112,7 @@ operand_tokens (operands.FarLabel label) = keyword keywords.Far ∷ Named label 
 operand_tokens (operands.FarPointer s o) =
     keyword keywords.Far ∷ (expression_tokens s ++ Mark Colon ∷ expression_tokens o)
 
--- with commas between them
+-- lists of tokens, with commas between them
 abbrev pub with_commas : List (List Token) → List Token
 with_commas [] = []
 with_commas (part ∷ []) = part
@@ -156,16 +156,16 @@ label_tokens (Some name) = Named name ∷ Mark Colon ∷ []
 abbrev pub line_tokens : Line → List Token
 line_tokens l = label_tokens l.label ++ statement_tokens l.statement
 
--- an expression has a term
+-- an expression has at least one term
 abbrev pub IsExpression : List Term → Type 0
 IsExpression [] = ⊥
 IsExpression (t ∷ ts) = Unit {0}
 
--- a constant holds neither $ nor SEG
+-- a constant has neither $ nor SEG
 abbrev pub IsConstant : List Term → Type 0
 IsConstant ts = IsExpression ts × (list_all is_constant ts ≡ true)
 
--- registers or an expression stand in brackets
+-- what stands in brackets is registers, an expression or both
 abbrev pub IsInner : Option Base → Option (List Term) → Type 0
 IsInner base (Some ts) = IsExpression ts
 IsInner (Some b) None = Unit {0}
@@ -180,13 +180,13 @@ IsOperand (operands.Short e) = IsExpression e
 IsOperand (operands.FarLabel label) = Unit {0}
 IsOperand (operands.FarPointer s o) = IsExpression s × IsExpression o
 
--- a text stands in DB
+-- a quoted text is a piece of DB alone
 abbrev pub IsPiece : DataWidth → Piece → Type 0
 IsPiece width (pieces.Value e) = IsExpression e
 IsPiece widths.Byte (pieces.Text text) = Unit {0}
 IsPiece width (pieces.Text text) = ⊥
 
--- one or more pieces, or items
+-- one or more elements, each of which is one of these
 abbrev pub SomeAre : {A : Type 0} → (A → Type 0) → List A → Type 0
 SomeAre Is [] = ⊥
 SomeAre Is (x ∷ xs) = Is x × AllByRecursion Is xs

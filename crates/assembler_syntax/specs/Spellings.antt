@@ -30,11 +30,11 @@ use Rattle.assembler_syntax.specs.declared.statement.Line.{Line}
 use Rattle.assembler_syntax.specs.Expressions.{is_constant}
 use Rattle.assembler_syntax.specs.Spelling.{keyword, register, word, sign_token, size_tokens, segment_tokens, prefix_tokens, label_tokens, width_keyword}
 
--- these tokens and no others
+-- the tokens are these and no others
 abbrev pub Exactly : List Token → List Token → Type 0
 Exactly tokens ts = ts ≡ tokens
 
--- tokens of the one, and behind them tokens of the other
+-- tokens of one kind, and after them tokens of another
 pub record InTurn (One' Other : List Token → Type 0) (ts : List Token) : Type 0 where
   pub front : List Token
   pub back : List Token
@@ -46,20 +46,20 @@ infixr 20 ◌then◌
 abbrev pub ◌then◌ : (List Token → Type 0) → (List Token → Type 0) → List Token → Type 0
 One' then Other = InTurn One' Other
 
--- some of a kind, with commas between them
+-- spellings of one or more things, with commas between them
 abbrev pub WithCommas : {A : Type 0} → (A → List Token → Type 0) → List A → List Token → Type 0
 WithCommas Spells [] = λ ts. ⊥
 WithCommas Spells (x ∷ []) = Spells x
 WithCommas Spells (x ∷ y ∷ more) = Spells x then Exactly (Mark Comma ∷ []) then WithCommas Spells (y ∷ more)
 
--- a number, for which `1` alone has a token of its own; a name; $; SEG and a name
+-- the tokens of an atom: a number, which for 1 may also be the token of `1`; a name; $; SEG and a name
 abbrev pub SpellsAtom : Atom → List Token → Type 0
 SpellsAtom (atoms.Number n) = λ ts. (ts ≡ Number n ∷ []) ⊎ ((ts ≡ One ∷ []) × (n ≡ 1))
 SpellsAtom (atoms.Named name) = Exactly (Named name ∷ [])
 SpellsAtom atoms.Here = Exactly (Mark Dollar ∷ [])
 SpellsAtom (atoms.SegmentOf name) = Exactly (keyword keywords.Seg ∷ Named name ∷ [])
 
--- a minus may stand before the first term, and a sign stands before each other one
+-- the sign before the first term: none or a minus; before each other term a sign is written
 abbrev pub leading_tokens : Bool → List Token
 leading_tokens false = []
 leading_tokens true = Mark Minus ∷ []
@@ -73,11 +73,11 @@ SpellsExpression [] = λ ts. ⊥
 SpellsExpression (t ∷ terms) =
     Exactly (leading_tokens t.is_negative) then SpellsAtom t.atom then SpellsSigned terms
 
--- a constant holds neither $ nor SEG
+-- the tokens of a constant, which has neither $ nor SEG
 abbrev pub SpellsConstant : List Term → List Token → Type 0
 SpellsConstant terms = λ ts. SpellsExpression terms ts × (list_all is_constant terms ≡ true)
 
--- in brackets registers and terms stand in any order, no minus before a register
+-- a part in brackets: registers and terms come in any order, and no minus stands before a register
 pub data AddressPart : Type 0 where
   a_register : WordRegister → AddressPart
   a_term : Term → AddressPart
@@ -106,10 +106,11 @@ abbrev pub part_terms : AddressPart → List Term
 part_terms (a_register r) = []
 part_terms (a_term t) = t ∷ []
 
--- at most one of BX and BP, and at most one of SI and DI, in either order
+-- two registers, in either order
 abbrev pub AreEither : WordRegister → WordRegister → List WordRegister → Type 0
 AreEither a b rs = (rs ≡ a ∷ b ∷ []) ⊎ (rs ≡ b ∷ a ∷ [])
 
+-- the registers of a base: at most one of BX and BP, and at most one of SI and DI
 abbrev pub AreOfBase : Option Base → List WordRegister → Type 0
 AreOfBase None rs = rs ≡ []
 AreOfBase (Some bases.BxSi) rs = AreEither Bx Si rs
@@ -131,7 +132,7 @@ pub record SpellsInner (a : Address) (ts : List Token) : Type 0 where
   pub base : AreOfBase a.base (flat_map part_registers parts)
   pub displacement : a.displacement ≡ some_terms (flat_map part_terms parts)
 
--- `1` alone is no expression: it may be a shift count
+-- the tokens of an operand; `1` alone is no expression, because it may be a shift count
 abbrev pub SpellsOperand : Operand → List Token → Type 0
 SpellsOperand (operands.Register r) = Exactly (register r ∷ [])
 SpellsOperand operands.One = Exactly (One ∷ [])
@@ -148,7 +149,7 @@ abbrev pub SpellsOperands : List Operand → List Token → Type 0
 SpellsOperands [] = Exactly []
 SpellsOperands (operand ∷ more) = WithCommas SpellsOperand (operand ∷ more)
 
--- a quoted text of more than one character stands in DB alone
+-- the tokens of a piece; a quoted text of more than one character may stand in DB alone
 abbrev pub SpellsPiece : DataWidth → Piece → List Token → Type 0
 SpellsPiece width (pieces.Value terms) = SpellsExpression terms
 SpellsPiece width (pieces.Text text) = λ ts. (ts ≡ Quoted text ∷ []) × (width ≡ widths.Byte)
@@ -159,7 +160,7 @@ SpellsItem width (items.Repeated count each) =
     SpellsConstant count then Exactly (keyword keywords.Dup ∷ Mark OpenParenthesis ∷ [])
     then WithCommas (SpellsPiece width) each then Exactly (Mark CloseParenthesis ∷ [])
 
--- a prefix word, or a segment register and a colon
+-- the tokens of a prefix: its word, or a segment register and a colon
 abbrev pub SpellsPrefix : PrefixType → List Token → Type 0
 SpellsPrefix p = λ ts. (ts ≡ prefix_tokens p) ⊎ (ts ≡ Word (meanings.Prefix p) ∷ [])
 

@@ -26,7 +26,7 @@ use Rattle.assembler_syntax.specs.OperandSteps.{operands_of}
 use Rattle.assembler_syntax.specs.ItemSteps.{items_of}
 pub use Rattle.assembler_syntax.specs.Statements.{is_directive, onto_prefixes}
 
--- name AT paragraph
+-- a SEGMENT statement, name AT paragraph, from its name and the tokens after AT
 abbrev pub segment_at : Name → List Token → Result Statement SyntaxFault
 segment_at name ts = constant_of ts >>= (λ paragraph. Ok (statements.Segment name paragraph))
 
@@ -55,7 +55,7 @@ data_of width ts = items_of width ts >>= (λ items. Ok (statements.Data width it
 abbrev pub equ_at : Name → List Token → Result Statement SyntaxFault
 equ_at name ts = constant_of ts >>= (λ value. Ok (statements.Equ name value))
 
--- a statement with EQU behind its first token, which must be a name
+-- an EQU statement, from its first token, which must be a name, and the tokens after EQU
 unfoldable pub equ_of : Token → List Token → Result Statement SyntaxFault
 equ_of (Named name) ts = equ_at name ts
 equ_of t ts = Err BadLine
@@ -84,7 +84,8 @@ prefixes_of (Word (Register (registers.Segment s)) ∷ t ∷ ts) =
     if is_colon t then onto_prefixes (prefixes.Segment s) (prefixes_of ts) else ([], segment_token s ∷ t ∷ ts)
 prefixes_of ts = ([], ts)
 
--- such a keyword behind prefixes stands in a wrong place; another one is no statement's
+-- a statement of a keyword, after prefixes or without: a keyword that begins a statement mustn't follow prefixes, and
+-- no other keyword begins one
 abbrev pub keyword_statement : List PrefixType → KeywordType → List Token → Result Statement SyntaxFault
 keyword_statement [] k ts = directive_of k ts
 keyword_statement (p ∷ ps) k ts = if is_directive k then Err BadLine else Err UnknownName
@@ -99,7 +100,7 @@ led_statement ps (Word meaning) ts = word_statement ps meaning ts
 led_statement ps (Named name) ts = Err UnknownName
 led_statement ps t ts = Err BadLine
 
--- what stands behind these prefixes, which may be none
+-- a statement, from its prefixes, if it has any, and the tokens after them
 unfoldable pub statement_behind : List PrefixType → List Token → Result Statement SyntaxFault
 statement_behind ps [] = Err BadLine
 statement_behind ps (t ∷ ts) = led_statement ps t ts

@@ -22,7 +22,7 @@ use Rattle.assembler_syntax.specs.Expressions.{constant_of}
 use Rattle.assembler_syntax.specs.Operands.{operands_of}
 use Rattle.assembler_syntax.specs.Items.{items_of}
 
--- name AT paragraph
+-- a SEGMENT statement, from the tokens after its keyword: name AT paragraph
 unfoldable pub segment_of : List Token → Result Statement SyntaxFault
 segment_of (Named name ∷ Word (Keyword keywords.At) ∷ ts) = do
   paragraph ← constant_of ts
@@ -58,7 +58,7 @@ instruction_of ps mnemonic ts = do
   operands ← operands_of ts
   Ok (statements.Instruction (record { prefixes = ps; mnemonic = mnemonic; operands = operands }))
 
--- the prefixes at the front, and what stands behind them
+-- one more prefix at the front of the prefixes, with the tokens after them
 abbrev pub onto_prefixes : PrefixType → (List PrefixType × List Token) → (List PrefixType × List Token)
 onto_prefixes p (ps, ts) = (p ∷ ps, ts)
 
@@ -78,8 +78,8 @@ is_directive keywords.Dw = true
 is_directive keywords.Dd = true
 is_directive k = false
 
--- What stands behind these prefixes, which may be none. A keyword that begins a statement stands in a wrong place behind
--- prefixes; another one is no statement's.
+-- A statement, from its prefixes, if it has any, and the tokens after them. A keyword that begins a statement mustn't
+-- follow prefixes, and no other keyword begins one.
 unfoldable pub statement_behind : List PrefixType → List Token → Result Statement SyntaxFault
 statement_behind ps (Word (Mnemonic m) ∷ ts) = instruction_of ps m ts
 statement_behind [] (Word (Keyword k) ∷ ts) = directive_of k ts
@@ -88,7 +88,8 @@ statement_behind ps (Word meaning ∷ ts) = Err UnknownName
 statement_behind ps (Named name ∷ ts) = Err UnknownName
 statement_behind ps ts = Err BadLine
 
--- a statement with EQU behind its first token, which must be a name, or one with prefixes, which may be none
+-- the statement that tokens are: EQU after a first token, which must be a name, or a statement with its prefixes, if it
+-- has any
 unfoldable pub statement_of : List Token → Result Statement SyntaxFault
 statement_of [] = Ok statements.Empty
 statement_of (Named name ∷ Word (Keyword keywords.Equ) ∷ ts) = do

@@ -48,7 +48,7 @@ are_terms_within n (statements.Data width each) = list_all (is_item_within n) ea
 are_terms_within n (statements.Instruction i) = list_all (is_operand_within n) i.operands
 are_terms_within n statement = true
 
--- a value counts one, a text as many as it has characters
+-- the weight of a piece: 1 for a value, and its number of characters for a text
 abbrev pub piece_weight : Piece → ℕ
 piece_weight (kinds.Value value) = 1
 piece_weight (kinds.Text text) = length text
@@ -56,7 +56,7 @@ piece_weight (kinds.Text text) = length text
 abbrev pub pieces_weight : List Piece → ℕ
 pieces_weight each = sum_by piece_weight each
 
--- what DUP repeats counts once
+-- the weight of an item, in which what DUP repeats counts once
 abbrev pub item_weight : Item → ℕ
 item_weight (items.Once piece) = piece_weight piece
 item_weight (items.Repeated count each) = pieces_weight each
@@ -64,12 +64,12 @@ item_weight (items.Repeated count each) = pieces_weight each
 abbrev pub items_weight : List Item → ℕ
 items_weight each = sum_by item_weight each
 
--- how much the items of a data line weigh
+-- how much the items of a data line weigh; another statement weighs nothing
 abbrev pub statement_weight : Statement → ℕ
 statement_weight (statements.Data width each) = items_weight each
 statement_weight statement = 0
 
--- a statement as it stands in a text of n bytes
+-- a statement that is no larger than one in a text of n bytes
 pub record IsWithin (n : ℕ) (s : Statement) : Type 0 where
   pub terms : are_terms_within n s ≡ true
   pub pieces : statement_weight s ≤ n

@@ -8,10 +8,10 @@ use std::marker::Model;
 /// What a term names, without its sign.
 #[derive(Clone, Copy)]
 pub enum Atom {
-    /// A number; of a quoted character its code.
+    /// A number, or the code of a quoted character.
     Number(u32),
     Named(Name),
-    /// `$`, the line's location.
+    /// `$`, the offset at which the line stands.
     Here,
     /// SEG and a name: the paragraph of the label's segment.
     SegmentOf(Name),
@@ -24,7 +24,8 @@ pub struct Term {
     pub atom: Atom,
 }
 
-/// One or more terms, whose sum is meant. Contracts see the list of its terms. One of a single term takes no memory.
+/// One or more terms, whose sum is meant. Contracts see the list of the terms. An expression of one term takes no
+/// memory.
 #[derive(Drop)]
 pub struct Expression {
     first: Term,
@@ -51,7 +52,7 @@ impl Expression {
         }
     }
 
-    /// Puts a term behind the others.
+    /// Puts a term after the others.
     pub fn push(&mut self, term: Term) -> Result<(), AllocError>
         ensures { OnOk result (self.new ≡ self.old ++ term ∷ []) }
     {

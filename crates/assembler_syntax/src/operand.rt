@@ -7,7 +7,7 @@ use dialect::size::Size;
 use isa::form::Base;
 use isa::register::SegmentRegister;
 
-/// A place in memory: `[BYTE|WORD|FAR] [sr:] [ .. ]`. Registers or an expression stand in the brackets, or both.
+/// A place in memory: `[BYTE|WORD|FAR] [sr:] [ .. ]`. In the brackets are registers, an expression or both.
 #[derive(Drop)]
 pub struct Address {
     pub size: Option<Size>,
@@ -21,7 +21,7 @@ pub struct Address {
 #[derive(Drop)]
 pub enum Operand {
     Register(Register),
-    /// The number 1, written `1`: so, and in no other way, a shift's count is written.
+    /// The number 1, written `1`, which is the only way to write a shift's count of 1.
     One,
     /// Any other expression.
     Value(Expression),

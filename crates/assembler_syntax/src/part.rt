@@ -63,7 +63,7 @@ fn is_sign(token: &Token) -> bool
     matches!(token, Token::Mark(Mark::Plus | Mark::Minus))
 }
 
-/// Whether parentheses are open behind the token.
+/// Whether parentheses are open after the token.
 fn is_open_after(is_open: bool, token: &Token) -> bool
     ensures { result ≡ is_open_after is_open token.now }
 {
@@ -74,7 +74,7 @@ fn is_open_after(is_open: bool, token: &Token) -> bool
     }
 }
 
-/// The tokens, as the first and the others.
+/// The first of the tokens, and the others.
 pub(crate) fn split<'a, 'b>(tokens: &'a [Token<'b>]) -> Option<(&'a Token<'b>, &'a [Token<'b>])>
     ensures some { IfSome result (λ p. tokens.now ≡ p.0.now ∷ p.1.now) }
     ensures none { IfNone result (tokens.now ≡ []) }
@@ -82,35 +82,35 @@ pub(crate) fn split<'a, 'b>(tokens: &'a [Token<'b>]) -> Option<(&'a Token<'b>, &
     tokens.split_first()
 }
 
-/// Where the first colon stands.
+/// The place of the first colon.
 pub(crate) fn colon_place(tokens: &[Token]) -> Option<usize>
     ensures { result ≡ position is_colon tokens.now }
 {
     tokens.iter().position(|token| is_colon(token))
 }
 
-/// Where the first DUP stands.
+/// The place of the first DUP.
 pub(crate) fn dup_place(tokens: &[Token]) -> Option<usize>
     ensures { result ≡ position is_dup tokens.now }
 {
     tokens.iter().position(|token| is_dup(token))
 }
 
-/// Where the first bracket closes.
+/// The place of the first closing bracket.
 pub(crate) fn close_bracket_place(tokens: &[Token]) -> Option<usize>
     ensures { result ≡ position is_close_bracket tokens.now }
 {
     tokens.iter().position(|token| is_close_bracket(token))
 }
 
-/// Where the first parenthesis closes.
+/// The place of the first closing parenthesis.
 pub(crate) fn close_parenthesis_place(tokens: &[Token]) -> Option<usize>
     ensures { result ≡ position is_close_parenthesis tokens.now }
 {
     tokens.iter().position(|token| is_close_parenthesis(token))
 }
 
-/// What stands before and behind the token at this place. None where there is no place among the tokens.
+/// The tokens before the one at this place, and those after it. `None` without a place.
 pub(crate) fn around<'a, 'b>(
     tokens: &'a [Token<'b>],
     place: Option<usize>,
@@ -122,7 +122,7 @@ pub(crate) fn around<'a, 'b>(
     Some((&tokens[..place], &tokens[place + 1..]))
 }
 
-/// What stands before the token at this place, if nothing stands behind it.
+/// The tokens before the one at this place, if that is the last one.
 pub(crate) fn before_last<'a, 'b>(
     tokens: &'a [Token<'b>],
     place: Option<usize>,
@@ -136,7 +136,7 @@ pub(crate) fn before_last<'a, 'b>(
     }
 }
 
-/// The tokens behind the first one, if there is one.
+/// The tokens after the first one, if there is one.
 fn tail_of<'a, 'b>(tokens: &'a [Token<'b>]) -> Option<&'a [Token<'b>]>
     ensures { tail_view result ≡ tail_of tokens.now }
 {
@@ -146,7 +146,7 @@ fn tail_of<'a, 'b>(tokens: &'a [Token<'b>]) -> Option<&'a [Token<'b>]>
     }
 }
 
-/// The parts between commas that are still to come. Contracts see their list.
+/// The parts between commas that are still to come. Contracts see the list of them.
 #[derive(Drop)]
 pub(crate) struct Parts<'a, 'b> {
     rest: Option<&'a [Token<'b>]>,
@@ -179,7 +179,7 @@ impl<'a, 'b> Parts<'a, 'b> {
     }
 }
 
-/// The first part, and what stands behind its comma, if one does.
+/// The first part, and what follows its comma, if there is one.
 #[tactic(auto, using(crate::proofs::Parting::first_part))]
 fn first_part<'a, 'b>(tokens: &'a [Token<'b>]) -> (&'a [Token<'b>], Option<&'a [Token<'b>]>)
     ensures { parts tokens.now ≡ result.0.now ∷ parts_left (tail_view result.1) }
@@ -207,8 +207,8 @@ fn part_size(tokens: &[Token]) -> usize
     size
 }
 
-/// The parts between signs that are still to come, each with whether the sign before it is a minus. Contracts see
-/// their list.
+/// The parts between signs that are still to come, each with whether the sign before it is a minus. Contracts see the
+/// list of them.
 #[derive(Drop)]
 pub(crate) struct SignedParts<'a, 'b> {
     is_negative: bool,
@@ -263,7 +263,7 @@ fn begins_with_minus(tokens: &[Token]) -> bool
     }
 }
 
-/// What stands before the first sign, and what stands from there on.
+/// The tokens before the first sign, and those from the sign on.
 #[tactic(auto, using(crate::proofs::Parting::first_signed))]
 fn first_signed<'a, 'b>(tokens: &'a [Token<'b>]) -> (&'a [Token<'b>], &'a [Token<'b>])
     ensures { (is_negative : Bool) → signed_from is_negative tokens.now

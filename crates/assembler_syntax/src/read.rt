@@ -19,8 +19,8 @@ use assembler_lexeme::token::{Mark, Token, read_tokens};
 use statement::read_statement;
 use std::alloc::Global;
 
-/// What a line of a source says by itself, or why it is no line of the dialect: a fault of its characters comes
-/// first, then one of its words, then one of its grammar.
+/// What a line of a source says by itself, or why it is no line of the dialect. A fault of its characters comes before
+/// a fault of its words, and that before a fault of its grammar.
 #[tactic(auto, using(crate::proofs::Alike::text_alike), unfolding(crate::specs::LineSteps::read_line))]
 pub fn read_line(alloc: Global, text: &[u8]) -> Result<Line, SyntaxError>
     ensures { Gives result (read_line text.now) }

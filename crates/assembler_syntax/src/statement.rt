@@ -15,11 +15,11 @@ pub enum DataWidth {
     Double,
 }
 
-/// What a data line places once.
+/// A piece of a data line, which is placed once, or as often as the DUP around it says.
 #[derive(Drop)]
 pub enum Piece {
     Value(Expression),
-    /// In DB a quoted text of two or more characters; one character alone is an expression.
+    /// A quoted text of two or more characters, in DB; a single character is an expression.
     Text(Sequence<u8>),
 }
 
@@ -39,14 +39,14 @@ pub struct Instruction {
     pub operands: Sequence<Operand>,
 }
 
-/// What a line says behind its label.
+/// What a line says after its label.
 #[derive(Drop)]
 pub enum Statement {
     Empty,
-    /// SEGMENT name AT paragraph
+    /// `SEGMENT name AT paragraph`.
     Segment(Name, Expression),
     Ends,
-    /// name EQU value
+    /// `name EQU value`.
     Equ(Name, Expression),
     Org(Expression),
     /// DB, DW or DD, and one or more items.

@@ -1,4 +1,4 @@
-//! Expressions.
+//! Reading expressions.
 ghost use Rattle.std.specs.Prelude.{◌≡◌, [], ◌∷◌};
 ghost use Rattle.std.specs.List.{list_all};
 ghost use Rattle.assembler_lexeme.specs.Faults.{all_of, with_front, Gives};
@@ -47,7 +47,7 @@ fn atom_of(tokens: &[Token]) -> Result<Atom, SyntaxError>
     }
 }
 
-/// A term behind a sign.
+/// The term that tokens are, after a sign.
 pub(crate) fn read_term(is_negative: bool, tokens: &[Token]) -> Result<Term, SyntaxError>
     ensures { Gives result (term_of (signed_part is_negative tokens.now)) }
 {
@@ -55,7 +55,7 @@ pub(crate) fn read_term(is_negative: bool, tokens: &[Token]) -> Result<Term, Syn
     Ok(Term { is_negative, atom })
 }
 
-/// An expression.
+/// The expression that tokens are.
 #[tactic(auto, unfolding(crate::specs::ExpressionSteps::expression_of))]
 pub(crate) fn read_expression(alloc: Global, tokens: &[Token]) -> Result<Expression, SyntaxError>
     ensures { Gives result (expression_of tokens.now) }
@@ -68,7 +68,7 @@ pub(crate) fn read_expression(alloc: Global, tokens: &[Token]) -> Result<Express
     read_terms(alloc, first, parts)
 }
 
-/// A term and those behind it.
+/// An expression of a term and those that are still to come.
 #[tactic(auto, using(crate::proofs::Gathering::term_behind))]
 fn read_terms(alloc: Global, first: Term, parts: SignedParts) -> Result<Expression, SyntaxError>
     ensures { Gives result (with_front (first ∷ []) (all_of term_of parts.entry)) }
@@ -82,7 +82,7 @@ fn read_terms(alloc: Global, first: Term, parts: SignedParts) -> Result<Expressi
     Ok(expression)
 }
 
-/// An expression that must be a constant: it holds neither `$` nor SEG.
+/// The expression that tokens are, which must be a constant: without `$` and SEG.
 #[tactic(auto, unfolding(crate::specs::ExpressionSteps::constant_of))]
 pub(crate) fn read_constant(alloc: Global, tokens: &[Token]) -> Result<Expression, SyntaxError>
     ensures { Gives result (constant_of tokens.now) }

@@ -1,4 +1,4 @@
-//! Items of data lines.
+//! Reading the items of data lines.
 ghost use Rattle.std.specs.Prelude.{◌≡◌, [], ◌∷◌};
 ghost use Rattle.assembler_lexeme.specs.Faults.{wanted, Gives};
 ghost use Rattle.std.specs.Option.{option_map};
@@ -32,7 +32,7 @@ pub(crate) fn read_items(
     Ok(items)
 }
 
-/// Pieces that DUP repeats, or one piece.
+/// An item of a data line: pieces that DUP repeats, or one piece.
 #[tactic(auto, unfolding(crate::specs::ItemSteps::item_of))]
 fn read_item(alloc: Global, width: DataWidth, tokens: &[Token]) -> Result<Item, SyntaxError>
     ensures { Gives result (item_of width tokens.now) }
@@ -60,7 +60,7 @@ fn read_repeated(
     Ok(Item::Repeated(count, pieces))
 }
 
-/// What stands between parentheses.
+/// The tokens between parentheses, if the second one is the last token.
 fn in_parentheses<'a, 'b>(tokens: &'a [Token<'b>]) -> Option<&'a [Token<'b>]>
     ensures { wanted (option_map (λ p. p.now) result) ≡ in_parentheses tokens.now }
 {
@@ -90,7 +90,7 @@ fn read_pieces(
     Ok(pieces)
 }
 
-/// An expression, or in DB a quoted text.
+/// A piece: an expression, or in DB a quoted text.
 #[tactic(auto, unfolding(crate::specs::ItemSteps::piece_of))]
 fn read_piece(alloc: Global, width: DataWidth, tokens: &[Token]) -> Result<Piece, SyntaxError>
     ensures { Gives result (piece_of width tokens.now) }

@@ -1,4 +1,4 @@
-//! Operands of instructions.
+//! Reading the operands of instructions.
 ghost use Rattle.std.specs.Prelude.{◌≡◌, [], ◌∷◌};
 ghost use Rattle.std.specs.Option.{option_map};
 ghost use Rattle.assembler_lexeme.specs.Faults.{all_of, Gives};
@@ -23,7 +23,7 @@ use isa::form::Base;
 use isa::register::{SegmentRegister, WordRegister};
 use std::alloc::Global;
 
-/// What stands behind the open bracket of a place in memory, and the segment register before it.
+/// The tokens after the open bracket of an operand in memory, and the segment register before it.
 type Brackets<'a, 'b> = (Option<SegmentRegister>, &'a [Token<'b>]);
 
 /// The operands of an instruction: none, or some with commas between them.
@@ -95,7 +95,7 @@ fn led_operand(
     }
 }
 
-/// Memory behind a size word.
+/// An operand in memory, from the tokens after its size word.
 fn memory_in(alloc: Global, size: Size, tokens: &[Token]) -> Result<Operand, SyntaxError>
     ensures { Gives result (memory_in (Some size) (brackets_of tokens.now)) }
 {
@@ -121,7 +121,7 @@ fn read_value(alloc: Global, tokens: &[Token]) -> Result<Operand, SyntaxError>
     Ok(Operand::Value(read_expression(alloc, tokens)?))
 }
 
-/// FAR and memory, a label, or a segment and an offset.
+/// A far operand, from the tokens after FAR: memory, a label, or a segment and an offset.
 #[tactic(auto, unfolding(crate::specs::OperandSteps::far_of))]
 fn read_far(alloc: Global, tokens: &[Token]) -> Result<Operand, SyntaxError>
     ensures { Gives result (far_of tokens.now) }
@@ -161,7 +161,7 @@ fn single_label(token: &Token) -> Result<Operand, SyntaxError>
     }
 }
 
-/// The segment register before an open bracket, if there is one, and what stands behind the bracket.
+/// The segment register before an open bracket, if there is one, and the tokens after the bracket.
 #[tactic(auto, unfolding(crate::specs::OperandSteps::brackets_of))]
 fn brackets_of<'a, 'b>(tokens: &'a [Token<'b>]) -> Option<Brackets<'a, 'b>>
     ensures { brackets_view result ≡ brackets_of tokens.now }
@@ -192,7 +192,7 @@ fn behind_segment<'a, 'b>(register: Register, rest: &'a [Token<'b>]) -> Option<B
     }
 }
 
-/// Memory: the parts behind an open bracket, and the other bracket.
+/// An operand in memory, from the tokens after its open bracket: parts, and the closing bracket.
 #[tactic(auto, unfolding(crate::specs::OperandSteps::memory_of))]
 fn read_memory(
     alloc: Global,
@@ -242,7 +242,7 @@ fn with_part(
     }
 }
 
-/// The register that the part is.
+/// The register that a part in brackets is, if it is one.
 fn register_of(part: &[Token]) -> Option<Register>
     ensures { result ≡ register_of part.now }
 {
@@ -276,7 +276,7 @@ fn with_register(address: Address, register: Register) -> Result<Address, Syntax
     })
 }
 
-/// The base with another register: one of BX and BP, and one of SI and DI.
+/// The base with one more register: at most one of BX and BP, and at most one of SI and DI.
 fn base_with(base: Option<Base>, register: WordRegister) -> Option<Base>
     ensures { result ≡ base_with base register }
 {

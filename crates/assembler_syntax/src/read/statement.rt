@@ -1,4 +1,4 @@
-//! Statements.
+//! Reading statements.
 ghost use Rattle.std.specs.Prelude.{◌≡◌, ◌+◌, ◌<◌, ◌≤◌, [], ◌∷◌, drop, length, IfSome, IfNone};
 ghost use Rattle.assembler_lexeme.specs.Faults.{Gives};
 ghost use Rattle.assembler_syntax.specs.StatementSteps.{data_of, directive_of, ends_of, equ_of, instruction_of, is_at, is_directive, is_equ, keyword_statement, led_statement, onto_prefixes, org_of, prefixed_statement, prefixes_of, segment_at, segment_by, segment_of, segment_token, statement_behind, statement_of, word_statement};
@@ -20,7 +20,7 @@ use isa::form::Prefix;
 use isa::register::SegmentRegister;
 use std::alloc::Global;
 
-/// What a line says behind its label.
+/// The statement that tokens are: what a line says after its label.
 #[tactic(auto, unfolding(crate::specs::StatementSteps::statement_of))]
 pub(crate) fn read_statement(alloc: Global, tokens: &[Token]) -> Result<Statement, SyntaxError>
     ensures { Gives result (statement_of tokens.now) }
@@ -54,7 +54,7 @@ fn read_equ(alloc: Global, first: &Token, value: &[Token]) -> Result<Statement, 
     }
 }
 
-/// Prefixes, if there are any, and what stands behind them.
+/// A statement with its prefixes, if it has any.
 #[tactic(auto, unfolding(crate::specs::StatementSteps::prefixed_statement))]
 fn prefixed_statement(alloc: Global, tokens: &[Token]) -> Result<Statement, SyntaxError>
     ensures { Gives result (prefixed_statement tokens.now) }
@@ -68,7 +68,7 @@ fn prefixed_statement(alloc: Global, tokens: &[Token]) -> Result<Statement, Synt
     statement_behind(alloc, prefixes, rest)
 }
 
-/// The prefix at the front, and how many tokens it has.
+/// The prefix at the front of tokens, and how many of them it has.
 fn prefix_of(tokens: &[Token]) -> Option<(Prefix, usize)>
     ensures some { IfSome result (λ p. prefixes_of tokens.now ≡ onto_prefixes p.0 (prefixes_of (drop p.1 tokens.now))) }
     ensures size { IfSome result (λ p. 0 < p.1) }
@@ -95,7 +95,7 @@ fn prefix_by(first: &Token, rest: &[Token]) -> Option<(Prefix, usize)>
     }
 }
 
-/// The override whose register stands before these tokens, and how many tokens it has.
+/// The override whose register stands before these tokens, and how many tokens it has with that.
 fn override_by(segment: SegmentRegister, rest: &[Token]) -> Option<(Prefix, usize)>
     ensures some { IfSome result (λ p. prefixes_of (segment_token segment ∷ rest.now)
         ≡ onto_prefixes p.0 (prefixes_of (drop p.1 (segment_token segment ∷ rest.now)))) }
@@ -110,7 +110,7 @@ fn override_by(segment: SegmentRegister, rest: &[Token]) -> Option<(Prefix, usiz
     }
 }
 
-/// The statement behind these prefixes.
+/// The statement after these prefixes.
 #[tactic(auto, unfolding(crate::specs::StatementSteps::statement_behind))]
 fn statement_behind(
     alloc: Global,
