@@ -22,7 +22,7 @@ by_cases m n less more =
       ]
     ]
 
--- no row at a place below n takes it
+-- no row at a place below n takes what is asked
 abbrev pub NoneBelow : List Row → Asked → ℕ → Type 0
 NoneBelow rs a n = (i : ℕ) (s : Row) → i < n → slice_get rs i ≡ Some s → ¬ Takes s a
 

@@ -181,7 +181,7 @@ pointer_is_memory : (o : Operation) (x : KnownOperand) → is_pointer o x ≡ tr
 pointer_is_memory (Control _) x e = far_is_memory x e
 pointer_is_memory _ x e = word_is_memory x e
 
--- which kinds have a place
+-- the kinds whose operands have a place
 abbrev PlaceOfKind : Kind → Place → Type 0
 PlaceOfKind kinds.Rm8 p = IsPlace p
 PlaceOfKind kinds.Rm16 p = IsPlace p
@@ -226,7 +226,7 @@ second_has_place k kinds.Rm16 p e f is = subst (λ q. FitsPlace q p) (sym (any_a
 second_has_place k kinds.Memory p e f is = subst (λ q. FitsPlace q p) (sym (any_after k e).2) is
 second_has_place k _ p e f is = cc
 
--- the first operand's place, or the second's: one has a place where the row has an addressing byte
+-- the first operand's place, or the second's: one of them has a place if the row has an addressing byte
 first_place_left : (p : Place) → IsPlace p → first_place p Absent ≡ p
 first_place_left Absent is = absurd is
 first_place_left (Register _) is = refl

@@ -19,28 +19,30 @@ use Rattle.assembler_form.specs.declared.operand.KnownOperand.{KnownOperand}
 use Rattle.assembler_form.specs.declared.operand.KnownOperand.TheVariants.{Nothing, Register, Far, Memory}
 use Rattle.assembler_form.specs.declared.asked.Asked.{Asked}
 
--- a far target, or memory that holds one
+-- the size of memory that holds a far target
 abbrev pub is_far_size : Option Size → Bool
 is_far_size (Some sizes.Far) = true
 is_far_size _ = false
 
+-- a far target, or memory that holds one
 abbrev pub is_far : KnownOperand → Bool
 is_far Far = true
 is_far (Memory m) = is_far_size m.size
 is_far _ = false
 
--- JMP and CALL leave the segment where their operand is far
+-- the operation that a mnemonic means with this first operand: JMP and CALL leave the segment if it is far
 abbrev pub operation_meant : Mnemonic → KnownOperand → Operation
 operation_meant mnemonic first =
     if is_far first then unwrap_or (far_operation mnemonic) (near_operation mnemonic) else near_operation mnemonic
 
--- NOP is XCHG AX,AX. Its operands aren't written; written ones are none that XCHG has.
+-- An operand as the table has it. NOP is XCHG AX,AX, and its operands aren't written: with a written one it has too few
+-- for any row of XCHG.
 abbrev pub operand_meant : Mnemonic → KnownOperand → KnownOperand
 operand_meant Nop Nothing = Register (Word Ax)
 operand_meant Nop _ = Nothing
 operand_meant _ operand = operand
 
--- in TEST and XCHG memory comes first, and in XCHG AX comes before another word register
+-- an operand in memory
 abbrev pub is_memory : KnownOperand → Bool
 is_memory (Memory _) = true
 is_memory _ = false
@@ -49,19 +51,22 @@ abbrev pub is_register_and_ax : KnownOperand → KnownOperand → Bool
 is_register_and_ax (Register (Word _)) (Register (Word Ax)) = true
 is_register_and_ax _ _ = false
 
+-- whether the table has the operands in the other order: in TEST and XCHG memory comes first, and in XCHG AX comes
+-- before another word register
 abbrev pub is_exchanged : Operation → KnownOperand → KnownOperand → Bool
 is_exchanged (Arithmetic Test) first second = is_memory second
 is_exchanged (Transfer Xchg) first second = if is_memory second then true else is_register_and_ax first second
 is_exchanged _ first second = false
 
--- Memory without a size word has the size of the register beside it, which a shift's count doesn't tell; PUSH, POP, and
--- jumps and calls through memory have a word.
+-- the size that a register gives to memory beside it
 abbrev pub register_size : KnownOperand → Option Size
 register_size (Register (Byte _)) = Some sizes.Byte
 register_size (Register (Word _)) = Some sizes.Word
 register_size (Register (Segment _)) = Some sizes.Word
 register_size _ = None
 
+-- The size of memory without a size word: that of the register beside it, but a shift's count gives none; PUSH, POP,
+-- and jumps and calls through memory take a word.
 abbrev pub size_beside : Operation → KnownOperand → Option Size
 size_beside (Shift _) other = None
 size_beside (Transfer Push) other = Some sizes.Word
@@ -88,7 +93,7 @@ asked_in_order operation first second = record {
   second = sized operation second first;
 }
 
--- what a line with a mnemonic and these operands asks
+-- what a line asks with an operation and its operands
 abbrev pub asked_of : Operation → KnownOperand → KnownOperand → Asked
 asked_of operation first second =
     if is_exchanged operation first second then asked_in_order operation second first else

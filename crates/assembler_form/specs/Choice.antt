@@ -8,14 +8,15 @@ use Rattle.assembler_form.specs.declared.asked.Asked.{Asked}
 use Rattle.assembler_form.specs.Takes.{Takes}
 use Rattle.assembler_form.specs.Parts.{form_with}
 
--- a row is the first that takes it: it stands at a place in the list and takes it, and none before that place does
+-- The row is the first of the list that takes what is asked: it stands at a place in the list, and no row before that
+-- place takes it.
 pub record IsFirst (rs : List Row) (a : Asked) (r : Row) : Type 0 where
   pub place : ℕ
   pub stands : slice_get rs place ≡ Some r
   pub takes : Takes r a
   pub earlier : (i : ℕ) (s : Row) → i < place → slice_get rs i ≡ Some s → ¬ Takes s a
 
--- the form of the table's first row that takes it, with the operands in the row's parts
+-- the form that is chosen: the table's first row that takes what is asked, with the operands in the row's parts
 pub record IsChosen (a : Asked) (f : Form) : Type 0 where
   pub first : IsFirst rows a f.row
   pub parts : f ≡ form_with f.row a

@@ -19,7 +19,7 @@ abbrev pub modulo : ℕ → ℤ → ℕ
 modulo m (pos n) = n % m
 modulo m (negsuc n) = m - 1 - n % m
 
--- the byte or word that stands for a number in range
+-- a number from -128 to 255 as a byte; another has none
 abbrev pub byte_of : ℤ → Option ℕ
 byte_of n = if is_within (negsuc 127) (pos 255) n then Some (modulo 256 n) else None
 
@@ -29,13 +29,13 @@ signed_byte_of n = if is_within (negsuc 127) (pos 127) n then Some (modulo 256 n
 abbrev pub word_of : ℤ → Option ℕ
 word_of n = if is_within (negsuc 32767) (pos 65535) n then Some (modulo 65536 n) else None
 
--- the displacement behind the addressing byte
+-- the displacement after the addressing byte, by the field that it is in
 abbrev pub displacement_in : Field → ℤ → Option ℕ
 displacement_in Absent displacement = Some 0
 displacement_in Byte displacement = signed_byte_of displacement
 displacement_in _ displacement = word_of displacement
 
--- the operand in the row's own field: the second, if the first has none
+-- the kind of the operand in the row's own field: the second, if the first has no field
 abbrev pub kind_in_field : Field → Kind → Kind → Kind
 kind_in_field Absent _ second = second
 kind_in_field _ first _ = first
@@ -46,7 +46,8 @@ field_kind_of first second = kind_in_field (kind_field first) first second
 abbrev pub field_kind : Row → Kind
 field_kind r = field_kind_of (first_of r) (second_of r)
 
--- what stands there: a number, the offset of memory without registers, or a target, told from the next instruction on
+-- what an operand puts into the row's own field: a number, the offset of memory without registers, or a target, counted
+-- from the next instruction on
 abbrev pub number_in : Kind → ℤ → Numbers → Option ℕ
 number_in kinds.Imm8 next n = byte_of n.number
 number_in kinds.Signed8 next n = signed_byte_of n.number
@@ -67,7 +68,7 @@ values_with (Some displacement) (Some number) (Some segment) =
     Some (record { displacement = displacement; number = number; segment = segment })
 values_with _ _ _ = None
 
--- the numbers in the form's fields where the next instruction stands at the offset `next`, if each is in range
+-- the numbers in the form's fields, if each is in range; the next instruction stands at the offset `next`
 unfoldable pub values_of : Form → ℤ → Numbers → Option Values
 values_of f next n =
     values_with (displacement_in (displacement_field f.place) n.displacement)

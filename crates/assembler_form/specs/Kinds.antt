@@ -16,7 +16,7 @@ use Rattle.assembler_form.specs.declared.operand.KnownOperand.TheVariants.{Nothi
 use Rattle.assembler_form.specs.Asked.{is_far_size}
 use Rattle.assembler_form.specs.Takes.{is_constant_within, is_byte_size, is_word_size, is_number}
 
--- what an operand is
+-- no operand
 abbrev pub is_nothing : KnownOperand → Bool
 is_nothing Nothing = true
 is_nothing _ = false
@@ -78,26 +78,28 @@ abbrev pub is_far_memory : KnownOperand → Bool
 is_far_memory (Memory m) = is_far_size m.size
 is_far_memory _ = false
 
--- memory at an offset alone
 abbrev pub is_no_base : Option Base → Bool
 is_no_base None = true
 is_no_base (Some _) = false
 
+-- an operand in memory at an offset alone
 abbrev pub is_direct : KnownOperand → Bool
 is_direct (Memory m) = is_no_base m.base
 is_direct _ = false
 
--- far jumps and calls go through an offset and a segment; LEA, LES and LDS name the word
+-- an operand in memory that may be a pointer: a far jump or call goes through an offset and a segment; LEA, LES and LDS
+-- name a word
 abbrev pub is_pointer : Operation → KnownOperand → Bool
 is_pointer (Control _) operand = is_far_memory operand
 is_pointer _ operand = is_word_memory operand
 
--- SHORT is said of JMP, whose near form would be taken else, and of no other jump
+-- the target of a short jump: JMP must say SHORT, since its near form would be taken otherwise, and no other jump says
+-- it
 abbrev pub is_near : Operation → KnownOperand → Bool
 is_near (Control Jmp) operand = is_short operand
 is_near _ operand = is_number operand
 
--- an operand is what a row of the operation has by this kind
+-- whether an operand is of a kind, in a row of the operation
 abbrev pub is_of : Operation → Kind → KnownOperand → Bool
 is_of _ kinds.Nothing operand = is_nothing operand
 is_of _ kinds.Ten operand = is_nothing operand

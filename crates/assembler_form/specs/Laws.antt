@@ -5,6 +5,6 @@ use Rattle.isa.specs.declared.form.Form.{Form}
 use Rattle.assembler_form.specs.declared.asked.Asked.{Asked}
 use Rattle.assembler_form.specs.Choice.{IsChosen}
 
--- a line has one form
+-- what a line asks has at most one form
 abbrev pub OneForm : Type 0
 OneForm = (a : Asked) (f g : Form) → IsChosen a f → IsChosen a g → f ≡ g

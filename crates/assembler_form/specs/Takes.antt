@@ -1,5 +1,5 @@
--- When a row of the encoding table takes what a line asks: its operation is the line's, and so are the kinds of its
--- operands.
+-- When a row of the encoding table takes what a line asks: its operation is the line's, and its kinds are those of the
+-- line's operands.
 -- To be believed: the headline rests on it.
 use Rattle.std.specs.Prelude.{ℤ, pos, negsuc, ◌≡◌, Bool, true, false, ◌&&◌, IsTrue, Option, Some, is_none, int_le}
 use Rattle.isa.specs.declared.operation.Operation.{Operation}
@@ -24,7 +24,7 @@ use Rattle.assembler_form.specs.Asked.{is_far_size}
 abbrev pub is_within : ℤ → ℤ → ℤ → Bool
 is_within least greatest n = int_le least n && int_le n greatest
 
--- only a constant is known to be within bounds
+-- whether an operand is known to be within bounds, as only a constant is
 abbrev pub is_constant_within : ℤ → ℤ → KnownOperand → Bool
 is_constant_within least greatest One = is_within least greatest (pos 1)
 is_constant_within least greatest (Number (Constant n)) = is_within least greatest n
@@ -43,18 +43,20 @@ abbrev pub is_word_size : Option Size → Bool
 is_word_size (Some sizes.Word) = true
 is_word_size _ = false
 
--- far jumps and calls go through an offset and a segment; LEA, LES and LDS name the word
+-- the size that memory has as a pointer: a far jump or call goes through an offset and a segment; LEA, LES and LDS name
+-- a word
 abbrev pub is_pointer_size : Operation → Option Size → Bool
 is_pointer_size (Control _) size = is_far_size size
 is_pointer_size _ size = is_word_size size
 
--- SHORT is said of JMP, whose near form would be taken else, and of no other jump
+-- the target of a short jump: JMP must say SHORT, since its near form would be taken otherwise, and no other jump says
+-- it
 abbrev pub is_near : Operation → KnownOperand → Bool
 is_near (Control Jmp) Short = true
 is_near (Control Jmp) _ = false
 is_near _ operand = is_number operand
 
--- an operand is what a row of the operation has by this kind; memory without registers is at an offset alone
+-- whether an operand is of a kind, in a row of the operation; At8 and At16 are memory without registers
 abbrev pub is_of : Operation → Kind → KnownOperand → Bool
 is_of _ kinds.Nothing Nothing = true
 is_of _ kinds.Ten Nothing = true
@@ -89,7 +91,7 @@ is_of _ kinds.At16 (Memory m) = is_none m.base && is_word_size m.size
 is_of _ kinds.Far Far = true
 is_of _ _ _ = false
 
--- a row takes what is asked
+-- the row takes what is asked
 pub record Takes (r : Row) (a : Asked) : Type 0 where
   pub operation : operation_of r ≡ a.operation
   pub first : IsTrue (is_of a.operation (first_of r) a.first)

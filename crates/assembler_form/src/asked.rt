@@ -9,7 +9,8 @@ use dialect::size::Size;
 use isa::operation::{Arithmetic, Control, Operation, Transfer};
 use isa::register::WordRegister;
 
-/// What a line asks of the table: an operation, and operands in the table's order, each place in memory with its size.
+/// What a line asks of the table: an operation, and its operands in the table's order, each operand in memory with its
+/// size.
 #[derive(Clone, Copy)]
 pub struct Asked {
     pub operation: Operation,
@@ -44,7 +45,7 @@ impl Asked {
     }
 }
 
-/// The operation that a mnemonic means: JMP and CALL leave the segment where their operand is far.
+/// The operation that a mnemonic means: JMP and CALL leave the segment if their first operand is far.
 fn operation_meant(mnemonic: Mnemonic, first: KnownOperand) -> Operation
     ensures { result ≡ operation_meant mnemonic first }
 {
@@ -54,7 +55,7 @@ fn operation_meant(mnemonic: Mnemonic, first: KnownOperand) -> Operation
     }
 }
 
-/// The operand that is meant: NOP's are AX, and aren't written.
+/// The operand that is meant: those of NOP are AX, and aren't written.
 fn operand_meant(mnemonic: Mnemonic, operand: KnownOperand) -> KnownOperand
     ensures { result ≡ operand_meant mnemonic operand }
 {
@@ -92,7 +93,7 @@ fn is_register_and_ax(first: KnownOperand, second: KnownOperand) -> bool
     )
 }
 
-/// The size that memory has by the register beside it, or by its operation.
+/// The size that memory gets from the register beside it, or from its operation.
 fn size_beside(operation: Operation, other: KnownOperand) -> Option<Size>
     ensures { result ≡ size_beside operation other }
 {
@@ -105,7 +106,7 @@ fn size_beside(operation: Operation, other: KnownOperand) -> Option<Size>
 }
 
 impl KnownMemory {
-    /// The same place with this size, where no size word was written.
+    /// This place in memory with the size, if no size word was written for it.
     fn with_size(self, size: Option<Size>) -> KnownMemory
         ensures { result ≡ with_size self size }
     {
@@ -123,7 +124,7 @@ impl KnownMemory {
 }
 
 impl KnownOperand {
-    /// Whether it is a far target, or memory that holds one.
+    /// Whether the operand is a far target, or memory that holds one.
     fn is_far(self) -> bool
         ensures { result ≡ is_far self }
     {
@@ -150,7 +151,7 @@ impl KnownOperand {
         }
     }
 
-    /// The operand with its size, beside another of the operation.
+    /// The operand with its size, which is that of the other operand if it is memory without a size word.
     fn sized(self, operation: Operation, other: KnownOperand) -> KnownOperand
         ensures { result ≡ sized operation self other }
     {

@@ -1,4 +1,4 @@
-//! The first row that fits.
+//! The choice of a row: the first one that takes what is asked.
 ghost use Rattle.std.specs.Prelude.{IfNone, IfSome};
 ghost use Rattle.isa.specs.Encoding.{IsForm};
 ghost use Rattle.isa.specs.Table.{rows};
@@ -12,7 +12,7 @@ use isa::form::Form;
 use isa::row::Row;
 use isa::table::table;
 
-/// The form of the first row of the table that takes a mnemonic with these operands. `None` where no row does.
+/// The form of the table's first row that takes a mnemonic with these operands. `None` if no row does.
 pub fn choose(mnemonic: Mnemonic, first: KnownOperand, second: KnownOperand) -> Option<Form>
     ensures chosen { IfSome result (IsChosen (asked mnemonic first second)) }
     ensures form { IfSome result IsForm }

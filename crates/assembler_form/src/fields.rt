@@ -10,7 +10,7 @@ use isa::row::{Kind, Row};
 /// The numbers that an instruction's operands name. One that no operand names is 0.
 #[derive(Clone, Copy)]
 pub struct Numbers {
-    /// The expression in brackets.
+    /// The value of the expression in brackets.
     pub displacement: i64,
     /// An immediate number, a port, a target, or a far address's offset.
     pub number: i64,
@@ -18,9 +18,9 @@ pub struct Numbers {
     pub segment: i64,
 }
 
-/// The numbers in the fields of the form's bytes, where the next instruction stands at the offset `next`. `None` where
-/// one is out of its field's range: -128 to 255 for a byte, -32,768 to 65,535 for a word, and -128 to 127 for a target
-/// in a byte. A target in a word is told modulo 65,536.
+/// The numbers in the fields of the form's bytes, if the next instruction stands at the offset `next`. `None` if one is
+/// out of its field's range: -128 to 255 for a byte, -32,768 to 65,535 for a word, and -128 to 127 for a target in a
+/// byte. A target in a word wraps at 65,536.
 #[tactic(auto, unfolding(crate::specs::Fields::values_of))]
 pub fn values_of(form: &Form, next: i64, numbers: &Numbers) -> Option<Values>
     ensures value { result ≡ values_of form.now next numbers.now }
@@ -34,7 +34,7 @@ pub fn values_of(form: &Form, next: i64, numbers: &Numbers) -> Option<Values>
     })
 }
 
-/// The operand that stands in the row's own field.
+/// The kind of the operand in the row's own field.
 fn field_kind(row: Row) -> Kind
     ensures { result ≡ field_kind row }
 {
@@ -84,7 +84,7 @@ fn segment_in(kind: Kind, segment: i64) -> Option<u16>
     }
 }
 
-/// The byte that stands for a number of -128 to 255.
+/// A number from -128 to 255 as a byte.
 fn byte_of(number: i64) -> Option<u16>
     ensures { result ≡ byte_of number }
 {
@@ -95,7 +95,7 @@ fn byte_of(number: i64) -> Option<u16>
     }
 }
 
-/// The byte that stands for a number of -128 to 127.
+/// A number from -128 to 127 as a byte.
 fn signed_byte_of(number: i64) -> Option<u16>
     ensures { result ≡ signed_byte_of number }
 {
@@ -106,7 +106,7 @@ fn signed_byte_of(number: i64) -> Option<u16>
     }
 }
 
-/// The word that stands for a number of -32,768 to 65,535.
+/// A number from -32,768 to 65,535 as a word.
 fn word_of(number: i64) -> Option<u16>
     ensures { result ≡ word_of number }
 {
@@ -117,7 +117,7 @@ fn word_of(number: i64) -> Option<u16>
     }
 }
 
-/// The difference modulo 65,536.
+/// The difference of the two numbers modulo 65,536.
 fn difference_modulo_word(number: i64, other: i64) -> u16
     ensures { result ≡ modulo 65536 (number -ℤ other) }
 {

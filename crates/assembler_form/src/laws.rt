@@ -1,7 +1,7 @@
 //! The laws of choosing a row.
 ghost use Rattle.assembler_form.specs.Laws.{OneForm};
 
-/// What a line asks has one form.
+/// What a line asks has at most one form.
 pub fn one_form()
     ensures { OneForm }
 {}

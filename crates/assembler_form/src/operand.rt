@@ -9,28 +9,28 @@ use isa::form::Base;
 pub enum Number {
     /// A constant. Its value depends on no label.
     Constant(i64),
-    /// Any other number. Its value is found once all labels have theirs; till then it counts as a word.
+    /// Any other number. Its value is found once all labels have theirs; until then it counts as a word.
     Later,
 }
 
 /// A place in memory.
 #[derive(Clone, Copy)]
 pub struct KnownMemory {
-    /// What the size word before the brackets says, where there is one.
+    /// The size word before the brackets, if there is one.
     pub size: Option<Size>,
-    /// The registers in the brackets, where there are any.
+    /// The registers in the brackets, if there are any.
     pub base: Option<Base>,
-    /// The expression in the brackets; without one the constant 0.
+    /// The value of the expression in the brackets; without an expression it is the constant 0.
     pub displacement: Number,
 }
 
 /// An operand. A segment override isn't part of it: it is one of the instruction's prefixes.
 #[derive(Clone, Copy)]
 pub enum KnownOperand {
-    /// None is written.
+    /// No operand.
     Nothing,
     Register(Register),
-    /// The number `1`, written so: a shift's count, and elsewhere the constant 1.
+    /// The number `1`, written in this way: the count of a shift, and elsewhere the constant 1.
     One,
     Number(Number),
     /// A target after `SHORT`.

@@ -27,7 +27,7 @@ impl Asked {
     }
 }
 
-/// The place at a base without a displacement, which BP alone always has.
+/// A base without a displacement; BP alone must have one, and gets a byte.
 fn place_without(base: Base) -> Place
     ensures { result ≡ place_without base }
 {
@@ -48,7 +48,7 @@ fn place_with(base: Base, displacement: Number) -> Place
 }
 
 impl KnownOperand {
-    /// The number of a register; of anything else 0.
+    /// The number of a register; any other operand has 0.
     fn register_number(self) -> u8
         ensures value { result ≡ register_number self }
         ensures bound { result < 8 }
@@ -61,7 +61,7 @@ impl KnownOperand {
         }
     }
 
-    /// The number of an ESC; of anything else 0.
+    /// The number of an ESC; any other operand has 0.
     fn escape_number(self) -> u8
         ensures value { result ≡ escape_number self }
         ensures bound { result < 64 }
@@ -74,7 +74,7 @@ impl KnownOperand {
         }
     }
 
-    /// What mod and r/m name.
+    /// What mod and r/m name for the operand.
     fn place_named(self) -> Place
         ensures { result ≡ place_of self }
     {
@@ -93,7 +93,7 @@ impl KnownOperand {
         }
     }
 
-    /// What stands in the opcode for an operand of this kind.
+    /// What an operand of this kind puts into the opcode.
     fn code(self, kind: Kind) -> u8
         ensures value { result ≡ in_opcode kind self }
         ensures bound { result < 8 }
@@ -107,7 +107,7 @@ impl KnownOperand {
         }
     }
 
-    /// What stands in reg.
+    /// What an operand of this kind puts into reg.
     fn reg(self, kind: Kind) -> u8
         ensures value { result ≡ in_reg kind self }
         ensures bound { result < 8 }

@@ -1,4 +1,4 @@
-//! Whether a row takes what is asked.
+//! Whether a row takes what a line asks.
 ghost use Rattle.std.specs.Prelude.{◌≡◌, ◌↔◌, IsTrue, ℤ};
 ghost use Rattle.assembler_form.specs.Kinds.{is_al, is_ax, is_byte_memory, is_byte_register, is_cl, is_direct, is_dx, is_far_memory, is_near, is_of, is_pointer, is_segment_not_cs, is_segment_register, is_word_memory, is_word_register};
 ghost use Rattle.assembler_form.specs.Takes.{is_byte_size, is_constant_within, is_number, is_within, is_word_size, Takes};
@@ -12,7 +12,7 @@ use isa::register::{ByteRegister, SegmentRegister, WordRegister};
 use isa::row::{Kind, Row};
 
 impl Asked {
-    /// Whether a row takes it.
+    /// Whether the row takes what is asked.
     #[tactic(auto, using(crate::proofs::Alike::alike))]
     pub(crate) fn is_taken_by(&self, row: Row) -> bool
         ensures { IsTrue result ↔ Takes row self.now }
@@ -64,7 +64,7 @@ pub(crate) fn is_within(number: i64, least: i64, greatest: i64) -> bool
 }
 
 impl KnownOperand {
-    /// Whether it is what a row of the operation has by this kind.
+    /// Whether the operand is of this kind, in a row of the operation.
     fn is_of(self, kind: Kind, operation: Operation) -> bool
         ensures { result ≡ is_of operation kind self }
     {
@@ -172,7 +172,7 @@ impl KnownOperand {
         }
     }
 
-    /// Whether it is memory at an offset alone.
+    /// Whether the operand is memory at an offset alone.
     fn is_direct(self) -> bool
         ensures { result ≡ is_direct self }
     {
@@ -182,7 +182,7 @@ impl KnownOperand {
         }
     }
 
-    /// Whether it is memory that holds what the operation takes of it: an offset and a segment, or a word.
+    /// Whether the operand is memory that holds what the operation takes from it: an offset and a segment, or a word.
     fn is_pointer(self, operation: Operation) -> bool
         ensures { result ≡ is_pointer operation self }
     {
@@ -192,7 +192,7 @@ impl KnownOperand {
         }
     }
 
-    /// Whether it is a target within a byte: after SHORT for JMP, and for no other jump.
+    /// Whether the operand is a short jump's target: for JMP one after SHORT, for other jumps a number.
     fn is_near(self, operation: Operation) -> bool
         ensures { result ≡ is_near operation self }
     {

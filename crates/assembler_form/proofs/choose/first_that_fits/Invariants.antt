@@ -1,4 +1,4 @@
--- No row so far takes it.
+-- No row so far takes what is asked.
 use Rattle.assembler_form.proofs.First.{NoneBelow}
 use Rattle.assembler_form.proofs.choose.first_that_fits.Given as goal
 
