@@ -1,4 +1,4 @@
--- Bytes behind bytes.
+-- Bytes after bytes.
 use Rattle.std.proofs.Common.{◌≡◌, ℕ, zero, suc, ◌+◌, List, ◌++◌, map, append_assoc, append-nil, sym, ap, ◌∙◌, arith}
 use Rattle.std.proofs.lemmas.List.{map-append}
 use Rattle.isa.specs.Encoding.{prefix_byte}

@@ -46,7 +46,7 @@ found_stays test [] more symbol is = cc
 found_stays test (entry ∷ before) more symbol is =
     found_by (test entry.0) entry.1 symbol (lookup test before) (lookup test (before ++ more)) (found_stays test before more symbol) is
 
--- names behind these change nothing
+-- names after these change nothing
 pub keeps_behind : (before more : Names) → Keeps before (before ++ more)
 keeps_behind before more = record { stays = λ name symbol is. found_stays (same_name name) before more symbol is }
 
@@ -87,7 +87,7 @@ constant_stays before all keeps terms n is =
     constant_by (list_all (λ (term : Term). is_constant_atom before term.atom) terms)
     (list_all (λ (term : Term). is_constant_atom all term.atom) terms) (value_of before 0 terms) (value_of all 0 terms) n (terms_stay before all keeps terms) is
 
--- an item stands there as many times
+-- an item is there as many times with more names
 number_stays : (old new : Option ℤ) → ((n : ℤ) → old ≡ Some n → new ≡ Some n) → (is_none old || false) ≡ false → new ≡ old
 number_stays (Some n) new stays known = stays n refl
 number_stays None new stays known = cc
@@ -141,7 +141,8 @@ items_length before all keeps here width (item ∷ items) counts known =
     let rest = items_length before all keeps here width items rights.1 parts.1 in
     omega (arith, first, rest, length-append (item_bytes all here width item) (flat_map (item_bytes all here width) items))
 
--- A data line: of the names `before` the counts are constants, and of the names `all`, which keep them, each name is known.
+-- A data line: by the names `before` the counts are constants, and by the names `all`, which keep what those stand for,
+-- each name is known.
 pub data_length : (before all : Names) → Keeps before all → (here : ℕ) (width : DataWidth) (items : List Item)
     → list_any (is_unknown before) (counts_of items) ≡ false → are_items_known all here items ≡ true
     → length (data_bytes all here width items) ≡ data_size before width items

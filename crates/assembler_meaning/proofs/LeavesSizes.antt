@@ -28,7 +28,7 @@ weight_of_pieces : (item : Item) → pieces_weight (pieces_of item) ≡ item_wei
 weight_of_pieces (Once piece) = omega arith
 weight_of_pieces (Repeated count each) = refl
 
--- the item at a place, and those behind it
+-- the item at a place, and those after it
 pub counts_right : (names : Names) (items : List Item) (i : ℕ) (d : Item) → i < length items
     → list_any (is_wrong_count names) (counts_of (drop i items)) ≡ false
     → (list_any (is_wrong_count names) (item_counts (get_or items i d)) ≡ false)

@@ -11,7 +11,7 @@ use Rattle.assembler_meaning.specs.declared.symbol.Symbol.{Symbol}
 use Rattle.assembler_meaning.specs.declared.symbol.Symbol.TheVariants.{Label, Constant}
 use Rattle.assembler_meaning.specs.Values.{Names, AreSmall, IsSmall, IsSmallNumber, IsShort, added, label_of, label_place, meaning, symbol_value, term_value, value_of}
 
--- a sum of so many small numbers
+-- a sum of n small numbers
 pub record IsSum (n : ℕ) (z : ℤ) : Type 0 where
   pub least : neg_ℤ (pos (n * 2 ^ 40)) ≤ℤ z
   pub greatest : z ≤ℤ pos (n * 2 ^ 40)

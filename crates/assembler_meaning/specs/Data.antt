@@ -1,4 +1,4 @@
--- Data lines: DB, DW and DD. A number goes low byte first.
+-- Data lines: DB, DW and DD. The low byte of a number comes first.
 -- To be believed: the headline rests on it.
 use Rattle.std.specs.Prelude.{ℕ, ℤ, pos, negsuc, ◌+◌, ◌*◌, ◌/◌, ◌%◌, Bool, true, false, not, List, [], ◌∷◌, length, Option, None, Some, is_some, is_none, replicate}
 use Rattle.std.specs.Option.{option_map_or}
@@ -19,13 +19,13 @@ width_size Byte = 1
 width_size Word = 2
 width_size Double = 4
 
--- the numbers that fit
+-- whether a number fits the width, as a signed or an unsigned number
 abbrev pub fits_width : DataWidth → ℤ → Bool
 fits_width Byte n = is_within (negsuc 127) (pos 255) n
 fits_width Word n = is_within (negsuc 32767) (pos 65535) n
 fits_width Double n = is_within (negsuc 2147483647) (pos 4294967295) n
 
--- the counts before DUP
+-- the count before DUP, if the item has one
 abbrev pub item_counts : Item → List (List Term)
 item_counts (Once piece) = []
 item_counts (Repeated count each) = count ∷ []
@@ -33,7 +33,7 @@ item_counts (Repeated count each) = count ∷ []
 abbrev pub counts_of : List Item → List (List Term)
 counts_of items = flat_map item_counts items
 
--- the pieces of an item, and how many times they stand there
+-- the pieces of an item, without their repeats
 abbrev pub pieces_of : Item → List Piece
 pieces_of (Once piece) = piece ∷ []
 pieces_of (Repeated count each) = each
@@ -42,6 +42,7 @@ abbrev pub natural : ℤ → ℕ
 natural (pos n) = n
 natural (negsuc n) = 0
 
+-- how many times the pieces of an item are there
 abbrev pub times_of : Names → Item → ℕ
 times_of names (Once piece) = 1
 times_of names (Repeated count each) = option_map_or natural (constant_of names count) 0
@@ -59,7 +60,7 @@ data_size names width [] = 0
 data_size names width (item ∷ items) =
     times_of names item * pieces_size width (pieces_of item) + data_size names width items
 
--- the bytes of a number
+-- the bytes of a number, the low one first
 abbrev pub number_bytes : DataWidth → ℤ → List ℕ
 number_bytes Byte n = modulo 256 n ∷ []
 number_bytes Word n = modulo 65536 n % 256 ∷ modulo 65536 n / 256 ∷ []
@@ -67,11 +68,12 @@ number_bytes Double n =
     modulo 4294967296 n % 256 ∷ modulo 4294967296 n / 256 % 256 ∷ modulo 4294967296 n / 65536 % 256
     ∷ modulo 4294967296 n / 16777216 ∷ []
 
--- every name in a piece is defined, and its number fits
+-- whether each name in a piece is defined
 abbrev pub is_piece_known : Names → ℕ → Piece → Bool
 is_piece_known names here (Value terms) = is_some (value_of names here terms)
 is_piece_known names here (Text text) = true
 
+-- whether the number of a piece fits, if it is known
 abbrev pub does_piece_fit : Names → ℕ → DataWidth → Piece → Bool
 does_piece_fit names here width (Value terms) = option_map_or (fits_width width) (value_of names here terms) true
 does_piece_fit names here width (Text text) = true
@@ -87,7 +89,7 @@ abbrev pub piece_bytes : Names → ℕ → DataWidth → Piece → List ℕ
 piece_bytes names here width (Value terms) = option_map_or (number_bytes width) (value_of names here terms) []
 piece_bytes names here width (Text text) = text
 
--- the same bytes so many times
+-- bytes, repeated this many times
 abbrev pub repeated : ℕ → List ℕ → List ℕ
 repeated times bytes = flat_map (λ each. each) (replicate times bytes)
 
@@ -98,14 +100,15 @@ item_bytes names here width item =
 unfoldable pub data_bytes : Names → ℕ → DataWidth → List Item → List ℕ
 data_bytes names here width items = flat_map (item_bytes names here width) items
 
--- a constant that lies outside these bounds
+-- whether a constant is known and lies outside these bounds
 abbrev pub is_other : ℤ → ℤ → Option ℤ → Bool
 is_other least greatest (Some n) = not (is_within least greatest n)
 is_other least greatest None = false
 
--- a count before DUP is a word but 0, and it is known by then
+-- whether a count before DUP is known and isn't 1 to 65,535
 abbrev pub is_wrong_count : Names → List Term → Bool
 is_wrong_count names n = is_other (pos 1) (pos 65535) (constant_of names n)
 
+-- whether a constant isn't known by the lines before it
 abbrev pub is_unknown : Names → List Term → Bool
 is_unknown names n = is_none (constant_of names n)

@@ -26,7 +26,7 @@ use Rattle.assembler_form.specs.Choice.{IsChosen, NoneTakes}
 use Rattle.assembler_meaning.specs.declared.symbol.Location.{Location}
 use Rattle.assembler_meaning.specs.Values.{Names, value_of, constant_of, label_of}
 
--- the segment register before the brackets of the operand in memory; no row takes two operands in memory
+-- the one, or else the other
 abbrev pub or_else : {A : Type 0} → Option A → Option A → Option A
 or_else None other = other
 or_else (Some x) other = Some x
@@ -35,6 +35,7 @@ abbrev pub operand_override : Operand → Option SegmentRegister
 operand_override (Memory a) = a.segment
 operand_override operand = None
 
+-- the segment register before the brackets of the operand in memory; no row takes two operands in memory
 abbrev pub override_of : List Operand → Option SegmentRegister
 override_of [] = None
 override_of (operand ∷ more) = or_else (operand_override operand) (override_of more)
@@ -47,7 +48,7 @@ override_prefix (Some segment) = Segment segment ∷ []
 unfoldable pub prefixes_of : Instruction → List Prefix
 prefixes_of i = i.prefixes ++ override_prefix (override_of i.operands)
 
--- what an operand asks of the table, in the light of the names that are known: only a constant's value counts
+-- a number as the table is asked for it: a constant's value, or none that is known yet
 abbrev pub number_by : Option ℤ → Number
 number_by (Some n) = numbers.Constant n
 number_by None = numbers.Later
@@ -66,6 +67,7 @@ known_memory names a = record {
   displacement = known_displacement names a.displacement;
 }
 
+-- what an operand asks of the table, in the light of the names that are known: only a constant's value counts
 abbrev pub known_operand : Names → Operand → KnownOperand
 known_operand names (Register r) = known.Register r
 known_operand names One = known.One
@@ -75,20 +77,20 @@ known_operand names (Short terms) = known.Short
 known_operand names (FarLabel name) = known.Far
 known_operand names (FarPointer s o) = known.Far
 
--- no row has more than two operands
+-- the operands of an instruction, which are at most two, as no row has more
 abbrev pub known_operands : Names → List Operand → Option (KnownOperand × KnownOperand)
 known_operands names [] = Some (known.Nothing, known.Nothing)
 known_operands names (first ∷ []) = Some (known_operand names first, known.Nothing)
 known_operands names (first ∷ second ∷ []) = Some (known_operand names first, known_operand names second)
 known_operands names more = None
 
--- an instruction has at most seven prefixes
+-- what an instruction asks of the table, if it has at most seven prefixes and two operands
 unfoldable pub instruction_asked : Names → Instruction → Option Asked
 instruction_asked names i =
     if nat_le (length (prefixes_of i)) 7 then option_map (λ os. asked i.mnemonic os.0 os.1)
     (known_operands names i.operands) else None
 
--- the form that the table has for it, or none
+-- the form that the table has for what is asked, or none if no row takes it
 abbrev pub IsChosenFor : Asked → Option Form → Type 0
 IsChosenFor a (Some f) = IsChosen a f
 IsChosenFor a None = NoneTakes rows a
@@ -100,8 +102,7 @@ IsFormFor None form = form ≡ None
 abbrev pub instruction_size : Form → Instruction → ℕ
 instruction_size f i = length (prefixes_of i) + form_length f
 
--- the numbers that the operands name, in a line that stands at the offset `here`; none where a name isn't defined, or
--- is no label behind FAR
+-- the numbers of no operands
 abbrev pub no_numbers : Numbers
 no_numbers = record { displacement = pos 0; number = pos 0; segment = pos 0 }
 
@@ -136,9 +137,11 @@ numbers_behind names here None operands = None
 numbers_behind names here (Some n) [] = Some n
 numbers_behind names here (Some n) (operand ∷ more) = numbers_behind names here (numbers_with names here n operand) more
 
+-- The numbers that the operands name, in a line that stands at the offset `here`. There are none if a name isn't
+-- defined, or is no label after FAR.
 unfoldable pub numbers_of : Names → ℕ → List Operand → Option Numbers
 numbers_of names here operands = numbers_behind names here (Some no_numbers) operands
 
--- the bytes of an instruction: its prefixes, and what the table gives its form
+-- the bytes of an instruction: its prefixes, and the encoding that the table gives its form
 abbrev pub code_bytes : Form → Instruction → Values → List ℕ
 code_bytes f i v = map prefix_byte (prefixes_of i) ++ encoding f v

@@ -15,7 +15,7 @@ use Rattle.assembler_meaning.specs.declared.symbol.Location.{Location}
 use Rattle.assembler_meaning.specs.declared.symbol.Symbol.{Symbol}
 use Rattle.assembler_meaning.specs.declared.symbol.Symbol.TheVariants.{Label, Constant}
 
--- what names stand for, by their definitions in order
+-- what names stand for: their definitions, in order
 abbrev pub Names : Type 0
 Names = List (Name × Symbol)
 
@@ -25,7 +25,7 @@ same_name a b = bytes_eq a.letters b.letters
 abbrev pub meaning : Names → Name → Option Symbol
 meaning names name = lookup (same_name name) names
 
--- a constant's number, or a label's offset
+-- the value of a name: a constant's number, or a label's offset
 abbrev pub symbol_value : Symbol → ℤ
 symbol_value (Label place) = pos place.offset
 symbol_value (Constant n) = n
@@ -34,12 +34,12 @@ abbrev pub label_place : Symbol → Option Location
 label_place (Label place) = Some place
 label_place (Constant n) = None
 
--- the place of a label
+-- the place of a name that is a label
 abbrev pub label_of : Names → Name → Option Location
 label_of names name = option_and_then label_place (meaning names name)
 
--- what a term names in a line that stands at the offset `here`; none where no line defines the name, or where SEG names
--- no label
+-- The value of an atom in a line that stands at the offset `here`. There is none if no line defines the name, or if SEG
+-- names no label.
 abbrev pub atom_value : Names → ℕ → Atom → Option ℤ
 atom_value names here (Number n) = Some (pos n)
 atom_value names here (Named name) = option_map symbol_value (meaning names name)
@@ -61,28 +61,29 @@ unfoldable pub value_of : Names → ℕ → List Term → Option ℤ
 value_of names here [] = Some (pos 0)
 value_of names here (term ∷ terms) = added (term_value names here term) (value_of names here terms)
 
--- some line defined the name
+-- whether a line has defined the name
 abbrev pub is_defined : Names → Name → Bool
 is_defined names name = is_some (meaning names name)
 
--- a constant has neither $ nor SEG, and its names are constants
+-- whether a name stands for a constant
 abbrev pub is_constant_symbol : Option Symbol → Bool
 is_constant_symbol (Some (Constant n)) = true
 is_constant_symbol (Some (Label place)) = false
 is_constant_symbol None = false
 
+-- whether an atom is known to be constant: a number, or the name of a constant
 abbrev pub is_constant_atom : Names → Atom → Bool
 is_constant_atom names (Number n) = true
 is_constant_atom names (Named name) = is_constant_symbol (meaning names name)
 is_constant_atom names Here = false
 is_constant_atom names (SegmentOf name) = false
 
--- the value of a constant, in the light of the names that are known; none where it isn't one
+-- the value of a constant, in the light of the names that are known; `None` if the expression isn't one
 unfoldable pub constant_of : Names → List Term → Option ℤ
 constant_of names terms =
     if list_all (λ term. is_constant_atom names term.atom) terms then value_of names 0 terms else None
 
--- What keeps sums from overflowing: a source has at most 2^20 bytes, so that an expression has no more terms, and
+-- Bounds that keep sums from overflowing: a source has at most 2^20 bytes, so an expression has no more terms, and
 -- offsets stay below 2^40.
 abbrev pub IsSmallNumber : ℤ → Type 0
 IsSmallNumber n = is_within (neg_ℤ (pos (2 ^ 40))) (pos (2 ^ 40)) n ≡ true

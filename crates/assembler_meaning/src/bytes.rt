@@ -17,8 +17,8 @@ use isa::form::{Form, Prefix, Values};
 use isa::register::SegmentRegister;
 use std::alloc::{AllocError, Global};
 
-/// The bytes of an instruction with these numbers in its fields: its prefixes, its operand's override, and what the
-/// table gives.
+/// The bytes of an instruction with these numbers in its fields: its prefixes, the override of its operand, and what
+/// the table gives its form.
 pub fn instruction_bytes(
     alloc: Global,
     form: &Form,
@@ -54,7 +54,7 @@ fn push_override(bytes: &mut Vec<u8>, segment: Option<SegmentRegister>) -> Resul
     Ok(())
 }
 
-/// The bytes of a data line's items.
+/// The bytes of the items of a data line.
 #[tactic(auto, unfolding(crate::specs::Data::data_bytes))]
 pub fn data_bytes(
     alloc: Global,
@@ -112,7 +112,7 @@ fn pieces_bytes(
     Ok(bytes)
 }
 
-/// A number of this width, its low byte first.
+/// Adds a number of this width, its low byte first.
 fn push_number(bytes: &mut Vec<u8>, number: i64, width: DataWidth) -> Result<(), AllocError>
     ensures { OnOk result (bytes.new.items ≡ bytes.old.items ++ number_bytes width number) }
 {

@@ -11,7 +11,7 @@ use crate::value::value_of;
 use assembler_form::operand::Number;
 use assembler_syntax::expression::{Atom, Expression};
 
-/// The value of a constant: an expression without `$` and SEG, whose names are constants. `None` where it is none.
+/// The value of a constant: an expression without `$` and SEG, whose names are constants. `None` if it isn't one.
 #[tactic(auto, unfolding(crate::specs::Values::constant_of))]
 pub fn constant_of(symbols: &Symbols, expression: &Expression) -> Option<i64>
     requires small { AreSmall symbols.now.entries }
@@ -50,7 +50,7 @@ fn is_constant_atom(symbols: &Symbols, atom: Atom) -> bool
     }
 }
 
-/// What the encoding table may know of the number.
+/// A number as the encoding table is asked for it: a constant's value, or none that is known yet.
 pub fn known_number(symbols: &Symbols, expression: &Expression) -> Number
     requires small { AreSmall symbols.now.entries }
     requires short { IsShort expression.now }
@@ -62,7 +62,7 @@ pub fn known_number(symbols: &Symbols, expression: &Expression) -> Number
     }
 }
 
-/// Whether the expression is a constant, but not from `least` to `greatest`.
+/// Whether the expression is a constant, and isn't from `least` to `greatest`.
 pub fn is_out_of_bounds(
     symbols: &Symbols,
     expression: &Expression,

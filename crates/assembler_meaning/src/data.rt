@@ -10,10 +10,10 @@ use crate::symbol::Symbols;
 use crate::value::value_of;
 use assembler_syntax::statement::{DataWidth, Item, Piece};
 
-/// A count before DUP is from 1 to this.
+/// The greatest count before DUP; the least is 1.
 const COUNT_LIMIT: i64 = 65_535;
 
-/// How many bytes a number has.
+/// How many bytes a number of this width has.
 pub fn width_size(width: DataWidth) -> u64
     ensures { result ≡ width_size width }
 {
@@ -24,7 +24,7 @@ pub fn width_size(width: DataWidth) -> u64
     }
 }
 
-/// Whether a count is out of its range.
+/// Whether a count before DUP is known and isn't 1 to 65,535.
 pub fn has_wrong_count(symbols: &Symbols, items: &[Item]) -> bool
     requires small { AreSmall symbols.now.entries }
     requires short { list_all (is_item_within term_limit) items.now ≡ true }
@@ -40,7 +40,7 @@ pub fn has_wrong_count(symbols: &Symbols, items: &[Item]) -> bool
     false
 }
 
-/// Whether a count has a name that is no constant.
+/// Whether a count before DUP isn't a constant by the names that are known.
 pub fn has_unknown_count(symbols: &Symbols, items: &[Item]) -> bool
     requires small { AreSmall symbols.now.entries }
     requires short { list_all (is_item_within term_limit) items.now ≡ true }
@@ -56,7 +56,7 @@ pub fn has_unknown_count(symbols: &Symbols, items: &[Item]) -> bool
     false
 }
 
-/// How many times an item's pieces stand there.
+/// How many times the pieces of an item are there: once, or as often as its count says.
 pub fn item_count(symbols: &Symbols, item: &Item) -> u64
     requires small { AreSmall symbols.now.entries }
     requires short { is_item_within term_limit item.now ≡ true }
@@ -81,7 +81,7 @@ pub fn item_pieces(item: &Item) -> &[Piece]
     }
 }
 
-/// How many bytes the items have.
+/// How many bytes the items have, with their repeats.
 pub fn data_size(symbols: &Symbols, width: DataWidth, items: &[Item]) -> u64
     requires small { AreSmall symbols.now.entries }
     requires short { list_all (is_item_within term_limit) items.now ≡ true }
@@ -119,7 +119,7 @@ fn piece_size(width: DataWidth, piece: &Piece) -> u64
     }
 }
 
-/// Whether every name in the items is defined.
+/// Whether each name in the items is defined.
 #[tactic(auto, unfolding(crate::specs::Data::are_items_known))]
 pub fn are_items_known(symbols: &Symbols, here: u64, items: &[Item]) -> bool
     requires small { AreSmall symbols.now.entries }
@@ -151,7 +151,7 @@ fn are_pieces_known(symbols: &Symbols, here: u64, pieces: &[Piece]) -> bool
     true
 }
 
-/// Whether every number in the items fits the width.
+/// Whether each number in the items fits the width, as far as it is known.
 #[tactic(auto, unfolding(crate::specs::Data::do_items_fit))]
 pub fn do_items_fit(symbols: &Symbols, here: u64, width: DataWidth, items: &[Item]) -> bool
     requires small { AreSmall symbols.now.entries }
@@ -184,7 +184,7 @@ fn do_pieces_fit(symbols: &Symbols, here: u64, width: DataWidth, pieces: &[Piece
     true
 }
 
-/// Whether a number fits a byte, a word or a double word.
+/// Whether a number fits the width, as a signed or an unsigned number.
 fn fits_width(width: DataWidth, number: i64) -> bool
     ensures { result ≡ fits_width width number }
 {

@@ -17,10 +17,10 @@ use assembler_syntax::statement::Instruction;
 use isa::form::Form;
 use isa::register::SegmentRegister;
 
-/// How many prefixes an instruction may have, the override of its operand counted.
+/// The greatest number of prefixes that an instruction may have, with the override of its operand.
 const PREFIX_LIMIT: usize = 7;
 
-/// The form of an instruction, if a row of the table takes it and its prefixes aren't too many.
+/// The form of an instruction, if a row of the table takes it and it hasn't too many prefixes.
 #[tactic(auto, unfolding(crate::specs::Instructions::instruction_asked))]
 pub fn form_of(symbols: &Symbols, instruction: &Instruction) -> Option<Form>
     requires small { AreSmall symbols.now.entries }
@@ -43,7 +43,7 @@ pub fn form_of(symbols: &Symbols, instruction: &Instruction) -> Option<Form>
     choose(instruction.mnemonic, first, second)
 }
 
-/// How many prefixes the instruction has, the override of its operand counted.
+/// How many prefixes the instruction has, with the override of its operand.
 #[tactic(auto, unfolding(crate::specs::Instructions::prefixes_of))]
 pub fn prefix_count(instruction: &Instruction) -> usize
     ensures { result ≡ length (prefixes_of instruction.now) }
@@ -55,7 +55,7 @@ pub fn prefix_count(instruction: &Instruction) -> usize
     }
 }
 
-/// The segment register before a colon in the instruction's operand in memory. No row has two of them.
+/// The segment register before a colon in the instruction's operand in memory. No row has two operands in memory.
 pub fn override_of(instruction: &Instruction) -> Option<SegmentRegister>
     ensures { result ≡ override_of instruction.now.operands }
 {
@@ -73,7 +73,7 @@ pub fn override_of(instruction: &Instruction) -> Option<SegmentRegister>
     None
 }
 
-/// What the first pass knows of an operand.
+/// What the first pass knows of an operand: of its numbers only those that are constants.
 fn known_operand(symbols: &Symbols, operand: &Operand) -> KnownOperand
     requires small { AreSmall symbols.now.entries }
     requires short { is_operand_within term_limit operand.now ≡ true }
@@ -105,7 +105,7 @@ fn known_memory(symbols: &Symbols, address: &Address) -> KnownMemory
     }
 }
 
-/// How many bytes the instruction has.
+/// How many bytes the instruction has, with its prefixes.
 pub fn instruction_size(form: Form, instruction: &Instruction) -> u64
     requires few { length (prefixes_of instruction.now) ≤ 7 }
     ensures value { result ≡ instruction_size form instruction.now }
@@ -114,8 +114,8 @@ pub fn instruction_size(form: Form, instruction: &Instruction) -> u64
     prefix_count(instruction) as u64 + u64::from(form.length())
 }
 
-/// The numbers that the instruction's operands name. `None` where a name in them isn't defined, or is no label where
-/// one is wanted.
+/// The numbers that the instruction's operands name, in a line that stands at the offset `here`. `None` if a name in
+/// them isn't defined, or is no label though one is wanted.
 #[tactic(auto, unfolding(crate::specs::Instructions::numbers_of))]
 pub fn numbers_of(symbols: &Symbols, here: u64, instruction: &Instruction) -> Option<Numbers>
     requires small { AreSmall symbols.now.entries }
@@ -134,7 +134,7 @@ pub fn numbers_of(symbols: &Symbols, here: u64, instruction: &Instruction) -> Op
     Some(numbers)
 }
 
-/// The numbers with those of another operand. No row has two that name the same one.
+/// The numbers, and those of one more operand. No row has two operands that name the same number.
 fn numbers_with(
     symbols: &Symbols,
     here: u64,

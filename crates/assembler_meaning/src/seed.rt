@@ -5,10 +5,10 @@ ghost use Rattle.std.specs.Hash.DefaultHasher.{initial, write};
 use std::hash::{BuildHasher, DefaultHasher, Hasher};
 
 /// Makes the hashers of a source's names: each goes on from the hash of the whole source. Names that collide in one
-/// source don't in another, so no source can be filled with names that were found to collide before it was written.
+/// source don't collide in another, so no one can write a source full of names that are known to collide.
 #[derive(Clone, Copy)]
 pub struct SourceSeed {
-    /// What has hashed the source.
+    /// The hasher after all bytes of the source.
     pub source: DefaultHasher,
 }
 

@@ -7,7 +7,7 @@ use assembler_lexeme::name::Name;
 use indexmap::IndexMap;
 
 /// A place in a segment. The offset is a whole number: it may lie past the segment's end until the source is refused
-/// for that.
+/// for it.
 #[derive(Clone, Copy)]
 pub struct Location {
     /// The segment's paragraph.
@@ -18,14 +18,14 @@ pub struct Location {
 /// What a name stands for.
 #[derive(Clone, Copy)]
 pub enum Symbol {
-    /// A label, at the place of the byte behind it.
+    /// A label, at the place of the byte that follows it.
     Label(Location),
     /// The name of an EQU or of a segment, with its number or paragraph.
     Constant(i64),
 }
 
 impl Symbol {
-    /// A constant's number, or a label's offset.
+    /// The value of a name: a constant's number, or a label's offset.
     pub fn value(self) -> i64
         requires { IsSmall self }
         ensures { result ≡ symbol_value self }
@@ -37,17 +37,17 @@ impl Symbol {
     }
 }
 
-/// The names that were defined, in their order, with what they stand for.
+/// The names that are defined, in order, with what they stand for.
 pub type Symbols = IndexMap<Name, Symbol, SourceSeed>;
 
-/// What the name stands for.
+/// What the name stands for, if it is defined.
 pub fn meaning(symbols: &Symbols, name: Name) -> Option<Symbol>
     ensures { result ≡ meaning symbols.now.entries name }
 {
     symbols.get(&name).copied()
 }
 
-/// Whether some line before has defined the name.
+/// Whether an earlier line has defined the name.
 pub fn is_defined(symbols: &Symbols, name: Name) -> bool
     ensures { result ≡ is_defined symbols.now.entries name }
 {

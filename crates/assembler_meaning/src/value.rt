@@ -5,8 +5,8 @@ ghost use Rattle.assembler_meaning.specs.Values.{AreSmall, IsShort, IsSmallNumbe
 use crate::symbol::{Symbols, label, meaning};
 use assembler_syntax::expression::{Atom, Expression, Term};
 
-/// The value of an expression in a line that stands at the offset `here`. `None` where it names what no line defines,
-/// or by SEG what is no label.
+/// The value of an expression in a line that stands at the offset `here`. `None` if it has a name that no line defines,
+/// or if SEG names no label.
 #[tactic(auto, unfolding(crate::specs::Values::value_of))]
 pub fn value_of(symbols: &Symbols, here: u64, expression: &Expression) -> Option<i64>
     requires small { AreSmall symbols.now.entries }
