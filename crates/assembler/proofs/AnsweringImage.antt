@@ -7,7 +7,7 @@ use Rattle.assembler.specs.Gives.{ArePlaced, Gives}
 use Rattle.assembler.specs.Rows.{Row}
 use Rattle.assembler.proofs.AnsweringRows.{one_rows}
 
--- what finds the same finds the same where it finds nothing
+-- two searches that find the same byte whenever one finds any are equal, also if they find none
 found_same : (x y : Option ℕ) → ((byte : ℕ) → x ≡ Some byte → y ≡ Some byte) → ((byte : ℕ) → y ≡ Some byte → x ≡ Some byte) → x ≡ y
 found_same None None there back = refl
 found_same None (Some b) there back = back b refl

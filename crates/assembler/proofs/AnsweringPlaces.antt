@@ -18,7 +18,7 @@ use Rattle.assembler.specs.Rows.{Row, AreRows, IsCleanRow, names_of}
 use Rattle.assembler.specs.Gives.{ArePlaced, Fits, FitsAt}
 use Rattle.assembler.proofs.RowLength.{keeps_size}
 
--- addresses that are apart: those behind are none of those before
+-- addresses that are apart: none of the later ones is one of the earlier ones
 abbrev pub NoneIn : List ℕ → List ℕ → Type 0
 NoneIn xs ys = AllByRecursion (λ (y : ℕ). list_any (λ (a : ℕ). a == y) xs ≡ false) ys
 
@@ -48,7 +48,7 @@ keys_append : (xs ys : List (ℕ × ℕ)) → keys_of (xs ++ ys) ≡ keys_of xs 
 keys_append [] ys = refl
 keys_append (x ∷ xs) ys = ap (λ (ks : List ℕ). x.0 ∷ ks) (keys_append xs ys)
 
--- whether a byte was placed there is told by the addresses
+-- the addresses alone say whether a byte was placed at one
 placed_is : (placed : List (ℕ × ℕ)) (address : ℕ) → is_placed placed address ≡ list_any (λ (a : ℕ). a == address) (keys_of placed)
 placed_is [] address = refl
 placed_is (entry ∷ placed) address = ap (λ (b : Bool). (entry.0 == address) || b) (placed_is placed address)
@@ -98,7 +98,7 @@ all_loadable (entry ∷ placed) each =
     and_from (is_loadable entry.0) (list_all is_loadable (keys_of placed)) (each entry.0 entry.1 (0, omega arith, refl))
     (all_loadable placed (λ address byte there. each address byte (Contains-append_right (entry ∷ []) placed (address, byte) there)))
 
--- what a list of rows places is what those before a row place, what it places, and what those behind it place
+-- what a list of rows places is what the rows before one place, what that row places, and what the rows after it place
 pub placed_parts : (names : Names) (front : List Row) (row : Row) (back : List Row)
     → placed_by_all names (front ++ row ∷ back) ≡ placed_by_all names front ++ (placed_by names row ++ placed_by_all names back)
 placed_parts names front row back = flat_map-append (placed_by names) front (row ∷ back)
@@ -107,7 +107,7 @@ pub fits_there : (names : Names) (front : List Row) (row : Row) (back : List Row
 fits_there names [] row back fits = fits.0
 fits_there names (first ∷ front) row back fits = fits_there names front row back fits.1
 
--- a row that the texts make is clean behind those before it
+-- a row that the texts make is clean after the rows before it
 pub record CleanThere (before : List Row) (row : Row) : Type 0 where
   pub text : List ℕ
   pub clean : IsCleanRow before text row

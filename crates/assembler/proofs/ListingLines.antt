@@ -111,7 +111,7 @@ last_one xs b = refl
 never_false : true ≡ false → ⊥
 never_false is = cc
 
--- the image has these bytes behind a location
+-- the image has these bytes from a location on
 abbrev pub Holds : List (ℕ × ℕ) → Location → List ℕ → Type 0
 Holds image location bytes = (k : ℕ) → k < length bytes → image_byte image (address_behind location k) ≡ Some (get_or bytes k 0)
 
@@ -182,7 +182,7 @@ nowhere : (image : List (ℕ × ℕ)) (size : ℕ) → shown_at image (location_
 nowhere image zero = refl
 nowhere image (suc n) = refl
 
--- where a row has a location, it has as many bytes as its size says, and the image holds them
+-- a row with a location has as many bytes as its size says, and the image holds them
 abbrev Stands : Names → List (ℕ × ℕ) → Row → Type 0
 Stands names image row =
     (location : Location) → row.location ≡ Some location

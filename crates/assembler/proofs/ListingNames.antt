@@ -6,7 +6,7 @@ use Rattle.std.proofs.lemmas.Bool.Decides.{nat_tests}
 abbrev pub is_letter : ℕ → Bool
 is_letter letter = nat_lt 0 letter
 
--- so many letters stand at the front
+-- the first n bytes are letters
 abbrev pub AreLetters : List ℕ → ℕ → Type 0
 AreLetters letters n = (k : ℕ) → k < n → 0 < get_or letters k 0
 
@@ -19,7 +19,7 @@ letters_behind b bs n are k within = are (suc k) (omega arith)
 sym_one : (m n : ℕ) → m ≡ n → suc m ≡ 1 + n
 sym_one m n is = omega arith
 
--- the first that is none ends them
+-- the first byte that is no letter ends the letters
 pub ends_at : (letters : List ℕ) (n : ℕ) → AreLetters letters n → n < length letters → get_or letters n 0 ≡ 0 → n ≡ prefix_len (λ (letter : ℕ). nat_lt 0 letter) letters
 ends_at [] n are within is = absurd (omega arith)
 ends_at (b ∷ bs) zero are within is = rw is refl

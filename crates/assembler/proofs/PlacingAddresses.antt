@@ -59,7 +59,7 @@ pub all_not : (test : ℕ → Bool) (location : Location) (size j : ℕ) → j <
 all_not test location size j within fails =
     not_all (list_all test (addresses_from location 0 size)) (λ all. not_both (test (address_behind location j)) (all_at test location size j all within) fails)
 
--- where the board can be loaded
+-- the addresses that the board can be loaded at
 pub can_load_at : (address : ℕ) → is_loadable address ≡ true → IsLoadable address
 can_load_at address e = elim (cases_lt address 0xA0000) [
   | inl below ↦ inl below
@@ -82,12 +82,12 @@ pub loads_at : (address : ℕ) → IsLoadable address → is_loadable address �
 loads_at address (inl below) = grind (arith, nat_tests)
 loads_at address (inr (low, high)) = grind (arith, nat_tests)
 
--- the addresses of so many bytes
+-- the addresses of bytes from a location on
 pub keys_are : (location : Location) (n : ℕ) (bytes : List ℕ) → keys_of (bytes_from location n bytes) ≡ addresses_from location n (length bytes)
 keys_are location n [] = refl
 keys_are location n (b ∷ bs) = ap (λ (ks : List ℕ). address_behind location n ∷ ks) (keys_are location (n + 1) bs)
 
--- those of offsets of one segment differ
+-- the addresses of different offsets of a segment differ
 wrapped : (a b : ℕ) → a < b → b < a + 1048576 → a % 1048576 ≡ b % 1048576 → ⊥
 wrapped a b above near same = omega arith
 

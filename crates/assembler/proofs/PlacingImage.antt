@@ -1,4 +1,4 @@
--- What an image holds behind bytes that are put into it.
+-- What an image holds after bytes are put into it.
 use Rattle.std.proofs.Common.{suc, ◌+◌, drop, get_or, length, ◌≡◌, ◌∙◌, ℕ, ◌<◌, ◌≤◌, ◌==◌, ◌||◌, List, [], ◌∷◌, refl, sym, ap, arith, Bool, true, false, Option, None, Some, is_some, if◌then◌else◌}
 use Rattle.std.specs.Prelude.{Contains, ◌↔◌}
 use Rattle.std.specs.Ordering.{nat_cmp}
@@ -19,7 +19,7 @@ use Rattle.assembler_meaning.specs.declared.symbol.Location.{Location}
 use Rattle.assembler.specs.Placement.{address_behind, bytes_from, is_placed}
 use Rattle.assembler.specs.SecondPass.{has_byte, with_entries}
 
--- a byte more leaves an image
+-- an image with one more byte is an image
 pub still_image : (image : List (ℕ × ℕ)) (address byte : ℕ) → IsImage image → IsLoadable address → byte < 256 → IsImage (insert_entry nat_cmp image address byte)
 still_image image address byte whole loadable small =
     image_put image (insert_entry nat_cmp image address byte) address byte refl (sorted_put address byte image whole.rising) whole loadable small
@@ -78,7 +78,7 @@ or_nothing : (o : Option ℕ) → or_else o None ≡ o
 or_nothing None = refl
 or_nothing (Some b) = refl
 
--- of distinct addresses each has its byte
+-- if addresses are distinct, each has its byte
 pub bytes_are : (placed : List (ℕ × ℕ)) → IsDistinct (λ x y. x == y) (keys_of placed)
     → (address byte : ℕ) → (image_byte (with_entries [] placed) address ≡ Some byte) ↔ Contains placed (address, byte)
 bytes_are placed distinct address byte =

@@ -1,4 +1,4 @@
--- What stands at a location, where it has no fault.
+-- What stands at a location, if it has no fault.
 use Rattle.std.proofs.Common.{◌≡◌, ◌∙◌, ℕ, ◌+◌, ◌<◌, ◌≤◌, ◌&&◌, List, length, refl, sym, ap, subst, arith, Bool, true, false, Option, None, Some, nat_lt, if◌then◌else◌}
 use Rattle.std.specs.List.{list_all, list_any}
 use Rattle.std.proofs.lemmas.Bool.{or_parts}
@@ -48,7 +48,7 @@ pub ends_within : (location : Location) (size : ℕ) (has_label : Bool) → is_p
 ends_within location size has_label within some =
     below_end size (location.offset + size) (or_parts (nat_lt 0 size && nat_lt 65536 (location.offset + size)) (has_label && nat_lt 65535 location.offset) within).0 some
 
--- of a kept row
+-- what a kept row places, if it has no fault
 pub kept_stands : (names : Names) (is_taken : ℕ → Bool) (kept : KeptRow) (location : Location) (content : Option Content) → kept.location ≡ Some location → content_in kept ≡ content
     → kept_fault names is_taken kept ≡ None → CanStand names is_taken kept.has_label location kept.size content
 kept_stands names is_taken kept location content at is none =
@@ -69,7 +69,7 @@ pub content_free : (names : Names) (is_taken : ℕ → Bool) (has_label : Bool) 
 content_free names is_taken has_label location size content stands =
     no_content_fault (lacks_name names location content) (has_wrong_number names location size content) stands.known stands.fits
 
--- its bytes stand within the segment, where the board can be loaded
+-- bytes without a fault are within the segment, at addresses that the board can be loaded at
 pub bytes_within : (names : Names) (is_taken : ℕ → Bool) (has_label : Bool) (location : Location) (size : ℕ) (content : Option Content) (bytes : List ℕ)
     → CanStand names is_taken has_label location size content → HasSizeAt names location size content → bytes ≡ bytes_by names location size content
     → 0 < length bytes → location.offset + length bytes ≤ 65536

@@ -305,7 +305,7 @@ stops_first source names kepts image i kept (InLine fault at) number reads withi
 stops_first source names kepts image i kept SourceTooLong number reads within item is free stops counted = absurd stops
 stops_first source names kepts image i kept Memory number reads within item is free stops counted = tt
 
--- ---- a row more
+-- ---- one more row
 front_more : (kepts : List KeptRow) (i : ℕ) (kept : KeptRow) → i < length kepts → get_or kepts i kept ≡ kept → take (i + 1) kepts ≡ take i kepts ++ kept ∷ []
 front_more kepts i kept within is = take_more kepts i kept within ∙ ap (λ (k : KeptRow). take i kepts ++ k ∷ []) is
 

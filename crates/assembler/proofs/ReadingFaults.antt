@@ -97,7 +97,7 @@ near a n room = omega arith
 longer : (a b size n : ℕ) → size ≤ size_limit n → b ≤ a + size + 65535 → b ≤ a + size_limit n + 65535
 longer a b size n bound grows = omega arith
 
--- what the state and the kept row are behind a line without a fault
+-- what the state and the kept row are after a line without a fault
 pub adds_row : (old new : Before) (start length : ℕ) (line : Line) (form : Option Form) (kept : KeptRow)
     → AreSmall old.symbols.entries → offset_of old.location + size_limit length ≤ 2 ^ 40 → are_terms_within term_limit line.statement ≡ true → statement_weight line.statement ≤ length
     → IfSome form IsForm → IsClean old.symbols.entries line

@@ -24,7 +24,7 @@ pub record IsLine (rest text after : List ℕ) : Type 0 where
   pub parts : (ending : List ℕ) × (rest ≡ text ++ (ending ++ after))
   pub shorter : length after < length rest
 
--- its bytes are in front of what follows it
+-- the bytes of a line, which come before what follows it
 taken : (rest text after : List ℕ) → IsLine rest text after → List ℕ
 taken rest text after line = text ++ line.parts.0
 
@@ -36,7 +36,7 @@ taken_size : (rest text after : List ℕ) (line : IsLine rest text after) → le
 unfolding taken
 taken_size rest text after line = omega (arith, length-append text line.parts.0)
 
--- where the text stands in the source
+-- the text of a line is within the source
 inside_source : (source passed rest text after : List ℕ) (start : ℕ) → source ≡ passed ++ rest → IsLine rest text after → start ≡ length passed
     → start + length text ≤ length source
 inside_source source passed rest text after start is line starts =
@@ -62,7 +62,7 @@ keeps_it source text start kept row inside stands keeps = record {
   content = keeps.content;
 }
 
--- a row that is clean in the light of a state is clean behind the rows that left the state
+-- a row that is clean in the light of a state is clean after the rows that left that state
 clean_in : (state : Before) (rows : List Row) (text : List ℕ) (row : Row) → state.symbols.entries ≡ names_of rows → state.location ≡ location_behind rows
     → IsRow state.symbols.entries state.location text row → early_fault state.symbols.entries row.location row.line row.form ≡ None → IsCleanRow rows text row
 clean_in state rows text row names location is clean = record {
@@ -102,7 +102,7 @@ reads_more source rest text after number start old new kept more read line start
       steady = subst (λ (ks : List KeptRow). AllByRecursion IsSteady ks) (sym keeps.kept_last) (all_push IsSteady kept keeps.kept read.steady adds.steady);
     }
 
--- where no line is left the source is read
+-- if no line is left, the source is read
 pub reads_all : (source rest : List ℕ) (number : ℕ) (state : Before) (kept : List KeptRow) → HasRead source rest number state kept → text_lines rest ≡ [] → length source ≤ source_limit
     → Reads source state.symbols.entries kept
 reads_all source rest number state kept read none within =

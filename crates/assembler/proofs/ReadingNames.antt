@@ -25,7 +25,7 @@ pub or_false : (a b : Bool) → (a || b) ≡ false → (a ≡ false) × (b ≡ f
 or_false true b none = cc
 or_false false b none = (refl, none)
 
--- it doesn't matter which of two names comes first
+-- two names are compared in either order
 same_either : (a b : Name) → same_name a b ≡ same_name b a
 same_either a b =
     same_from_decides (bytes_eq a.letters b.letters) (bytes_eq b.letters a.letters) (bytes_eq-Decides a.letters b.letters)
@@ -35,7 +35,7 @@ passed_by : (test : Bool) (x : Symbol) (a b c : Option Symbol) → (if test then
 passed_by true x a b c none go = cc
 passed_by false x a b c none go = go none
 
--- what isn't defined is looked for in the names behind
+-- a name that isn't defined is looked for in the names that follow
 meaning_behind : (names more : Names) (name : Name) → meaning names name ≡ None → meaning (names ++ more) name ≡ meaning more name
 meaning_behind [] more name none = refl
 meaning_behind (d ∷ names) more name none =

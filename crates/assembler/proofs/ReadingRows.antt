@@ -1,4 +1,4 @@
--- One more row behind those that are read.
+-- One more row after those that are read.
 use Rattle.std.proofs.Common.{◌≡◌, ℕ, refl, sym, ap, ◌∙◌, subst, List, [], ◌∷◌, ◌++◌, Option, None, fold, append_assoc}
 use Rattle.std.specs.List.{AllByRecursion}
 use Rattle.assembler.specs.declared.row.KeptRow.{KeptRow}

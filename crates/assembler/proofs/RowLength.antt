@@ -52,7 +52,7 @@ statement_length known more location (statements.Instruction i) None counts name
 statement_length known more location (statements.Instruction i) (Some f) counts named fits =
     fields_length f i (fields_of (known ++ more) location (instruction_size f i) f i) fits
 
--- behind the names known at a line more may follow
+-- more names may follow those that are known at a line
 pub keeps_size : (known more names : Names) (here : Option Location) (location : Location) (line : Line) (form : Option Form) (size : ℕ)
     → early_fault known here line form ≡ None → size ≡ size_of known line.statement form → names ≡ known ++ more → HasSizeAt names location size (content_of line.statement form)
 keeps_size known more names here location line form size clean is all named fits =

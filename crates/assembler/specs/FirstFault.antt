@@ -20,10 +20,11 @@ fault_of_line line_faults.BadCharacter = BadCharacter
 fault_of_line line_faults.BadLine = BadLine
 fault_of_line line_faults.UnknownName = UnknownName
 
--- a text that doesn't read has that fault, and one that does has the fault of its row in the light of the lines before
+-- the fault of a text that can't be read
 abbrev pub IsReadFault : List ℕ → SourceFault → Type 0
 IsReadFault text fault = (found : SyntaxFault) × (read_line text ≡ Err found) × (fault ≡ fault_of_line found)
 
+-- the fault of a text's row, in the light of the lines before it
 abbrev pub IsRowFault : Names → Option Location → List ℕ → SourceFault → Type 0
 IsRowFault names location text fault =
     (row : Row) × IsRow names location text row × (early_fault names row.location row.line row.form ≡ Some fault)
@@ -31,7 +32,7 @@ IsRowFault names location text fault =
 abbrev pub IsTextFault : Names → Option Location → List ℕ → SourceFault → Type 0
 IsTextFault names location text fault = IsReadFault text fault ⊎ IsRowFault names location text fault
 
--- the lines before the one with this number are clean, and it has the fault
+-- a fault that the first pass finds: the lines before the one with this number are clean, and it has the fault
 pub record IsEarlyFault (source : List ℕ) (fault : SourceFault) (number : ℕ) : Type 0 where
   pub front : List (List ℕ)
   pub text : List ℕ
@@ -42,13 +43,13 @@ pub record IsEarlyFault (source : List ℕ) (fault : SourceFault) (number : ℕ)
   pub clean : AreRows [] front rows
   pub found : IsTextFault (names_of rows) (location_behind rows) text fault
 
--- each of these rows has no fault behind those before it
+-- no row has a fault in the light of those before it
 abbrev pub AreFaultless : Names → List Row → List Row → Type 0
 AreFaultless names before [] = Unit {0}
 AreFaultless names before (row ∷ rows) =
     (row_fault names before row ≡ None) × AreFaultless names (before ++ row ∷ []) rows
 
--- of these rows those before the one with this number can be placed, and it has the fault
+-- the row with this number, from 1 on, has the fault, and the rows before it can be placed
 pub record HasLateFault (rows : List Row) (fault : SourceFault) (number : ℕ) : Type 0 where
   pub front : List Row
   pub row : Row
@@ -58,14 +59,14 @@ pub record HasLateFault (rows : List Row) (fault : SourceFault) (number : ℕ) :
   pub placed : AreFaultless (names_of rows) [] front
   pub found : row_fault (names_of rows) front row ≡ Some fault
 
--- all lines are clean, and the first of their rows that can't be placed has the fault
+-- a fault that the second pass finds: all lines are clean, and the first of their rows that can't be placed has it
 pub record IsLateFault (source : List ℕ) (fault : SourceFault) (number : ℕ) : Type 0 where
   pub rows : List Row
   pub clean : AreRows [] (text_lines source) rows
   pub found : HasLateFault rows fault number
 
--- A source that is too long has that fault; else the fault of reading in the least line comes first, and else the
--- fault of placing in the least line. Of memory nothing is said.
+-- The fault that is answered for a source. One that is too long has that fault; otherwise the first fault of the first
+-- pass is answered, and if there is none, that of the second. Want of memory may come for any source.
 abbrev pub IsFirst : List ℕ → AsmFault → Type 0
 IsFirst source SourceTooLong = source_limit < length source
 IsFirst source (InLine fault number) =
@@ -103,7 +104,7 @@ fault_number fault = (fault_title fault).0
 abbrev pub fault_name : AsmFault → List ℕ
 fault_name fault = (fault_title fault).1
 
--- the line that a fault tells
+-- the line that a fault names, if it names one
 abbrev pub fault_line : AsmFault → Option ℕ
 fault_line (InLine fault line) = Some line
 fault_line _ = None

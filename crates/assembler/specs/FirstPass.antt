@@ -1,4 +1,4 @@
--- What the first pass does with a line, and what it has read up to one.
+-- What the first pass does with a line, and what it has read before one.
 -- For proofs alone: no public contract rests on it.
 use Rattle.std.specs.Prelude.{ℕ, ◌≡◌, ◌≤◌, ◌+◌, ◌*◌, ◌^◌, false, List, [], ◌∷◌, ◌++◌, length, Option, None, Some, is_some}
 use Rattle.std.specs.List.{AllByRecursion}
@@ -25,7 +25,7 @@ abbrev pub offset_of : Option Location → ℕ
 offset_of (Some location) = location.offset
 offset_of None = 0
 
--- a name with what it stands for, where there is one
+-- the names of a definition, if there is one
 abbrev pub definition_names : Option (Name × Symbol) → Names
 definition_names (Some definition) = definition ∷ []
 definition_names None = []
@@ -34,7 +34,7 @@ abbrev pub IsNewDefinition : Names → Option (Name × Symbol) → Type 0
 IsNewDefinition names (Some definition) = is_defined names definition.0 ≡ false
 IsNewDefinition names None = Unit {0}
 
--- what a line places at most, by the length of its text
+-- how many bytes a line places at most, by the length of its text
 abbrev pub size_limit : ℕ → ℕ
 size_limit n = 2 ^ 18 * (n + 1)
 
@@ -49,7 +49,7 @@ row_of names location line form = record {
   names = label_definition location line.label ++ statement_definition names line.statement;
 }
 
--- of a row, with the place of its text
+-- what is kept of a row, with the place of its text
 pub record KeepsRow (start length : ℕ) (kept : KeptRow) (row : Row) : Type 0 where
   pub starts : kept.start ≡ start
   pub ends : kept.length ≡ length
@@ -58,7 +58,7 @@ pub record KeepsRow (start length : ℕ) (kept : KeptRow) (row : Row) : Type 0 w
   pub size : kept.size ≡ row.size
   pub content : content_in kept ≡ content_of row.line.statement row.form
 
--- a row was added behind the lines before it
+-- a row is added to the lines before it, and kept
 pub record AddsRow (old new : Before) (start length : ℕ) (row : Row) (kept : KeptRow) : Type 0 where
   pub location : new.location ≡ row.next
   pub names : new.symbols.entries ≡ old.symbols.entries ++ row.names
@@ -67,20 +67,20 @@ pub record AddsRow (old new : Before) (start length : ℕ) (row : Row) (kept : K
   pub small : AreSmall new.symbols.entries
   pub grows : offset_of new.location ≤ offset_of old.location + size_limit length + 65535
 
--- a text was read, and its row added
+-- a text is read, and its row is added
 pub record AddsText (old new : Before) (start : ℕ) (text : List ℕ) (kept : KeptRow) : Type 0 where
   pub row : Row
   pub is_row : IsRow old.symbols.entries old.location text row
   pub clean : early_fault old.symbols.entries row.location row.line row.form ≡ None
   pub adds : AddsRow old new start (length text) row kept
 
--- a text was read, and what its row keeps added to what is kept
+-- a text is read, and what is kept of its row is added to what is kept
 pub record KeepsText (old new : Before) (start : ℕ) (text : List ℕ) (before after : List KeptRow) : Type 0 where
   pub kept : KeptRow
   pub kept_last : after ≡ before ++ kept ∷ []
   pub adds : AddsText old new start text kept
 
--- why a text isn't added
+-- why a text isn't added: its fault, or want of memory
 abbrev pub StopsText : Before → List ℕ → LineStop → Type 0
 StopsText old text (stops.Fault fault) = IsTextFault old.symbols.entries old.location text fault
 StopsText old text stops.Memory = Unit {0}
@@ -90,7 +90,7 @@ StopsAt old text number (InLine fault at) = (at ≡ number) × IsTextFault old.s
 StopsAt old text number SourceTooLong = ⊥
 StopsAt old text number Memory = Unit {0}
 
--- the source's lines up to a rest of it are read: they make these rows, which are kept
+-- the source's lines before this rest of it are read: they make these rows, which are kept
 pub record HasRead (source rest : List ℕ) (number : ℕ) (state : Before) (kept : List KeptRow) : Type 0 where
   pub front : List (List ℕ)
   pub rows : List Row

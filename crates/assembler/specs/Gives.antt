@@ -14,7 +14,8 @@ use Rattle.assembler.specs.Rows.{Row, AreRows, names_of}
 abbrev pub source_limit : ℕ
 source_limit = 1048576
 
--- the names of a line are defined, its numbers fit, and no byte or label of it lies past the segment's end
+-- a row fits at its location: its names are defined, its numbers fit, and no byte or label of it lies past the end of
+-- the segment
 pub record FitsAt (names : Names) (row : Row) (location : Location) : Type 0 where
   pub known : lacks_name names location (content_of row.line.statement row.form) ≡ false
   pub fits : has_wrong_number names location row.size (content_of row.line.statement row.form) ≡ false
@@ -32,8 +33,8 @@ pub record ArePlaced (rows : List Row) (image : List (ℕ × ℕ)) : Type 0 wher
   pub bytes : (address byte : ℕ) → (image_byte image address ≡ Some byte)
       ↔ Contains (placed_by_all (names_of rows) rows) (address, byte)
 
--- The source is within its length, its lines make rows that keep the rules of constants, names and segments, and the
--- rows place the image's bytes.
+-- The source gives the image: it is within its length, its lines make rows that keep the rules of constants, names and
+-- segments, and the rows place the image's bytes.
 pub record Gives (source : List ℕ) (image : List (ℕ × ℕ)) : Type 0 where
   pub within : length source ≤ source_limit
   pub rows : List Row

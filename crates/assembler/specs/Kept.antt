@@ -1,4 +1,4 @@
--- What the first pass keeps of the rows for the second, and what keeps the second from overflowing.
+-- What the first pass keeps of the rows for the second, and the bounds that keep the second from overflowing.
 -- For proofs alone: no public contract rests on it.
 use Rattle.std.specs.Prelude.{ℕ, ◌≡◌, ◌≤◌, ◌+◌, ◌^◌, true, List, [], ◌∷◌, length, take, drop, Option, None, Some, is_some}
 use Rattle.std.specs.Option.{option_map}
@@ -21,7 +21,7 @@ use Rattle.assembler.specs.Rows.{Row, AreRows, names_of}
 abbrev pub content_in : KeptRow → Option Content
 content_in kept = option_map box_value kept.content
 
--- of a line: where its text stands in the source, and what its row places
+-- what is kept of a line: where its text stands in the source, and what its row places
 pub record Keeps (source said : List ℕ) (kept : KeptRow) (row : Row) : Type 0 where
   pub inside : kept.start + kept.length ≤ length source
   pub text : take kept.length (drop kept.start source) ≡ said
@@ -35,7 +35,7 @@ AreKept source [] [] [] = Unit {0}
 AreKept source (text ∷ texts) (kept ∷ more) (row ∷ rows) = Keeps source text kept row × AreKept source texts more rows
 AreKept source texts kept rows = ⊥
 
--- expressions are short, and forms are those of the table
+-- what a line places is bounded: its expressions are short, and its form is one of the table's
 abbrev pub IsContent : Option Content → Type 0
 IsContent (Some (Data width items)) = are_terms_within term_limit (statements.Data width items) ≡ true
 IsContent (Some (Code f i)) = (are_terms_within term_limit (statements.Instruction i) ≡ true) × IsForm f
@@ -49,7 +49,7 @@ pub record IsSteady (kept : KeptRow) : Type 0 where
   pub ends : EndsBy (2 ^ 40) kept.location kept.size
   pub content : IsContent (content_in kept)
 
--- the source's lines make clean rows, of which these are kept, and these names
+-- the source's lines make clean rows, which are kept as these, and define these names
 pub record Reads (source : List ℕ) (names : Names) (kept : List KeptRow) : Type 0 where
   pub within : length source ≤ source_limit
   pub rows : List Row

@@ -10,7 +10,7 @@ pub use Rattle.assembler_meaning.specs.Values.{Names, symbol_value}
 use Rattle.assembler.specs.Placement.{bytes_by, content_of}
 use Rattle.assembler.specs.Rows.{Row}
 
--- what an assembled source is seen to be
+-- an assembled source, as contracts see it
 pub record ListingState : Type 0 where
   pub source : List ℕ
   pub names : Names
@@ -19,10 +19,11 @@ pub record ListingState : Type 0 where
 abbrev pub spaces : ℕ → List ℕ
 spaces n = replicate n 32
 
--- the first eight bytes, filled up to sixteen digits, and a `+` where there are more
+-- the digits of the first eight bytes, filled up with spaces to sixteen
 abbrev pub first_bytes : List ℕ → List ℕ
 first_bytes bytes = flat_map hex_byte_text (take 8 bytes) ++ spaces (16 - 2 * length bytes)
 
+-- `+` if there are more than eight bytes, else a space
 abbrev pub more_mark : List ℕ → ℕ
 more_mark bytes = if nat_lt 8 (length bytes) then 43 else 32
 
@@ -31,7 +32,7 @@ bytes_part location bytes =
     hex_word location.segment ++ (58 ∷ hex_word location.offset
     ++ (32 ∷ first_bytes bytes ++ (more_mark bytes ∷ 32 ∷ [])))
 
--- spaces stand for no bytes
+-- where a row's bytes stand, with the first of them; spaces, if there are none
 abbrev pub place_part : Option Location → List ℕ → List ℕ
 place_part (Some location) (b ∷ bs) = bytes_part location (b ∷ bs)
 place_part location bytes = spaces 28
@@ -44,11 +45,11 @@ row_bytes names row None = []
 abbrev pub listed : Names → List ℕ → Row → List ℕ
 listed names text row = place_part row.location (row_bytes names row row.location) ++ text
 
--- the line of this number, from 0 on
+-- the line of the listing with this number, from 0 on
 abbrev pub line_at : Names → List (List ℕ) → List Row → ℕ → Option (List ℕ)
 line_at names texts rows i = option_map (λ line. listed names line.0 line.1) (slice_get (zip texts rows) i)
 
--- a name's letters, without what fills it up
+-- a name's letters, without the zeros that fill it up
 abbrev pub letters_of : Name → List ℕ
 letters_of name = take_while (λ letter. nat_lt 0 letter) name.letters
 

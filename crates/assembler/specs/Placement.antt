@@ -27,7 +27,7 @@ content_of (statements.Data width items) form = Some (Data width items)
 content_of (statements.Instruction i) (Some f) = Some (Code f i)
 content_of statement form = None
 
--- the numbers in an instruction's fields; a target is told from the next instruction on
+-- the numbers in an instruction's fields; a target is counted from the next instruction on
 abbrev pub fields_for : Form → ℕ → Option Numbers → Option Values
 fields_for f next (Some n) = values_of f (pos next) n
 fields_for f next None = None
@@ -41,10 +41,11 @@ bytes_by names location size (Some (Data width items)) = data_bytes names locati
 bytes_by names location size (Some (Code f i)) = option_map_or (code_bytes f i) (fields_of names location size f i) []
 bytes_by names location size None = []
 
--- bytes at addresses that rise by one from a location on
+-- the address n bytes after a location
 abbrev pub address_behind : Location → ℕ → ℕ
 address_behind location n = physical location.segment (location.offset + n)
 
+-- these bytes at addresses that rise by one, from n bytes after a location on
 abbrev pub bytes_from : Location → ℕ → List ℕ → List (ℕ × ℕ)
 bytes_from location n [] = []
 bytes_from location n (b ∷ bs) = (address_behind location n, b) ∷ bytes_from location (n + 1) bs
@@ -60,19 +61,19 @@ placed_by names row = placed_at names row.location row.size (content_of row.line
 abbrev pub placed_by_all : Names → List Row → List (ℕ × ℕ)
 placed_by_all names rows = flat_map (placed_by names) rows
 
--- a name that no line defines, or that is no label where one is wanted
+-- whether a name is used that no line defines, or that is no label though one is wanted
 abbrev pub lacks_name : Names → Location → Option Content → Bool
 lacks_name names location (Some (Data width items)) = not (are_items_known names location.offset items)
 lacks_name names location (Some (Code f i)) = is_none (numbers_of names location.offset i.operands)
 lacks_name names location None = false
 
--- a number that doesn't fit
+-- whether a number doesn't fit
 abbrev pub has_wrong_number : Names → Location → ℕ → Option Content → Bool
 has_wrong_number names location size (Some (Data width items)) = not (do_items_fit names location.offset width items)
 has_wrong_number names location size (Some (Code f i)) = is_none (fields_of names location size f i)
 has_wrong_number names location size None = false
 
--- a byte or a label past the segment's end
+-- whether a byte or a label lies past the segment's end
 abbrev pub is_past_end : Location → ℕ → Bool → Bool
 is_past_end location size has_label =
     (nat_lt 0 size && nat_lt 65536 (location.offset + size)) || (has_label && nat_lt 65535 location.offset)
@@ -80,13 +81,13 @@ is_past_end location size has_label =
 abbrev pub is_loadable : ℕ → Bool
 is_loadable address = nat_lt address 0xA0000 || (nat_le 0xF0000 address && nat_lt address 0x100000)
 
--- the addresses of so many bytes from a location on
+-- the addresses of this many bytes, from n bytes after a location on
 abbrev pub addresses_from : Location → ℕ → ℕ → List ℕ
 addresses_from location n zero = []
 addresses_from location n (suc more) = address_behind location n ∷ addresses_from location (n + 1) more
 
--- The fault of what stands at a location, in the light of all names and of the addresses that are taken: of its faults
--- the one with the least number.
+-- The fault of what stands at a location, in the light of all names and of the addresses that are taken. If there are
+-- several, it is the one with the least number.
 abbrev pub fault_at : Names → (ℕ → Bool) → Bool → Location → ℕ → Option Content → Option SourceFault
 fault_at names is_taken has_label location size content =
     if lacks_name names location content then Some Undefined else (
@@ -95,17 +96,17 @@ fault_at names is_taken has_label location size content =
     if list_any is_taken (addresses_from location 0 size) then Some Overlap else (
     if list_all is_loadable (addresses_from location 0 size) then None else Some NotLoadable))))
 
--- a line outside of segments places nothing
+-- the fault of what a line places; outside of segments a line places nothing
 unfoldable pub late_fault : Names → (ℕ → Bool) → Bool → Option Location → ℕ → Option Content → Option SourceFault
 late_fault names is_taken has_label (Some location) size content =
     fault_at names is_taken has_label location size content
 late_fault names is_taken has_label None size content = None
 
--- some earlier line placed a byte there
+-- whether an earlier line placed a byte at the address
 abbrev pub is_placed : List (ℕ × ℕ) → ℕ → Bool
 is_placed placed address = list_any (λ entry. entry.0 == address) placed
 
--- the fault that a row has behind these
+-- the fault that a row has in the light of the rows before it
 abbrev pub row_fault : Names → List Row → Row → Option SourceFault
 row_fault names before row =
     late_fault names (is_placed (placed_by_all names before)) (is_some row.line.label) row.location row.size

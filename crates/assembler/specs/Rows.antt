@@ -1,4 +1,4 @@
--- Lines in the light of the lines before them: where they stand, what they define, and which faults they have there.
+-- Lines in the light of the lines before them: where they stand, what they define, and which faults they have.
 -- To be believed: the headline rests on it.
 use Rattle.std.specs.Prelude.{ℕ, ℤ, pos, negsuc, ◌≡◌, ◌+◌, Bool, true, false, ◌||◌, if◌then◌else◌, List, [], ◌∷◌, ◌++◌, Option, None, Some, Ok, is_some, fold, option_and_then}
 use Rattle.std.specs.Option.{option_map, option_map_or}
@@ -18,7 +18,7 @@ use Rattle.assembler_meaning.specs.Instructions.{instruction_asked, instruction_
 use Rattle.assembler_meaning.specs.Data.{counts_of, data_size, natural, is_other, is_wrong_count, is_unknown}
 
 -- a line of a source, with the form that its instruction has, how many bytes it places, where the first of them goes,
--- where the next byte goes behind it, and the names that it defines, its label first
+-- where the byte after them goes, and the names that it defines, its label first
 pub record Row : Type 0 where
   pub line : Line
   pub form : Option Form
@@ -27,10 +27,11 @@ pub record Row : Type 0 where
   pub next : Option Location
   pub names : Names
 
--- what these lines define, and where they leave off
+-- what these lines define
 abbrev pub names_of : List Row → Names
 names_of rows = flat_map (λ row. row.names) rows
 
+-- where the byte after these lines goes
 abbrev pub location_behind : List Row → Option Location
 location_behind rows = fold (λ location row. row.next) None rows
 
@@ -38,13 +39,13 @@ abbrev pub IsFormOf : Names → Statement → Option Form → Type 0
 IsFormOf names (Instruction i) form = IsFormFor (instruction_asked names i) form
 IsFormOf names statement form = form ≡ None
 
--- the bytes of a line are told by its form alone
+-- how many bytes a line places; of an instruction its form is enough to say so
 abbrev pub size_of : Names → Statement → Option Form → ℕ
 size_of names (Data width items) form = data_size names width items
 size_of names (Instruction i) (Some f) = instruction_size f i
 size_of names statement form = 0
 
--- SEGMENT opens a segment at location 0, ENDS closes it, ORG sets the location, and all else moves on
+-- the start of a segment
 abbrev pub opened_at : ℤ → Location
 opened_at n = record { segment = natural n; offset = 0 }
 
@@ -54,17 +55,20 @@ set_to n location = record location { offset = natural n }
 abbrev pub moved_on : ℕ → Location → Location
 moved_on size location = record location { offset = location.offset + size }
 
+-- where the byte after a statement goes: SEGMENT opens a segment at offset 0, ENDS closes it, ORG sets the offset, and
+-- all else moves on
 abbrev pub location_after : Names → Option Location → Statement → ℕ → Option Location
 location_after names location (Segment name n) size = option_map opened_at (constant_of names n)
 location_after names location Ends size = None
 location_after names location (Org n) size = option_and_then (λ v. option_map (set_to v) location) (constant_of names n)
 location_after names location statement size = option_map (moved_on size) location
 
--- a label stands for the place of the next byte, a name of SEGMENT or EQU for its constant
+-- a label stands for the place of the next byte
 abbrev pub label_definition : Option Location → Option Name → Names
 label_definition (Some location) (Some name) = (name, Label location) ∷ []
 label_definition location label = []
 
+-- a name of SEGMENT or EQU stands for its constant
 abbrev pub constant_definition : Name → Option ℤ → Names
 constant_definition name (Some n) = (name, Constant n) ∷ []
 constant_definition name None = []
@@ -74,7 +78,7 @@ statement_definition names (Segment name n) = constant_definition name (constant
 statement_definition names (Equ name n) = constant_definition name (constant_of names n)
 statement_definition names statement = []
 
--- in the light of these names and of where the lines before leave off, a text makes this row
+-- a text makes this row, in the light of the names so far and of where the lines before it end
 pub record IsRow (known : Names) (here : Option Location) (text : List ℕ) (row : Row) : Type 0 where
   pub reads : read_line text ≡ Ok row.line
   pub form : IsFormOf known row.line.statement row.form
@@ -83,8 +87,8 @@ pub record IsRow (known : Names) (here : Option Location) (text : List ℕ) (row
   pub next : row.next ≡ location_after known here row.line.statement row.size
   pub names : row.names ≡ label_definition here row.line.label ++ statement_definition known row.line.statement
 
--- the constants of a statement: paragraphs and locations are words, counts before DUP words but 0, and EQU takes any
--- number of a double word
+-- whether a constant of a statement is out of range: paragraphs and locations are words, counts before DUP are words
+-- but not 0, and EQU takes any number of a double word
 abbrev pub has_wrong_constant : Names → Statement → Bool
 has_wrong_constant names (Segment name n) = is_other (pos 0) (pos 65535) (constant_of names n)
 has_wrong_constant names (Org n) = is_other (pos 0) (pos 65535) (constant_of names n)
@@ -107,7 +111,7 @@ abbrev pub lacks_form : Statement → Option Form → Bool
 lacks_form (Instruction i) None = true
 lacks_form statement form = false
 
--- the names that a line defines are new, and two
+-- the name that SEGMENT or EQU defines
 abbrev pub statement_name : Statement → Option Name
 statement_name (Segment name n) = Some name
 statement_name (Equ name n) = Some name
@@ -117,13 +121,14 @@ abbrev pub is_same : Option Name → Option Name → Bool
 is_same (Some a) (Some b) = same_name a b
 is_same a b = false
 
+-- whether a line defines a name that is defined already, or defines one twice
 abbrev pub defines_again : Names → Line → Bool
 defines_again names line =
     option_map_or (is_defined names) line.label false
     || (option_map_or (is_defined names) (statement_name line.statement) false
     || is_same line.label (statement_name line.statement))
 
--- labels and these statements stand in a segment only
+-- the statements that need an open segment
 abbrev pub wants_segment : Statement → Bool
 wants_segment Ends = true
 wants_segment (Org n) = true
@@ -131,11 +136,13 @@ wants_segment (Data width items) = true
 wants_segment (Instruction i) = true
 wants_segment statement = false
 
+-- whether a line needs an open segment, as all labels do, and there is none
 abbrev pub stands_outside : Option Location → Line → Bool
 stands_outside (Some location) line = false
 stands_outside None line = is_some line.label || wants_segment line.statement
 
--- the fault that a line has in the light of the lines before it: of its faults the one with the least number
+-- The fault that a line has in the light of the lines before it. If there are several, it is the one with the least
+-- number.
 unfoldable pub early_fault : Names → Option Location → Line → Option Form → Option SourceFault
 early_fault names location line form =
     if opens_within location line.statement || has_wrong_constant names line.statement then Some BadLine else (
@@ -144,12 +151,12 @@ early_fault names location line form =
     if defines_again names line then Some TwiceDefined else (
     if stands_outside location line then Some NoSegment else None))))
 
--- a text makes this row behind these, and has no fault there
+-- a text makes this row after the rows before it, and has no fault there
 pub record IsCleanRow (before : List Row) (text : List ℕ) (row : Row) : Type 0 where
   pub is_row : IsRow (names_of before) (location_behind before) text row
   pub clean : early_fault (names_of before) row.location row.line row.form ≡ None
 
--- the texts make these rows, each clean behind those before it
+-- the texts make these rows, each of them clean after those before it
 abbrev pub AreRows : List Row → List (List ℕ) → List Row → Type 0
 AreRows before [] [] = Unit {0}
 AreRows before [] (row ∷ rows) = ⊥

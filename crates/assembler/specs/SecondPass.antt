@@ -1,4 +1,4 @@
--- The second pass, told of the rows that the first pass keeps.
+-- The second pass, by the rows that the first pass keeps.
 -- For proofs alone: no public contract rests on it.
 use Rattle.std.specs.Prelude.{ℕ, ◌≡◌, Bool, not, true, false, List, [], ◌∷◌, ◌++◌, length, fold, Option, None, Some, is_some, if◌then◌else◌}
 use Rattle.std.specs.List.{flat_map, list_all, list_any}
@@ -20,7 +20,7 @@ use Rattle.assembler.specs.Placement.{addresses_from, bytes_by, content_of, has_
 use Rattle.assembler.specs.Kept.{content_in}
 use Rattle.assembler.specs.Rows.{Row}
 
--- the image has a byte at the address
+-- whether the image has a byte at the address
 abbrev pub has_byte : List (ℕ × ℕ) → ℕ → Bool
 has_byte image address = is_some (image_byte image address)
 
@@ -28,18 +28,18 @@ has_byte image address = is_some (image_byte image address)
 abbrev pub with_entries : List (ℕ × ℕ) → List (ℕ × ℕ) → List (ℕ × ℕ)
 with_entries image placed = fold (λ held entry. insert_entry nat_cmp held entry.0 entry.1) image placed
 
--- what a kept row places
+-- what a kept row places: addresses, each with its byte
 abbrev pub entries_by : Names → KeptRow → List (ℕ × ℕ)
 entries_by names kept = placed_at names kept.location kept.size (content_in kept)
 
 abbrev pub entries_by_all : Names → List KeptRow → List (ℕ × ℕ)
 entries_by_all names rows = flat_map (entries_by names) rows
 
--- the fault of a kept row where these addresses are taken
+-- the fault of a kept row, if these addresses are taken
 abbrev pub kept_fault : Names → (ℕ → Bool) → KeptRow → Option SourceFault
 kept_fault names is_taken kept = late_fault names is_taken kept.has_label kept.location kept.size (content_in kept)
 
--- the names and numbers of what stands at a location
+-- the fault in the names and numbers of what stands at a location
 abbrev pub content_fault : Names → Location → ℕ → Option Content → Option SourceFault
 content_fault names location size content =
     if lacks_name names location content then Some Undefined else (
@@ -50,14 +50,14 @@ data_fault names location width items =
     if not (are_items_known names location.offset items) then Some Undefined else (
     if not (do_items_fit names location.offset width items) then Some OutOfRange else None)
 
--- the place of so many bytes, where these addresses are taken
+-- the fault in the place of this many bytes, if these addresses are taken
 abbrev pub placing_fault : (ℕ → Bool) → Bool → Location → ℕ → Option SourceFault
 placing_fault is_taken has_label location size =
     if is_past_end location size has_label then Some OutOfSegment else (
     if list_any is_taken (addresses_from location 0 size) then Some Overlap else (
     if list_all is_loadable (addresses_from location 0 size) then None else Some NotLoadable))
 
--- what has no such fault has as many bytes as its row says
+-- if its names are defined and its numbers fit, what stands at a location has as many bytes as its row says
 abbrev pub HasSizeAt : Names → Location → ℕ → Option Content → Type 0
 HasSizeAt names location size content =
     lacks_name names location content ≡ false → has_wrong_number names location size content ≡ false
@@ -70,20 +70,20 @@ HasSize names None size content = Unit {0}
 abbrev pub KeepsSize : Names → KeptRow → Type 0
 KeepsSize names kept = HasSize names kept.location kept.size (content_in kept)
 
--- the line with this number stops at this fault, or for want of memory
+-- the pass stops at the line with this number, for this fault or for want of memory
 abbrev pub StopsAt : ℕ → Option SourceFault → AsmFault → Type 0
 StopsAt number found (InLine fault at) = (at ≡ number) × (found ≡ Some fault)
 StopsAt number found SourceTooLong = ⊥
 StopsAt number found Memory = Unit {0}
 
--- each of these kept rows has no fault behind those before it
+-- no kept row has a fault in the light of those before it
 abbrev pub AreFaultlessKept : Names → List KeptRow → List KeptRow → Type 0
 AreFaultlessKept names before [] = Unit {0}
 AreFaultlessKept names before (kept ∷ more) =
     (kept_fault names (is_placed (entries_by_all names before)) kept ≡ None)
     × AreFaultlessKept names (before ++ kept ∷ []) more
 
--- what stands at a location has no fault where these addresses are taken
+-- what stands at a location has no fault if these addresses are taken
 pub record CanStand (names : Names) (is_taken : ℕ → Bool) (has_label : Bool) (location : Location) (size : ℕ)
     (content : Option Content) : Type 0 where
   pub known : lacks_name names location content ≡ false

@@ -9,11 +9,11 @@ use Rattle.assembler.specs.Placement.{address_behind}
 use Rattle.board_types.specs.Digits.{hex_byte_text, hex_word}
 use Rattle.assembler.specs.Listing.{spaces}
 
--- the byte that the image has so far behind a location
+-- the byte that the image has n bytes after a location, or 0 if it has none
 abbrev pub shown_byte : List (ℕ × ℕ) → Location → ℕ → ℕ
 shown_byte image location n = unwrap_or (image_byte image (address_behind location n)) 0
 
--- the digits of the first bytes behind a location
+-- the digits of the first n bytes from a location on
 abbrev pub shown_digits : List (ℕ × ℕ) → Location → ℕ → List ℕ
 shown_digits image location zero = []
 shown_digits image location (suc n) = shown_digits image location n ++ hex_byte_text (shown_byte image location n)
@@ -21,7 +21,7 @@ shown_digits image location (suc n) = shown_digits image location n ++ hex_byte_
 abbrev pub shown_count : ℕ → ℕ
 shown_count size = if nat_lt 8 size then 8 else size
 
--- where so many bytes stand, and the first eight of them
+-- a location, and the first eight of the bytes from there on
 unfoldable pub shown_place : List (ℕ × ℕ) → Location → ℕ → List ℕ
 shown_place image location size =
     hex_word location.segment ++ (58 ∷ hex_word location.offset ++ (32 ∷ shown_digits image location (shown_count size)

@@ -12,10 +12,10 @@ use crate::placing::place_rows;
 use crate::reading::read_source;
 use std::alloc::Global;
 
-/// How many bytes a source may have.
+/// How many bytes a source may have at most.
 const SOURCE_LIMIT: usize = 1_048_576;
 
-/// The listing of the source, or the source's first fault. Want of memory is answered only where a growth was really
+/// The listing of the source, or the source's first fault. Want of memory is answered only if an allocation was really
 /// refused.
 pub fn assemble(alloc: Global, source: &[u8]) -> Result<Listing, AsmFault>
     ensures source { IfOk result (λ listing. listing.source ≡ source.now) }
@@ -24,7 +24,7 @@ pub fn assemble(alloc: Global, source: &[u8]) -> Result<Listing, AsmFault>
         → listing.names ≡ names_of rows) }
     ensures fault { IfErr result (IsFirst source.now) }
 
-    // Where the source gives an image, no other image comes, and no fault but the want of memory.
+    // If the source gives an image, the answer is that image, or want of memory.
     ensures refused { (image : List (ℕ × ℕ)) → Gives source.now image
         → MatchResult result (λ listing. listing.image ≡ image) (λ fault. fault ≡ Memory) }
 {

@@ -1,4 +1,4 @@
-//! Segments and names: what the lines before a line leave, and the faults of a line in that light.
+//! Segments and names: what the lines before a line leave to it, and the faults that a line has by them.
 ghost use Rattle.std.specs.Prelude.{◌≡◌, ◌≤◌, ◌<◌, ◌+◌, ◌^◌, false, true, pos, IfSome};
 ghost use Rattle.std.specs.Option.{option_map, option_map_or};
 ghost use Rattle.isa.specs.Encoding.{IsForm};
@@ -18,7 +18,7 @@ use assembler_syntax::expression::Expression;
 use assembler_syntax::statement::{Line, Statement};
 use isa::form::Form;
 
-/// A paragraph, and a location that ORG sets, is at most this.
+/// The greatest paragraph, and the greatest location that ORG sets.
 const WORD_LIMIT: i64 = 65_535;
 
 /// The least number that EQU takes.
@@ -27,7 +27,7 @@ const EQU_LEAST: i64 = -2_147_483_648;
 /// The greatest number that EQU takes.
 const EQU_GREATEST: i64 = 4_294_967_295;
 
-/// What the lines before a line leave.
+/// What the lines before a line leave to it.
 #[derive(Drop)]
 pub(crate) struct Before {
     /// Where the next byte goes, if a segment is open.
@@ -35,8 +35,8 @@ pub(crate) struct Before {
     pub(crate) symbols: Symbols,
 }
 
-/// The fault of a line in the light of the lines before it: of its faults the one with the least number. `form` is the
-/// one that the table gives its instruction.
+/// The fault of a line in the light of the lines before it, if it has one: of several the one with the least number.
+/// `form` is what the table gives the line's instruction.
 #[tactic(auto, unfolding(crate::specs::Rows::early_fault))]
 pub(crate) fn early_fault(state: &Before, line: &Line, form: Option<Form>) -> Option<SourceFault>
     requires small { AreSmall state.now.symbols.entries }
@@ -63,7 +63,7 @@ pub(crate) fn early_fault(state: &Before, line: &Line, form: Option<Form>) -> Op
     None
 }
 
-/// A SEGMENT within an open segment.
+/// Whether the statement is a SEGMENT within an open segment.
 fn opens_within(location: Option<Location>, statement: &Statement) -> bool
     ensures { result ≡ opens_within location statement.now }
 {
@@ -84,7 +84,7 @@ fn has_wrong_constant(symbols: &Symbols, statement: &Statement) -> bool
     }
 }
 
-/// Whether a constant of the statement has a name that is no constant.
+/// Whether a constant of the statement isn't one by the names that are known.
 fn has_unknown_constant(symbols: &Symbols, statement: &Statement) -> bool
     requires small { AreSmall symbols.now.entries }
     requires short { are_terms_within term_limit statement.now ≡ true }
@@ -99,14 +99,14 @@ fn has_unknown_constant(symbols: &Symbols, statement: &Statement) -> bool
     }
 }
 
-/// An instruction that no row of the table takes.
+/// Whether the statement is an instruction that no row of the table takes.
 fn lacks_form(statement: &Statement, form: Option<Form>) -> bool
     ensures { result ≡ lacks_form statement.now form }
 {
     matches!(statement, Statement::Instruction(_)) && form.is_none()
 }
 
-/// The name that the statement defines.
+/// The name that SEGMENT or EQU defines.
 fn statement_name(statement: &Statement) -> Option<Name>
     ensures { result ≡ statement_name statement.now }
 {
@@ -120,7 +120,7 @@ fn statement_name(statement: &Statement) -> Option<Name>
     }
 }
 
-/// Whether the line defines a name that an earlier line defines, or its label again.
+/// Whether the line defines a name that an earlier line has defined, or one name twice.
 fn defines_again(symbols: &Symbols, line: &Line) -> bool
     ensures { result ≡ defines_again symbols.now.entries line.now }
 {
@@ -147,14 +147,14 @@ fn is_same(label: Option<Name>, name: Option<Name>) -> bool
     }
 }
 
-/// A line that may stand in a segment only, where none is open.
+/// Whether the line needs an open segment, as every label does, and there is none.
 fn stands_outside(location: Option<Location>, line: &Line) -> bool
     ensures { result ≡ stands_outside location line.now }
 {
     location.is_none() && (line.label.is_some() || wants_segment(&line.statement))
 }
 
-/// Whether the statement may stand in a segment only.
+/// Whether the statement needs an open segment.
 fn wants_segment(statement: &Statement) -> bool
     ensures { result ≡ wants_segment statement.now }
 {
@@ -164,7 +164,7 @@ fn wants_segment(statement: &Statement) -> bool
     )
 }
 
-/// How many bytes the line places.
+/// How many bytes the line places. `form` is what the table gives the line's instruction.
 pub(crate) fn size_of(symbols: &Symbols, statement: &Statement, form: Option<Form>) -> u64
     requires small { AreSmall symbols.now.entries }
     requires short { are_terms_within term_limit statement.now ≡ true }
@@ -194,7 +194,7 @@ pub(crate) fn statement_form(symbols: &Symbols, statement: &Statement) -> Option
     }
 }
 
-/// A constant that is a word.
+/// A constant as a word, if the expression is one.
 fn word_of(symbols: &Symbols, expression: &Expression) -> Option<u16>
     requires small { AreSmall symbols.now.entries }
     requires short { IsShort expression.now }
@@ -207,7 +207,7 @@ fn word_of(symbols: &Symbols, expression: &Expression) -> Option<u16>
     }
 }
 
-/// Where the next byte goes behind the statement.
+/// Where the next byte goes after the statement, which places `size` bytes.
 pub(crate) fn location_after(state: &Before, statement: &Statement, size: u64) -> Option<Location>
     requires small { AreSmall state.now.symbols.entries }
     requires short { are_terms_within term_limit statement.now ≡ true }

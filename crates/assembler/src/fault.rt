@@ -73,7 +73,7 @@ impl SourceFault {
         }
     }
 
-    /// The fault that a line has whatever the other lines are.
+    /// A fault that a line has by itself, as one of the source.
     pub(crate) fn of_line(fault: SyntaxFault) -> SourceFault
         ensures { result ≡ fault_of_line fault }
     {

@@ -22,10 +22,10 @@ use board_types::image::Image;
 use std::alloc::{AllocError, Global};
 use std::marker::Model;
 
-/// How many of a line's bytes the listing shows.
+/// How many of a line's bytes the listing shows at most.
 const SHOWN: u64 = 8;
 
-/// A source that was assembled.
+/// An assembled source.
 #[derive(Drop)]
 pub struct Listing {
     pub(crate) reading: Reading,
@@ -64,7 +64,7 @@ impl Listing {
         self.image
     }
 
-    /// The listing's line `i`, from 0 on: where the line's bytes stand, the first eight of them, a `+` where there are
+    /// The listing's line `i`, from 0 on: where the line's bytes stand, the first eight of them, a `+` if there are
     /// more, and the source's line. `None` past the last line.
     pub fn line(&self, alloc: Global, i: usize) -> Result<Option<String>, AsmFault>
         ensures line { (rows : List Row) → AreRows [] (text_lines self.now.source) rows
@@ -79,8 +79,8 @@ impl Listing {
         Ok(Some(text))
     }
 
-    /// The `i`-th name that the source defines, from 0 on, in upper case, with its value: of a label its offset. Names
-    /// stand by rising line, a line's label first. `None` past the last name.
+    /// The `i`-th name that the source defines, from 0 on, in upper case, with its value, which for a label is its
+    /// offset. Names come in the order of their lines, and a line's label comes first. `None` past the last name.
     pub fn symbol(&self, i: usize) -> Option<(&str, i64)>
         ensures { option_map (λ found. (found.0.now, found.1)) result ≡ symbol_at self.now.names i }
     {
@@ -110,7 +110,7 @@ fn line_text(
     Ok(text)
 }
 
-/// In place of bytes where a row has none.
+/// What the listing shows in place of bytes, if a row has none.
 fn no_place_text(alloc: Global) -> Result<String, AllocError>
     ensures { IfOk result (λ text. string_bytes text ≡ spaces 28) }
 {
@@ -119,7 +119,7 @@ fn no_place_text(alloc: Global) -> Result<String, AllocError>
     Ok(text)
 }
 
-/// Where the bytes stand, and the first eight of them.
+/// Where a row's bytes stand, and the first eight of them.
 #[tactic(auto, unfolding(crate::specs::Shown::shown_place))]
 fn place_text(
     alloc: Global,
@@ -142,7 +142,7 @@ fn place_text(
     Ok(text)
 }
 
-/// So many of the bytes that stand there.
+/// Adds the first `count` bytes from the location on, as digits.
 #[tactic(auto, using(crate::proofs::ListingShown::digits_more))]
 fn push_bytes(
     alloc: Global,
@@ -171,7 +171,7 @@ fn push_spaces(text: &mut String, count: u64) -> Result<(), AllocError>
     Ok(())
 }
 
-/// A name without what fills it up.
+/// A name without the zeros that fill it up.
 fn name_text(name: &Name) -> &str
     requires { IsAscii (letters_of name.now) }
     ensures { result.now ≡ letters_of name.now }
@@ -180,7 +180,7 @@ fn name_text(name: &Name) -> &str
     ascii_text(letters.split_at(name_length(letters)).0)
 }
 
-/// How many letters stand before what fills the name up.
+/// How many letters stand before the zeros that fill a name up.
 fn name_length(letters: &[u8]) -> usize
     ensures { result ≡ prefix_len (λ letter. nat_lt 0 letter) letters.now }
 {
@@ -194,7 +194,7 @@ fn name_length(letters: &[u8]) -> usize
     length
 }
 
-/// The text that ASCII characters are.
+/// ASCII characters as a text.
 fn ascii_text(characters: &[u8]) -> &str
     requires { IsAscii characters.now }
     ensures { result.now ≡ characters.now }

@@ -29,7 +29,7 @@ use std::alloc::{AllocError, Global};
 /// How many offsets a segment has.
 const SEGMENT_SIZE: u64 = 65_536;
 
-/// The image that a source's lines make, or the fault of the first that can't be placed.
+/// The image that a source's lines make, or the fault of the first line that can't be placed.
 pub(crate) fn place_rows(alloc: Global, reading: &Reading) -> Result<Image, AsmFault>
     requires reads { Reads reading.now.source.items reading.now.symbols.entries reading.now.rows.items }
     ensures gives { IfOk result (Gives reading.now.source.items) }
@@ -67,8 +67,8 @@ fn place_row(
     Ok(put_row(alloc, image, symbols, row)?)
 }
 
-/// The fault of a line in the light of all names and of the bytes placed so far: of its faults the one with the least
-/// number.
+/// The fault of a line in the light of all names and of the bytes placed so far, if it has one: of several the one with
+/// the least number.
 #[tactic(auto, unfolding(crate::specs::Placement::late_fault))]
 fn late_fault(image: &Image, symbols: &Symbols, row: &KeptRow) -> Option<SourceFault>
     requires small { AreSmall symbols.now.entries }
@@ -84,7 +84,7 @@ fn late_fault(image: &Image, symbols: &Symbols, row: &KeptRow) -> Option<SourceF
     placing_fault(image, location, row.size, row.has_label)
 }
 
-/// The fault of the names and numbers of what stands there.
+/// The fault in the names and numbers of what stands at the location.
 fn content_fault(
     symbols: &Symbols,
     location: Location,
@@ -128,7 +128,7 @@ fn data_fault(
     }
 }
 
-/// The numbers in the fields of an instruction that stands there.
+/// The numbers in the fields of an instruction that stands at the location, or its fault.
 fn code_values(
     symbols: &Symbols,
     location: Location,
@@ -156,7 +156,7 @@ fn code_values(
     }
 }
 
-/// The fault of placing so many bytes there.
+/// The fault of placing `size` bytes from the location on.
 fn placing_fault(
     image: &Image,
     location: Location,
@@ -188,7 +188,7 @@ fn is_past_end(location: Location, size: u64, has_label: bool) -> bool
         || (has_label && location.offset >= SEGMENT_SIZE)
 }
 
-/// Whether the image has a byte where one of these would stand.
+/// Whether the image has a byte already where one of `size` bytes from the location on would go.
 fn overlaps(image: &Image, location: Location, size: u64) -> bool
     requires within { 0 < size → location.offset + size ≤ 65536 }
     ensures { result ≡ list_any (has_byte image.now) (addresses_from location 0 size) }
@@ -213,7 +213,7 @@ fn can_load(location: Location, size: u64) -> bool
     true
 }
 
-/// The address of the byte that stands so far behind the location, within its segment.
+/// The address of the byte that is `n` bytes after the location, within its segment.
 pub(crate) fn address_at(location: Location, n: u64) -> u32
     requires within { location.offset + n < 65536 }
     ensures { result ≡ address_behind location n }
@@ -246,7 +246,7 @@ fn put_row(
     put_bytes(image, location, bytes.as_slice())
 }
 
-/// The bytes of what stands there, if it has no fault.
+/// The bytes of what stands at the location, which has no fault.
 fn content_bytes(
     alloc: Global,
     symbols: &Symbols,

@@ -66,7 +66,7 @@ pub(crate) fn read_source(alloc: Global, source: &[u8]) -> Result<Reading, AsmFa
     })
 }
 
-/// Reads the line with this number, whose text begins here in the source, and keeps its row.
+/// Reads the line with this number, whose text begins at `start` in the source, and keeps its row.
 fn add_text(
     alloc: Global,
     state: &mut Before,
@@ -94,7 +94,7 @@ fn push_row(rows: &mut Vec<KeptRow>, row: KeptRow) -> Result<(), AllocError>
     Ok(rows.push(row)?)
 }
 
-/// What a line is, and what is left behind it.
+/// The row of a line, whose names are added and after which the location moves on, or why it isn't taken.
 fn read_row(
     alloc: Global,
     state: &mut Before,
@@ -122,8 +122,8 @@ fn read_row(
     }
 }
 
-/// Adds the names of a line that has no fault, moves on behind it, and keeps what it places. Its text begins here in
-/// the source and has this length.
+/// Adds the names of a line that has no fault, moves the location on, and gives the row to keep. The line's text begins
+/// at `start` in the source and has `length` bytes.
 fn add_line(
     alloc: Global,
     state: &mut Before,
@@ -162,7 +162,7 @@ fn add_line(
     })
 }
 
-/// The name that a label defines, at the place of the next byte.
+/// The name that a label defines, for the place of the next byte.
 fn label_definition(location: Option<Location>, label: Option<Name>) -> Option<(Name, Symbol)>
     ensures { definition_names result ≡ label_definition location label }
 {
@@ -172,7 +172,7 @@ fn label_definition(location: Option<Location>, label: Option<Name>) -> Option<(
     }
 }
 
-/// The name that a statement defines.
+/// The name that SEGMENT or EQU defines, for its constant.
 fn statement_definition(symbols: &Symbols, statement: &Statement) -> Option<(Name, Symbol)>
     requires small { AreSmall symbols.now.entries }
     requires short { are_terms_within term_limit statement.now ≡ true }
@@ -199,7 +199,7 @@ fn define(symbols: &mut Symbols, definition: Option<(Name, Symbol)>) -> Result<(
     Ok(())
 }
 
-/// What the second pass wants of a statement.
+/// What the second pass needs of a statement.
 fn kept(
     alloc: Global,
     statement: Statement,

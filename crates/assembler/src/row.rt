@@ -14,7 +14,7 @@ pub(crate) enum Content {
     Code(Form, Instruction),
 }
 
-/// A line that has no fault by itself and in the light of the lines before it.
+/// A line that has no fault by itself or by the lines before it.
 #[derive(Drop)]
 pub(crate) struct KeptRow {
     /// Where its text begins in the source.

@@ -13,18 +13,18 @@ within c = subst (λ (ks : List KeptRow). c.loop-row.row-index < length ks) c.as
 item : (c : After-row-item) → get_or c.args.reading.now.rows.items c.loop-row.row-index c.row-item.result ≡ c.row-item.result
 item c = sym (c.row-item.is ∙ ap (λ (ks : List KeptRow). get_or ks c.loop-row.row-index c.row-item.result) c.as_slice-row-items.ensures.value)
 
--- src/placing.rt:40:5
+-- no row is placed yet
 pub loop-row-init : goal.loop-row-init
 loop-row-init c = record { counted = refl; image = c.new-image.ensures; placed = tt; is_image = rw c.new-image.ensures no_entries }
 
--- src/placing.rt:41:9
+-- the number of a line is that of one of the source's rows, which are few
 pub overflow_add-number : goal.overflow_add-number
 overflow_add-number c =
     let few = few_rows c.args.reading.now.source.items c.args.reading.now.symbols.entries c.args.reading.now.rows.items c.requires.reads in
     let there = within c in
     omega (arith, few, there, c.loop-row.invariant.counted)
 
--- src/placing.rt:42:9
+-- each row has as many bytes as its size says
 pub place_row-requires-clause-size : goal.place_row-requires-clause-size
 place_row-requires-clause-size c =
     let from = (goal.at.place_row-requires-clause-size c).After-row-item in
@@ -33,7 +33,7 @@ place_row-requires-clause-size c =
     (All-from_recursion (KeepsSize c.args.reading.now.symbols.entries) c.args.reading.now.rows.items
     (all_sized c.args.reading.now.source.items c.args.reading.now.symbols.entries c.args.reading.now.rows.items c.requires.reads)))
 
--- src/placing.rt:42:9
+-- the fault of a row is the source's first
 pub returns-in_err-place_row-clause-fault : goal.returns-in_err-place_row-clause-fault
 returns-in_err-place_row-clause-fault c =
     let from = (goal.at.returns-in_err-place_row-clause-fault c).After-row-item in
@@ -43,7 +43,7 @@ returns-in_err-place_row-clause-fault c =
     c.in_err-place_row.field-0.0 (c.loop-row.number + 1) c.requires.reads (within from) (item from) c.loop-row.invariant.image c.loop-row.invariant.placed
     c.in_err-place_row.ensures.fault (omega (arith, c.loop-row.invariant.counted)))
 
--- src/placing.rt:40:5
+-- one more row is placed
 pub loop-row-preserved : goal.loop-row-preserved
 loop-row-preserved c =
     let from = (goal.at.loop-row-preserved c).After-row-item in
@@ -56,7 +56,7 @@ loop-row-preserved c =
       is_image = c.in_ok-place_row.ensures.is_image;
     }
 
--- src/placing.rt:33:1
+-- with all rows placed, the source gives the image
 pub returns-clause-gives : goal.returns-clause-gives
 returns-clause-gives c =
     let past : length c.args.reading.now.rows.items ≤ c.loop-row.row-index =

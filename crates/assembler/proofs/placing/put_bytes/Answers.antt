@@ -5,20 +5,20 @@ use Rattle.assembler.proofs.PlacingAddresses.{loadable_at}
 use Rattle.assembler.proofs.PlacingImage.{no_byte, put_next, still_image}
 use Rattle.assembler.proofs.placing.put_bytes.Goals as goal
 
--- src/placing.rt:281:19
+-- each byte stands within the segment
 pub address_at-requires : goal.address_at-requires
 address_at-requires c = record { within = omega (arith, c.loop-byte.invariant.counted, c.loop-byte-test.true, c.requires.within) }
 
--- src/placing.rt:281:9
+-- the board can be loaded at each byte's address
 pub put-requires : goal.put-requires
 put-requires c =
     loadable_at c.args.location (length c.args.bytes.now) c.loop-byte.at c.address_at.result c.requires.loadable (omega (arith, c.loop-byte.invariant.counted, c.loop-byte-test.true)) c.address_at.ensures
 
--- src/placing.rt:282:9
+-- the count of the bytes is small
 pub overflow_add-at : goal.overflow_add-at
 overflow_add-at c = omega (arith, c.loop-byte.invariant.counted, c.loop-byte-test.true, c.requires.within)
 
--- src/placing.rt:280:5
+-- one more byte is put
 pub loop-byte-preserved : goal.loop-byte-preserved
 loop-byte-preserved c = record {
   counted = omega (arith, c.loop-byte.invariant.counted);
@@ -30,7 +30,7 @@ loop-byte-preserved c = record {
       (omega (arith, c.type_inv.bytes c.loop-byte.byte-index)));
 }
 
--- src/placing.rt:272:1
+-- all bytes are put
 pub returns-clause-image : goal.returns-clause-image
 returns-clause-image c =
     sym (ap (λ (bs : List ℕ). with_entries c.loop-byte.image (bytes_from c.args.location c.loop-byte.at bs)) (no_byte c.args.bytes.now c.loop-byte.byte-index c.loop-byte-test.false))

@@ -18,19 +18,19 @@ stands c = kept_stands c.args.symbols.now.entries (has_byte c.args.image.now) c.
 has_size : (c : After-deref) → HasSizeAt c.args.symbols.now.entries c.in-Some.location c.args.row.now.size (Some c.deref.result.now)
 has_size c = kept_size c.args.symbols.now.entries c.args.row.now c.in-Some.location (Some c.deref.result.now) c.in-Some.is (content_is c) c.requires.size
 
--- src/placing.rt:246:17
+-- what the row places has no fault
 pub content_bytes-requires-clause-free : goal.content_bytes-requires-clause-free
 content_bytes-requires-clause-free c =
     content_free c.args.symbols.now.entries (has_byte c.args.image.now) c.args.row.now.has_label c.in-Some.location c.args.row.now.size (Some c.deref.result.now) (stands c)
 
--- src/placing.rt:247:5
+-- the row's bytes are within the segment
 pub put_bytes-requires-clause-within : goal.put_bytes-requires-clause-within
 put_bytes-requires-clause-within c =
     let from = (goal.at.put_bytes-requires-clause-within c).After-deref in
     bytes_within c.args.symbols.now.entries (has_byte c.args.image.now) c.args.row.now.has_label c.in-Some.location c.args.row.now.size (Some c.deref.result.now)
     c.as_slice.result.now (stands from) (has_size from) (c.as_slice.ensures.value ∙ c.in_ok-bytes.ensures)
 
--- src/placing.rt:247:5
+-- the board can be loaded at the addresses of the row's bytes
 pub put_bytes-requires-clause-loadable : goal.put_bytes-requires-clause-loadable
 put_bytes-requires-clause-loadable c =
     let from = (goal.at.put_bytes-requires-clause-loadable c).After-deref in
