@@ -97,7 +97,7 @@ memory_asks op kw b d other n size small is size_is = (
       ∙ ap (λ (k : ℕ). in_memory (size_of (size_or (said_size kw) (size_beside op other))) b k) (counted n.displacement (displacement_by d) is),
 )
 
--- ---- its size is told, or the register beside it tells it
+-- ---- the size of memory is written, or given by the register beside it
 abbrev pub HasSize : Operation → Kind → Kind → KnownOperand → Type 0
 HasSize op kinds.Rm8 l other = size_or (said_size (written_size keywords.Byte l)) (size_beside op other) ≡ Some sizes.Byte
 HasSize op kinds.Rm16 l other = size_or (said_size (written_size keywords.Word l)) (size_beside op other) ≡ Some sizes.Word

@@ -120,7 +120,7 @@ signed_value x v e =
     let same : v ≡ x = omega (arith, is, below) in
     subst (λ (y : ℕ). sign_extended y ≡ x) (sym same) (small_sign x below)
 
--- a distance to a target, added to where it is told from
+-- a distance to a target, added to the offset that it is counted from
 below_by : (x n : ℕ) (b : Bool) → nat_lt x (suc n) ≡ b → (if b then negsuc (suc n - suc x) else pos (x - suc n)) ≡ (if nat_lt x (suc n) then negsuc (suc n - suc x) else pos (x - suc n))
 below_by x n b e = ap (λ (c : Bool). if c then negsuc (suc n - suc x) else pos (x - suc n)) (sym e)
 
@@ -282,7 +282,7 @@ a_word known.One n is of = (record { value = 1; is = of; small = omega arith }, 
 a_word (known.Number c) n is of = (of.0, refl)
 a_word _ n is of = cc
 
--- so what a field has of it is its value
+-- what a field has of a number that is asked is the number's value
 fielded : (x : KnownOperand) (n : Numbers) (m : ℕ) → IsTrue (is_number x) → AreOf x n → ((value : ℕ) → value < 65536 → n.number ≡ pos value → m ≡ value) → a_number m ≡ asked_meant x n
 fielded x n m is of same =
     let word = a_word x n is of in

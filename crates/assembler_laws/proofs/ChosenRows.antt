@@ -1,4 +1,4 @@
--- No row has two operands in one part, so that each part has what its operand puts there.
+-- No row has two operands in one part, so each part has what its operand puts there.
 use Rattle.std.proofs.Common.{◌≡◌, ◌∙◌, ℕ, ◌+◌, List, Contains, refl, sym, ap, subst, arith, Bool, true, false, not, ◌&&◌, ◌||◌, Some}
 use Rattle.std.specs.Prelude.{ℤ, pos, slice_get}
 use Rattle.std.specs.List.{list_all}
@@ -104,7 +104,7 @@ second_field kinds.At16 l e = cc
 second_field kinds.Far l e = cc
 second_field _ l e = refl
 
--- ---- no row has two in one part
+-- ---- no row has two operands in one part
 abbrev one_of : Bool → Bool → Bool
 one_of a b = not a || not b
 

@@ -129,7 +129,7 @@ has_place row i is there =
       size = is_row.size ∙ ap (λ s. size_of known s row.form) is ∙ ap (size_of known (Instruction i)) form.1;
     }
 
--- ---- its numbers fit the form's fields
+-- ---- the numbers of an instruction fit its form's fields
 pub some_there : {X : Type 0} (o : Option X) → is_none o ≡ false → (x : X) × (o ≡ Some x)
 some_there (Some x) is = (x, refl)
 some_there None is = absurd (let never : true ≡ false = is in cc)

@@ -68,7 +68,7 @@ four_bytes u (suc (suc zero)) d few within = refl
 four_bytes u (suc (suc (suc zero))) d few within = omega arith
 four_bytes u (suc (suc (suc (suc k)))) d few within = absurd (omega (arith, within))
 
--- its bytes, low byte first
+-- the bytes of a number, the low one first
 pub bytes_are : (width : DataWidth) (value : ℤ) → IsNumber (width_size width) value (number_of width value) → (k d : ℕ) → k < width_size width
     → get_or (number_bytes width value) k d ≡ number_of width value / 256 ^ k % 256
 unfolding number_of

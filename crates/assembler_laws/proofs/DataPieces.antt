@@ -17,7 +17,7 @@ use Rattle.assembler_meaning.specs.Values.{Names, value_of}
 use Rattle.assembler_laws.specs.DataBytes.{item_size, StandsBehind}
 use Rattle.assembler_laws.proofs.DataNumbers.{number_size}
 
--- ---- a part of some bytes, so far behind their first
+-- ---- a part of some bytes, from a place on
 pub record HasPart (bytes : List ℕ) (start : ℕ) (part : List ℕ) : Type 0 where
   pub front : List ℕ
   pub back : List ℕ
@@ -50,7 +50,7 @@ part_within bytes part start has =
     let at : length has.front ≡ start = has.counted in
     omega (arith, is, at)
 
--- what each of some makes, one behind the other
+-- what is made of each element, one after another
 made_there : {X : Type 0} (f : X → List ℕ) (front : List X) (x : X) (back : List X) (n : ℕ) → length (flat_map f front) ≡ n
     → HasPart (flat_map f (front ++ x ∷ back)) n (f x)
 made_there f front x back n long = record {

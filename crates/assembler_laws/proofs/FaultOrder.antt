@@ -1,4 +1,4 @@
--- Of the faults of a line the one with the least number is told, and each is of one pass.
+-- The fault that is answered for a line is the one with the least number, and each fault belongs to one pass.
 use Rattle.std.proofs.Common.{◌≡◌, ◌∙◌, ℕ, ◌<◌, ◌≤◌, ◌&&◌, ◌||◌, not, nat_lt, List, refl, ap, subst, arith, inl, inr, Bool, true, false, Option, None, Some, is_some, if◌then◌else◌}
 use Rattle.std.specs.Prelude.{◌⊎◌, ◌↔◌}
 use Rattle.std.specs.List.{list_all, list_any}
@@ -111,7 +111,7 @@ found_least P tests fault up each finds = (
   (λ is. least_is_found 0 tests fault up (record { has = finds fault is.has; least = λ other found. is.least other (each_has P tests other each found) })),
 )
 
--- ---- those of the first pass
+-- ---- the tests of the first pass
 abbrev early_tests : Names → Option Location → Line → Option Form → Tests
 early_tests known location line form =
     test (opens_within location line.statement || has_wrong_constant known line.statement) BadLine (test (has_unknown_constant known line.statement) UnknownName
@@ -131,7 +131,7 @@ unfolding early_fault
 early_least known location line form fault =
     found_least (HasEarly known location line form) (early_tests known location line form) fault refl ((λ is. is), ((λ is. is), ((λ is. is), ((λ is. is), ((λ is. is), tt))))) (early_finds known location line form)
 
--- ---- and of the second
+-- ---- the tests of the second pass
 not_true : (b : Bool) → not b ≡ true → b ≡ false
 not_true true is = no is
 not_true false is = refl

@@ -30,7 +30,7 @@ use Rattle.assembler_laws.specs.Fitting.{FitsByte, NumbersFit}
 use Rattle.assembler_laws.proofs.ChosenForms.{a_word}
 use Rattle.assembler_laws.proofs.ChosenRows.{first_field, has_field, has_form, second_field, HasForm}
 
--- it is some number
+-- there is a number
 abbrev pub IsThere : Option ℕ → Type 0
 IsThere o = (w : ℕ) × (o ≡ Some w)
 

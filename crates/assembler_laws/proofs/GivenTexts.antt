@@ -1,4 +1,4 @@
--- The text of an instruction gets its numbers, where a short jump's target is near.
+-- The text of an instruction gets its numbers, if a short jump's target is near.
 use Rattle.std.proofs.Common.{◌≡◌, ◌∙◌, ℕ, ◌+◌, ◌%◌, ◌<◌, Contains, refl, sym, ap, subst, arith, Bool, true, false, not, ◌&&◌, ◌||◌, Option, Some}
 use Rattle.std.specs.Prelude.{pos, negsuc, ◌-ℤ◌, IsTrue}
 use Rattle.std.specs.List.{list_all}
@@ -82,7 +82,7 @@ is_int_or_out (Transfer transfer.Out) = true
 is_int_or_out (Control control.Int) = true
 is_int_or_out _ = false
 
--- these have short targets alone
+-- operations that have short targets alone
 abbrev pub is_short_jump : Operation → Bool
 is_short_jump (Jump _) = true
 is_short_jump (Looping _) = true

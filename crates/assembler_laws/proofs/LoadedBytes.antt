@@ -1,4 +1,4 @@
--- What a memory has from a place on, where the bytes that a row places there are in it.
+-- What a memory has from a place on, if the bytes that a row places there are in it.
 use Rattle.std.proofs.Common.{◌≡◌, ◌∙◌, ℕ, ◌+◌, ◌<◌, ◌≤◌, List, [], ◌∷◌, length, take, map, All, Contains, refl, ap, arith}
 use Rattle.std.specs.List.{range_with_len}
 use Rattle.std.proofs.lemmas.List.FromFn.{length-map-range_with_len, take-map-range_with_len}

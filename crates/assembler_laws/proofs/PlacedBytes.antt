@@ -68,7 +68,7 @@ behind b bs is all = and_from (is_byte b) (are_bytes bs) (below_byte b is) all
 joined : (xs ys : List ℕ) → are_bytes xs ≡ true → are_bytes ys ≡ true → are_bytes (xs ++ ys) ≡ true
 joined xs ys one two = list_all-append is_byte xs ys ∙ and_from (are_bytes xs) (are_bytes ys) one two
 
--- what each of some that pass makes, one behind the other
+-- what is made of each element that passes, one after another, is bytes
 made_bytes : {X : Type 0} (f : X → List ℕ) (p : X → Bool) → ((x : X) → p x ≡ true → are_bytes (f x) ≡ true) → (xs : List X) → list_all p xs ≡ true
     → are_bytes (flat_map f xs) ≡ true
 made_bytes f p make [] all = refl

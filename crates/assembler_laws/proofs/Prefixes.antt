@@ -10,7 +10,8 @@ use Rattle.assembler.specs.Rows.{Row, AreRows, early_fault, defines_again, has_u
 use Rattle.assembler.proofs.AnsweringPlaces.{CleanThere}
 use Rattle.assembler.proofs.PlacingRows.{is_else}
 
--- what holds of no lines, and with the lines before a line of those with it, holds of the lines before each
+-- a claim that holds of no lines, and of the lines before a line with it if it holds of those, holds of the lines
+-- before each
 pub along : (P : List Row → Type 0) → ((before : List Row) (row : Row) → CleanThere before row → P before → P (before ++ row ∷ []))
     → (before : List Row) (texts : List (List ℕ)) (front : List Row) (row : Row) (back : List Row) → AreRows before texts (front ++ row ∷ back)
     → P before → P (before ++ front)
@@ -21,7 +22,7 @@ along P more before (text ∷ texts) (first ∷ front) row back are there =
     subst P (append_assoc before (first ∷ []) front)
     (along P more (before ++ first ∷ []) texts front row back are.1 (more before first (record { text = text; clean = are.0 }) there))
 
--- what a clean line has not
+-- the faults that a clean line hasn't
 pub record HasNone (known : Names) (location : Option Location) (line : Line) (form : Option Form) : Type 0 where
   pub opens : opens_within location line.statement ≡ false
   pub wrong : has_wrong_constant known line.statement ≡ false

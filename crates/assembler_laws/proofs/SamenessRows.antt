@@ -1,4 +1,4 @@
--- Lines that say the same but for their names make the same rows but for them.
+-- Lines that say the same but for their names make rows that are the same but for them.
 use Rattle.std.proofs.Common.{◌≡◌, ◌∙◌, ℕ, List, [], ◌∷◌, ◌++◌, map, Option, None, Result, Ok, refl, sym, ap, ap₂, subst}
 use Rattle.std.specs.Prelude.{fold}
 use Rattle.assembler_lexeme.specs.declared.fault.SyntaxFault.{SyntaxFault}

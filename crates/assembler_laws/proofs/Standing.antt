@@ -21,7 +21,7 @@ size_of_row row = row.size
 abbrev pub at_place : ℕ → ℕ → Location
 at_place paragraph offset = record { segment = paragraph; offset = offset }
 
--- the place behind one line more
+-- the place after one more line
 pub behind_more : (before : List Row) (row : Row) → location_behind (before ++ row ∷ []) ≡ row.next
 behind_more before row = fold-append (λ (location : Option Location) (r : Row). r.next) None before (row ∷ [])
 
@@ -175,11 +175,12 @@ told_behind before row there is location at =
 pub told_of_none : IsTold []
 told_of_none location at = absurd (let never : None ≡ Some location = at in cc)
 
--- ---- and back
+-- ---- from what says the place to the place
 abbrev pub AreClean : List Row → Type 0
 AreClean lines = (before : List Row) (row : Row) (after : List Row) → lines ≡ before ++ row ∷ after → CleanThere before row
 
--- what holds where none of the lines was passed, and with the lines that were passed of one more, holds behind all
+-- a claim that holds if no line was passed, and holds for one more line if it holds for those that were passed, holds
+-- after all lines
 walked : (P : List Row → Type 0) (before : List Row) (test : Row → Bool)
     → ((passed : List Row) (row : Row) → CleanThere (before ++ passed) row → test row ≡ false → P passed → P (passed ++ row ∷ []))
     → (passed since : List Row) → AreClean (before ++ (passed ++ since)) → AllByRecursion (λ row. test row ≡ false) since
@@ -234,7 +235,7 @@ to_more known here (Org n) size offset stays is = absurd (let never : true ≡ f
 to_more known here (Data width items) size offset stays is = moved_to offset size here is
 to_more known here (Instruction i) size offset stays is = moved_to offset size here is
 
--- behind the statement that says it
+-- a segment is open after the statement that says its paragraph
 in_first : (known : Names) (here : Option Location) (statement : Statement) (size paragraph : ℕ) → SaysParagraph known statement paragraph
     → IsIn paragraph (location_after known here statement size)
 in_first known here Empty size paragraph says = absurd says

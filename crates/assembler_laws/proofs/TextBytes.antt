@@ -71,7 +71,7 @@ characters_bytes (b ∷ bs) all =
     let both = and_parts (is_character b) (list_all is_character bs) all in
     and_from (is_byte b) (are_bytes bs) (character_byte b both.0) (characters_bytes bs both.1)
 
--- ---- what all elements pass, those of a part pass
+-- ---- a test that all elements pass is passed by those of a part
 all_taken : {A : Type 0} (p : A → Bool) (k : ℕ) (xs : List A) → list_all p xs ≡ true → list_all p (take k xs) ≡ true
 all_taken p zero xs all = refl
 all_taken p (suc k) [] all = refl

@@ -164,7 +164,7 @@ has_memory kinds.At8 = true
 has_memory kinds.At16 = true
 has_memory _ = false
 
--- operations beside which a register tells a size
+-- the operations in which a register says the size of memory beside it
 abbrev pub is_plain : Operation → Bool
 is_plain (Shift _) = false
 is_plain (Transfer transfer.Push) = false
@@ -650,7 +650,7 @@ ask_both f v next is fits =
       size = has_size f v next op k l has.size_first;
     }
 
--- ---- what a line with them is asked
+-- ---- what a line with both operands is asked
 pub both_said : (names : Names) (here : ℕ) (f : Form) (v : Values) (next : ℕ) → IsForm f → FitsForm f v → AreBoth names here (first_written f v next) (second_written f v next)
 both_said names here f v next is fits =
     let r : Row = f.row in
@@ -675,7 +675,7 @@ both_said names here f v next is fits =
         by_second (is_solid (second_written f v next)) refl
         (solid_written (first_written f v next) (kind_solid f v next (first_of f.row) (second_of f.row) p first_fits) (operand_written f v next (first_of f.row) (second_of f.row) fits))
 
--- ---- what is chosen for it
+-- ---- the form that is chosen for what is asked
 chosen_by : (b : Bool) (o : Option Asked) (a : Asked) → (if b then o else None) ≡ Some a → o ≡ Some a
 chosen_by true o a e = e
 chosen_by false o a e = absurd (let never : None ≡ Some a = e in cc)
@@ -700,7 +700,7 @@ unfolding prefixes_of
 prefixes_same i ip none = ap (λ o. i.prefixes.items ++ override_prefix o) none ∙ append-nil i.prefixes.items
 
 -- ---- what the text of an instruction says
--- these operands, in the light of the names before it, with these numbers, in the light of all; and this is what they ask
+-- the text has these operands, by the names before it, and these numbers, by all names; and this is what they ask
 pub record Says (before names : Names) (here : ℕ) (i : Instr) (x y : KnownOperand) (n : Numbers) (a : Asked) : Type 0 where
   pub known_are : known_operands before (operands_in i.form i.values (next_of i here)) ≡ Some (x, y)
   pub numbers : numbers_of names here (operands_in i.form i.values (next_of i here)) ≡ Some n
@@ -728,7 +728,7 @@ nop_says before names here i nop =
       prefixes = prefixes_same i here (ap override_of none);
     }
 
--- and of any other instruction
+-- what the text of an instruction asks for its first operand, if it isn't XCHG AX,AX
 abbrev pub first_asked : Instr → ℕ → KnownOperand
 first_asked i ip = asked_by (first_written i.form i.values (next_of i ip))
 
@@ -765,7 +765,7 @@ values_meant before names location size i f v x y n a says one two formed fields
 abbrev Asks' : Operation → KnownOperand → KnownOperand → Numbers → Meant → Type 0
 Asks' op x y n meant = AreOf (sized op x y) n × (meant ≡ asked_meant (sized op x y) n)
 
--- in the order of the text, or exchanged
+-- the operands in the order of the text
 in_order : (op : Operation) (i j : Instr) (ip : ℕ) (n : Numbers) (x y : KnownOperand) → IsOfValues (asked_in_order op x y) n j.form j.values ((ip + instr_length j) % 65536)
     → op ≡ operation_of i.form.row → j.prefixes.items ≡ i.prefixes.items → first_meant i ip ≡ asked_meant (sized op x y) n → second_meant i ip ≡ asked_meant (sized op y x) n → MeansTheSame i j ip
 in_order op i j ip n x y is op_is prefixes first second = record {

@@ -1,4 +1,4 @@
--- How pieces of a text are read as tokens, whatever stands behind them.
+-- How pieces of a text are read as tokens, whatever follows them.
 use Rattle.std.proofs.Common.{◌≡◌, ◌∙◌, ℕ, suc, ◌+◌, ◌*◌, ◌/◌, ◌%◌, ◌<◌, List, [], ◌∷◌, ◌++◌, length, append_assoc, refl, sym, ap, subst, arith, Bool, true, false, ◌&&◌, if◌then◌else◌, Option, None, Some, Ok, option_and_then, nat_lt, nat_le}
 use Rattle.std.specs.List.{list_all}
 use Rattle.std.specs.Option.{option_map}
@@ -26,14 +26,14 @@ pub reads_nothing : Reads [] []
 unfolding tokens_of
 reads_nothing = record { characters = refl; tokens = refl }
 
--- a piece that ends with a word needs another byte, or the end, behind it
+-- what may follow a piece that ends with a word: another byte than a word's, or the end
 abbrev pub stops : List ℕ → Type 0
 stops rest = begins_with is_word_byte rest ≡ false
 
 abbrev pub Says : List ℕ → List Token → Type 0
 Says a ts = (rest : List ℕ) (us : List Token) → stops rest → Reads rest us → Reads (a ++ rest) (ts ++ us)
 
--- and one that ends with a mark or a blank needs none
+-- a piece that ends with a mark or a blank is read as its tokens, whatever follows it
 abbrev pub Opens : List ℕ → List Token → Type 0
 Opens a ts = (rest : List ℕ) (us : List Token) → Reads rest us → Reads (a ++ rest) (ts ++ us)
 

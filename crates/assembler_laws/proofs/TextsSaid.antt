@@ -130,7 +130,7 @@ text_of_second (Short n) is = refl
 text_of_second (Far s o) is = refl
 text_of_second (Memory m) is = refl
 
--- the operands behind a mnemonic
+-- the operands after a mnemonic
 abbrev tokens_said : List Operand → List Token
 tokens_said os = with_commas (map operand_tokens os)
 
@@ -248,7 +248,7 @@ module _ (words : AreRead) where
   says_keyword : (k : Keyword) → is_plain (keyword_name k) ≡ true → Says (keyword_name k) (tokens.Word (meanings.Keyword k) ∷ [])
   says_keyword k plain = says_meant (keyword_name k) (meanings.Keyword k) plain (words.keywords k)
 
-  -- a keyword with a blank behind it
+  -- a keyword with a blank after it
   opens_keyword : (k : Keyword) → is_plain (keyword_name k) ≡ true → Opens (keyword_name k ++ 32 ∷ []) (tokens.Word (meanings.Keyword k) ∷ [])
   opens_keyword k plain = says_opens (keyword_name k) 32 [] (tokens.Word (meanings.Keyword k) ∷ []) [] refl (says_keyword k plain) opens_blank
 

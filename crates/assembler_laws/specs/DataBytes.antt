@@ -1,4 +1,4 @@
--- What data lines of an accepted source place, told byte by byte.
+-- What data lines of an accepted source place, byte by byte.
 -- Laws: claims above the definitions, each proved as the contract of a function.
 use Rattle.std.specs.Prelude.{ℕ, ℤ, pos, ◌≡◌, ◌⊎◌, ◌+◌, ◌+ℤ◌, ◌*◌, ◌/◌, ◌%◌, ◌^◌, ◌<◌, List, [], ◌∷◌, ◌++◌, length, get_or, map, sum_by, Some, Contains}
 use Rattle.board_types.specs.Image.{image_byte}
@@ -16,8 +16,8 @@ use Rattle.assembler.specs.Placement.{address_behind}
 use Rattle.assembler.specs.Rows.{Row, names_of}
 use Rattle.assembler.specs.Gives.{Gives}
 
--- From this place on the image has a number of this many bytes, low byte first. A negative number stands there as the
--- one that is 256^size higher.
+-- From this place on the image has a number of this many bytes, the low one first. A negative number is there as the
+-- number that is 256^size higher.
 pub record HasNumber (image : List (ℕ × ℕ)) (location : Location) (start size : ℕ) (value : ℤ) : Type 0 where
   pub number : ℕ
   pub below : number < 256 ^ size
@@ -25,12 +25,12 @@ pub record HasNumber (image : List (ℕ × ℕ)) (location : Location) (start si
   pub bytes : (k : ℕ) → k < size → image_byte image (address_behind location (start + k))
       ≡ Some (number / 256 ^ k % 256)
 
--- it has the value of this expression there
+-- from this place on the image has the value of this expression
 abbrev pub HasValue : Names → List (ℕ × ℕ) → Location → ℕ → ℕ → List Term → Type 0
 HasValue names image location start size terms =
     (value : ℤ) × (value_of names location.offset terms ≡ Some value) × HasNumber image location start size value
 
--- it has these characters there, one byte each
+-- from this place on the image has these characters, one byte each
 abbrev pub HasText : List (ℕ × ℕ) → Location → ℕ → List ℕ → Type 0
 HasText image location start text =
     (k d : ℕ) → k < length text → image_byte image (address_behind location (start + k)) ≡ Some (get_or text k d)
@@ -39,17 +39,17 @@ abbrev pub HasPiece : Names → List (ℕ × ℕ) → Location → ℕ → DataW
 HasPiece names image location start width (Value terms) = HasValue names image location start (width_size width) terms
 HasPiece names image location start width (Text text) = HasText image location start text
 
--- an item stands there once, or as many times as the constant before DUP says
+-- an item is there once, or as many times as the constant before DUP says
 abbrev pub HasCount : Names → Item → Type 0
 HasCount names (Once piece) = times_of names (Once piece) ≡ 1
 HasCount names (Repeated count each) = constant_of names count ≡ Some (pos (times_of names (Repeated count each)))
 
--- how many bytes an item has
+-- how many bytes an item has, with its repeats
 abbrev pub item_size : Names → DataWidth → Item → ℕ
 item_size names width item = times_of names item * sum_by (piece_size width) (pieces_of item)
 
--- A piece of a data line, with as many bytes before it as the items before its own have, the copies before its own, and
--- the pieces before it in the copy.
+-- A piece of a data line, and how many bytes stand before it: those of the items before its own, of the copies before
+-- its own, and of the pieces before it in the copy.
 pub record StandsBehind (names : Names) (width : DataWidth) (items : List Item) (piece : Piece) (start : ℕ) : Type 0
   where
     pub before : List Item
@@ -64,9 +64,9 @@ pub record StandsBehind (names : Names) (width : DataWidth) (items : List Item) 
     pub counted : start ≡ sum_by (item_size names width) before
         + (copy * sum_by (piece_size width) (pieces_of item) + sum_by (piece_size width) front)
 
--- A data line stands in a segment, has as many bytes as its items, and each piece of it stands where it is counted to.
--- So with DW x, y and z the i-th number stands two times i bytes on, with DB 'AB' the i-th character i bytes, and with
--- n DUP (x) the i-th copy of n.
+-- A data line stands in a segment, has as many bytes as its items, and has each piece at the place that is counted for
+-- it. So the i-th number of DW x, y and z is two times i bytes on, the i-th character of DB 'AB' i bytes, and the i-th
+-- copy of n DUP (x) i times the width of x.
 pub record PlacesData (names : Names) (image : List (ℕ × ℕ)) (row : Row) (width : DataWidth) (items : List Item) : Type
     0 where
   pub location : Location
@@ -83,7 +83,7 @@ pub record PlacesData (names : Names) (image : List (ℕ × ℕ)) (row : Row) (w
       → constant_of names count ≡ Some (pos n)
       → (i : ℕ) → i < n → HasValue names image location (i * width_size width) (width_size width) terms
 
--- the image of an accepted source has each data line so
+-- the image of an accepted source has each data line at the place that is counted for it, low bytes first
 abbrev pub DataGoesLowByteFirst : Type 0
 DataGoesLowByteFirst =
     (source : List ℕ) (image : List (ℕ × ℕ)) (gives : Gives source image) (row : Row) (width : DataWidth)

@@ -16,17 +16,17 @@ use Rattle.assembler.specs.Placement.{fields_of}
 use Rattle.assembler.specs.Rows.{Row, names_of}
 use Rattle.assembler.specs.Gives.{Gives}
 
--- a memory of bytes has each byte of the image at its address; what it has elsewhere is open
+-- a memory of bytes that has each byte of the image at its address; what it has elsewhere is open
 pub record HoldsImage (byte : ℕ → ℕ) (image : List (ℕ × ℕ)) : Type 0 where
   pub bytes : (address : ℕ) → byte address < 256
   pub holds : (address b : ℕ) → image_byte image address ≡ Some b → byte address ≡ b
 
--- the instruction of the encoding table that a line's instruction is, in its form and with the numbers of its fields
+-- a line's instruction as one of the encoding table, in its form and with the numbers of its fields
 abbrev pub instr_of : Form → Written → Values → Instr
 instr_of f i v = record { prefixes = record { items = prefixes_of i }; form = f; values = v }
 
--- A row with an instruction has a form and a place, each number of it is known and fits, and what is decoded from this
--- memory at that place is this instruction, with as many bytes as the row.
+-- A row with an instruction has a form and a place, each of its numbers is known and fits, and decoding this memory at
+-- that place gives this instruction, with as many bytes as the row.
 pub record DecodesBack (byte : ℕ → ℕ) (names : Names) (row : Row) (i : Written) : Type 0 where
   pub form : Form
   pub location : Location

@@ -17,25 +17,25 @@ use Rattle.assembler.specs.Gives.{source_limit, Gives}
 use Rattle.assembler.specs.Placement.{addresses_from, fault_at, has_wrong_number, is_loadable, is_past_end, lacks_name}
 use Rattle.assembler.specs.Rows.{AreRows, Row, defines_again, early_fault, has_unknown_constant, has_wrong_constant, lacks_form, opens_within, stands_outside}
 
--- but for want of memory one fault alone is first
+-- at most one fault is first, not counting want of memory
 abbrev pub OneFaultIsFirst : Type 0
 OneFaultIsFirst =
     (source : List ℕ) (a b : AsmFault) → a ≢ Memory → b ≢ Memory → IsFirst source a → IsFirst source b → a ≡ b
 
--- one there is, or an image that the source gives
+-- each source has a first fault other than want of memory, or gives an image
 abbrev pub EachSourceHasAnOutcome : Type 0
 EachSourceHasAnOutcome =
     (source : List ℕ) → ((fault : AsmFault) × (fault ≢ Memory) × IsFirst source fault)
     ⊎ ((image : List (ℕ × ℕ)) × Gives source image)
 
--- a source that gives an image has none
+-- a source that gives an image has no fault but want of memory
 abbrev pub NoFaultBesideImage : Type 0
 NoFaultBesideImage =
     (source : List ℕ) (image : List (ℕ × ℕ)) (fault : AsmFault) → Gives source image → IsFirst source fault
     → fault ≡ Memory
 
--- the faults of the first pass, which lines have by themselves or in the light of the lines before; the others are
--- those of the second, in the light of all lines
+-- the faults of the first pass, which lines have by themselves or in the light of the lines before; the other faults
+-- are those of the second pass, in the light of all lines
 abbrev pub is_early : SourceFault → Bool
 is_early Undefined = false
 is_early OutOfRange = false
@@ -44,7 +44,8 @@ is_early Overlap = false
 is_early NotLoadable = false
 is_early fault = true
 
--- Each fault is of one pass, and one of the first pass on any line comes before one of the second on any other.
+-- Each fault belongs to one pass, and a source that has one of the first pass, on whatever line, has none of the
+-- second.
 pub record ComeInPasses (source : List ℕ) : Type 0 where
   pub early : (fault : SourceFault) (number : ℕ) → IsEarlyFault source fault number → is_early fault ≡ true
   pub late : (fault : SourceFault) (number : ℕ) → IsLateFault source fault number → is_early fault ≡ false
@@ -53,8 +54,8 @@ pub record ComeInPasses (source : List ℕ) : Type 0 where
 abbrev pub FaultsComeInPasses : Type 0
 FaultsComeInPasses = (source : List ℕ) → ComeInPasses source
 
--- The line of the first fault is one of the source, each line before it makes a row that is clean, and if the fault is
--- of the second pass all lines do.
+-- The line of the first fault is one of the source; each line before it makes a clean row, and if the fault is one of
+-- the second pass, all lines do.
 pub record IsFirstLine (source : List ℕ) (fault : SourceFault) (number : ℕ) : Type 0 where
   pub counted : (0 < number) × (number ≤ length (text_lines source))
   pub before : (front : List (List ℕ)) (text : List ℕ) (back : List (List ℕ))
@@ -67,14 +68,14 @@ LinesBeforeAreClean =
     (source : List ℕ) (fault : SourceFault) (number : ℕ) → IsFirst source (InLine fault number)
     → IsFirstLine source fault number
 
--- Whatever lines follow that of a fault of the first pass, it stays the first fault.
+-- A fault of the first pass stays the first fault, whatever lines follow its own.
 abbrev pub LaterLinesDoNotCount : Type 0
 LaterLinesDoNotCount =
     (s t : List ℕ) (fault : SourceFault) (number : ℕ) → IsEarlyFault s fault number
     → take number (text_lines t) ≡ take number (text_lines s)
     → length t ≤ source_limit → IsFirst t (InLine fault number)
 
--- which faults a line that is read has in the light of the lines before
+-- which faults a line that is read has, in the light of the lines before it
 abbrev pub HasEarly : Names → Option Location → Line → Option Form → SourceFault → Type 0
 HasEarly known location line form BadLine =
     (opens_within location line.statement || has_wrong_constant known line.statement) ≡ true
@@ -95,12 +96,12 @@ HasLate names is_taken has_label location size content NotLoadable =
     list_all is_loadable (addresses_from location 0 size) ≡ false
 HasLate names is_taken has_label location size content fault = ⊥
 
--- of the faults that there are this one has the least number
+-- the fault is there, and no other that is there has a lesser number
 pub record IsLeast (Has : SourceFault → Type 0) (fault : SourceFault) : Type 0 where
   pub has : Has fault
   pub least : (other : SourceFault) → Has other → source_fault_number fault ≤ source_fault_number other
 
--- of the faults of a line that is read the one with the least number is its fault, in each pass
+-- in each pass, the fault of a line that is read is the one with the least number of those that it has
 pub record LeastNumbersComeFirst : Type 0 where
   pub early : (known : Names) (location : Option Location) (line : Line) (form : Option Form) (fault : SourceFault)
       → (early_fault known location line form ≡ Some fault) ↔ IsLeast (HasEarly known location line form) fault

@@ -12,14 +12,14 @@ use Rattle.assembler_form.specs.Fields.{field_kind, values_of}
 use Rattle.assembler_form.specs.Takes.{is_within}
 use Rattle.assembler_laws.specs.SameMeaning.{AreOf}
 
--- a number that goes into a byte fits there, and so does the distance to a short jump's target
+-- the number that goes into a byte fits it, as does the distance to a short jump's target
 abbrev pub FitsByte : Kind → ℕ → Numbers → Type 0
 FitsByte kinds.Imm8 next n = (x : ℕ) × (n.number ≡ pos x) × (x < 256)
 FitsByte kinds.Rel8 next n = is_within (negsuc 127) (pos 127) (n.number -ℤ pos next) ≡ true
 FitsByte _ next n = Unit {0}
 
--- The numbers of the form that is chosen are in range where those are that go into a byte: all others of what is asked
--- have room.
+-- The numbers of the form that is chosen are in range if those that go into a byte are: all others that are asked have
+-- room.
 abbrev pub NumbersFit : Type 0
 NumbersFit =
     (a : Asked) (f : Form) (next : ℕ) (n : Numbers) → IsChosen a f → AreOf a.first n → AreOf a.second n

@@ -1,4 +1,4 @@
--- That the text of an instruction gets its numbers.
+-- The text of an instruction gets its numbers.
 -- Laws: claims above the definitions, each proved as the contract of a function.
 use Rattle.std.specs.Prelude.{ℕ, pos, negsuc, ◌-ℤ◌, ◌≡◌, ◌+◌, ◌%◌, true, Some}
 use Rattle.isa.specs.declared.form.Form.{Form}
@@ -14,15 +14,15 @@ use Rattle.assembler_meaning.specs.Values.{Names}
 use Rattle.assembler.specs.Placement.{fields_of}
 use Rattle.assembler_laws.specs.SaidTexts.{next_of, said_instruction}
 
--- a target within a byte's reach doesn't wrap: as an offset it is -128 to 127 behind the next instruction
+-- a short jump's target doesn't wrap: as an offset it is -128 to 127 after the next instruction
 abbrev pub HasNearTarget : Instr → ℕ → Type 0
 HasNearTarget i ip =
     first_of i.form.row ≡ kinds.Rel8
     → is_within (negsuc 127) (pos 127)
     (pos ((next_of i ip + sign_extended i.values.number) % 65536) -ℤ pos (ip + instr_length i)) ≡ true
 
--- whichever form the text of an instruction takes at its offset, its numbers are in range there, in the light of any
--- names, if no target within a byte's reach wraps
+-- whichever form the text of an instruction takes at its offset, its numbers are in range there, whatever the names
+-- are, if a short jump's target doesn't wrap
 abbrev pub TextsGetNumbers : Type 0
 TextsGetNumbers =
     (before names : Names) (location : Location) (i : Instr) (f : Form) → IsInstr i → HasNearTarget i location.offset

@@ -1,4 +1,4 @@
--- Where the lines of an accepted source stand, told by counting and not by walking the lines.
+-- Where the lines of an accepted source stand, by counting and not by walking the lines.
 -- Laws: claims above the definitions, each proved as the contract of a function.
 use Rattle.std.specs.Prelude.{ℕ, ℤ, pos, ◌≡◌, ◌+◌, ◌↔◌, Bool, true, false, List, ◌∷◌, ◌++◌, length, sum_by, Option, None, Some}
 use Rattle.std.specs.List.{AllByRecursion}
@@ -13,31 +13,31 @@ use Rattle.assembler.specs.Placement.{placed_by}
 use Rattle.assembler.specs.Rows.{Row, names_of}
 use Rattle.assembler.specs.Gives.{Gives}
 
--- the statements behind which no segment is open, or another one
+-- the statements after which no segment is open, or another one
 abbrev pub changes_segment : Statement → Bool
 changes_segment (Segment name n) = true
 changes_segment Ends = true
 changes_segment statement = false
 
--- and those behind which the location isn't that of the line before with its bytes
+-- the statements after which the location isn't that of the line before plus its bytes
 abbrev pub sets_location : Statement → Bool
 sets_location (Segment name n) = true
 sets_location Ends = true
 sets_location (Org n) = true
 sets_location statement = false
 
--- SEGMENT says the paragraph: its constant
+-- the paragraph that SEGMENT says: its constant
 abbrev pub SaysParagraph : Names → Statement → ℕ → Type 0
 SaysParagraph known (Segment name n) paragraph = constant_of known n ≡ Some (pos paragraph)
 SaysParagraph known statement paragraph = ⊥
 
--- SEGMENT begins at offset 0, ORG at its constant
+-- the offset that a statement says: 0 for SEGMENT, its constant for ORG
 abbrev pub SaysOffset : Names → Statement → ℕ → Type 0
 SaysOffset known (Segment name n) offset = offset ≡ 0
 SaysOffset known (Org n) offset = constant_of known n ≡ Some (pos offset)
 SaysOffset known statement offset = ⊥
 
--- Behind these lines a segment is open at this paragraph: the last SEGMENT says it, and no ENDS stands behind that.
+-- After these lines a segment is open at this paragraph: the last SEGMENT says it, and no ENDS follows that.
 pub record IsOpenAt (lines : List Row) (paragraph : ℕ) : Type 0 where
   pub before : List Row
   pub opening : Row
@@ -46,8 +46,8 @@ pub record IsOpenAt (lines : List Row) (paragraph : ℕ) : Type 0 where
   pub says : SaysParagraph (names_of before) opening.line.statement paragraph
   pub stays : AllByRecursion (λ row. changes_segment row.line.statement ≡ false) since
 
--- Behind these lines the next byte goes to this offset: what the last SEGMENT or ORG says, and the sizes of the lines
--- since then; no ENDS stands there.
+-- After these lines the next byte goes to this offset: what the last SEGMENT or ORG says, plus the sizes of the lines
+-- since then; no ENDS is among them.
 pub record IsCountedTo (lines : List Row) (offset : ℕ) : Type 0 where
   pub before : List Row
   pub setting : Row
@@ -64,9 +64,9 @@ said_constant (Segment name n) = Some (name, n)
 said_constant (Equ name n) = Some (name, n)
 said_constant statement = None
 
--- A line behind these stands at a place if and only if they open its segment and count to its offset; a label on it is
--- that place in the names of the source, and such a line has a place; what SEGMENT or EQU names is there its constant,
--- told by the lines before; and a line places as many bytes as its size says.
+-- A line after these stands at a place if and only if they open its segment and count to its offset. A label on it is
+-- that place in the names of the source, and a line with a label has a place. What SEGMENT or EQU names is there its
+-- constant, by the lines before. A line places as many bytes as its size says.
 pub record StandsWhereCounted (names : Names) (front : List Row) (row : Row) : Type 0 where
   pub place : (location : Location) → (row.location ≡ Some location)
       ↔ (IsOpenAt front location.segment × IsCountedTo front location.offset)
@@ -76,7 +76,7 @@ pub record StandsWhereCounted (names : Names) (front : List Row) (row : Row) : T
       → (n : ℤ) × (constant_of (names_of front) terms ≡ Some n) × (meaning names name ≡ Some (Constant n))
   pub bytes : length (placed_by names row) ≡ row.size
 
--- each line of a source that gives an image stands so
+-- each line of a source that gives an image stands where it is counted to
 abbrev pub LinesStandWhereCounted : Type 0
 LinesStandWhereCounted =
     (source : List ℕ) (image : List (ℕ × ℕ)) (gives : Gives source image) (front : List Row) (row : Row)

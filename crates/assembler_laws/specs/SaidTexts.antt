@@ -41,7 +41,7 @@ said_size (Some keywords.Word) = Some sizes.Word
 said_size (Some keywords.Far) = Some sizes.Far
 said_size _ = None
 
--- overrides stand among the prefixes
+-- an operand in memory as a text says it, without its override, which is among the prefixes
 abbrev pub said_address : WrittenMemory → Address
 said_address m = record {
   size = said_size m.size;
@@ -60,7 +60,7 @@ said_operand (Short target) = operands.Short (number target) ∷ []
 said_operand (Far segment offset) = operands.FarPointer (number segment) (number offset) ∷ []
 said_operand (Memory memory) = operands.Memory (said_address memory) ∷ []
 
--- without a first operand there is no second
+-- the operands that a text says; without a first one there is no second
 abbrev pub said_operands : Written → Written → List Operand
 said_operands Nothing second = []
 said_operands first second = said_operand first ++ said_operand second
@@ -72,7 +72,7 @@ said_mnemonic (Control Call) = mnemonics.Call
 said_mnemonic (Control CallFar) = mnemonics.Call
 said_mnemonic operation = mnemonics.Plain operation
 
--- what is written for a form's operands
+-- what is written for the first operand of a form
 abbrev pub first_written : Form → Values → ℕ → Written
 first_written f v next = written_operand f v next (first_of f.row) (second_of f.row)
 
@@ -82,15 +82,16 @@ second_written f v next = written_operand f v next (second_of f.row) (first_of f
 abbrev pub next_of : Instr → ℕ → ℕ
 next_of i ip = (ip + instr_length i) % 65536
 
--- NOP has no operands
+-- the mnemonic that a form's text says
 abbrev pub mnemonic_in : Form → Mnemonic
 mnemonic_in f = if is_nop f then mnemonics.Nop else said_mnemonic (operation_of f.row)
 
+-- the operands that a form's text says: NOP has none
 abbrev pub operands_in : Form → Values → ℕ → List Operand
 operands_in f v next =
     if is_nop f then [] else said_operands (first_written f v next) (second_written f v next)
 
--- the instruction that the text of one at the offset `ip` says
+-- the instruction that the text of an instruction at the offset `ip` says
 abbrev pub said_instruction : Instr → ℕ → InstructionType
 said_instruction i ip = record {
   prefixes = i.prefixes.items;
@@ -101,7 +102,7 @@ said_instruction i ip = record {
 abbrev pub said_line : Instr → ℕ → Line
 said_line i ip = record { label = None; statement = Instruction (said_instruction i ip) }
 
--- the text of each instruction of the table is read: its prefixes in their order, a mnemonic of its operation, and what
--- is written for its operands
+-- the text of each instruction of the table is read as its prefixes in their order, a mnemonic of its operation, and
+-- what is written for its operands
 abbrev pub TextsAreRead : Type 0
 TextsAreRead = (i : Instr) (ip : ℕ) → IsInstr i → read_line (instr_text i ip) ≡ Ok (said_line i ip)

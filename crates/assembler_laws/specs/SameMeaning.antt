@@ -37,7 +37,7 @@ use Rattle.assembler.specs.Placement.{fields_of}
 use Rattle.assembler_laws.specs.DecodingBack.{instr_of}
 use Rattle.assembler_laws.specs.SaidTexts.{said_instruction}
 
--- an operand by value: a register, a number (a jump's target too), so many bytes in memory, or a far target
+-- an operand by value: a register, a number (also a jump's target), memory of a size, or a far target
 pub data Meant : Type 0 where
   nothing : Meant
   a_register : Register → Meant
@@ -45,7 +45,7 @@ pub data Meant : Type 0 where
   in_memory : Size → Option BaseType → ℕ → Meant
   far_away : ℕ → ℕ → Meant
 
--- a place in memory: registers, and a displacement, which is 0 where none is written
+-- a place in memory: registers, and a displacement, which is 0 if none is written
 abbrev pub memory_meant : Size → Place → ℕ → Meant
 memory_meant size Direct displacement = in_memory size None displacement
 memory_meant size (Base base) displacement = in_memory size (Some base) 0
@@ -61,12 +61,12 @@ abbrev pub word_meant : Size → Place → ℕ → Meant
 word_meant size (places.Register n) displacement = a_register (registers.Word (word_register_of n))
 word_meant size place displacement = memory_meant size place displacement
 
--- far jumps and calls take an offset and a segment from memory
+-- the size of a pointer: far jumps and calls take an offset and a segment from memory
 abbrev pub pointer_size : Operation → Size
 pointer_size (Control _) = sizes.Far
 pointer_size _ = sizes.Word
 
--- the operand of a kind, where the next instruction stands at the offset `next`
+-- the operand of a kind, if the next instruction stands at the offset `next`
 unfoldable pub operand_meant : Form → Values → ℕ → Kind → Meant
 operand_meant f v next kinds.Nothing = nothing
 operand_meant f v next kinds.Ten = nothing
@@ -96,14 +96,14 @@ operand_meant f v next kinds.At8 = in_memory sizes.Byte None v.number
 operand_meant f v next kinds.At16 = in_memory sizes.Word None v.number
 operand_meant f v next kinds.Far = far_away v.segment v.number
 
--- the two operands of an instruction that stands at the offset `ip`
+-- the first operand of an instruction that stands at the offset `ip`
 abbrev pub first_meant : Instr → ℕ → Meant
 first_meant i ip = operand_meant i.form i.values ((ip + instr_length i) % 65536) (first_of i.form.row)
 
 abbrev pub second_meant : Instr → ℕ → Meant
 second_meant i ip = operand_meant i.form i.values ((ip + instr_length i) % 65536) (second_of i.form.row)
 
--- XCHG of AX and another register may have them in the other order
+-- two instructions have the same operands; XCHG may have them in the other order
 abbrev pub SameOperands : Instr → Instr → ℕ → Type 0
 SameOperands i j ip =
     ((first_meant j ip ≡ first_meant i ip) × (second_meant j ip ≡ second_meant i ip))
@@ -117,7 +117,7 @@ pub record MeansTheSame (i j : Instr) (ip : ℕ) : Type 0 where
   pub operands : SameOperands i j ip
 
 -- ---- operands as a line asks them, by value
--- a number that is below 0 stands for none here
+-- a number from 0 on; one below 0 counts as 0
 abbrev pub count : ℤ → ℕ
 count (pos n) = n
 count (negsuc n) = 0
@@ -135,7 +135,7 @@ asked_meant known.Short n = a_number (count n.number)
 asked_meant known.Far n = far_away (count n.segment) (count n.number)
 asked_meant (known.Memory m) n = in_memory (size_of m.size) m.base (count n.displacement)
 
--- a natural number in a word
+-- a number from 0 to 65,535
 pub record IsWord (n : ℤ) : Type 0 where
   pub value : ℕ
   pub is : n ≡ pos value
@@ -151,20 +151,20 @@ AreOf known.Short n = IsWord n.number
 AreOf known.Far n = IsWord n.segment × IsWord n.number
 AreOf (known.Memory m) n = IsWord n.displacement × (m.displacement ≡ Constant n.displacement)
 
--- a form with these numbers has what is asked by value
+-- a form with these numbers has, by value, what is asked
 pub record IsOfValues (a : Asked) (n : Numbers) (f : Form) (v : Values) (next : ℕ) : Type 0 where
   pub operation : operation_of f.row ≡ a.operation
   pub first : operand_meant f v next (first_of f.row) ≡ asked_meant a.first n
   pub second : operand_meant f v next (second_of f.row) ≡ asked_meant a.second n
 
--- The form that is chosen for what a line asks has its operation, and with the numbers of its operands it has these
--- operands by value.
+-- The form that is chosen for what a line asks has its operation, and with the numbers of the line's operands it has
+-- these operands by value.
 abbrev pub FormsMeanWhatIsAsked : Type 0
 FormsMeanWhatIsAsked =
     (a : Asked) (f : Form) (v : Values) (next : ℕ) (n : Numbers) → IsChosen a f → values_of f (pos next) n ≡ Some v
     → AreOf a.first n → AreOf a.second n → IsOfValues a n f v (next % 65536)
 
--- Given to the assembler at its offset, in the light of any names before it and in the whole source, the text of an
+-- Given to the assembler at its offset, whatever the names before it and in the whole source are, the text of an
 -- instruction takes a form that means the same with the numbers that it has there, if they are in range.
 abbrev pub TextsMeanTheSame : Type 0
 TextsMeanTheSame =

@@ -24,32 +24,32 @@ use Rattle.assembler_lexeme.specs.Lexemes.{is_character, lexemes, folded}
 use Rattle.board_types.specs.TextLines.{text_lines}
 use Rattle.assembler.specs.Gives.{source_limit, Gives}
 
--- there are as many lines as there are others, and each stands so to the other in its place
+-- there are as many lines as others, and each stands in this relation to the other in its place
 abbrev pub StandPairwise : (List ℕ → List ℕ → Type 0) → List (List ℕ) → List (List ℕ) → Type 0
 StandPairwise StandSo [] [] = Unit {0}
 StandPairwise StandSo [] (other ∷ others) = ⊥
 StandPairwise StandSo (line ∷ lines) [] = ⊥
 StandPairwise StandSo (line ∷ lines) (other ∷ others) = StandSo line other × StandPairwise StandSo lines others
 
--- two lines that are the same but for case outside quotes, blanks and comments; either both have a character that no
--- line may have, or none of them has one
+-- two lines that are equal but for case outside quotes, blanks and comments; both have a character that no line may
+-- have, or neither has
 pub record DifferInCase (line other : List ℕ) : Type 0 where
   pub characters : list_all is_character line ≡ list_all is_character other
   pub same_lexemes : map folded (lexemes line) ≡ map folded (lexemes other)
 
--- Two sources whose lines differ in case outside quotes alone give the same image. Blanks and comments may make the
--- other longer than a source may be, so its length is asked.
+-- Two sources whose lines differ only in case outside quotes, blanks and comments give the same image. The other must
+-- be within a source's length, as blanks and comments may make it longer.
 abbrev pub CaseDoesNotCount : Type 0
 CaseDoesNotCount =
     (s t : List ℕ) (image : List (ℕ × ℕ)) → StandPairwise DifferInCase (text_lines s) (text_lines t)
     → length t ≤ source_limit
     → Gives s image → Gives t image
 
--- a renaming takes no two names to one
+-- a renaming gives no two names the same name
 abbrev pub IsOneToOne : (Name → Name) → Type 0
 IsOneToOne rename = (a b : Name) → same_name (rename a) (rename b) ≡ same_name a b
 
--- what a line says, with each of its names renamed: in expressions
+-- an atom with its name renamed
 abbrev pub renamed_atom : (Name → Name) → Atom → Atom
 renamed_atom rename (Number n) = Number n
 renamed_atom rename (Named name) = Named (rename name)
@@ -62,7 +62,7 @@ renamed_term rename term = record term { atom = renamed_atom rename term.atom }
 abbrev pub renamed_terms : (Name → Name) → List Term → List Term
 renamed_terms rename terms = map (renamed_term rename) terms
 
--- in operands
+-- an address with its names renamed
 abbrev pub renamed_address : (Name → Name) → Address → Address
 renamed_address rename a = record a { displacement = option_map (renamed_terms rename) a.displacement }
 
@@ -78,7 +78,7 @@ renamed_operand rename (operands.FarPointer s o) = operands.FarPointer (renamed_
 abbrev pub renamed_instruction : (Name → Name) → InstructionType → InstructionType
 renamed_instruction rename i = record i { operands = map (renamed_operand rename) i.operands }
 
--- in data
+-- a piece of data with its names renamed
 abbrev pub renamed_piece : (Name → Name) → Piece → Piece
 renamed_piece rename (pieces.Value terms) = pieces.Value (renamed_terms rename terms)
 renamed_piece rename (pieces.Text text) = pieces.Text text
@@ -87,7 +87,7 @@ abbrev pub renamed_item : (Name → Name) → Item → Item
 renamed_item rename (Once piece) = Once (renamed_piece rename piece)
 renamed_item rename (Repeated count each) = Repeated (renamed_terms rename count) (map (renamed_piece rename) each)
 
--- in the whole line, with the names that it defines
+-- a statement with its names renamed, and with those that it defines
 abbrev pub renamed_statement : (Name → Name) → Statement → Statement
 renamed_statement rename Empty = Empty
 renamed_statement rename (Segment name n) = Segment (rename name) (renamed_terms rename n)
@@ -103,14 +103,14 @@ renamed_line rename line = record {
   statement = renamed_statement rename line.statement;
 }
 
--- two lines, of which the other says what the first says, with its names renamed
+-- the other line says what this line says, with its names renamed
 pub record DifferInNames (rename : Name → Name) (line other : List ℕ) : Type 0 where
   pub says : Line
   pub reads : read_line line ≡ Ok says
   pub reads_renamed : read_line other ≡ Ok (renamed_line rename says)
 
--- two sources whose lines say the same but for a renaming that is one to one give the same image, unless the new names
--- make the other longer than a source may be
+-- two sources whose lines say the same but for a one-to-one renaming give the same image, unless the new names make the
+-- other longer than a source may be
 abbrev pub RenamingDoesNotCount : Type 0
 RenamingDoesNotCount =
     (rename : Name → Name) → IsOneToOne rename → (s t : List ℕ) (image : List (ℕ × ℕ))

@@ -13,14 +13,14 @@ use Rattle.assembler.specs.Gives.{Gives}
 use Rattle.assembler_laws.specs.DecodingBack.{HoldsImage}
 use Rattle.assembler_laws.specs.SameMeaning.{MeansTheSame}
 
--- an instruction of so many bytes is decoded there that means the same
+-- an instruction of this many bytes is decoded at the location, and means the same
 pub record DecodesTheSame (byte : ℕ → ℕ) (location : Location) (size : ℕ) (i : Instr) : Type 0 where
   pub again : Instr
   pub decodes : decoded_from (code_at byte location.segment location.offset) ≡ Found again size
   pub same : MeansTheSame i again location.offset
 
--- In each memory that holds the image of an accepted source, at the place of each line that says what the text of an
--- instruction at that offset says, an instruction is decoded that means the same.
+-- In each memory that holds the image of an accepted source, at the place of each line that says what an instruction's
+-- text at that offset says, an instruction is decoded that means the same as that one.
 abbrev pub TextsDecodeTheSame : Type 0
 TextsDecodeTheSame =
     (source : List ℕ) (image : List (ℕ × ℕ)) (gives : Gives source image) (byte : ℕ → ℕ) → HoldsImage byte image

@@ -1,4 +1,4 @@
--- That the texts of instructions have forms.
+-- The texts of instructions have forms.
 -- Laws: claims above the definitions, each proved as the contract of a function.
 use Rattle.std.specs.Prelude.{ℕ, Some}
 use Rattle.isa.specs.declared.form.Form.{Form}
@@ -8,7 +8,7 @@ use Rattle.assembler_meaning.specs.Instructions.{instruction_asked, IsFormFor}
 use Rattle.assembler_meaning.specs.Values.{Names}
 use Rattle.assembler_laws.specs.SaidTexts.{said_instruction}
 
--- in the light of any names some row takes what the text of an instruction asks, at whichever offset it stands
+-- whatever names are known, some row takes what the text of an instruction asks, at any offset
 abbrev pub TextsTakeAForm : Type 0
 TextsTakeAForm =
     (before : Names) (i : Instr) (ip : ℕ) → IsInstr i

@@ -19,12 +19,12 @@ pub fn texts_are_read()
 }
 
 /// The form that is chosen for what a line asks has the operation that is asked. With the numbers that the operands
-/// name its operands are by value those that are asked, in whichever part of its bytes they stand.
+/// name, its operands are by value those that are asked, in whichever parts of its bytes they are.
 pub fn forms_mean_what_is_asked()
     ensures { FormsMeanWhatIsAsked }
 {}
 
-/// The numbers of the form that is chosen for what a line asks are in range, if those are that go into a byte: an
+/// The numbers of the form that is chosen for what a line asks are in range if those are that go into a byte: an
 /// immediate byte, and the distance to a short jump's target.
 pub fn numbers_fit()
     ensures { NumbersFit }
@@ -35,21 +35,21 @@ pub fn texts_take_a_form()
     ensures { TextsTakeAForm }
 {}
 
-/// Whichever form the text of an instruction of the table takes at its offset, whatever names are known, its numbers are
-/// in range there, if no target within a byte's reach wraps.
+/// Whichever form the text of an instruction of the table takes at its offset, and whatever names are known, its
+/// numbers are in range there, if a short jump's target doesn't wrap.
 pub fn texts_get_numbers()
     ensures { TextsGetNumbers }
 {}
 
-/// Given to the assembler at its offset, whatever names are known, the text of an instruction of the table takes a form
-/// that means the same with the numbers that it has there: the same operation, the same prefixes in their order, and
+/// The text of an instruction of the table, given to the assembler at its offset, takes a form that means the same with
+/// the numbers that it has there, whatever names are known: the same operation, the same prefixes in their order, and
 /// the same operands by value. XCHG of AX and another register may have the two in the other order.
 pub fn texts_mean_the_same()
     ensures { TextsMeanTheSame }
 {}
 
-/// In whatever memory holds the image of an accepted source: where a line says what the text of an instruction of the
-/// table at the line's offset says, an instruction is decoded there that means the same, with as many bytes as the line
+/// In any memory that holds the image of an accepted source: if a line says what the text of an instruction of the
+/// table says at the line's offset, an instruction is decoded there that means the same, with as many bytes as the line
 /// has.
 pub fn texts_decode_the_same()
     ensures { TextsDecodeTheSame }

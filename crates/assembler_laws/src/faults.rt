@@ -1,38 +1,38 @@
 //! The order of faults.
 ghost use Rattle.assembler_laws.specs.FirstFaults.{EachSourceHasAnOutcome, FaultsComeInPasses, LaterLinesDoNotCount, LeastNumbersComeFirst, LinesBeforeAreClean, NoFaultBesideImage, OneFaultIsFirst};
 
-/// A source has at most one first fault, and it on one line; of the want of memory nothing is said.
+/// A source has at most one first fault, on one line, not counting want of memory.
 pub fn one_fault_is_first()
     ensures { OneFaultIsFirst }
 {}
 
-/// Each source has a first fault that is no want of memory, or it gives an image.
+/// Each source has a first fault other than want of memory, or gives an image.
 pub fn each_source_has_an_outcome()
     ensures { EachSourceHasAnOutcome }
 {}
 
-/// A source that gives an image has no first fault.
+/// A source that gives an image has no first fault other than want of memory.
 pub fn no_fault_beside_image()
     ensures { NoFaultBesideImage }
 {}
 
-/// Each fault is of one of the two passes, and where a line has one of the first pass no line has one of the second.
+/// Each fault belongs to one of the two passes, and if a line has one of the first pass, no line has one of the second.
 pub fn faults_come_in_passes()
     ensures { FaultsComeInPasses }
 {}
 
-/// The first fault's line is one of the source, and each line before it is clean as far as the first pass judges it, as
-/// all lines are if the fault is of the second pass.
+/// The line of the first fault is one of the source, and each line before it is clean as far as the first pass judges
+/// it; so are all lines, if the fault is one of the second pass.
 pub fn lines_before_are_clean()
     ensures { LinesBeforeAreClean }
 {}
 
-/// A fault of the first pass stays the first fault whatever is written behind its line.
+/// A fault of the first pass stays the first fault, whatever is written after its line.
 pub fn later_lines_do_not_count()
     ensures { LaterLinesDoNotCount }
 {}
 
-/// Where a line that is read has several faults of one pass, the one with the least number is told.
+/// If a line that is read has several faults of one pass, the one with the least number is answered.
 pub fn least_numbers_come_first()
     ensures { LeastNumbersComeFirst }
 {}

@@ -1,6 +1,6 @@
 //! What holds of each source that the assembler accepts: its bytes decode back, its lines stand where they are counted
-//! to, its data go low byte first, and neither case nor names count. In which order faults are told, and what the text
-//! of a decoded instruction says to the assembler.
+//! to, its data go low byte first, and neither case nor names count. Also the order of faults, and what the text of a
+//! decoded instruction says to the assembler.
 #![tactic(auto)]
 
 pub mod data;
