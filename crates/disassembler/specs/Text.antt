@@ -38,7 +38,7 @@ byte_text byte = codes "0" ++ (digits_of byte ++ codes "h")
 abbrev pub word_text : ℕ → List ℕ
 word_text word = codes "0" ++ (digits_of (word / 256) ++ (digits_of (word % 256) ++ codes "h"))
 
--- a place in memory: `WORD [BP+DI+00012h]`
+-- two terms with a plus between them
 abbrev pub sum_of : List ℕ → List ℕ → List ℕ
 sum_of left right = left ++ (codes "+" ++ right)
 
@@ -62,10 +62,11 @@ abbrev pub size_text : Option Keyword → List ℕ
 size_text None = []
 size_text (Some size) = keyword_name size ++ codes " "
 
+-- an operand in memory: `WORD [BP+DI+00012h]`
 abbrev pub memory_text : MemoryType → List ℕ
 memory_text m = size_text m.size ++ (codes "[" ++ (address_text m.base m.displacement ++ codes "]"))
 
--- an operand
+-- an operand as it is written
 abbrev pub operand_text : Written → List ℕ
 operand_text Nothing = []
 operand_text (Register register) = register_name register
@@ -77,16 +78,16 @@ operand_text (Far segment offset) =
     keyword_name keywords.Far ++ (codes " " ++ (word_text segment ++ (codes ":" ++ word_text offset)))
 operand_text (Memory memory) = memory_text memory
 
--- the operands behind the mnemonic
+-- the second operand, with a comma before it
 abbrev pub second_text : Written → List ℕ
 second_text Nothing = []
 second_text second = codes "," ++ operand_text second
 
+-- the operands after the mnemonic
 abbrev pub operands_text : Written → Written → List ℕ
 operands_text Nothing second = []
 operands_text first second = codes " " ++ (operand_text first ++ second_text second)
 
--- XCHG AX,AX in its short form is NOP
 abbrev pub is_xchg : Operation → Bool
 is_xchg (Transfer Xchg) = true
 is_xchg _ = false
@@ -95,10 +96,11 @@ abbrev pub is_ax : Kind → Bool
 is_ax kinds.Ax = true
 is_ax _ = false
 
+-- whether a form is XCHG AX,AX in one byte, which is written as NOP
 abbrev pub is_nop : Form → Bool
 is_nop f = is_xchg (operation_of f.row) && (is_ax (first_of f.row) && f.code == 0)
 
--- the text without prefixes, where the next instruction stands at the offset `next`
+-- the text of an instruction without prefixes, if the next instruction stands at the offset `next`
 abbrev pub plain_text : Form → Values → ℕ → List ℕ
 plain_text f v next =
     operation_name (operation_of f.row)
@@ -108,7 +110,7 @@ plain_text f v next =
 unfoldable pub body_text : Form → Values → ℕ → List ℕ
 body_text f v next = if is_nop f then mnemonic_name mnemonics.Nop else plain_text f v next
 
--- a prefix word, and a blank behind it
+-- a prefix as it is written, with a blank after it
 abbrev pub prefix_text : Prefix → List ℕ
 prefix_text (Segment register) = prefix_name (Segment register) ++ codes ": "
 prefix_text prefix = prefix_name prefix ++ codes " "

@@ -23,7 +23,7 @@ use Rattle.dialect.specs.declared.register.Register.TheVariants as registers
 use Rattle.disassembler.specs.declared.written.Written.{Written}
 use Rattle.disassembler.specs.declared.written.Written.TheVariants.{Nothing, Register, One, Byte, Word, Short, Far, Memory}
 
--- registers by their numbers
+-- a byte register by its number
 abbrev pub byte_register : ℕ → Written
 byte_register n = Register (registers.Byte (byte_register_of n))
 
@@ -33,11 +33,11 @@ word_register n = Register (registers.Word (word_register_of n))
 abbrev pub segment_register : ℕ → Written
 segment_register n = Register (registers.Segment (segment_register_of n))
 
--- a target is told from the next instruction on, and wraps
+-- a jump's target, which is counted from the next instruction on, and wraps
 abbrev pub target_after : ℕ → ℕ → ℕ
 target_after next distance = (next + distance) % 65536
 
--- SHORT is said of JMP, whose near form is another one
+-- a short jump's target: JMP says SHORT before it, because it has a near form, too
 abbrev pub target_operand : Operation → ℕ → Written
 target_operand (Control Jmp) target = Short target
 target_operand _ target = Word target
@@ -46,7 +46,7 @@ target_operand _ target = Word target
 abbrev pub escape_operand : ℕ → ℕ → Written
 escape_operand code reg = Byte ((8 * code + reg) % 256)
 
--- A size word stands before memory but where a register beside it tells the size. CL as a count tells none.
+-- Whether an operand tells the size of memory beside it, which then has no size word. CL as a count tells none.
 abbrev pub tells_size : Kind → Bool
 tells_size kinds.Reg8 = true
 tells_size kinds.Reg16 = true
@@ -57,7 +57,7 @@ tells_size _ = false
 abbrev pub size_beside : Keyword → Kind → Option Keyword
 size_beside size other = if tells_size other then None else Some size
 
--- a far jump or call through memory has FAR; LEA, LES and LDS have no size word
+-- the size word of a pointer in memory: FAR for a far jump or call; LEA, LES and LDS have none
 abbrev pub far_size : Operation → Option Keyword
 far_size (Control _) = Some keywords.Far
 far_size _ = None
@@ -83,7 +83,7 @@ abbrev pub word_operand : Place → Option Keyword → ℕ → Written
 word_operand (places.Register number) size displacement = word_register number
 word_operand place size displacement = memory_operand place size displacement
 
--- what is written for the operand of a kind beside one of kind `other`, where the next instruction stands at `next`
+-- what is written for the operand of a kind beside one of kind `other`, if the next instruction stands at `next`
 unfoldable pub written_operand : Form → Values → ℕ → Kind → Kind → Written
 written_operand f v next kinds.Nothing other = Nothing
 written_operand f v next kinds.Ten other = Nothing

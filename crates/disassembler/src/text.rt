@@ -13,7 +13,7 @@ use isa::operation::{Operation, Transfer};
 use isa::row::Kind;
 use std::fmt;
 
-/// A number of two digits.
+/// A number of two hexadecimal digits.
 #[derive(Clone, Copy)]
 struct HexByte(u8);
 
@@ -27,7 +27,7 @@ impl fmt::Display for HexByte {
     }
 }
 
-/// A number of four digits.
+/// A number of four hexadecimal digits.
 #[derive(Clone, Copy)]
 struct HexWord(u16);
 
@@ -59,7 +59,7 @@ fn base_text(base: Base) -> &'static str
     }
 }
 
-/// What stands in the brackets of memory.
+/// What stands in the brackets of an operand in memory.
 #[derive(Clone, Copy)]
 struct Address(Option<Base>, Option<u16>);
 
@@ -86,7 +86,7 @@ impl fmt::Display for Address {
     }
 }
 
-/// A size word and a blank, where there is one.
+/// A size word and a blank, if there is one.
 #[derive(Clone, Copy)]
 struct SizeWord(Option<Keyword>);
 
@@ -114,7 +114,7 @@ impl fmt::Display for Memory {
     }
 }
 
-/// A short target.
+/// SHORT and a target.
 #[derive(Clone, Copy)]
 struct Target(u16);
 
@@ -128,7 +128,7 @@ impl fmt::Display for Target {
     }
 }
 
-/// A far target, by its segment and offset.
+/// FAR and a target, by its segment and offset.
 #[derive(Clone, Copy)]
 struct Pointer(u16, u16);
 
@@ -163,7 +163,7 @@ impl fmt::Display for Written {
     }
 }
 
-/// The operands behind a mnemonic.
+/// The operands after a mnemonic.
 #[derive(Clone, Copy)]
 struct Operands(Written, Written);
 
@@ -190,7 +190,7 @@ fn is_nop(form: &Form) -> bool
         && form.code == 0
 }
 
-/// An instruction without prefixes, and the offset of the next one.
+/// An instruction without its prefixes, and the offset of the next one.
 #[derive(Drop)]
 struct Body<'a> {
     form: &'a Form,
@@ -216,7 +216,7 @@ impl fmt::Display for Body<'_> {
     }
 }
 
-/// A prefix word and a blank.
+/// A prefix as it is written, and a blank.
 #[derive(Clone, Copy)]
 struct PrefixWord(Prefix);
 
@@ -232,7 +232,7 @@ impl fmt::Display for PrefixWord {
     }
 }
 
-/// Prefix words in their order.
+/// Prefixes as they are written, in their order.
 #[derive(Clone, Copy)]
 struct Prefixes<'a>(&'a [Prefix]);
 
@@ -254,7 +254,7 @@ impl fmt::Display for Prefixes<'_> {
 #[derive(Drop)]
 pub struct InstrText<'a> {
     pub instr: &'a Instr,
-    /// The offset of its first byte.
+    /// The offset of the instruction's first byte.
     pub ip: u16,
 }
 

@@ -9,7 +9,7 @@ use isa::operation::{Control, Operation};
 use isa::register::{ByteRegister, SegmentRegister, WordRegister};
 use isa::row::Kind;
 
-/// A place in memory as it is written.
+/// An operand in memory, as it is written.
 #[derive(Clone, Copy)]
 pub struct Memory {
     /// BYTE, WORD or FAR.
@@ -25,9 +25,9 @@ pub enum Written {
     Register(Register),
     /// The count 1 of a shift.
     One,
-    /// A number of two digits.
+    /// A number of two hexadecimal digits.
     Byte(u8),
-    /// A number of four digits.
+    /// A number of four hexadecimal digits.
     Word(u16),
     /// SHORT and a target.
     Short(u16),
@@ -36,8 +36,8 @@ pub enum Written {
     Memory(Memory),
 }
 
-/// What is written for the operand of kind `kind` beside one of kind `other`, where the next instruction stands at
-/// the offset `next`.
+/// What is written for the operand of kind `kind` beside one of kind `other`, if the next instruction stands at the
+/// offset `next`.
 #[tactic(auto, unfolding(crate::specs::Written::written_operand))]
 pub(crate) fn written_operand(
     form: &Form,
@@ -119,7 +119,7 @@ fn escape_operand(code: u8, reg: u8) -> Written
     Written::Byte(((8 * u16::from(code) + u16::from(reg)) % 256) as u8)
 }
 
-/// A target within a byte, which JMP marks by SHORT.
+/// A short jump's target, before which JMP says SHORT.
 fn target_operand(operation: Operation, target: u16) -> Written
     ensures { result ≡ target_operand operation target }
 {
@@ -129,7 +129,7 @@ fn target_operand(operation: Operation, target: u16) -> Written
     }
 }
 
-/// Whether it is a register beside memory that tells the memory's size; a shift's CL doesn't.
+/// Whether an operand of this kind tells the size of memory beside it; a shift's CL doesn't.
 fn tells_size(kind: Kind) -> bool
     ensures { result ≡ tells_size kind }
 {
@@ -146,7 +146,7 @@ fn size_beside(size: Keyword, other: Kind) -> Option<Keyword>
     if tells_size(other) { None } else { Some(size) }
 }
 
-/// FAR where the operation takes an offset and a segment from memory; LEA, LES and LDS have no size word.
+/// FAR if the operation takes an offset and a segment from memory; LEA, LES and LDS have no size word.
 fn far_size(operation: Operation) -> Option<Keyword>
     ensures { result ≡ far_size operation }
 {
@@ -174,7 +174,7 @@ fn word_operand(place: Place, size: Option<Keyword>, displacement: u16) -> Writt
     }
 }
 
-/// A place in memory; of any other place nothing.
+/// An operand in memory; any other place gives nothing.
 fn memory_operand(place: Place, size: Option<Keyword>, displacement: u16) -> Written
     ensures { result ≡ memory_operand place size displacement }
 {
