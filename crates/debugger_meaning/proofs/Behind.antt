@@ -17,7 +17,7 @@ pub record Searched (stops : List Condition) (bound n : ℕ) (s : Plain) : Type 
   pub most : bound ≤ clock_of s + n
   pub none : NoneFrom stops (bound - clock_of s) n s
 
--- what holds at a clock after some is told from where the board stands then
+-- what holds some clocks after a board holds fewer clocks after a later board of the run
 held_on : (stops : List Condition) (m j : ℕ) (s p : Plain) (here : Option ℕ) → p ≡ after_clocks s m → m ≤ j → holding stops (after_clocks p (j - m)) ≡ here → holding stops (after_clocks s j) ≡ here
 held_on stops m j s p here is past holds =
     let place : m + (j - m) ≡ j = omega (arith, past) in
@@ -48,7 +48,7 @@ searched_more stops m k bound n s p is clock top so_far nothing = record {
 pub searched_all : (stops : List Condition) (bound n : ℕ) (s : Plain) → bound ≤ clock_of s → Searched stops bound n s → NoneHeld stops n s
 searched_all stops bound n s low so_far = λ j within. so_far.none j (omega (arith, low)) within
 
--- what is found in the last of these stretches
+-- what is found in the last of the stretches
 pub found_behind : (stops : List Condition) (m k bound n clock number : ℕ) (s p : Plain) → p ≡ after_clocks s m → clock_of p ≡ clock_of s + m → bound ≡ clock_of p + k → Searched stops bound n s
     → HeldLast stops k p clock number → HeldLast stops n s clock number
 found_behind stops m k bound n clock number s p is at top so_far found =

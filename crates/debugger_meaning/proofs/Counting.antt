@@ -13,7 +13,7 @@ same_by : (fits : Bool) (a b : Option ℕ) → at_most_greatest a ≡ at_most_gr
 same_by true a b same = same
 same_by false a b same = refl
 
--- of two numbers above the greatest both count as it, whatever digits follow
+-- two numbers above the greatest count as that, whatever digits follow
 both_large : (base a b : ℕ) (bs : List ℕ) → 1 ≤ base → 2 ^ 64 - 1 ≤ a → 2 ^ 64 - 1 ≤ b → at_most_greatest (spelled base a bs) ≡ at_most_greatest (spelled base b bs)
 both_large base a b [] some p q = ap Some (min-eq_right p ∙ sym (min-eq_right q))
 both_large base a b (d ∷ ds) some p q =
@@ -26,7 +26,7 @@ not_larger a b isnt = grind (arith, nat_tests)
 larger : (a b : ℕ) → nat_lt a b ≡ true → a ≤ b
 larger a b is = grind (arith, nat_tests)
 
--- a number above the greatest may be cut down to it before more digits follow
+-- a number above the greatest may be cut down to that before more digits follow
 cut_by : (large : Bool) (base n : ℕ) (bs : List ℕ) → 1 ≤ base → nat_lt (2 ^ 64 - 1) n ≡ large → at_most_greatest (spelled base (min n (2 ^ 64 - 1)) bs) ≡ at_most_greatest (spelled base n bs)
 cut_by true base n bs some is =
     let over : 2 ^ 64 - 1 ≤ n = larger (2 ^ 64 - 1) n is in
@@ -52,7 +52,7 @@ within n base is = grind (arith, nat_tests)
 fits : (n base : ℕ) → n < base → nat_lt n base ≡ true
 fits n base is = grind (arith, nat_tests)
 
--- a digit more
+-- one more digit
 pub digit_more : (base n i : ℕ) (digits : List ℕ) → 1 ≤ base → i < length digits → digit_of (get_or digits i 0) < base
     → at_most_greatest (spelled base (min (min (n * base) (2 ^ 64 - 1) + digit_of (get_or digits i 0)) (2 ^ 64 - 1)) (drop (suc i) digits)) ≡ at_most_greatest (spelled base n (drop i digits))
 digit_more base n i digits some in_list low =

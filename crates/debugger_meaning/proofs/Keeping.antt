@@ -1,4 +1,4 @@
--- The boards that are kept after one more was, or one less.
+-- The boards that are kept after one more was kept, or one was dropped.
 use Rattle.std.proofs.Common.{◌≡◌, ℕ, ◌+◌, inl, inr, Bool, true, false, if◌then◌else◌, List, ◌∷◌, ◌++◌, take, drop, sym, subst}
 use Rattle.std.specs.Prelude.{◌⊎◌, Contains, insert}
 use Rattle.std.proofs.lemmas.List.Elements.{All-append, All-cons, All-contains_itself, All-drop, All-same, All-take, All-weaker}

@@ -24,15 +24,15 @@ nothing_behind (x ∷ xs) = ap (λ (r : List ℕ). x ∷ r) (nothing_behind xs)
 one_more : {X : Type 0} (f : X → List ℕ) (xs : List X) (x : X) → flat_map f (xs ++ x ∷ []) ≡ flat_map f xs ++ f x
 one_more f xs x = flat_map-append f xs (x ∷ []) ∙ ap (λ (r : List ℕ). flat_map f xs ++ r) (flat_map-cons f x [] ∙ nothing_behind (f x))
 
--- a line more
+-- one more line
 pub line_more : (f : ℕ → List ℕ) (n : ℕ) → flat_map f (range_with_len 0 (n + 1)) ≡ flat_map f (range_with_len 0 n) ++ f n
 line_more f n = ap (flat_map f) (range_more n) ∙ one_more f (range_with_len 0 n) n
 
--- a byte more
+-- one more byte
 pub byte_more : (f : ℕ → List ℕ) (g : ℕ → ℕ) (n : ℕ) → flat_map f (map g (range_with_len 0 (n + 1))) ≡ flat_map f (map g (range_with_len 0 n)) ++ f (g n)
 byte_more f g n = ap (flat_map f) (map-range_with_len_more g 0 n n (from_zero n)) ∙ one_more f (map g (range_with_len 0 n)) (g n)
 
--- a piece is put behind what stands
+-- a piece is added after what is there
 pub pushed : (text old start front shown piece : List ℕ) → text ≡ old ++ shown → old ≡ start ++ front → shown ≡ piece → text ≡ start ++ (front ++ piece)
 pushed text old start front shown piece is was same = cc (append_assoc start front piece)
 
@@ -42,7 +42,7 @@ pushed_first text old front shown piece is was same = cc
 some_same : {X : Type 0} (x y : X) → Some x ≡ Some y → x ≡ y
 some_same x y is = cc
 
--- an element more
+-- one more element
 pub entry_more : {X : Type 0} (f : X → List ℕ) (xs : List X) (i : ℕ) (x : X) → slice_get xs i ≡ Some x → flat_map f (take (i + 1) xs) ≡ flat_map f (take i xs) ++ f x
 entry_more f xs i x is =
     let within : i < length xs = slice_get_within xs i x is in
@@ -54,7 +54,7 @@ none_past [] i is = omega arith
 none_past (x ∷ xs) zero is = cc
 none_past (x ∷ xs) (suc i) is = let rest : length xs ≤ i = none_past xs i is in omega arith
 
--- all elements, where there is none behind these
+-- all elements, if none follows these
 pub entries_all : {X : Type 0} (f : X → List ℕ) (xs : List X) (i : ℕ) → i ≤ length xs → slice_get xs i ≡ None → flat_map f (take i xs) ≡ flat_map f xs
 entries_all f xs i within is =
     let past : length xs ≤ i = none_past xs i is in

@@ -13,7 +13,7 @@ use Rattle.debugger_meaning.specs.declared.fault.DebugFault.TheVariants.{BadScan
 use Rattle.debugger_meaning.specs.Session.{FindsNoMemory, Goes, RefusesGo, RefusesRun, Runs, told_of}
 use Rattle.debugger_meaning.specs.Stands.{SessionState}
 
--- so much of a run has gone by without a stop
+-- a part of a run has passed without a stop
 pub record Went (count left : ℕ) (s t : SessionState) : Type 0 where
   pub within : clock_of s.board.plain + count ≤ 2 ^ 40
   pub left_is : left ≤ count
@@ -22,7 +22,7 @@ pub record Went (count left : ℕ) (s t : SessionState) : Type 0 where
   pub stops : t.stops ≡ s.stops
   pub first : t.first ≡ s.first
 
--- a further piece of it, from the board t to the board u
+-- one more piece of a run, from the board t to the board u
 pub record OnePiece (piece : ℕ) (t u : SessionState) (stopped : Option Stop) : Type 0 where
   pub runs : Runs t.stops piece t.board u.board stopped
   pub stops : u.stops ≡ t.stops
@@ -49,7 +49,7 @@ further stops a n s stop more at = record {
   clock = at.clock;
 }
 
--- its search joined to what went before
+-- the search of one more piece, joined to what has passed
 search_on : (count left piece : ℕ) (s t u : SessionState) (stopped : Option Stop) → Went count left s t → OnePiece piece t u stopped → IsStopOf s.stops (count - left + piece) s.board.plain stopped
 search_on count left piece s t u stopped went on =
     searches_join s.stops (count - left) piece s.board t.board stopped went.ran went.none (subst (λ stops. IsStopOf stops piece t.board.plain stopped) went.stops on.runs.stop)

@@ -6,7 +6,7 @@ use Rattle.debugger_meaning.specs.Words.{is_space, begins_word, words_from}
 one_more : (n : ℕ) → 1 + n ≡ suc n
 one_more n = omega arith
 
--- the word goes on behind its first byte, or it doesn't
+-- a word has more than its first byte, or not
 word_by : (b c : ℕ) (cs : List ℕ) (space : Bool)
     → (space ≡ false → words_from (c ∷ cs) ≡ (c ∷ take (size_before 32 cs) cs) ∷ words_from (drop (size_before 32 cs) cs))
     → (if not space then onto_first b (words_from (c ∷ cs)) else (b ∷ []) ∷ words_from (c ∷ cs))

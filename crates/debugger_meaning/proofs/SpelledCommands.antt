@@ -1,4 +1,4 @@
--- A line is read as a command exactly where it says it.
+-- A line is read as a command if and only if it says that command.
 use Rattle.std.proofs.Common.{◌≡◌, ◌∙◌, ℕ, suc, ◌+◌, ◌-◌, ◌*◌, ◌^◌, ◌<◌, ◌≤◌, Bool, true, false, not, ◌&&◌, nat_le, nat_lt, if◌then◌else◌, List, [], ◌∷◌, ◌++◌, codes, length, take, drop, length-append, refl, sym, ap, ap₂, subst, arith, Option, Some, None}
 use Rattle.std.specs.Prelude.{option_map, min}
 use Rattle.std.specs.Str.{bytes_eq}

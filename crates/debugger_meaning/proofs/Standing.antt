@@ -66,7 +66,7 @@ stands_refused first stops k b c (Memory None) at is = absurd is
 stands_refused first stops k b c (Memory (Some clock)) at is = stands_early first k b c at is.early
 stands_refused first stops k b c BeforeStart at is = absurd is
 
--- a board that shows the same stands there, too
+-- a board that shows the same stands at the same clock
 pub stands_same : (first : Shown) (b c : BoardState) → shown_of c ≡ shown_of b → StandsAfter first b → StandsAfter first c
 stands_same first b c is at = (
   at.0,
@@ -90,7 +90,7 @@ pub copied : (first : Shown) (board : BoardState) (result : Result BoardState De
 copied first board (Ok copy) same at = stands_same first board copy same at
 copied first board (Err fault) same at = tt
 
--- the parts of a session, told of what it shows
+-- the parts of a session stand as what it shows does
 pub board_stands : (first board : BoardState) (kept : List BoardState) (stops : List Condition) (s : SessionState) → record { first = shown_of first; board = board; stops = stops } ≡ s → IsSession first board kept stops → Stands s
 board_stands first board kept stops s is all = subst Stands is all.stands
 
@@ -124,7 +124,7 @@ after_run first board next kept more stops sought count stopped all runs are =
     let at : StandsAfter (shown_of first) next = stands_later (shown_of first) (run_length count board.plain stopped) board next all.stands runs.ran in
     record { addresses = all.addresses; stands = at; copies = all_stand (shown_of first) kept more next all.copies at are }
 
--- after a turn of the board, after which it may be kept
+-- a session after a turn of the board, after which the board may be kept
 pub after_turn : (first board next : BoardState) (kept : List BoardState) (stops : List Condition) (n : ℕ) → IsSession first board kept stops → Ran n board next → IsSession first next kept stops
 after_turn first board next kept stops n all ran = at_board first board next kept stops all (stands_later (shown_of first) n board next all.stands ran)
 

@@ -1,4 +1,4 @@
--- A session stands some clocks after the board with which it began, whatever it is told.
+-- A session stands some clocks after the board with which it began, whatever commands it gets.
 use Rattle.std.proofs.Common.{◌≡◌, ℕ, List, [], ◌∷◌, Option, None, Some, Ok, Err, refl, sym, subst, ◌∙◌}
 use Rattle.std.specs.Prelude.{Result}
 use Rattle.board_plain.specs.declared.stop.Condition.{Condition}
@@ -20,7 +20,7 @@ use Rattle.debugger_meaning.proofs.Standing.{stands_early, stands_later, stands_
 abbrev pub StandsFrom : Shown → SessionState → Type 0
 StandsFrom first s = (s.first ≡ first) × StandsAfter first s.board
 
--- the same of its own first board
+-- a session stands some clocks after its own first board
 own : (first : Shown) (s : SessionState) → StandsFrom first s → StandsAfter s.first s.board
 own first s at = subst (λ (f : Shown). StandsAfter f s.board) (sym at.0) at.1
 

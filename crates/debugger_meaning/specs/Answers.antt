@@ -8,7 +8,7 @@ use Rattle.debugger_meaning.specs.declared.answer.Answer.TheVariants.{Stop, Cloc
 use Rattle.debugger_meaning.specs.declared.fault.DebugFault.{DebugFault}
 use Rattle.debugger_meaning.specs.declared.fault.DebugFault.TheVariants.{BadScan, StampsFall, ClockLimit, BadCommand, TooManyStops, Memory, BeforeStart}
 
--- an answer, each line of it ended by a line feed
+-- an answer as text, each line of it ended by a line feed
 abbrev pub answer_text : Answer → List ℕ
 answer_text (Stop number) = codes "stop " ++ (decimal number ++ codes "\n")
 answer_text (Clock clock) = codes "clock " ++ (decimal clock ++ codes "\n")
@@ -32,7 +32,7 @@ fault_number fault = (fault_title fault).0
 abbrev pub fault_name : DebugFault → List ℕ
 fault_name fault = (fault_title fault).1
 
--- the clock that a refusal for want of memory tells
+-- the clock that a refusal for want of memory names, if it names one
 abbrev pub fault_clock : DebugFault → Option ℕ
 fault_clock (Memory clock) = clock
 fault_clock _ = None

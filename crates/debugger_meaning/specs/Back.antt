@@ -10,7 +10,7 @@ use Rattle.debugger_meaning.specs.declared.fault.DebugFault.{DebugFault}
 use Rattle.debugger_meaning.specs.declared.fault.DebugFault.TheVariants.{Memory, BeforeStart}
 use Rattle.debugger_meaning.specs.Stands.{SessionState, StandsAt, gone}
 
--- n clocks back, one at least; the stops stay
+-- back by n clocks, one at least; the stops stay
 pub record GoesBack (n : ℕ) (old new : SessionState) (answer : Answer) : Type 0 where
   pub some : 1 ≤ n
   pub within : clock_of old.first.plain + n ≤ clock_of old.board.plain
@@ -19,7 +19,8 @@ pub record GoesBack (n : ℕ) (old new : SessionState) (answer : Answer) : Type 
   pub stops : new.stops ≡ old.stops
   pub answer_is : answer ≡ Clock (clock_of old.board.plain - n)
 
--- back to the last earlier clock at which one of these conditions holds; its number and the clock are told
+-- back to the last earlier clock at which one of these conditions holds; the answer is made of its number and that
+-- clock
 pub record GoesBackTo (sought : List Condition) (tell : ℕ → ℕ → Answer) (old new : SessionState) (answer : Answer) : Type 0 where
   pub number : ℕ
   pub last : HeldLast sought (gone old) old.first.plain (clock_of new.board.plain) number
@@ -28,17 +29,19 @@ pub record GoesBackTo (sought : List Condition) (tell : ℕ → ℕ → Answer) 
   pub stops : new.stops ≡ old.stops
   pub answer_is : answer ≡ tell number (clock_of new.board.plain)
 
--- a boundary's clock alone is told
+-- the answer to a way back to a boundary: its clock alone
 abbrev pub tell_clock : ℕ → ℕ → Answer
 tell_clock number clock = Clock clock
 
--- A way back is refused where it leads to before the first clock, and for want of memory; nothing changes.
+-- A way back by n clocks is refused if it leads to before the first clock, and for want of memory; then nothing
+-- changes.
 abbrev pub RefusesBack : ℕ → SessionState → SessionState → DebugFault → Type 0
 RefusesBack n old new (Memory None) = (clock_of old.first.plain + n ≤ clock_of old.board.plain) × (new ≡ old)
 RefusesBack n old new BeforeStart = (clock_of old.board.plain < clock_of old.first.plain + n) × (new ≡ old)
 RefusesBack n old new _ = ⊥
 
--- so is one to a condition where none holds at any clock from the first one up to the one before this
+-- a way back to a condition is refused if none holds at any clock from the first one up to the one before this, and for
+-- want of memory; then nothing changes
 abbrev pub RefusesBackTo : List Condition → SessionState → SessionState → DebugFault → Type 0
 RefusesBackTo stops old new (Memory None) = (1 ≤ length stops) × (new ≡ old)
 RefusesBackTo stops old new BeforeStart = NoneHeld stops (gone old) old.first.plain × (new ≡ old)

@@ -10,7 +10,7 @@ use Rattle.board_types.specs.Digits.{hex_byte_text, hex_word}
 abbrev pub address_text : ℕ → List ℕ
 address_text address = digit_glyph true (address / 65536 % 16) ∷ hex_word (address % 65536)
 
--- so many bytes from an address on
+-- this many bytes from an address on
 abbrev pub bytes_from : Plain → ℕ → ℕ → List ℕ
 bytes_from s first size = map (λ k. byte_of s (first + k)) (range_with_len 0 size)
 
@@ -18,12 +18,12 @@ bytes_from s first size = map (λ k. byte_of s (first + k)) (range_with_len 0 si
 abbrev pub spaced_byte : ℕ → List ℕ
 spaced_byte byte = codes " " ++ hex_byte_text byte
 
--- `B0000: 48 07 49 07`
+-- a line of a dump: `B0000: 48 07 49 07`
 unfoldable pub dump_line : Plain → ℕ → ℕ → List ℕ
 dump_line s first size =
     address_text first ++ (codes ":" ++ (flat_map spaced_byte (bytes_from s first size) ++ codes "\n"))
 
--- line by line, sixteen bytes on each, the last having what is left
+-- the line of a dump with this number, from 0 on: sixteen bytes, or what is left on the last
 abbrev pub dump_line_at : Plain → ℕ → ℕ → ℕ → List ℕ
 dump_line_at s first count line = dump_line s (first + 16 * line) (min (count - 16 * line) 16)
 

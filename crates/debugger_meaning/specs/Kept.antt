@@ -1,4 +1,4 @@
--- What a session keeps beside what it shows.
+-- What a session keeps besides what it shows.
 -- For proofs alone: no public contract rests on it.
 use Rattle.std.specs.Prelude.{ℕ, ◌≡◌, ◌+◌, ◌⊎◌, List, All, Contains, None, Some}
 use Rattle.board_plain.specs.declared.stop.Condition.{Condition}
@@ -10,11 +10,11 @@ use Rattle.debugger_meaning.specs.declared.fault.DebugFault.{DebugFault}
 use Rattle.debugger_meaning.specs.declared.fault.DebugFault.TheVariants.{BadScan, StampsFall, ClockLimit, BadCommand, TooManyStops, Memory, BeforeStart}
 use Rattle.debugger_meaning.specs.Stands.{SessionState, shown_of, StandsAfter, StandsAt, gone}
 
--- the boards that are kept afterwards were kept before, or are copies of this one
+-- each board that is kept afterwards was kept before, or is a copy of this one
 abbrev pub AreKept : List BoardState → BoardState → List BoardState → Type 0
 AreKept old board new = All (λ kept. Contains old kept ⊎ (shown_of kept ≡ shown_of board)) new
 
--- what is so of each session's parts
+-- what holds of the parts of each session
 pub record IsSession (first board : BoardState) (kept : List BoardState) (stops : List Condition) : Type 0 where
   pub addresses : All HasAddress stops
   pub stands : StandsAfter (shown_of first) board
@@ -28,7 +28,7 @@ pub record StandsNow (clock : ℕ) (old new : SessionState) : Type 0 where
   pub first : new.first ≡ old.first
   pub stops : new.stops ≡ old.stops
 
--- no memory for a copy of a board, or for what it lists
+-- there is no memory for a copy of a board, or for what it lists
 abbrev pub LacksMemory : DebugFault → Type 0
 LacksMemory fault = fault ≡ Memory None
 

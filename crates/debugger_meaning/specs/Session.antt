@@ -21,7 +21,7 @@ use Rattle.debugger_meaning.specs.Dump.{dump_text}
 use Rattle.debugger_meaning.specs.Stands.{SessionState}
 use Rattle.debugger_meaning.specs.TrailText.{entry_line}
 
--- A stop is added, and told its number; stops are numbered from 1. The board stands still.
+-- A stop is added, and the answer is its number; stops are numbered from 1. The board stays as it is.
 pub record Adds (condition : Condition) (old new : SessionState) (answer : Answer) : Type 0 where
   pub room : length old.stops < 16
   pub stops : new.stops ≡ old.stops ++ condition ∷ []
@@ -29,7 +29,7 @@ pub record Adds (condition : Condition) (old new : SessionState) (answer : Answe
   pub first : new.first ≡ old.first
   pub answer_is : answer ≡ Stop (length old.stops + 1)
 
--- a seventeenth stop
+-- a seventeenth stop is refused
 pub record IsFull (old new : SessionState) (fault : DebugFault) : Type 0 where
   pub full : length old.stops ≡ 16
   pub kept : new ≡ old
@@ -41,7 +41,7 @@ pub record Runs (stops : List Condition) (n : ℕ) (old new : BoardState) (stopp
   pub stop : IsStopOf stops n old.plain stopped
   pub ran : Ran (run_length n old.plain stopped) old new
 
--- A run that found no memory for the speaker's next change stands at the clock before it, and tells that clock; no
+-- A run that found no memory for the speaker's next change stands at the clock before it, which the refusal names; no
 -- condition held at any clock after the start up to that one.
 pub record FindsNoMemory (stops : List Condition) (n : ℕ) (old new : BoardState) (clock : ℕ) : Type 0 where
   pub within : clock_of old.plain + n ≤ 2 ^ 40
@@ -49,18 +49,18 @@ pub record FindsNoMemory (stops : List Condition) (n : ℕ) (old new : BoardStat
   pub none_passed : NoStop stops (clock_of new.plain - clock_of old.plain) old.plain
   pub clock_is : clock ≡ clock_of new.plain
 
--- a run is refused where it would go past clock 2^40, and for want of memory
+-- a run is refused if it would go past clock 2^40, and for want of memory
 abbrev pub RefusesRun : List Condition → ℕ → BoardState → BoardState → DebugFault → Type 0
 RefusesRun stops n old new ClockLimit = (2 ^ 40 < clock_of old.plain + n) × (new ≡ old)
 RefusesRun stops n old new (Memory (Some clock)) = FindsNoMemory stops n old new clock
 RefusesRun stops n old new _ = ⊥
 
--- what a run's end is answered: its stop's number and clock, or the clock that was reached
+-- the answer to a run: its stop's number and clock, or the clock that was reached
 abbrev pub told_of : Option StopType → ℕ → Answer
 told_of None clock = Clock clock
 told_of (Some stop) clock = StopAt stop.number stop.clock
 
--- a run to the next stop
+-- a run of at most n clocks, to the next stop
 pub record Goes (n : ℕ) (old new : SessionState) (answer : Answer) : Type 0 where
   pub stopped : Option StopType
   pub runs : Runs old.stops n old.board new.board stopped
@@ -72,7 +72,7 @@ abbrev pub RefusesGo : ℕ → SessionState → SessionState → DebugFault → 
 RefusesGo n old new fault =
     RefusesRun old.stops n old.board new.board fault × (new.stops ≡ old.stops) × (new.first ≡ old.first)
 
--- the clocks up to the last one, 2^40
+-- how many clocks are left up to the last one, 2^40
 abbrev pub clocks_left : BoardState → ℕ
 clocks_left board = 2 ^ 40 - clock_of board.plain
 
@@ -97,7 +97,7 @@ abbrev pub IsText : List ℕ → Answer → Type 0
 IsText bytes (Text text) = string_bytes text ≡ bytes
 IsText bytes _ = ⊥
 
--- a text is shown, or there is no memory for it; nothing changes
+-- a text is shown, or refused for want of memory
 abbrev pub Shows : List ℕ → Result Answer DebugFault → Type 0
 Shows bytes result = MatchResult result (IsText bytes) (λ fault. fault ≡ Memory None)
 
@@ -122,7 +122,7 @@ Answers commands.BackStep old result new =
 Answers commands.BackStop old result new =
     MatchResult result (GoesBackTo old.stops StopAt old new) (RefusesBackTo old.stops old new)
 
--- the same of a line, which may be no command
+-- the answer to a line, or its refusal, and what the session is then; a line that is no command is refused
 abbrev pub AnswersLine : Option Command → SessionState → Result Answer DebugFault → SessionState → Type 0
 AnswersLine None old result new = (result ≡ Err BadCommand) × (new ≡ old)
 AnswersLine (Some command) old result new = Answers command old result new

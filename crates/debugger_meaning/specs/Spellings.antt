@@ -10,17 +10,17 @@ use Rattle.debugger_meaning.specs.declared.command.Command.TheVariants.{Break, B
 abbrev pub AreSpaces : List ℕ → Type 0
 AreSpaces line = AllByRecursion (λ b. b ≡ 32) line
 
--- a word has a byte or more, of which none is a space
+-- a word has one byte or more, none of which is a space
 pub record IsWord (word : List ℕ) : Type 0 where
   pub some : word ≢ []
   pub no_space : AllByRecursion (λ b. b ≢ 32) word
 
--- what stands behind a word begins with a space, if it is anything
+-- what follows a word is nothing, or begins with a space
 abbrev pub IsApart : List ℕ → Type 0
 IsApart [] = Unit {0}
 IsApart (b ∷ bs) = b ≡ 32
 
--- a word, perhaps with spaces before it, and what stands behind it
+-- a word, perhaps with spaces before it, and what follows it
 pub record WordThen (word : List ℕ) (Behind : List ℕ → Type 0) (line : List ℕ) : Type 0 where
   pub spaces : List ℕ
   pub behind : List ℕ
@@ -41,7 +41,7 @@ pub record SpellsHex (most n : ℕ) (word : List ℕ) : Type 0 where
   pub few : length word ≤ most
   pub number : spelled 16 0 word ≡ Some n
 
--- one or more decimal digits; a count that is too large for 64 bits is as good as the largest that isn't
+-- one or more decimal digits; a count that is too large for 64 bits counts as the largest that isn't
 pub record SpellsCount (count : ℕ) (word : List ℕ) : Type 0 where
   pub number : ℕ
   pub some : 1 ≤ length word
@@ -56,12 +56,13 @@ pub record SpellsPlace (segment offset : ℕ) (word : List ℕ) : Type 0 where
   pub segment_is : SpellsHex 4 segment front
   pub offset_is : SpellsHex 4 offset back
 
--- a name and a word, or two
+-- a name and a word after it
 pub record WithOne (name : List ℕ) (Spells : List ℕ → Type 0) (words : List (List ℕ)) : Type 0 where
   pub word : List ℕ
   pub are : words ≡ name ∷ word ∷ []
   pub says : Spells word
 
+-- a name and two words after it
 pub record WithTwo (name : List ℕ) (First Second : List ℕ → Type 0) (words : List (List ℕ)) : Type 0 where
   pub first : List ℕ
   pub second : List ℕ

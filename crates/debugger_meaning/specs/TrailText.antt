@@ -14,7 +14,7 @@ abbrev pub event_text : TrailEvent → ℕ → List ℕ
 event_text (Instruction instr bytes) ip = flat_map hex_byte_text bytes.items ++ (codes " " ++ instr_text instr ip)
 event_text (Entry kind) ip = codes "entry " ++ hex_byte_text kind
 
--- `15 F000:0000 B800B0 MOV AX,0B000h`, `96 F000:0016 entry 08`
+-- the line of an entry: `15 F000:0000 B800B0 MOV AX,0B000h`, or `96 F000:0016 entry 08`
 unfoldable pub entry_line : TrailEntry → List ℕ
 entry_line e =
     decimal e.clock ++ (codes " " ++ (hex_word e.cs ++ (codes ":"

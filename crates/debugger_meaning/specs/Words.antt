@@ -7,12 +7,12 @@ use Rattle.board_types.specs.Digits.{spelled}
 abbrev pub is_space : ℕ → Bool
 is_space b = b == 32
 
--- the list's first byte belongs to a word
+-- whether a list's first byte belongs to a word
 abbrev pub begins_word : List ℕ → Bool
 begins_word [] = false
 begins_word (b ∷ bs) = not (is_space b)
 
--- the words of a line, parted by spaces
+-- the words of a line, which spaces separate
 abbrev pub words_from : List ℕ → List (List ℕ)
 words_from [] = []
 words_from (b ∷ bs) =
@@ -26,7 +26,7 @@ words_of line = words_from line
 unfoldable pub hex_number : ℕ → List ℕ → Option ℕ
 hex_number most word = if nat_le 1 (length word) && nat_le (length word) most then spelled 16 0 word else None
 
--- a count that is too large for 64 bits is as good as the largest that isn't
+-- a count; one that is too large for 64 bits counts as the largest that isn't
 abbrev pub at_most_greatest : Option ℕ → Option ℕ
 at_most_greatest None = None
 at_most_greatest (Some n) = Some (min n (2 ^ 64 - 1))

@@ -5,7 +5,7 @@ ghost use Rattle.debugger_meaning.specs.Answers.{answer_text};
 use board_types::clock::Clock;
 use std::fmt;
 
-/// An answer. Shown as text it is one or more whole lines, or none where a text is empty.
+/// An answer. As text it is one or more whole lines, or none if a shown text is empty.
 #[derive(Drop)]
 pub enum Answer {
     /// The number of the stop that was added.

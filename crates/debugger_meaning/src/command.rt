@@ -7,27 +7,27 @@ use crate::word::{count_of, hex_number, next_word};
 /// What a line asks a session for.
 #[derive(Clone, Copy, Debug, PartialEq, Eq)]
 pub enum Command {
-    /// A stop where the processor is free at this segment and offset.
+    /// A stop that holds if the processor is free at this segment and offset.
     Break(u16, u16),
-    /// A stop where the byte at this physical address, below 100000h, is this one.
+    /// A stop that holds if the byte at this physical address, below 100000h, is this one.
     Byte(u32, u8),
-    /// A stop where the speaker is high.
+    /// A stop that holds if the speaker is high.
     Sound,
-    /// A stop where the processor is halted.
+    /// A stop that holds if the processor is halted.
     Halted,
-    /// On to the next stop, for at most so many clocks. A count above the greatest `u64` is that one.
+    /// On to the next stop, for at most this many clocks. A larger count than the greatest `u64` counts as that.
     Go(u64),
     /// On to the next clock at which the processor is free.
     Step,
-    /// The registers.
+    /// Shows the registers.
     Regs,
-    /// The screen.
+    /// Shows the screen.
     Screen,
-    /// From a physical address on so many bytes, 1 to 4,096 of them, all below 100000h.
+    /// Shows the bytes from a physical address on, 1 to 4,096 of them, all below 100000h.
     Dump(u32, u32),
-    /// The last instruction starts and entries.
+    /// Shows the last instruction starts and entries.
     Trail,
-    /// Back by so many clocks, 1 at least. A count above the greatest `u64` is that one.
+    /// Back by this many clocks, 1 at least. A larger count than the greatest `u64` counts as that.
     Back(u64),
     /// Back to the last earlier clock at which the processor was free.
     BackStep,
@@ -35,7 +35,7 @@ pub enum Command {
     BackStop,
 }
 
-/// The command that a line is, if it is one. Its words are parted by spaces, and written in lower case; segments,
+/// The command that a line is, if it is one. Its words are separated by spaces, and written in lower case; segments,
 /// offsets, addresses and bytes are hexadecimal in either case, of at most 4, 4, 5 and 2 digits, and counts are
 /// decimal.
 #[tactic(auto, unfolding(crate::specs::Commands::command_of))]
@@ -56,7 +56,7 @@ pub fn read_command(line: &str) -> Option<Command>
     }
 }
 
-/// Whether a line is the word `quit`, by which a session ends.
+/// Whether a line is the word `quit`, which ends a session.
 #[tactic(auto, unfolding(crate::specs::Commands::is_quit))]
 pub fn is_quit(line: &str) -> bool
     ensures { result ≡ is_quit line.now }
@@ -67,7 +67,7 @@ pub fn is_quit(line: &str) -> bool
     }
 }
 
-/// A command of one word.
+/// The command that one word is.
 #[tactic(auto, unfolding(crate::specs::Commands::plain_command))]
 fn plain_command(name: &[u8]) -> Option<Command>
     ensures value { result ≡ plain_command name.now }
@@ -90,7 +90,7 @@ fn plain_command(name: &[u8]) -> Option<Command>
     }
 }
 
-/// A command of a word and what follows it.
+/// The command that a word and another after it are.
 #[tactic(auto, unfolding(crate::specs::Commands::command_with))]
 fn command_with(name: &[u8], rest: &[u8]) -> Option<Command>
     ensures value { result ≡ command_with name.now rest.now }
@@ -107,7 +107,7 @@ fn command_with(name: &[u8], rest: &[u8]) -> Option<Command>
     }
 }
 
-/// A way back: to a boundary, to a stop, or by so many clocks.
+/// A way back: to a boundary, to a stop, or by a number of clocks.
 #[tactic(auto, unfolding(crate::specs::Commands::back_command))]
 fn back_command(way: &[u8]) -> Option<Command>
     ensures value { result ≡ back_command way.now }
@@ -126,7 +126,7 @@ fn back_command(way: &[u8]) -> Option<Command>
     Some(Command::Back(count))
 }
 
-/// Where the first colon stands.
+/// The place of the first colon.
 pub fn colon_place(place: &[u8]) -> Option<usize>
     ensures value { result ≡ position is_colon place.now }
     ensures bound { IfSome result (λ at. at < length place.now) }
@@ -146,7 +146,7 @@ pub fn break_command(place: &[u8]) -> Option<Command>
     Some(Command::Break(segment as u16, offset as u16))
 }
 
-/// A command of a word and two that follow it.
+/// The command that a word and two after it are.
 #[tactic(auto, unfolding(crate::specs::Commands::command_with_two))]
 fn command_with_two(name: &[u8], first: &[u8], second: &[u8]) -> Option<Command>
     ensures value { result ≡ command_with_two name.now first.now second.now }
@@ -172,7 +172,7 @@ fn byte_command(address: &[u8], byte: &[u8]) -> Option<Command>
     Some(Command::Byte(address, byte as u8))
 }
 
-/// So many bytes from an address on.
+/// A dump of a number of bytes from an address on.
 #[tactic(auto, unfolding(crate::specs::Commands::dump_command))]
 fn dump_command(first: &[u8], count: &[u8]) -> Option<Command>
     ensures value { result ≡ dump_command first.now count.now }

@@ -22,7 +22,7 @@ impl fmt::Display for Address {
     }
 }
 
-/// An address and a colon, behind a text.
+/// Adds an address and a colon to a text.
 pub fn push_address(alloc: Global, text: &mut String, address: u32) -> Result<(), AllocError>
     ensures { OnOk result (string_bytes text.new ≡ string_bytes text.old ++ (address_text address ++ codes ":")) }
 {

@@ -20,15 +20,15 @@ pub enum DebugFault {
     BadCommand,
     #[error("there are sixteen stops already")]
     TooManyStops,
-    /// There is no memory: for a text, for a copy of the board, or for the changes of the speaker's level in a run, which
-    /// then has gone up to this clock.
+    /// There is no memory for a text, for a copy of the board, or for the changes of the speaker's level in a run,
+    /// which has then gone up to this clock.
     #[error("out of memory")]
     Memory(Option<Clock>),
     #[error("no such clock since the session's first")]
     BeforeStart,
 }
 
-/// There is no memory for a text.
+/// Want of memory for a text.
 impl From<AllocError> for DebugFault {
     ghost from_gives = { λ _ fault. fault ≡ Memory None };
 
@@ -68,7 +68,7 @@ impl DebugFault {
         }
     }
 
-    /// The clock at which a run that found no memory has stopped.
+    /// The clock up to which a run has gone that found no memory.
     pub fn clock(self) -> Option<Clock>
         ensures { result ≡ fault_clock self }
     {

@@ -1,5 +1,5 @@
-//! What the debugger's words mean: the words of a line, commands, answers and faults, what is printed of memory and of the
-//! trail, and, as definitions, what a session is and how it answers.
+//! What the debugger's words mean: the words of a line, commands, answers and faults, what is printed of memory and of
+//! the trail, and, as definitions, what a session is and how it answers.
 #![tactic(auto)]
 
 pub mod answer;

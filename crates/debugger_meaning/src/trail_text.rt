@@ -11,7 +11,7 @@ use disassembler::text::InstrText;
 use std::alloc::{AllocError, Global};
 use std::fmt;
 
-/// Bytes, two digits each.
+/// Bytes as text, two hexadecimal digits each.
 #[derive(Clone, Copy)]
 pub struct Bytes<'a>(pub &'a [u8]);
 
@@ -27,7 +27,7 @@ impl fmt::Display for Bytes<'_> {
     }
 }
 
-/// An event that began at an offset.
+/// An event of the trail, with the offset at which it began.
 #[derive(Drop)]
 struct Event<'a> {
     event: &'a TrailEvent,
@@ -52,7 +52,7 @@ impl fmt::Display for Event<'_> {
     }
 }
 
-/// The line of an entry.
+/// The line of an entry of the trail.
 #[tactic(auto, unfolding(crate::specs::TrailText::entry_line))]
 pub fn entry_line(alloc: Global, entry: &TrailEntry) -> Result<String, AllocError>
     ensures { IfOk result (λ text. string_bytes text ≡ entry_line entry.now) }

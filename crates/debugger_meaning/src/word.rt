@@ -19,7 +19,7 @@ fn skip_spaces(line: &[u8]) -> &[u8]
     rest
 }
 
-/// The first word of a line and what follows it; none where only spaces are left.
+/// The first word of a line, and what follows it. `None` if only spaces are left.
 #[tactic(auto, unfolding(crate::specs::Words::words_of))]
 pub fn next_word(line: &[u8]) -> Option<(&[u8], &[u8])>
     ensures some { IfSome result (λ p. words_of line.now ≡ p.0.now ∷ words_of p.1.now) }
@@ -32,7 +32,7 @@ pub fn next_word(line: &[u8]) -> Option<(&[u8], &[u8])>
     }
 }
 
-/// The number that these digits to a base of 1 to 16 spell; one above the greatest `u64` counts as that.
+/// The number that these digits to a base of 1 to 16 spell; a larger one than the greatest `u64` counts as that.
 fn number_to(base: u8, digits: &[u8]) -> Option<u64>
     requires low { 1 ≤ base }
     requires high { base ≤ 16 }
@@ -51,7 +51,7 @@ fn number_to(base: u8, digits: &[u8]) -> Option<u64>
     Some(number)
 }
 
-/// The number that 1 to `most` hexadecimal digits spell, `most` being at most 5.
+/// The number that 1 to `most` hexadecimal digits spell; `most` is at most 5.
 #[tactic(auto, unfolding(crate::specs::Words::hex_number))]
 pub fn hex_number(most: usize, word: &[u8]) -> Option<u32>
     requires { most ≤ 5 }
@@ -65,7 +65,7 @@ pub fn hex_number(most: usize, word: &[u8]) -> Option<u32>
     Some(number as u32)
 }
 
-/// The count that one or more decimal digits spell; one above the greatest `u64` counts as that.
+/// The count that one or more decimal digits spell; a larger one than the greatest `u64` counts as that.
 #[tactic(auto, unfolding(crate::specs::Words::count_of))]
 pub fn count_of(word: &[u8]) -> Option<u64>
     ensures { result ≡ count_of word.now }
