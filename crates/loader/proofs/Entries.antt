@@ -13,7 +13,7 @@ use Rattle.loader.specs.declared.run_fault.RunFault.{RunFault}
 use Rattle.loader.specs.declared.run_fault.RunFault.TheVariants.{NotJson, BadField, BadScan, StampsFall, BudgetTooLarge, Memory}
 use Rattle.loader.specs.RunFile.{Answers, FaultAnswer, entries_of, entry_of, entry_fault, key_of, keys_fault, keys_of, pair_of, unless, with_first}
 
--- entries behind those in front of them
+-- entries after those before them
 abbrev pub after_front : List KeyEntry → Option (List KeyEntry) → Option (List KeyEntry)
 after_front front found = option_map (λ rest. front ++ rest) found
 
@@ -39,7 +39,7 @@ last_pushed keys key =
     rw at (ap (λ o. unwrap_or (option_map (λ (k : StampedKey). k.stamp) o) 0) (slice_get-get_or (keys ++ key ∷ []) (length keys) key within)
     ∙ ap (λ (k : StampedKey). k.stamp) (get_or-append_seam keys key [] key))
 
--- the keys so far, and behind them those of the rest, or the rest's first fault
+-- the keys so far, and after them those of the rest, or the first fault of the rest
 abbrev pub keys_behind : List StampedKey → List KeyEntry → Result (List StampedKey) RunFault
 keys_behind keys rest = unless (keys_fault (last_stamp keys) rest) (keys ++ map key_of rest)
 
@@ -62,7 +62,7 @@ pub keys_whole : (keys : List StampedKey) (entries : List KeyEntry) → keys_beh
 unfolding keys_of
 keys_whole keys entries same = ap (λ all. Ok all) (sym (append-nil keys)) ∙ same
 
--- the item of a loop over a slice, in front of those behind it
+-- the item of a loop over a slice, before those after it
 pub next_item : {X : Type 0} (xs : List X) (i : ℕ) (x : X) → i < length xs → x ≡ get_or xs i x → drop i xs ≡ x ∷ drop (i + 1) xs
 next_item xs i x within is =
     let one : i + 1 ≡ suc i = omega arith in

@@ -1,4 +1,4 @@
--- What an image holds behind bytes that are put into it.
+-- What an image holds after bytes are put into it.
 use Rattle.std.proofs.Common.{◌≡◌, ◌∙◌, ℕ, ◌==◌, List, [], ◌∷◌, refl, ap, Bool, true, false, Option, None, Some, if◌then◌else◌}
 use Rattle.std.specs.Ordering.{nat_cmp}
 use Rattle.std.specs.BTreeMap.{insert_entry}

@@ -7,7 +7,7 @@ pub space_goes : (line : List ℕ) → without_spaces (line ++ 32 ∷ []) ≡ wi
 space_goes [] = refl
 space_goes (b ∷ bs) = ap (unless_last b) (space_goes bs)
 
--- a line whose last byte is none stays
+-- a line whose last byte is no space stays
 pub others_stay : (line : List ℕ) (last : ℕ) → (last == 32) ≡ false → without_spaces (line ++ last ∷ []) ≡ line ++ last ∷ []
 others_stay [] last other = rw other refl
 others_stay (b ∷ []) last other = rw other refl

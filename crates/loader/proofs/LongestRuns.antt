@@ -16,7 +16,7 @@ use Rattle.loader.proofs.Runs.{from_end, from_first, gets_none, gets_some, no_ru
 abbrev Ends : List (ℕ × ℕ) → ℕ → ℕ → List ℕ → Type 0
 Ends es n a row = (length row ≡ n) ⊎ (((a + length row) % 65536 ≡ 0) ⊎ (image_byte es (a + length row) ≡ None))
 
--- of at most n bytes from an address on it has all that stand there
+-- a run has the bytes of an image from an address on, at most n of them
 record IsRun (es : List (ℕ × ℕ)) (n a : ℕ) (row : List ℕ) : Type 0 where
   entries : entries_from a row ++ bytes_from es (a + length row) ≡ bytes_from es a
   few : length row ≤ n

@@ -251,7 +251,7 @@ abbrev Follows : Option ℕ → Extension → Type 0
 Follows None extension = Unit {0}
 Follows (Some bank) extension = extension ≡ Segment (4096 * bank)
 
--- behind a bank's line, or where it was in force, its extension is in force
+-- the extension of a bank is in force after the bank's line, or if it was in force before
 bank_read : (number bank : ℕ) (extension : Extension) (held : List (ℕ × ℕ)) (last : Option ℕ) (rest : List ℕ) → bank < 16 → Follows last extension
     → (next : ℕ) × (image_after number extension held (text_lines ((if is_bank last bank then [] else bank_line bank) ++ rest)) ≡ image_after next (Segment (4096 * bank)) held (text_lines rest))
 bank_read number bank extension held last rest few follows = by last follows
@@ -282,7 +282,7 @@ row_read number address extension held taken row rest fit small are load =
 run_some : (e : ℕ × ℕ) (es : List (ℕ × ℕ)) → 0 < length (longest_run (e ∷ es) e.0 16)
 run_some e es = rw (run_at 15 e.0 e.1 (e ∷ es) es refl) (omega arith)
 
--- a row's lines, and then the lines of the bytes behind it
+-- the lines of a row, and then those of the bytes after it
 row_split : (last : Option ℕ) (e : ℕ × ℕ) (es taken left : List (ℕ × ℕ)) → e ∷ es ≡ taken ++ left → length (longest_run (e ∷ es) e.0 16) ≡ length taken
     → hex_lines last 0 (e ∷ es) ≡ (if is_bank last (e.0 / 65536) then [] else bank_line (e.0 / 65536)) ++ (data_line e.0 (longest_run (e ∷ es) e.0 16) ++ hex_lines (Some (e.0 / 65536)) 0 left)
 row_split last e es taken left is size =

@@ -19,7 +19,7 @@ hello : run_of_text (codes "{\"version\":1,\"ram\":64,\"sw1\":0,\"sw2\":0,\"budg
 unfolding on_texts
 hello = refl
 
--- of a field that stands twice the last value counts
+-- the last value of a field that is written twice counts
 twice : run_of_text (codes "{\"ram\":65536,\"version\":1,\"sw1\":255,\"sw2\":31,\"budget\":1099511627776,\"keys\":[],\"ram\":65535}")
     ≡ Ok (record { ram_kb = 65535; sw1 = 255; sw2 = 31; timer = I8253; clocks = C1; budget = 1099511627776; keys = [] })
 unfolding on_texts
@@ -63,7 +63,7 @@ falls : run_of_text (codes "{\"version\":1,\"ram\":64,\"sw1\":0,\"sw2\":0,\"budg
 unfolding on_texts
 falls = refl
 
--- of one key its code comes before its stamp
+-- the fault of a key's code comes before that of its stamp
 scan : run_of_text (codes "{\"version\":1,\"ram\":64,\"sw1\":0,\"sw2\":0,\"budget\":1,\"keys\":[[5,1],[4,300]]}") ≡ Err BadScan
 unfolding on_texts
 scan = refl
@@ -74,7 +74,7 @@ second : run_of_text (codes "{\"version\":1,\"ram\":64,\"sw1\":0,\"sw2\":0,\"tim
 unfolding on_texts
 second = refl
 
--- of its two fields neither brings the other
+-- neither of the two fields of version 2 may be missing
 timer_alone : run_of_text (codes "{\"version\":2,\"ram\":64,\"sw1\":0,\"sw2\":0,\"timer\":\"8253\",\"budget\":100,\"keys\":[]}") ≡ Err BadField
 unfolding on_texts
 timer_alone = refl
@@ -83,7 +83,7 @@ clocks_alone : run_of_text (codes "{\"version\":2,\"ram\":64,\"sw1\":0,\"sw2\":0
 unfolding on_texts
 clocks_alone = refl
 
--- version 1 has neither
+-- version 1 has neither of the two fields of version 2
 timer_of_version_1 : run_of_text (codes "{\"version\":1,\"ram\":64,\"sw1\":0,\"sw2\":0,\"timer\":\"8253\",\"budget\":100,\"keys\":[]}") ≡ Err BadField
 unfolding on_texts
 timer_of_version_1 = refl

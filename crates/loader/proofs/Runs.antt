@@ -12,7 +12,7 @@ use Rattle.board_types.specs.Image.{IsLoadable, image_byte}
 use Rattle.board_types.proofs.ImageBytes.{eq_not, none_below}
 use Rattle.loader.specs.HexText.{bytes_from, hex_lines, row_lines, longest_run}
 
--- where an image has no byte at an address, it goes on behind it
+-- if an image has no byte at an address, its bytes from there on are those after it
 pub gets_none : (a : ℕ) (es : List (ℕ × ℕ)) → image_byte es a ≡ None → bytes_from es a ≡ bytes_from es (a + 1)
 gets_none a [] h = refl
 gets_none a (e ∷ es) h = elim (cases_lt a e.0) [
@@ -32,7 +32,7 @@ head_below : (e : ℕ × ℕ) (es : List (ℕ × ℕ)) → IsStrictlySortedBy na
 unfolding IsStrictlySortedBy
 head_below e es sorted = sorted.0
 
--- where it has one, that byte stands in front of those behind it
+-- if an image has a byte at an address, its bytes from there on are that one and those after it
 pub gets_some : (a b : ℕ) (es : List (ℕ × ℕ)) → IsStrictlySortedBy nat_cmp (keys_of es) → image_byte es a ≡ Some b → bytes_from es a ≡ (a, b) ∷ bytes_from es (a + 1)
 gets_some a b [] sorted h = cc
 gets_some a b (e ∷ es) sorted h = elim (cases_lt a e.0) [
@@ -62,7 +62,7 @@ gets_some a b (e ∷ es) sorted h = elim (cases_lt a e.0) [
 pub run_at : (n a b : ℕ) (es rest : List (ℕ × ℕ)) → es ≡ (a, b) ∷ rest → longest_run es a (suc n) ≡ b ∷ (if (a + 1) % 65536 == 0 then [] else longest_run rest (a + 1) n)
 run_at n a b es rest is = rw (is, eq_yes a a refl) refl
 
--- there is none where there is no byte
+-- there is no run from an address without a byte
 pub no_run : (n a : ℕ) (es : List (ℕ × ℕ)) → longest_run (bytes_from es (a + 1)) a n ≡ []
 no_run zero a es = refl
 no_run (suc n) a [] = refl
@@ -71,7 +71,7 @@ no_run (suc n) a (e ∷ es) = elim (cases_lt e.0 (a + 1)) [
   | inr over ↦ rw (le_yes (a + 1) e.0 over, eq_not e.0 a (omega arith)) refl
 ]
 
--- the lines behind a run are those from the address behind it
+-- the lines after a run are those from the address after it
 abbrev pub Skips : ℕ → ℕ → List (ℕ × ℕ) → Option ℕ → Type 0
 Skips n a es last = hex_lines last (length (longest_run (bytes_from es a) a n)) (bytes_from es a) ≡ hex_lines last 0 (bytes_from es (a + length (longest_run (bytes_from es a) a n)))
 
@@ -102,7 +102,7 @@ pub skips : (n a : ℕ) (es : List (ℕ × ℕ)) (last : Option ℕ) → IsStric
 skips zero a es last sorted = let same : a + 0 ≡ a = omega arith in rw same refl
 skips (suc n) a es last sorted = skips_by n a es last (image_byte es a) sorted refl (skips n (a + 1) es last sorted)
 
--- a row ends where the image has no byte
+-- a row ends at an address without a byte
 pub row_ends : (count start : ℕ) (row whole : List ℕ) (es : List (ℕ × ℕ)) → image_byte es (start + count) ≡ None
     → row ++ longest_run (bytes_from es (start + count)) (start + count) (16 - count) ≡ whole → row ≡ whole
 row_ends count start row whole es none so_far =
@@ -118,14 +118,14 @@ row_step count start b row new whole es within sorted some pushed so_far =
     let next = run_at (16 - (count + 1)) (start + count) b (bytes_from es (start + count)) (bytes_from es (start + count + 1)) is in
     rw pushed (append_assoc row (b ∷ []) _ ∙ ap (λ r. row ++ r) (sym next) ∙ (rw left at so_far))
 
--- it ends with its bank
+-- a row ends at the end of its bank
 pub row_full : (count start b : ℕ) (row new whole : List ℕ) (es : List (ℕ × ℕ)) → count < 16 → IsStrictlySortedBy nat_cmp (keys_of es) → image_byte es (start + count) ≡ Some b
     → new ≡ row ++ b ∷ [] → row ++ longest_run (bytes_from es (start + count)) (start + count) (16 - count) ≡ whole → (start + count + 1) % 65536 ≡ 0 → new ≡ whole
 row_full count start b row new whole es within sorted some pushed so_far ends =
     let P : Bool → Type 0 = λ t. new ++ (if t then [] else longest_run (bytes_from es (start + count + 1)) (start + count + 1) (16 - (count + 1))) ≡ whole in
     sym (append-nil new) ∙ subst P (eq_yes ((start + count + 1) % 65536) 0 ends) (row_step count start b row new whole es within sorted some pushed so_far)
 
--- and goes on elsewhere
+-- a row goes on after a byte that doesn't end its bank
 pub row_goes_on : (count start b : ℕ) (row new whole : List ℕ) (es : List (ℕ × ℕ)) → count < 16 → IsStrictlySortedBy nat_cmp (keys_of es) → image_byte es (start + count) ≡ Some b
     → new ≡ row ++ b ∷ [] → row ++ longest_run (bytes_from es (start + count)) (start + count) (16 - count) ≡ whole → ((start + count + 1) % 65536 ≡ 0 → ⊥)
     → new ++ longest_run (bytes_from es (start + (count + 1))) (start + (count + 1)) (16 - (count + 1)) ≡ whole
@@ -148,7 +148,7 @@ row_lines_at a b es rest last is some = rw is (by_size (longest_run ((a, b) ∷ 
     by_size [] some = absurd (omega arith)
     by_size (x ∷ xs) some = let less : suc (length xs) - 1 ≡ length xs = omega arith in rw less refl
 
--- a row's lines come before those behind it
+-- the lines of a row come before those of the bytes after it
 pub row_before : (a b : ℕ) (es : List (ℕ × ℕ)) (last : Option ℕ) → IsStrictlySortedBy nat_cmp (keys_of es) → image_byte es a ≡ Some b
     → hex_lines last 0 (bytes_from es a) ≡ row_lines last a (longest_run (bytes_from es a) a 16) ++ hex_lines (Some (a / 65536)) 0 (bytes_from es (a + length (longest_run (bytes_from es a) a 16)))
 row_before a b es last sorted is =

@@ -3,20 +3,20 @@
 use Rattle.std.specs.Prelude.{◌≡◌, ℕ, ◌+◌, List, length, ⊤, ◌⊎◌, Option, None, Some, Result, MatchResult}
 use Rattle.std.specs.Io.KnownBytes.{IsAtEnd}
 
--- the failures are as many as before, where they are counted
+-- an input's count of failures stays, if it counts them
 abbrev pub CountsNone : Option ℕ → Option ℕ → Type 0
 CountsNone None new = ⊤
 CountsNone (Some n) new = new ≡ Some n
 
--- one failure more was counted, where they are counted
+-- an input's count of failures rises by one, if it counts them
 abbrev pub CountsOne : Option ℕ → Option ℕ → Type 0
 CountsOne None new = ⊤
 CountsOne (Some n) new = new ≡ Some (n + 1)
 
--- a read counts one failure where it is refused, and none where it isn't
+-- a read counts one failure if it is refused, and none if it isn't
 abbrev pub CountsRefusal : {A E : Type 0} → Option ℕ → Option ℕ → Result A E → Type 0
 CountsRefusal old new r = MatchResult r (λ _. CountsNone old new) (λ _. CountsOne old new)
 
--- all of an input that is wanted: up to its end, or as many bytes as the limit says
+-- all that is wanted of an input: the bytes up to its end, or as many as the limit says
 abbrev pub IsAllWanted : ℕ → Option (List ℕ) → List ℕ → Type 0
 IsAllWanted limit left bytes = IsAtEnd left ⊎ (length bytes ≡ limit)

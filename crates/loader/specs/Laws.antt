@@ -1,4 +1,4 @@
--- What holds of HEX texts and images whatever they are.
+-- What holds of all HEX texts and images.
 -- Laws: claims above the definitions, each proved as the contract of a function.
 use Rattle.std.specs.Prelude.{◌≢◌, ℕ, ◌≡◌, ◌⊎◌, ◌<◌, ◌≤◌, ◌+◌, ◌/◌, ◌%◌, ◌↔◌, ◌++◌, Bool, true, false, not, filter, length, map, List, [], ◌∷◌, Ok, Option, None, Some, ◌==◌, if◌then◌else◌}
 use Rattle.std.specs.List.{AllByRecursion, flat_map}
@@ -14,7 +14,7 @@ use Rattle.board_types.specs.TextLines.{text_lines}
 use Rattle.loader.specs.Reading.{image_of, is_blank}
 use Rattle.loader.specs.Records.{HexRecord, bytes_at, end_of_file, extension_at, start_at, are_loadable, placed_bytes, record_of, with_bytes}
 
--- what is written for an image is read back as that image
+-- the HEX text of an image is read back as that image
 abbrev pub ReadsBack : List (ℕ × ℕ) → Type 0
 ReadsBack image = image_of (hex_text image) ≡ Ok image
 
@@ -28,7 +28,7 @@ is_end end_of_file = true
 is_end (extension_at extension) = false
 is_end start_at = false
 
--- the bytes of records in their order, each with its address: a data record's at the extension in force
+-- the bytes of records in order, each with the address that the extension in force gives it
 abbrev pub bytes_of : Extension → List HexRecord → List (ℕ × ℕ)
 bytes_of extension [] = []
 bytes_of extension (bytes_at offset content ∷ records) =
@@ -37,7 +37,7 @@ bytes_of extension (end_of_file ∷ records) = bytes_of extension records
 bytes_of extension (extension_at next ∷ records) = bytes_of next records
 bytes_of extension (start_at ∷ records) = bytes_of extension records
 
--- what comes later, and where nothing does, what was there before
+-- the later byte, or if there is none, the one that was there before
 abbrev pub later_or : Option ℕ → Option ℕ → Option ℕ
 later_or (Some byte) before = Some byte
 later_or None before = before
@@ -47,16 +47,16 @@ abbrev pub last_byte : List (ℕ × ℕ) → ℕ → Option ℕ
 last_byte [] address = None
 last_byte (byte ∷ bytes) address = later_or (last_byte bytes address) (if byte.0 == address then Some byte.1 else None)
 
--- The text's lines that aren't blank are the lines of these records and then of the end record, the only one of its
--- kind; all addresses are loadable, and the image has at each address the last byte that a record puts there, and none
--- where no record puts one. At first addresses are offsets.
+-- The text's lines that aren't blank are those of these records and then of the end record, the only one of its kind.
+-- All addresses are loadable, and the image has at each address the last byte that a record puts there, and none if no
+-- record puts one. At first, addresses are offsets.
 pub record IsMadeOf (text : List ℕ) (image : List (ℕ × ℕ)) (records : List HexRecord) : Type 0 where
   pub lines : map record_of (filled_lines (text_lines text)) ≡ map Ok (records ++ end_of_file ∷ [])
   pub one_end : AllByRecursion (λ r. is_end r ≡ false) records
   pub loadable : are_loadable (bytes_of (Segment 0) records) ≡ true
   pub bytes : (address : ℕ) → image_byte image address ≡ last_byte (bytes_of (Segment 0) records) address
 
--- there are records which the text is made of, and whose bytes the image holds
+-- the text is made of records whose bytes the image holds
 abbrev pub Loads : List ℕ → List (ℕ × ℕ) → Type 0
 Loads text image = (records : List HexRecord) × IsMadeOf text image records
 
@@ -64,21 +64,21 @@ Loads text image = (records : List HexRecord) × IsMadeOf text image records
 abbrev pub Rises : List (ℕ × ℕ) → Type 0
 Rises image = IsStrictlySortedBy nat_cmp (keys_of image)
 
--- a text gives an image exactly where it is made of such records
+-- a text gives an image if and only if it is made of records whose bytes the image holds
 abbrev pub LoadsRecords : Type 0
 LoadsRecords = (text : List ℕ) (image : List (ℕ × ℕ)) → Rises image → (image_of text ≡ Ok image) ↔ Loads text image
 
--- bytes put into an image: each address then has the last byte that was put there, or else what it had
+-- after bytes are put into an image, each address has the last byte that was put there, or else what it had
 abbrev pub LaterBytesWin : Type 0
 LaterBytesWin =
     (image bytes : List (ℕ × ℕ)) (address : ℕ)
     → image_byte (with_bytes image bytes) address ≡ later_or (last_byte bytes address) (image_byte image address)
 
--- the text that is written for an image loads that image and no other
+-- the HEX text of an image loads that image and no other
 abbrev pub LoadsAlone : List (ℕ × ℕ) → Type 0
 LoadsAlone image = (other : List (ℕ × ℕ)) → Rises other → Loads (hex_text image) other ↔ (image ≡ other)
 
--- bytes that stand one after another, the first of them at an address
+-- bytes side by side, the first of them at an address
 pub record Run : Type 0 where
   pub address : ℕ
   pub bytes : List ℕ
@@ -87,7 +87,7 @@ abbrev pub entries_from : ℕ → List ℕ → List (ℕ × ℕ)
 entries_from address [] = []
 entries_from address (b ∷ bs) = (address, b) ∷ entries_from (address + 1) bs
 
--- A run of 1 to 16 bytes within a bank of 65,536 that could be no longer: it has 16, or the bank ends behind it, or the
+-- A run of 1 to 16 bytes within a bank of 65,536 that can be no longer: it has 16, or the bank ends after it, or the
 -- image has no byte there.
 pub record IsLongest (image : List (ℕ × ℕ)) (run : Run) : Type 0 where
   pub some : 0 < length run.bytes
@@ -96,30 +96,30 @@ pub record IsLongest (image : List (ℕ × ℕ)) (run : Run) : Type 0 where
   pub ends : (length run.bytes ≡ 16)
       ⊎ (((run.address + length run.bytes) % 65536 ≡ 0) ⊎ (image_byte image (run.address + length run.bytes) ≡ None))
 
--- the lines of runs, behind one in this bank
+-- the lines of runs, after a run in this bank
 abbrev pub lines_of_runs : Option ℕ → List Run → List ℕ
 lines_of_runs last [] = end_line
 lines_of_runs last (run ∷ runs) =
     row_lines last run.address run.bytes ++ lines_of_runs (Some (run.address / 65536)) runs
 
--- the text that is written for an image is the lines of runs which are its bytes in their order, each the longest
+-- the HEX text of an image is the lines of runs which are its bytes in order, each run being the longest
 pub record HasLongestRuns (image : List (ℕ × ℕ)) : Type 0 where
   pub runs : List Run
   pub text : hex_text image ≡ lines_of_runs None runs
   pub bytes : flat_map (λ run. entries_from run.address run.bytes) runs ≡ image
   pub longest : AllByRecursion (IsLongest image) runs
 
--- no byte of the one stands at an address of the other
+-- no byte of one list is at an address of the other
 abbrev pub AreApart : List (ℕ × ℕ) → List (ℕ × ℕ) → Type 0
 AreApart one two = AllByRecursion (λ x. AllByRecursion (λ y. x.0 ≢ y.0) two) one
 
--- the bytes of two records that share no address may be put in either order
+-- the bytes of two lists that share no address may be put in either order
 abbrev pub BytesChangePlaces : Type 0
 BytesChangePlaces =
     (image one two : List (ℕ × ℕ)) → AreApart one two
     → with_bytes (with_bytes image one) two ≡ with_bytes (with_bytes image two) one
 
--- the extension in force behind records
+-- the extension in force after records
 abbrev pub extension_behind : Extension → List HexRecord → Extension
 extension_behind extension [] = extension
 extension_behind extension (bytes_at offset content ∷ records) = extension_behind extension records
@@ -136,8 +136,8 @@ RecordsChangePlaces =
     → with_bytes image (bytes_of extension (before ++ bytes_at m one ∷ bytes_at n two ∷ after))
     ≡ with_bytes image (bytes_of extension (before ++ bytes_at n two ∷ bytes_at m one ∷ after))
 
--- Two texts have the same lines, but that two neighbours have changed places. They are the lines of data records that
--- share no address behind the records before them. Then an image that the one gives is given by the other.
+-- Two texts have the same lines, except that two neighbours have changed places, which are the lines of data records
+-- that share no address, by the records before them. Then an image that one text gives is given by the other.
 abbrev pub LinesChangePlaces : Type 0
 LinesChangePlaces =
     (text other : List ℕ) (before after : List (List ℕ)) (one two : List ℕ) (records : List HexRecord) (m n : ℕ)

@@ -11,7 +11,7 @@ use Rattle.loader.specs.Lines.{without_spaces}
 use Rattle.board_types.specs.TextLines.{text_lines}
 use Rattle.loader.specs.Records.{HexRecord, bytes_at, end_of_file, extension_at, start_at, ◌>>=◌, are_loadable, placed_bytes, record_of, with_bytes}
 
--- where reading stands behind a line: what extends the offsets, or nothing past the end record; and the bytes so far
+-- what is known after a line: what extends the offsets, or nothing after the end record; and the bytes so far
 pub record LoadState : Type 0 where
   pub extension : Option Extension
   pub image : List (ℕ × ℕ)
@@ -19,7 +19,7 @@ pub record LoadState : Type 0 where
 abbrev pub load_state : Option Extension → List (ℕ × ℕ) → LoadState
 load_state extension image = record { extension = extension; image = image }
 
--- what a record does; a byte that the board can't be loaded with is a fault
+-- what is known after a record; a byte that the board can't be loaded with is a fault
 abbrev pub after_record : Extension → List (ℕ × ℕ) → HexRecord → Result LoadState RecordFault
 after_record extension image (bytes_at offset content) =
     if are_loadable (placed_bytes extension offset content) then Ok
@@ -31,17 +31,17 @@ after_record extension image start_at = Ok (load_state (Some extension) image)
 abbrev pub is_blank : List ℕ → Bool
 is_blank line = length line == 0
 
--- the same of a line without the spaces at its end; a blank one does nothing
+-- what is known after a line without the spaces at its end; a blank one changes nothing
 unfoldable pub after_line : Extension → List (ℕ × ℕ) → List ℕ → Result LoadState RecordFault
 after_line extension image line =
     if is_blank line then Ok (load_state (Some extension) image) else (record_of line >>= after_record extension image)
 
--- a fault gets the number of its line
+-- goes on with what a line gives; a fault gets the number of its line
 abbrev pub in_line : {A B : Type 0} → ℕ → Result A RecordFault → (A → Result B HexFault) → Result B HexFault
 in_line number (Ok x) f = f x
 in_line number (Err fault) f = Err (InLine fault number)
 
--- behind the end record all lines are blank
+-- the image, if all lines after the end record are blank
 abbrev pub after_end : ℕ → List (ℕ × ℕ) → List (List ℕ) → Result (List (ℕ × ℕ)) HexFault
 after_end number image [] = Ok image
 after_end number image (line ∷ lines) =
@@ -51,7 +51,7 @@ abbrev pub at_extension : {A : Type 0} → Option Extension → A → (Extension
 at_extension None ended more = ended
 at_extension (Some extension) ended more = more extension
 
--- the image that the lines give behind this many lines, or the fault of the first bad one
+-- the image that lines give after this many others, or the fault of the first bad one
 abbrev pub image_after : ℕ → Extension → List (ℕ × ℕ) → List (List ℕ) → Result (List (ℕ × ℕ)) HexFault
 image_after number extension image [] = Err NoEnd
 image_after number extension image (line ∷ lines) =
@@ -62,7 +62,7 @@ image_after number extension image (line ∷ lines) =
 unfoldable pub image_of : List ℕ → Result (List (ℕ × ℕ)) HexFault
 image_of text = image_after 0 (Segment 0) [] (text_lines text)
 
--- how an error answers for what should have come: out of memory for anything
+-- the error is the fault that is meant, or want of memory
 abbrev pub Fails : {A : Type 0} → HexFault → Result A HexFault → Type 0
 Fails Memory meant = Unit {0}
 Fails NoEnd meant = meant ≡ Err NoEnd

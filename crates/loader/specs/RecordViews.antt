@@ -19,12 +19,12 @@ abbrev pub view_in : Result Record RecordFault → Result HexRecord RecordFault
 view_in (Ok record') = Ok (view_of record')
 view_in (Err fault) = Err fault
 
--- the error is the fault that was meant, or the want of memory
+-- the error is the fault that is meant, or want of memory
 abbrev pub Refuses : {A : Type 0} → RecordError → Result A RecordFault → Type 0
 Refuses Memory meant = Unit {0}
 Refuses (Fault fault) meant = meant ≡ Err fault
 
--- bytes are refused where the board can't be loaded with all of them, or for want of memory
+-- bytes are refused if the board can't be loaded with all of them, or for want of memory
 abbrev pub RefusesBytes : RecordError → Bool → Type 0
 RefusesBytes Memory loadable = Unit {0}
 RefusesBytes (Fault fault) loadable = (fault ≡ NotLoadable) × (loadable ≡ false)

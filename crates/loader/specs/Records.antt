@@ -21,7 +21,8 @@ pub data HexRecord : Type 0 where
   -- types 03 and 05, where a program starts: nothing is loaded
   start_at : HexRecord
 
--- as many data bytes as the first byte says; besides it a load offset of two bytes, a type and a sum
+-- a record has as many data bytes as its first byte says, and besides these and that byte, a load offset of two bytes,
+-- a type and a sum
 abbrev pub is_whole : List ℕ → Bool
 is_whole bytes = length bytes == slice_index bytes 0 + 5
 
@@ -29,7 +30,7 @@ abbrev pub whole : Result (List ℕ) FromHexError → Result (List ℕ) RecordFa
 whole (Ok bytes) = if is_whole bytes then Ok bytes else Err BadRecord
 whole (Err e) = Err BadRecord
 
--- the bytes of a record: a colon, and two hexadecimal digits, in either case, for each
+-- the bytes of a record: a colon, and for each byte two hexadecimal digits in either case
 abbrev pub record_bytes : List ℕ → Result (List ℕ) RecordFault
 record_bytes [] = Err BadRecord
 record_bytes (mark ∷ digits) = if mark == 58 then whole (decode_of digits) else Err BadRecord
@@ -54,7 +55,7 @@ record_of_type kind offset content =
     if kind == 4 then record_of_size 2 content (extension_at (Linear (number_in content))) else (
     if kind == 5 then record_of_size 4 content start_at else Err BadType)))))
 
--- all bytes of a record add to 0 modulo 256
+-- the record that bytes are, which must add to 0 modulo 256
 unfoldable pub record_in : List ℕ → Result HexRecord RecordFault
 record_in bytes =
     if sum bytes % 256 == 0 then record_of_type (slice_index bytes 3)
@@ -66,11 +67,11 @@ abbrev pub ◌>>=◌ : {A B : Type 0} → Result A RecordFault → (A → Result
 (Ok x) >>= f = f x
 (Err fault) >>= f = Err fault
 
--- what a line says, or its fault: its form, then its sum, type and length
+-- what a line says, or its fault: first those of its form, then those of its sum, type and length
 unfoldable pub record_of : List ℕ → Result HexRecord RecordFault
 record_of line = record_bytes line >>= record_in
 
--- the address of an offset: in a segment it wraps within 65,536, and at 2^20
+-- the address of an offset: in a segment it wraps within 65,536 bytes, and at 2^20
 abbrev pub address_in : Extension → ℕ → ℕ
 address_in (Segment paragraph) offset = (16 * paragraph + offset % 65536) % 2 ^ 20
 address_in (Linear high) offset = 65536 * high + offset
@@ -86,6 +87,6 @@ is_loadable address = nat_lt address 0xA0000 || (nat_le 0xF0000 address && nat_l
 abbrev pub are_loadable : List (ℕ × ℕ) → Bool
 are_loadable bytes = list_all (λ byte. is_loadable byte.0) bytes
 
--- an image with these bytes put into it, one after another: a later byte replaces an earlier one
+-- an image with these bytes put into it in order: a later byte replaces an earlier one
 abbrev pub with_bytes : List (ℕ × ℕ) → List (ℕ × ℕ) → List (ℕ × ℕ)
 with_bytes image bytes = fold (λ held byte. insert_entry nat_cmp held byte.0 byte.1) image bytes

@@ -1,4 +1,4 @@
-//! Bytes from outside, by an input that may fail.
+//! Bytes that come from outside, from an input that may fail.
 ghost use Rattle.std.specs.Prelude.{◌≡◌, ◌≤◌, ◌<◌, ℕ, take, length, IfOk, IfSome, List, Option, None};
 ghost use Rattle.std.specs.Io.{ReadsAtMost};
 ghost use Rattle.std.specs.Io.KnownBytes.{Consumes, ReadConsumes};
@@ -10,7 +10,7 @@ use std::alloc::{AllocError, Global};
 use std::io::{ErrorKind, Read};
 use thiserror::Error;
 
-/// How many bytes are asked for at once.
+/// How many bytes are asked for at once at most.
 const PIECE: usize = 4096;
 
 /// An input failed.
@@ -18,24 +18,25 @@ const PIECE: usize = 4096;
 #[error("the input failed")]
 pub struct Failed;
 
-/// Bytes that come from outside, one behind the other.
+/// An input of bytes from outside, one after another.
 pub trait ByteInput {
-    // The bytes that are still to come, where they are known.
+    // The bytes that are still to come, if they are known.
     ghost remaining: { Self → Option (List ℕ) } = { λ _. None };
 
-    // How often it has failed, where that is counted.
+    // How often it has failed, if that is counted.
     ghost failures: { Self → Option ℕ } = { λ _. None };
 
-    /// Puts the next bytes into the front of `buf` and answers how many they are: none only at the end, or where `buf`
-    /// has no room. Refused where the input failed, which takes none of its bytes.
+    /// Puts the next bytes into the front of `buf`, and answers how many they are: none only at the end, or if `buf`
+    /// has no room. Refused if the input failed, which then takes none of its bytes.
     fn read(&mut self, buf: &mut [u8]) -> Result<usize, Failed>
         ensures bound { ReadsAtMost result buf.new }
         ensures bytes { ReadConsumes (remaining self.old) (remaining self.new) result buf.new }
         ensures failures { CountsRefusal (failures self.old) (failures self.new) result };
 }
 
-/// A reader is such an input, which tells its bytes as the reader does, and doesn't count its failures. A read that was
-/// interrupted is made again; a reader that is interrupted `u64::MAX` times in one call has failed.
+/// Every reader is an input. The bytes still to come are known as far as the reader knows them, and its failures aren't
+/// counted. A read that was interrupted is made again; a reader that is interrupted `u64::MAX` times in one call has
+/// failed.
 impl<R: Read> ByteInput for R {
     ghost remaining = { λ reader. R.remaining reader };
 
@@ -51,7 +52,7 @@ impl<R: Read> ByteInput for R {
     }
 }
 
-/// Why an input isn't read.
+/// Why an input can't be read.
 #[derive(Clone, Copy, Debug, PartialEq, Eq, Drop, Error)]
 pub enum ReadFault {
     #[error("the input failed")]
@@ -76,8 +77,8 @@ impl From<AllocError> for ReadFault {
     }
 }
 
-/// The first `limit` bytes that `input` has to give, or all of them where there are no more. Refused as `Failed` only
-/// where the input failed in this call, and as `Memory` where there is none for the bytes.
+/// The first `limit` bytes that `input` has to give, or all of them if there are no more. Refused as `Failed` only if
+/// the input failed in this call, and as `Memory` if there is none for the bytes.
 pub fn read_all<I: ByteInput>(
     alloc: Global,
     input: &mut I,

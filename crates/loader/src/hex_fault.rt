@@ -45,7 +45,7 @@ impl RecordFault {
     }
 }
 
-/// Why a HEX text isn't taken.
+/// Why a HEX text is refused.
 #[derive(Clone, Copy, Debug, PartialEq, Eq, Drop, Error)]
 pub enum HexFault {
     /// The first bad line, by its number from 1 on.
@@ -80,7 +80,7 @@ impl HexFault {
         }
     }
 
-    /// The line of the text, from 1 on, where the fault has one.
+    /// The line of the text, from 1 on, if the fault has one.
     pub fn line(self) -> Option<u64>
         ensures { result ≡ hex_fault_line self }
     {

@@ -37,7 +37,7 @@ pub fn read_hex(alloc: Global, text: &[u8]) -> Result<Image, HexFault>
     Err(HexFault::NoEnd)
 }
 
-/// The image, where all lines behind the end record are blank.
+/// The image, if all lines after the end record are blank.
 fn ended(image: Image, number: u64, text: &[u8]) -> Result<Image, HexFault>
     requires { number + length text.now < 2 ^ 64 }
     ensures image { IfOk result (λ given. after_end number image (text_lines text.now) ≡ Ok given) }
@@ -55,7 +55,7 @@ fn ended(image: Image, number: u64, text: &[u8]) -> Result<Image, HexFault>
     Ok(image)
 }
 
-/// Takes a line, without the spaces at its end, and answers the extension behind it; none behind the end record.
+/// Takes a line, without the spaces at its end, and answers the extension after it, or `None` after the end record.
 #[tactic(auto, unfolding(crate::specs::Reading::after_line, crate::specs::Records::record_of))]
 fn read_line(
     alloc: Global,
@@ -76,7 +76,7 @@ fn read_line(
     }
 }
 
-/// Takes a record, and answers the extension behind it.
+/// Takes a record, and answers the extension after it, or `None` after the end record.
 fn take_record(
     image: &mut Image,
     extension: Extension,
@@ -98,7 +98,7 @@ fn take_record(
     }
 }
 
-/// Puts bytes from an offset on.
+/// Puts bytes into the image, from an offset on.
 fn put_bytes(
     image: &mut Image,
     extension: Extension,
@@ -119,7 +119,7 @@ fn put_bytes(
     Ok(())
 }
 
-/// Puts a byte, where the board can be loaded with it.
+/// Puts a byte into the image, if the board can be loaded with it.
 fn put_byte(image: &mut Image, address: u64, byte: u8) -> Result<(), RecordError>
     ensures loadable { OnOk result (is_loadable address ≡ true) }
     ensures put { OnOk result (image.new ≡ insert_entry nat_cmp image.old address byte) }

@@ -16,7 +16,7 @@ pub enum Extension {
 }
 
 impl Extension {
-    /// The address of an offset.
+    /// The address of an offset, with this extension.
     pub(crate) fn address(self, offset: u64) -> u64
         requires { offset < 2 ^ 32 }
         ensures { result ≡ address_in self offset }
@@ -42,14 +42,14 @@ pub enum Record<'a> {
     Start,
 }
 
-/// Why a line isn't read.
+/// Why a line can't be read.
 #[derive(Clone, Copy, Drop)]
 pub enum RecordError {
     Fault(RecordFault),
     Memory,
 }
 
-/// The bytes that a line spells behind its colon, all of a record.
+/// The bytes that a line spells after its colon, which must be all those of a record.
 pub(crate) fn record_bytes(alloc: Global, line: &[u8]) -> Result<Vec<u8>, RecordError>
     ensures found { IfOk result (λ bytes. record_bytes line.now ≡ Ok bytes.items) }
     ensures whole { IfOk result (λ bytes. IsTrue (is_whole bytes.items)) }
@@ -65,14 +65,14 @@ pub(crate) fn record_bytes(alloc: Global, line: &[u8]) -> Result<Vec<u8>, Record
     }
 }
 
-/// Whether these are as many bytes as the first one asks for.
+/// Whether there are as many bytes as the first of them asks for.
 fn is_whole(bytes: &[u8]) -> bool
     ensures { result ≡ is_whole bytes.now }
 {
     !bytes.is_empty() && bytes.len() == usize::from(bytes[0]) + 5
 }
 
-/// The record of these bytes.
+/// The record that these bytes are, or its fault.
 #[tactic(auto, unfolding(crate::specs::Records::record_in))]
 pub(crate) fn record_in(bytes: &[u8]) -> Result<Record<'_>, RecordFault>
     requires { IsTrue (is_whole bytes.now) }
@@ -99,7 +99,7 @@ fn number_of_two(high: u8, low: u8) -> u16
     256 * u16::from(high) + u16::from(low)
 }
 
-/// The record of this type.
+/// The record of this type, or its fault.
 #[tactic(auto, unfolding(crate::specs::Records::record_of_type))]
 fn record_of_type(kind: u8, offset: u16, content: &[u8]) -> Result<Record<'_>, RecordFault>
     requires { length content.now < 256 }

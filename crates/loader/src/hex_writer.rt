@@ -12,19 +12,19 @@ use board_types::image::Image;
 use std::io::Write;
 use thiserror::Error;
 
-/// The bytes of a bank.
+/// How many bytes a bank has.
 const BANK_SIZE: u32 = 65_536;
 
-/// Why a HEX text isn't written.
+/// Why a HEX text can't be written.
 #[derive(Clone, Copy, Debug, PartialEq, Eq, Drop, Error)]
 pub enum WriteFault {
     #[error("the writer failed")]
     Failed,
 }
 
-/// Writes the HEX text of an image: in upper case, addresses rising, before each 65,536-byte bank in use a record of
-/// its paragraph, in each record the longest run of up to 16 bytes in the bank. Refused where the writer fails; how
-/// much it took by then isn't said.
+/// Writes the HEX text of an image: in upper case and in the order of addresses, with a record of its paragraph before
+/// each bank of 65,536 bytes that is in use, and in each record the longest run of up to 16 bytes in the bank. Refused
+/// if the writer fails; how much it has taken by then isn't said.
 #[tactic(auto, unfolding(crate::specs::HexText::hex_text))]
 pub fn write_hex<W: Write>(image: &Image, to: &mut W) -> Result<(), WriteFault>
     ensures { OnOk result (Appends (W.contents to.old) (W.contents to.new) (hex_text image.now)) }
@@ -73,7 +73,7 @@ fn row_at(image: &Image, start: u32) -> ArrayVec<u8, 16>
     row
 }
 
-/// The lines of a run of bytes: that of its bank's paragraph, unless `last` is its bank, and its own.
+/// The lines of a run of bytes: the line of its bank's paragraph, unless `last` is its bank, and its own.
 fn row_text(last: Option<u32>, address: u32, row: &[u8]) -> ArrayVec<u8, 64>
     requires address { address < 2 ^ 20 }
     requires row { length row.now ≤ 16 }
@@ -88,7 +88,7 @@ fn row_text(last: Option<u32>, address: u32, row: &[u8]) -> ArrayVec<u8, 64>
     text
 }
 
-/// The bytes of a data record, but for their sum.
+/// The bytes of a data record, but for their checksum.
 fn data_bytes(address: u32, row: &[u8]) -> ArrayVec<u8, 20>
     requires { length row.now ≤ 16 }
     ensures bytes { result.items ≡ length row.now ∷ address % 65536 / 256 ∷ address % 256 ∷ 0 ∷ row.now }
@@ -105,7 +105,7 @@ fn data_bytes(address: u32, row: &[u8]) -> ArrayVec<u8, 20>
     bytes
 }
 
-/// Adds the line of a record of these bytes, with their sum.
+/// Adds the line of a record of these bytes, with their checksum.
 #[tactic(auto, unfolding(crate::specs::HexText::record_line))]
 fn push_record(text: &mut ArrayVec<u8, 64>, bytes: &[u8])
     requires { array_vec_len text.old + 2 * length bytes.now + 4 ≤ 64 }
@@ -120,7 +120,7 @@ fn push_record(text: &mut ArrayVec<u8, 64>, bytes: &[u8])
     text.push(b'\n');
 }
 
-/// Adds a byte as two digits.
+/// Adds a byte as two hexadecimal digits.
 #[tactic(auto, unfolding(hex::specs::Hex::encode_with))]
 fn push_byte(text: &mut ArrayVec<u8, 64>, byte: u8)
     requires { array_vec_len text.old + 2 ≤ 64 }
@@ -139,7 +139,7 @@ fn digit(number: u8) -> u8
     b"0123456789ABCDEF"[usize::from(number)]
 }
 
-/// The byte with which these add to 0.
+/// The byte that makes the sum of these bytes 0 modulo 256.
 fn checksum(bytes: &[u8]) -> u8
     requires { length bytes.now < 2 ^ 16 }
     ensures { result ≡ checksum bytes.now }

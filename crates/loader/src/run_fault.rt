@@ -6,7 +6,7 @@ ghost use Rattle.loader.specs.RunFault.{run_fault_number, run_fault_name};
 use std::alloc::AllocFailed;
 use thiserror::Error;
 
-/// Why a run file isn't taken.
+/// Why a run file is refused.
 #[derive(Clone, Copy, Debug, PartialEq, Eq, Drop, Error)]
 pub enum RunFault {
     #[error("the run file isn't JSON")]

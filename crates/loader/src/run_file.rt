@@ -12,9 +12,9 @@ pub struct RunFile {
     pub sw1: u8,
     /// The five switches of the second block that port C reads.
     pub sw2: u8,
-    /// Which chip the timer is: in version 1 the 8253.
+    /// Which chip the timer is; in version 1 the 8253.
     pub timer: TimerKind,
-    /// By which table the processor's clocks count: in version 1 the first.
+    /// By which table the processor's clocks count; in version 1 by C1.
     pub clocks: ClockTable,
     /// How many processor clocks the board runs, from power-on.
     pub budget: Clock,
@@ -27,6 +27,6 @@ pub struct RunFile {
 pub struct KeyEntry {
     /// The clock at which the code reaches the keyboard.
     pub stamp: Clock,
-    /// Any number; whether a key has it as its scan code is judged later.
+    /// Any number; whether it is a key's scan code is judged later.
     pub code: u64,
 }

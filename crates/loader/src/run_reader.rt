@@ -16,13 +16,12 @@ use board_types::keys::{KeyFault, Keys};
 use serde_json::{Map, Value};
 use std::alloc::Global;
 
-/// Reads the JSON value of a run file: an object with the fields `version` (1 or 2), `ram` (0 to 65,535), `sw1`
-/// (0 to 255), `sw2` (0 to 31), `budget` and `keys` (a list of `[stamp, code]`), in version 2 also `timer` ("8253" or
-/// "8254") and `clocks` ("C1" or "C2"), all of them and no others. A run file of version 1 has the 8253 and table C1.
-/// Refused as `BadField` where a field is missing, unknown, of another kind or out of its range, or a stamp
-/// is above 2^40; else as `BudgetTooLarge` where the budget is above 2^40; else by the first key that isn't
-/// taken, as `BadScan` where no key has its code or else `StampsFall` where the key before has a later stamp.
-/// `Memory` may come in place of any answer.
+/// Reads the JSON value of a run file: an object with the fields `version` (1 or 2), `ram` (0 to 65,535), `sw1` (0 to
+/// 255), `sw2` (0 to 31), `budget` and `keys` (a list of `[stamp, code]`), in version 2 also `timer` ("8253" or "8254")
+/// and `clocks` ("C1" or "C2"), all of them and no others. A run file of version 1 has the 8253 and table C1. Refused
+/// as `BadField` if a field is missing, unknown, of another kind or out of its range, or a stamp is above 2^40; else as
+/// `BudgetTooLarge` if the budget is above 2^40; else by the first key that isn't taken, as `BadScan` if no key has its
+/// code, or else as `StampsFall` if the key before it has a later stamp. `Memory` may come in place of any answer.
 #[tactic(auto, unfolding(crate::specs::RunFile::run_of))]
 pub fn read_run(alloc: Global, value: &Value) -> Result<RunFile, RunFault>
     ensures meant { Answers result (run_of (view value.now)) }
@@ -51,8 +50,8 @@ pub fn read_run(alloc: Global, value: &Value) -> Result<RunFile, RunFault>
     })
 }
 
-/// Reads the text of a run file. Refused as `NotJson` where the text isn't UTF-8 or `serde_json` reads no
-/// value from it, else as `read_run` refuses its value.
+/// Reads the text of a run file. Refused as `NotJson` if the text isn't UTF-8 or `serde_json` reads no value from it,
+/// else as `read_run` refuses its value.
 #[tactic(auto, using(crate::proofs::Fields::value_refused), unfolding(crate::specs::RunFile::run_of_text))]
 pub fn read_run_text(alloc: Global, text: &[u8]) -> Result<RunFile, RunFault>
     ensures meant { Answers result (run_of_text text.now) }
@@ -101,7 +100,7 @@ fn is_field(name: &str) -> bool
         || name == "keys"
 }
 
-/// The timer that the run file has.
+/// The timer of the run file.
 #[tactic(auto, unfolding(crate::specs::RunFile::timer_of))]
 fn timer_of(value: &Value, version: u64) -> Option<TimerKind>
     ensures { result ≡ timer_of version (view value.now) }
@@ -116,7 +115,7 @@ fn timer_of(value: &Value, version: u64) -> Option<TimerKind>
     }
 }
 
-/// The table that the run file's clocks count by.
+/// The table by which the run file's clocks count.
 #[tactic(auto, unfolding(crate::specs::RunFile::clocks_of))]
 fn clocks_of(value: &Value, version: u64) -> Option<ClockTable>
     ensures { result ≡ clocks_of version (view value.now) }
@@ -131,7 +130,7 @@ fn clocks_of(value: &Value, version: u64) -> Option<ClockTable>
     }
 }
 
-/// The keys as the field `keys` writes them.
+/// The keys as they are written in the field `keys`.
 #[tactic(auto, unfolding(crate::specs::RunFile::entries_in))]
 fn entries_in(alloc: Global, field: Option<&Value>) -> Result<Vec<KeyEntry>, RunFault>
     ensures found { IfOk result (λ entries. entries_in (option_map (λ value. view value.now) field.entry)
@@ -185,7 +184,7 @@ fn written_key(stamp: &Value, code: &Value) -> Option<KeyEntry>
     Some(KeyEntry { stamp, code })
 }
 
-/// The keys of these entries, or the fault of the first that isn't taken.
+/// The keys of these entries, or the fault of the first one that isn't taken.
 #[tactic(auto, unfolding(crate::specs::RunFile::keys_of))]
 fn keys_of(alloc: Global, entries: &[KeyEntry]) -> Result<Keys, RunFault>
     ensures { Answers result (keys_of entries.now) }
@@ -197,7 +196,7 @@ fn keys_of(alloc: Global, entries: &[KeyEntry]) -> Result<Keys, RunFault>
     Ok(keys)
 }
 
-/// Adds the key of an entry to those before it.
+/// Adds the key of an entry after the others.
 fn push_key(keys: &mut Keys, entry: KeyEntry) -> Result<(), RunFault>
     ensures pushed { OnOk result (keys.new ≡ keys.old ++ key_of entry ∷ []) }
     ensures taken { OnOk result (entry_fault (last_stamp keys.old) entry ≡ None) }
@@ -214,7 +213,7 @@ fn push_key(keys: &mut Keys, entry: KeyEntry) -> Result<(), RunFault>
     }
 }
 
-// The number of a field, from `least` to `most`.
+// The number of a field, which must be from `least` to `most`.
 #[tactic(auto, unfolding(crate::specs::RunFile::number_within))]
 fn number_within(value: &Value, name: &str, least: u64, most: u64) -> Result<u64, RunFault>
     ensures value { result

@@ -3,7 +3,7 @@ use Rattle.arrayvec.specs.ArrayVec.{array_vec_len}
 use Rattle.loader.specs.HexText.{bytes_from, longest_run}
 use Rattle.loader.proofs.hex_writer.row_at.Given as goal
 
--- the run goes on behind the bytes so far
+-- the run goes on after the bytes so far
 abbrev pub invariant-loop-count : goal.invariant-loop-count
 invariant-loop-count l = record {
   size : array_vec_len l.row ≡ l.count;
