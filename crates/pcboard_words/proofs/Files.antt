@@ -78,7 +78,7 @@ one_session words t (Ok u) p q =
 one_session words t (Err (Usage text)) p q = absurd (q.0 p.0)
 one_session words t (Err Memory) p q = refl
 
--- a task lacks a file where another with the same files does
+-- a task lacks a file if another with the same files does
 abbrev LacksOne : (List ℕ → Type 0) → List (List ℕ) → Type 0
 LacksOne Lacks [] = ⊥
 LacksOne Lacks (file ∷ []) = Lacks file

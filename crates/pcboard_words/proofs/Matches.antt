@@ -128,7 +128,7 @@ one_entered : (stop : Option (Text × List Text)) → entered_fault (built app) 
 one_entered None e = tt
 one_entered (Some p) e = one_found p.0 p.1 (built app).subs (all_hold p.1) e
 
--- where `clap` finds no fault, a subcommand is a task with its files
+-- if `clap` finds no fault, a subcommand is a task with its files
 pub tasks_alone : (words : List Text) → fault_of app words ≡ [] → IfSome (subcommand_of app words) HoldsTask
 tasks_alone words e =
     let stop = stop_after (built app).top.rules (names_of (built app)) (argument_words app words) in

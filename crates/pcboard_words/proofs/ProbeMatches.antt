@@ -30,7 +30,7 @@ nothing_below : (stop : Option (Text × List Text)) → entered_fault (built pro
 nothing_below None = refl
 nothing_below (Some p) = refl
 
--- where `clap` finds no fault, both files are there
+-- if `clap` finds no fault, both files are there
 pub files_there : (words : List Text) → fault_of probe_app words ≡ [] → HoldsFiles (matches_of probe_app words)
 files_there words e =
     let given_words : List Text = argument_words probe_app words in

@@ -31,7 +31,7 @@ end_stored : subcommand_of app (codes "--" ∷ []) ≡ None
 unfolding clap_on_literals
 end_stored = refl
 
--- no subcommand stands after it
+-- no subcommand stands after the end of the options
 subcommand_after_end : fault_of app (codes "--" ∷ codes "run" ∷ codes "a.asm" ∷ codes "b.json" ∷ []) ≡ UnknownArgument ∷ InvalidSubcommand ∷ []
 unfolding clap_on_literals
 subcommand_after_end = refl

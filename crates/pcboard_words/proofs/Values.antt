@@ -81,12 +81,12 @@ settled_filled c (Some p) rows some good = by_id_filled (arg_by_id c p.0) p.1 ro
 abbrev IsGood : Held → Type 0
 IsGood h = AllFilled h.rows × IfSome h.pending (λ p. HasValue p.1)
 
--- a flag takes no value from the words, and a use of it leaves each row with one
+-- a flag takes no value from the words, and its use leaves each row with one
 pub record IsFlag (a : Rule) : Type 0 where
   pub alone : takes_values a ≡ false
   pub use_filled : (rows : List Row) → AllFilled rows → AllFilled (used a [] rows)
 
--- what is no positional is a flag
+-- an argument that is no positional is a flag
 abbrev pub AllFit : List Rule → Type 0
 AllFit [] = Unit {0}
 AllFit (a ∷ rest) = ((is_some a.index ≡ true) ⊎ IsFlag a) × AllFit rest
@@ -149,7 +149,7 @@ before_good : (c : List Rule) (more : Bool) (h : Held) → IsGood h → IsGood (
 before_good c true h good = good
 before_good c false h good = settled_good c h good
 
--- the word is a positional's
+-- a word that is a positional's
 positional_good : (c : List Rule) (found : Option Rule) (word : Text) (w : Walk) (h : Held) → IsGood h → IsGood (to_positional c found word w h).held
 positional_good c None word w h good = good
 positional_good c (Some a) word w h good =

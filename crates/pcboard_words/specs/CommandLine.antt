@@ -28,17 +28,17 @@ flag name = record (new_rule name) { long = Some name; action = Some SetTrue }
 abbrev pub asm_command : App
 asm_command = with_rule (with_rule (new_app (codes "asm")) (required_word (codes "FILE"))) (flag (codes "list"))
 
--- `NAME FILE RUN [--hex]`: a subcommand that has a program on a board
+-- `NAME FILE RUN [--hex]`: a subcommand that puts a program on a board
 abbrev pub board_command : Text → App
 board_command name =
     with_rule (with_rule (with_rule (new_app name) (required_word (codes "FILE"))) (required_word (codes "RUN")))
     (flag (codes "hex"))
 
--- the program's own name isn't among the words, and `help` is no subcommand
+-- the words don't begin with the program's own name, and `help` is no subcommand
 abbrev pub with_words_alone : App → App
 with_words_alone a = record a { top = record a.top { no_binary_name = true; disable_help_subcommand = true } }
 
--- no word at all, or one of the subcommands
+-- the command line of `pcboard`: no word at all, or one of the subcommands
 abbrev pub app : App
 app = with_subcommand
     (with_subcommand (with_subcommand (with_words_alone (new_app (codes "pcboard"))) asm_command.top)
@@ -52,27 +52,27 @@ NamesTask name = (name ≡ codes "asm") ⊎ ((name ≡ codes "run") ⊎ (name �
 abbrev pub HasText : Text → List Row → Text → Type 0
 HasText name rows text = first_of name rows ≡ Some text
 
--- a flag is among the words: `clap` then holds the value `true` for it, and else `false`
+-- whether a flag is among the words: `clap` then holds the value `true` for it, and otherwise `false`
 abbrev pub is_given : Text → List Row → Bool
 is_given name rows = option_map_or (λ text. bytes_eq text (codes "true")) (first_of name rows) false
 
--- the matches hold some text for an argument
+-- whether the matches hold some text for an argument
 abbrev pub is_there : Text → List Row → Bool
 is_there name rows = is_some (first_of name rows)
 
--- the matches of a subcommand are a task's: FILE is there, and RUN where the subcommand has one
+-- the matches of a subcommand are a task's: FILE is there, and so is RUN, if the subcommand has one
 abbrev pub HoldsTask : Text × List Row → Type 0
 HoldsTask found =
     NamesTask found.0 × (is_there (codes "FILE") found.1 ≡ true)
     × ((found.0 ≡ codes "asm") ⊎ (is_there (codes "RUN") found.1 ≡ true))
 
--- the matches are of the subcommand `name`, with these two files, and with `--hex` or without
+-- the matches are those of the subcommand `name`, with these two files, and with `--hex` or without
 abbrev pub HoldsBoardWords : Option (Text × List Row) → Text → Text → Text → Bool → Type 0
 HoldsBoardWords found name file run hex =
     (rows : List Row) × (found ≡ Some (name, rows)) × HasText (codes "FILE") rows file
     × HasText (codes "RUN") rows run × (hex ≡ is_given (codes "hex") rows)
 
--- the task is the one that the matches hold: the subcommand's name with its arguments
+-- the task is the one that the matches hold, by the subcommand's name and its arguments
 abbrev pub IsTaskOf : Option (Text × List Row) → Task → Type 0
 IsTaskOf found Stored = found ≡ None
 IsTaskOf found (Asm file list) =
@@ -81,8 +81,8 @@ IsTaskOf found (Asm file list) =
 IsTaskOf found (Run file run hex) = HoldsBoardWords found (codes "run") file.now run.now hex
 IsTaskOf found (Debug file run hex) = HoldsBoardWords found (codes "debug") file.now run.now hex
 
--- A task is given only where `clap` finds no fault in the words, and is the one that its matches hold;
--- a refusal as usage only where it finds one.
+-- A task is answered only if `clap` finds no fault in the words, and is the one that its matches hold. The words are
+-- refused as usage only if it finds one.
 unfoldable pub Answers : List Text → Result Task LineFault → Type 0
 Answers words (Ok task) = (fault_of app words ≡ []) × IsTaskOf (subcommand_of app words) task
 Answers words (Err (Usage text)) = (fault_of app words ≢ []) × (takes app words ≡ false)

@@ -19,14 +19,14 @@ hex_of (Run file run hex) = hex
 hex_of (Debug file run hex) = hex
 hex_of _ = false
 
--- a file that a task reads is one of those that can't be opened
+-- one of the files that a task reads can't be opened
 abbrev pub LacksFile : Task → (List ℕ → Type 0) → Type 0
 LacksFile Stored Lacks = ⊥
 LacksFile (Asm file list) Lacks = Lacks file.now
 LacksFile (Run file run hex) Lacks = Lacks file.now ⊎ Lacks run.now
 LacksFile (Debug file run hex) Lacks = Lacks file.now ⊎ Lacks run.now
 
--- what words that name this task are read as: one with the same files, as HEX texts or as sources, unless there is no
+-- what words that name this task are read as: a task with the same files, as HEX texts or as sources alike, or want of
 -- memory
 abbrev pub IsReadAs : Task → Result Task LineFault → Type 0
 IsReadAs task (Ok read) = (files_of task ≡ files_of read) × (hex_of task ≡ hex_of read)

@@ -8,9 +8,9 @@ use clap::error::ErrorKind;
 use clap::{Arg, ArgAction, ArgMatches, Command, Error};
 use std::alloc::{AllocError, Global};
 
-/// Reads the words after the program's name. Without a word the task is the stored run; the others are
-/// `asm FILE [--list]`, `run FILE RUN [--hex]` and `debug FILE RUN [--hex]`. Refused as `Usage` where `clap`
-/// refuses the words, with its text, and as `Memory` for want of memory.
+/// Reads the words after the program's name. Without a word the task is the stored run; the others are `asm FILE
+/// [--list]`, `run FILE RUN [--hex]` and `debug FILE RUN [--hex]`. Refused as `Usage`, with the text of `clap`, if that
+/// refuses the words, and as `Memory` for want of memory.
 #[tactic(auto, unfolding(crate::specs::CommandLine::Answers))]
 pub fn read_words<'a>(alloc: Global, words: &'a [&'a str]) -> Result<Task<'a>, LineFault>
     ensures { Answers (map (λ word. word.now) words.entry.now) result }
@@ -33,7 +33,7 @@ pub fn read_words<'a>(alloc: Global, words: &'a [&'a str]) -> Result<Task<'a>, L
     }
 }
 
-// The command line of the program.
+// The command line of `pcboard`.
 fn command<'a>(alloc: Global) -> Result<Command<'a>, AllocError>
     ensures { IfOk result (λ command. app_of command ≡ app) }
 {
@@ -59,7 +59,7 @@ fn command<'a>(alloc: Global) -> Result<Command<'a>, AllocError>
     )
 }
 
-// A command with the subcommand `asm`.
+// The command with the subcommand `asm`.
 fn with_asm<'a>(alloc: Global, command: Command<'a>) -> Result<Command<'a>, AllocError>
     ensures { IfOk result (λ r. app_of r ≡ with_subcommand (app_of command.entry) asm_command.top) }
 {
@@ -72,7 +72,7 @@ fn with_asm<'a>(alloc: Global, command: Command<'a>) -> Result<Command<'a>, Allo
     }
 }
 
-// A command with a subcommand that has a program on a board.
+// The command with a subcommand that puts a program on a board.
 fn with_board<'a>(
     alloc: Global,
     command: Command<'a>,
@@ -104,7 +104,7 @@ fn asm_command<'a>(alloc: Global) -> Result<Command<'a>, AllocError>
         ))
 }
 
-// A subcommand that has a program on a board.
+// A subcommand that puts a program on a board.
 pub(crate) fn board_command<'a>(
     alloc: Global,
     name: &'a str,
@@ -166,7 +166,7 @@ fn task<'a>(matches: &ArgMatches<'a>) -> Task<'a>
     }
 }
 
-// The text of an argument that is there, so the empty text is never taken.
+// The text of an argument that the matches hold; the empty text is never taken in its place.
 #[tactic(auto, using(crate::proofs::Matches::first_rows))]
 pub(crate) fn text_in<'a>(matches: &ArgMatches<'a>, name: &str) -> &'a str
     requires { is_there name.now (rows_of (found_of matches.now)) ≡ true }
@@ -175,7 +175,7 @@ pub(crate) fn text_in<'a>(matches: &ArgMatches<'a>, name: &str) -> &'a str
     matches.get_str(name).unwrap_or("")
 }
 
-// Whether a flag is among the words; its value is then the text `true`.
+// Whether a flag is among the words: its value is then the text `true`.
 #[tactic(auto, using(crate::proofs::Matches::first_rows))]
 pub(crate) fn is_given(matches: &ArgMatches<'_>, name: &str) -> bool
     ensures { result ≡ is_given name.now (rows_of (found_of matches.now)) }

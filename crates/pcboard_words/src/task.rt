@@ -29,8 +29,8 @@ pub enum Task<'a> {
 /// Why the words name no task.
 #[derive(Debug, Drop)]
 pub enum LineFault {
-    /// The words aren't the program's, or ask for help: the text for standard error.
+    /// The words aren't the program's, or they ask for help; this is the text for standard error.
     Usage(String),
-    /// There was no memory (fault 41).
+    /// There is no memory (fault 41).
     Memory,
 }
