@@ -1,11 +1,11 @@
--- The lines of a listing, one behind the other.
+-- The lines of a listing, one after another.
 use Rattle.std.proofs.Common.{◌≡◌, ◌∙◌, ℕ, zero, suc, ◌+◌, ◌≤◌, List, [], ◌∷◌, ◌++◌, length, drop, refl, sym, ap, arith, Option, None, Some, append_assoc}
 use Rattle.std.proofs.lemmas.List.{append-nil}
 use Rattle.assembler.specs.Rows.{Row}
 use Rattle.assembler.specs.Listing.{Names, line_at, listed}
 use Rattle.pcboard_texts.specs.Answer.{listing_text}
 
--- the lines from the i-th on begin with it
+-- the lines from the i-th on begin with the i-th
 pub line_first : (names : Names) (texts : List (List ℕ)) (rows : List Row) (i : ℕ) (line : List ℕ) → line_at names texts rows i ≡ Some line
     → listing_text names (drop i texts) (drop i rows) ≡ line ++ (10 ∷ listing_text names (drop (suc i) texts) (drop (suc i) rows))
 line_first names [] rows i line is = cc
@@ -16,7 +16,7 @@ line_first names (text ∷ texts) (row ∷ rows) zero line is =
     ap (λ (l : List ℕ). l ++ (10 ∷ listing_text names texts rows)) same
 line_first names (text ∷ texts) (row ∷ rows) (suc i) line is = line_first names texts rows i line is
 
--- where there is no i-th line none follows
+-- if there is no i-th line, none follows
 without_rows : (names : Names) (texts : List (List ℕ)) → listing_text names texts [] ≡ []
 without_rows names [] = refl
 without_rows names (text ∷ texts) = refl
@@ -42,7 +42,7 @@ all_shown names (text ∷ texts) rows zero within = let never : ⊥ = omega (ari
 all_shown names (text ∷ texts) [] (suc i) within = without_rows names (drop i texts)
 all_shown names (text ∷ texts) (row ∷ rows) (suc i) within = all_shown names texts rows i (omega (arith, within))
 
--- a line more
+-- one more line
 pub shows_more : (names : Names) (texts : List (List ℕ)) (rows : List Row) (i : ℕ) (text line new whole : List ℕ)
     → line_at names texts rows i ≡ Some line → new ≡ text ++ (line ++ 10 ∷ []) → text ++ listing_text names (drop i texts) (drop i rows) ≡ whole
     → new ++ listing_text names (drop (i + 1) texts) (drop (i + 1) rows) ≡ whole

@@ -1,4 +1,4 @@
--- How the program ends where a file of its task can't be opened.
+-- How the program ends if a file of its task can't be opened.
 use Rattle.std.proofs.Common.{◌≡◌, ℕ, zero, suc, ◌<◌, ◌≤◌, List, refl, arith, inl, inr, Option}
 use Rattle.std.specs.Prelude.{◌≢◌, ◌⊎◌}
 use Rattle.std.specs.Io.KnownBytes.{Appends}
@@ -8,7 +8,7 @@ use Rattle.pcboard_texts.specs.declared.fault.Fault.{Fault}
 use Rattle.pcboard_texts.specs.Faults.{fault_text}
 use Rattle.pcboard_texts.specs.Refusal.{EndsUnjudged, want_of_board, want_of_file}
 
--- how a want of memory is told, where nothing was judged
+-- how want of memory is printed, if nothing was judged
 pub told_unjudged : (task : Task) (status : ℕ) (old new : Option (List ℕ)) (fault : Fault) → 0 < status → status ≤ 3 → status ≢ 2
     → (status ≡ 1 → Appends old new (fault_text fault)) → (fault ≡ want_of_board) ⊎ (fault ≡ want_of_file (hex_of task))
     → EndsUnjudged task status old new

@@ -17,14 +17,14 @@ beyond p xs is =
     let passed : nat_lt (position_or_len p xs) (length xs) ≡ false = never_is (nat_lt (position_or_len p xs) (length xs)) (position_or_len p xs) is in
     grind (arith, nat_tests)
 
--- the place of the first that passes
+-- the elements before the first one that passes
 pub front : (p : ℕ → Bool) (xs : List ℕ) (i : ℕ) → position p xs ≡ Some i → take i xs ≡ before_first p xs
 front p xs i is = ap (λ (n : ℕ). take n xs) (sym (place_is (nat_lt (position_or_len p xs) (length xs)) (position_or_len p xs) i is))
 
 pub back : (p : ℕ → Bool) (xs : List ℕ) (i : ℕ) → position p xs ≡ Some i → drop (i + 1) xs ≡ after_first p xs
 back p xs i is = ap (λ (n : ℕ). drop (n + 1) xs) (sym (place_is (nat_lt (position_or_len p xs) (length xs)) (position_or_len p xs) i is))
 
--- none passes
+-- all elements, if none passes
 pub front_all : (p : ℕ → Bool) (xs : List ℕ) → position p xs ≡ None → xs ≡ before_first p xs
 front_all p xs is = sym (take_all (position_or_len p xs) xs (beyond p xs is))
 

@@ -50,7 +50,7 @@ seen_report (Some known) (Some known_run) hex bytes run text seen same report = 
   is_text = report.is_text;
 }
 
--- and so is the board
+-- the board of the bytes that were seen is that of the whole file
 pub seen_board : (file said : Option (List ℕ)) (hex : Bool) (bytes run : List ℕ) (board : BoardState)
     → IfSome file (λ known. bytes ≡ seen_of hex known) → IfSome said (λ known. run ≡ known) → IsBoardOf hex bytes run board
     → IfSome file (λ known. IfSome said (λ known_run. IsBoardOf hex known known_run board))
@@ -77,7 +77,7 @@ seen_hex (Some known) old new bytes image seen gives appends = (
   appends,
 )
 
--- and so is the listing
+-- the listing of the source that was seen is that of the whole source
 pub seen_listing : (source old new : Option (List ℕ)) (bytes listed : List ℕ)
     → IfSome source (λ known. bytes ≡ take 1048577 known) → listed ≡ bytes → AppendsA (IsListingOf listed) old new
     → IfSome source (λ known. AppendsA (IsListingOf known) old new)

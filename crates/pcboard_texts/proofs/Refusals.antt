@@ -24,7 +24,7 @@ passed_on (Err (Refused other)) fault Wants Is given is =
     let alike : fault ≡ other = cc in
     inr (subst Is alike is)
 
--- or for a want of memory that is one of several
+-- the program ends for one of several wants of memory if it ends for one of fewer
 pub unjudged_wider : {A : Type 0} (result : Result A Unanswered) (Wants More : Fault → Type 0) → ((fault : Fault) → Wants fault → More fault)
     → IfErr result (IsUnjudged Wants) → IfErr result (IsUnjudged More)
 unjudged_wider (Ok value) Wants More more is = tt

@@ -1,4 +1,4 @@
--- The definitions of a session's input, of what is printed on it, and of wants of memory, at lines that are written out.
+-- The definitions of a session's input, of what is printed on it, and of want of memory, at lines that are written out.
 use Rattle.std.proofs.Common.{◌≡◌, [], ◌∷◌, codes, true, false, None, Some, Err, refl}
 use Rattle.std.specs.Prelude.{⊤}
 use Rattle.std.specs.Fmt.{digits}
@@ -18,7 +18,7 @@ unfoldable on_lines : ⊤
 unfolding chars digits encode is_utf8 command_of command_with count_of is_quit plain_command words_of
 on_lines = tt
 
--- a line feed ends a line, and what follows the last one is a line where it isn't empty
+-- a line feed ends a line, and what follows the last one is a line if it isn't empty
 ended : input_lines (codes "go 1\n\nregs\n") ≡ codes "go 1" ∷ [] ∷ codes "regs" ∷ []
 ended = refl
 
@@ -34,7 +34,7 @@ goes_on : ends_session (codes "quit x") ≡ false
 unfolding on_lines
 goes_on = refl
 
--- commands, a carriage return behind one, and bytes that aren't UTF-8
+-- commands, one with a carriage return after it, and bytes that aren't UTF-8
 run : command_of (codes " go  100") ≡ Some (Go 100)
 unfolding on_lines
 run = refl
@@ -56,7 +56,7 @@ refused_there : refusal_text (Memory (Some 96)) ≡ codes "fault 53 Memory clock
 unfolding on_lines
 refused_there = refl
 
--- the lines of wants of memory
+-- the lines for want of memory
 source_wanted : fault_text (want_of_file false) ≡ codes "fault 13 Memory\n"
 unfolding on_lines fault_text
 source_wanted = refl
@@ -77,7 +77,7 @@ session_wanted : fault_text want_of_session ≡ codes "fault 53 Memory\n"
 unfolding on_lines fault_text
 session_wanted = refl
 
--- what a session prints on a blank line, `quit` and a line behind it, wherever it stands
+-- what a session prints on a blank line, `quit` and a line after it, wherever the session stands
 blank : (session : SessionState) → Transcript AnswersCommand session (input_lines (codes "\nquit\nregs\n")) (codes "fault 51 BadCommand\n")
 unfolding on_lines
 blank session = record { reply = Err BadCommand; new = session; rest = []; answers = (refl, refl); follows = refl; is_text = refl }

@@ -85,7 +85,7 @@ line_ends (Some bytes) (Some left) next line b so_far takes is =
     so_far.1 ∙ ap (λ (l : List ℕ). line ++ l) (sym same ∙ (takes.1 ∙ ap (λ (c : ℕ). c ∷ takes.0) is)) in
     (takes.0, ap input_lines whole ∙ line_fed line takes.0 so_far.2, takes.2)
 
--- nothing is left behind a line
+-- nothing is left after the last line
 rest_none : (first now next : Option (List ℕ)) (bytes line : List ℕ) → first ≡ Some bytes → LineSoFar first now line → TakesByte now next None
     → (bytes ≡ line) × NoFeed line × (next ≡ Some [])
 rest_none None now next bytes line known so_far takes = cc
@@ -109,7 +109,8 @@ line_none None now next line so_far takes empty = tt
 line_none (Some bytes) now next [] so_far takes empty = ap input_lines (rest_none (Some bytes) now next bytes [] refl so_far takes).0
 line_none (Some bytes) now next (b ∷ bs) so_far takes empty = let never : ⊥ = omega (arith, empty) in absurd never
 
--- What a session has printed on the lines that it has answered: a text behind which a transcript of further lines stands, is one of all of them.
+-- What a session has printed on the lines that it has answered: followed by a transcript of more lines, it is a
+-- transcript of all of them.
 pub record Printed {S : Type 0} (By : Answering S) (first now : S) (typed left : List ℕ) (old new : Option (List ℕ)) : Type 0 where
   pub answered : List (List ℕ)
   pub are_lines : input_lines typed ≡ answered ++ input_lines left
@@ -134,7 +135,7 @@ pub printed_none : {S : Type 0} (By : Answering S) (session : S) (typed old : Op
 printed_none By session None old = tt
 printed_none By session (Some bytes) old = (bytes, refl, record { answered = []; are_lines = refl; said = []; grown = appends_none old; goes_on = λ lines text is. is })
 
--- the transcript of a line and of those behind it
+-- the transcript of a line and of those after it
 transcript_on : {S : Type 0} (By : Answering S) (ends : Bool) (line : List ℕ) (now next : S) (lines : List (List ℕ)) (reply : Result Answer DebugFault) (text : List ℕ)
     → ends ≡ false → AnswersTyped By line now reply next → Transcript By next lines text
     → MatchBool ends (reply_text reply ++ text ≡ []) (Replies By line now (λ after rest. Transcript By after lines rest) (reply_text reply ++ text))
@@ -203,7 +204,7 @@ printed_quit By first now typed (Some more) after old new line so_far takes quit
     (λ rest is. let same : more ≡ rest = cc in subst (λ (ls : List (List ℕ)). Transcript By now ls []) (sym (ap input_lines (sym same) ∙ takes.1))
     (transcript_quit (ends_session line) [] _ quits refl))
 
--- where the session is refused it has printed its replies to the lines that it has answered
+-- a session that is refused has printed its replies to the lines that it has answered
 pub printed_cut : {S : Type 0} (By : Answering S) (first now : S) (typed left old new : Option (List ℕ)) → PrintedSoFar By first now typed left old new
     → IfSome typed (λ bytes. AppendsA (BeginsTranscript By first (input_lines bytes)) old new)
 printed_cut By first now None left old new so_far = tt
@@ -228,7 +229,7 @@ pub counts_on : (first now next : Option ℕ) → CountsNone first now → Count
 counts_on None now next before after = tt
 counts_on (Some n) now next before after = subst (λ count. CountsNone count next) before after
 
--- what is so is so where a session is refused
+-- what holds anyhow holds if a session is refused
 pub cut_where : {A : Type 0} (result : Result A Unanswered) (Is : Type 0) → Is → IfErr result (WhereRefused Is)
 cut_where (Ok value) Is is = tt
 cut_where (Err Failed) Is is = tt

@@ -1,4 +1,4 @@
--- What a task prints, from what its parts tell.
+-- What a task prints, from what its parts print.
 use Rattle.std.proofs.Common.{◌≡◌, ℕ, Bool, false, List, Option, None, Some, IfSome, Result, Ok, Err, IfErr, inl, inr}
 use Rattle.std.specs.Prelude.{◌⊎◌}
 use Rattle.std.specs.Io.KnownBytes.{Appends}
@@ -18,7 +18,7 @@ printed_run None said old new hex text report prints = tt
 printed_run (Some bytes) None old new hex text report prints = tt
 printed_run (Some bytes) (Some run) old new hex text report prints = (text, report, prints)
 
--- and one of the input is the answer to a stored run
+-- a printed report of the input is the answer to a stored run
 pub printed_stored : (input old new : Option (List ℕ)) (text : List ℕ)
     → IfSome input (λ all. IsReport false (source_of all) (run_text_of all) text) → Appends old new text
     → IfSome input (λ all. AppendsA (IsReport false (source_of all) (run_text_of all)) old new)
@@ -36,7 +36,7 @@ printed_session By (Some bytes) (Some run) None old new hex board is_board adds 
 printed_session By (Some bytes) (Some run) (Some typed) old new hex board is_board adds =
     (adds.0, record { board = board; is_board = is_board; prints = adds.1 }, adds.2)
 
--- so far as such a session goes, it is the beginning of that answer
+-- what a session prints as far as it goes is the beginning of the answer to `debug`
 
 begun : {S : Type 0} (By : Answering S) (hex : Bool) (bytes run typed text : List ℕ) (board : BoardState) → IsBoardOf hex bytes run board → BeginsTranscript By (By.begins board) (input_lines typed) text → BeginsSession By hex bytes run typed text
 begun By hex bytes run typed text board is_board begins =

@@ -24,19 +24,20 @@ use Rattle.pcboard_texts.specs.Report.{config_of, report_of}
 use Rattle.pcboard_texts.specs.Transcript.{Answering, AnswersCommand, Transcript, input_lines}
 use Rattle.pcboard_texts.specs.Faults.{IsTrueOfBoard}
 
--- of a stored run the first line, and what stands behind its line feed
+-- the run file of a stored run: its first line
 abbrev pub run_text_of : List ℕ → List ℕ
 run_text_of text = before_first (λ byte. byte == 10) text
 
+-- the source of a stored run: what follows its first line feed
 abbrev pub source_of : List ℕ → List ℕ
 source_of text = after_first (λ byte. byte == 10) text
 
--- what a file's bytes give: as a HEX text, if `hex`, else as a source
+-- the image that a file's bytes give: as a HEX text, if `hex`, else as a source
 abbrev pub GivesImage : Bool → List ℕ → List (ℕ × ℕ) → Type 0
 GivesImage true bytes image = image_of bytes ≡ Ok image
 GivesImage false bytes image = Gives bytes image
 
--- the bytes give an image, the run file's text says how to run, and this is the text of the report
+-- the text is the report of a run: the bytes give an image, and the run file's text says how to run it
 pub record IsReport (hex : Bool) (bytes run text : List ℕ) : Type 0 where
   pub image : List (ℕ × ℕ)
   pub gives : GivesImage hex bytes image
@@ -44,8 +45,8 @@ pub record IsReport (hex : Bool) (bytes run text : List ℕ) : Type 0 where
   pub says : Answers (Ok run_file) (run_of_text run)
   pub is_text : text ≡ report_of image run_file
 
--- the bytes give an image, the run file's text says what board it stands on, and this is that board at power-on: no
--- change of the speaker is past, and the trail is empty
+-- the board is the one at power-on that the bytes of an image and the run file's text give: no change of the speaker is
+-- past, and the trail is empty
 pub record IsBoardOf (hex : Bool) (bytes run : List ℕ) (board : BoardState) : Type 0 where
   pub image : List (ℕ × ℕ)
   pub gives : GivesImage hex bytes image
@@ -55,13 +56,13 @@ pub record IsBoardOf (hex : Bool) (bytes run : List ℕ) (board : BoardState) : 
   pub changes : board.changes ≡ []
   pub trail : board.trail ≡ []
 
--- the bytes and the run file's text give a board, and this is what a session about it prints on the typed bytes
+-- the text is what a session prints on the typed bytes, about the board that the bytes and the run file's text give
 pub record IsSession {S : Type 0} (By : Answering S) (hex : Bool) (bytes run typed text : List ℕ) : Type 0 where
   pub board : BoardState
   pub is_board : IsBoardOf hex bytes run board
   pub prints : Transcript By (By.begins board) (input_lines typed) text
 
--- the source gives an image, and this is its HEX text
+-- the text is the HEX text of the image that the source gives
 pub record IsHexOf (source text : List ℕ) : Type 0 where
   pub image : List (ℕ × ℕ)
   pub gives : Gives source image
@@ -72,22 +73,22 @@ abbrev pub listing_text : Names → List (List ℕ) → List Row → List ℕ
 listing_text names (text ∷ texts) (row ∷ rows) = listed names text row ++ (10 ∷ listing_text names texts rows)
 listing_text names texts rows = []
 
--- the source gives an image, and this is its listing
+-- the text is the listing of a source that gives an image
 pub record IsListingOf (source text : List ℕ) : Type 0 where
   pub image : List (ℕ × ℕ)
   pub gives : Gives source image
   pub is_text : text ≡ listing_text (names_of gives.rows) (text_lines source) gives.rows
 
--- what an assembler prints of a source
+-- what is printed of an assembled source: its listing, or its HEX text
 abbrev pub IsAssembled : Bool → List ℕ → List ℕ → Type 0
 IsAssembled false source text = IsHexOf source text
 IsAssembled true source text = IsListingOf source text
 
--- the known bytes grow by such a text
+-- the known bytes grow by one of these texts
 abbrev pub AppendsA : (List ℕ → Type 0) → Option (List ℕ) → Option (List ℕ) → Type 0
 AppendsA Is old new = (text : List ℕ) × Is text × Appends old new text
 
--- what a task's answer adds to the bytes that `out` holds, where the files and the input that it reads are known
+-- what a task's answer adds to the bytes that `out` holds, if the files and the input that it reads are known
 abbrev pub PrintsTask : {S : Type 0} → Answering S → Task → (List ℕ → Option (List ℕ)) → Option (List ℕ) → Option (List ℕ)
     → Option (List ℕ) → Type 0
 PrintsTask By tasks.Stored files input old new =
@@ -100,23 +101,23 @@ PrintsTask By (tasks.Debug file run hex) files input old new =
     IfSome (files file.now) (λ bytes. IfSome (files run.now)
     (λ said. IfSome input (λ typed. AppendsA (IsSession By hex bytes said typed) old new)))
 
--- how words are read: as a task, or as why they name none
+-- how words are read: as a task, or as the fault that says why they name none
 abbrev pub Reading : Type 1
 Reading = List (List ℕ) → Result Task LineFault → Type 0
 
--- The words name a task, and its answer is added: for a program that reads words and answers lines in these ways.
+-- The words name a task, and its answer is added, for a program that reads words and answers lines in these ways.
 abbrev pub PrintsFor : {S : Type 0} → Reading → Answering S → List (List ℕ) → (List ℕ → Option (List ℕ)) → Option (List ℕ)
     → Option (List ℕ) → Option (List ℕ) → Type 0
 PrintsFor Reads By words files input old new =
     (task : Task) × Reads words (Ok task) × PrintsTask By task files input old new
 
--- for `pcboard`
+-- the words name a task of `pcboard`, and its answer is added
 abbrev pub Prints : List (List ℕ) → (List ℕ → Option (List ℕ)) → Option (List ℕ) → Option (List ℕ) → Option (List ℕ)
     → Type 0
 Prints = PrintsFor AnswersWords AnswersCommand
 
--- A refusal is true: the first fault of the source or HEX text; or the run file's, where an image was given; or the
--- board's, of what image and run file say.
+-- A refusal is true: it is the first fault of the source or HEX text; or the run file's, if an image was given; or the
+-- board's, by what the image and the run file say.
 abbrev pub IsTrueRefusal : Bool → List ℕ → List ℕ → Fault → Type 0
 IsTrueRefusal false bytes run (Source fault) = IsFirst bytes fault
 IsTrueRefusal true bytes run (Hex fault) = Fails fault (image_of bytes)

@@ -41,12 +41,12 @@ abbrev pub line_suffix : Option ℕ → List ℕ
 line_suffix None = codes "\n"
 line_suffix (Some line) = codes " line " ++ (decimal line ++ codes "\n")
 
--- the printed line of a fault
+-- the line that is printed for a fault
 unfoldable pub fault_text : Fault → List ℕ
 fault_text fault =
     codes "fault " ++ (decimal (title_of fault).0 ++ (codes " " ++ ((title_of fault).1 ++ line_suffix (line_of fault))))
 
--- no memory was found, at whichever part
+-- the faults that say that there was no memory, whichever part wanted it
 abbrev pub IsWantOfMemory : Fault → Type 0
 IsWantOfMemory (Source asm.Memory) = Unit {0}
 IsWantOfMemory (Hex hexes.Memory) = Unit {0}

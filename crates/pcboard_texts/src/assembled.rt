@@ -45,7 +45,7 @@ pub fn print_assembled<F: Opener, O: Write>(
     }
 }
 
-/// Prints the listing of a source of so many bytes.
+/// Prints the listing of a source of `size` bytes.
 fn print_listing<O: Write>(
     alloc: Global,
     listing: &Listing,

@@ -1,4 +1,4 @@
-//! The lines that a session is typed, and its replies as they are printed.
+//! The lines that are typed in a session, and its replies as they are printed.
 ghost use Rattle.std.specs.Prelude.{◌≡◌, option_map, IfErr, IfOk, OnOk, vec_items};
 ghost use Rattle.std.specs.Io.KnownBytes.{Appends};
 ghost use Rattle.loader.specs.ByteInput.{CountsNone};
@@ -17,7 +17,7 @@ use std::alloc::Global;
 use std::io;
 use std::io::Write;
 
-/// The next line of the input, without its line feed, or `None` at the input's end.
+/// The next line of the input, without its line feed, or `None` at the end of the input.
 pub fn next_line<I: ByteInput>(alloc: Global, input: &mut I) -> Result<Option<Vec<u8>>, Unanswered>
     ensures line { IfOk result (λ line. TakesLine (I.remaining input.old) (I.remaining input.new)
         (option_map vec_items line)) }
@@ -37,7 +37,7 @@ pub fn next_line<I: ByteInput>(alloc: Global, input: &mut I) -> Result<Option<Ve
     Err(Unanswered::Failed)
 }
 
-/// Whether a line is the word `quit`.
+/// Whether a line is the word `quit`, which ends a session.
 pub fn ends_session(line: &[u8]) -> bool
     ensures { result ≡ ends_session line.now }
 {
@@ -47,7 +47,7 @@ pub fn ends_session(line: &[u8]) -> bool
     }
 }
 
-/// Prints an answer or a refusal, and sees to it that it reaches its end.
+/// Prints an answer or a refusal, and flushes it.
 pub fn print_reply<O: Write>(reply: &Result<Answer, DebugFault>, out: &mut O) -> io::Result<()>
     ensures { OnOk result (Appends (O.contents out.old) (O.contents out.new) (reply_text reply.now)) }
 {
@@ -58,7 +58,7 @@ pub fn print_reply<O: Write>(reply: &Result<Answer, DebugFault>, out: &mut O) ->
     out.flush()
 }
 
-/// Prints a refusal: its number and name, and its clock where it has one.
+/// Prints a refusal: its number and name, and its clock if it has one.
 fn print_refusal<O: Write>(fault: &DebugFault, out: &mut O) -> io::Result<()>
     ensures { OnOk result (Appends (O.contents out.old) (O.contents out.new) (refusal_text fault.now)) }
 {

@@ -58,7 +58,7 @@ impl From<BoardFault> for Fault {
     }
 }
 
-/// A want of memory that no other part tells is the board's.
+/// Want of memory counts as the board's, if no other part says it.
 impl From<AllocError> for Fault {
     ghost from_gives = { λ _ fault. fault ≡ Board Memory };
 
@@ -94,7 +94,7 @@ impl Fault {
         }
     }
 
-    /// The line of the source or HEX text, from 1 on, where the fault has one.
+    /// The line of the source or HEX text, from 1 on, if the fault has one.
     pub fn line(self) -> Option<u64>
         ensures { result ≡ line_of self }
     {
@@ -106,8 +106,8 @@ impl Fault {
     }
 }
 
-/// Writes the line that tells a fault, its number and name, and where it has one its line, and sees to it that it
-/// reaches its end.
+/// Writes the line of a fault, which has its number and name, and the number of its line if there is one, and flushes
+/// it.
 #[tactic(auto, unfolding(crate::specs::Faults::fault_text))]
 pub fn write_fault<W: Write>(fault: &Fault, to: &mut W) -> io::Result<()>
     ensures { OnOk result (Appends (W.contents to.old) (W.contents to.new) (fault_text fault.now)) }

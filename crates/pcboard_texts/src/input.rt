@@ -18,7 +18,7 @@ use std::alloc::Global;
 /// One byte more than a source may have, so that a longer one is seen to be too long.
 const SOURCE_READ_LIMIT: u64 = 1_048_577;
 
-/// The bytes of a program's file: a HEX text whole, if `hex`, else a source as far as it has to be seen.
+/// The bytes of a program's file: a HEX text as a whole, if `hex`, else as much of a source as has to be seen.
 pub(crate) fn read_program<F: Opener>(
     alloc: Global,
     files: &F,
@@ -39,8 +39,8 @@ pub(crate) fn read_program<F: Opener>(
     }
 }
 
-/// The bytes of a program's file, as `read_program` has them, and those of a run file. Both files are read before either
-/// is judged.
+/// The bytes of a program's file, as `read_program` reads them, and those of a run file. Both files are read before
+/// either is judged.
 pub fn read_files<F: Opener>(
     alloc: Global,
     files: &F,
@@ -61,7 +61,7 @@ pub fn read_files<F: Opener>(
     Ok((bytes, said))
 }
 
-/// All that `input` still has to give. `want` is the refusal where there is no memory for it.
+/// All that `input` still has to give. `want` is the refusal if there is no memory for it.
 pub fn read_whole<I: ByteInput>(
     alloc: Global,
     input: &mut I,
@@ -71,12 +71,12 @@ pub fn read_whole<I: ByteInput>(
     ensures end { IfErr result (IsUnjudged (λ fault. fault ≡ want)) }
     ensures unfailed { UnlessFailed (CountsNone (I.failures input.old) (I.failures input.new)) result }
 {
-    // No more than this can stand in memory.
+    // Memory can hold no more bytes than this.
     let bytes = read_front(alloc, input, u64::MAX, want)?;
     Ok(bytes)
 }
 
-/// The first `limit` bytes that `input` has to give, or all of them where there are no more. `want` is the refusal where
+/// The first `limit` bytes that `input` has to give, or all of them if there are no more. `want` is the refusal if
 /// there is no memory for them.
 fn read_front<I: ByteInput>(
     alloc: Global,

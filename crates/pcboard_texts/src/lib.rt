@@ -1,5 +1,6 @@
-//! What the program `pcboard` reads and prints, as far as it needs no board: files and typed lines, what sources, HEX texts
-//! and run files give, HEX texts and listings, replies, refusals and exit statuses; and, as definitions, its whole answer.
+//! What the program `pcboard` reads and prints, as far as it needs no board: files and typed lines, what sources, HEX
+//! texts and run files give, HEX texts and listings, replies, refusals and exit statuses; and, as definitions, its
+//! whole answer.
 #![tactic(auto)]
 
 pub mod assembled;

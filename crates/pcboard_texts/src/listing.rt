@@ -9,7 +9,7 @@ use assembler::fault::AsmFault;
 use assembler::listing::Listing;
 use std::alloc::{AllocError, Global};
 
-/// All lines of the listing of a source of so many bytes. A source has no more lines than bytes.
+/// All lines of the listing of a source of `size` bytes. A source has no more lines than bytes.
 pub(crate) fn listing_text(
     alloc: Global,
     listing: &Listing,

@@ -4,17 +4,17 @@ ghost use Rattle.std.specs.Prelude.{◌≡◌, ℕ, List, Option, None, Some, If
 use loader::byte_input::ByteInput;
 use std::io;
 
-/// What opens a file for reading by its name.
+/// Opens files for reading by their names.
 pub trait Opener {
     type Input: ByteInput + Drop;
 
-    // the bytes of the file of this name, where they are known
+    // the bytes of the file with this name, if they are known
     ghost file_bytes: { Self → List ℕ → Option (List ℕ) } = { λ _ _. None };
 
-    // that no file of this name can be opened
+    // no file with this name can be opened
     ghost lacks: { Self → List ℕ → Type 0 } = { λ _ _. ⊥ };
 
-    /// Opens the file `path`.
+    /// Opens the file at `path`.
     fn open(&self, path: &str) -> io::Result<Self::Input>
         ensures bytes { IfSome (file_bytes self.now path.now)
             (λ bytes. IfOk result (λ file. Self.Input.remaining file ≡ Some bytes)) }

@@ -20,8 +20,8 @@ impl Opener for SystemFiles<'_> {
     }
 }
 
-/// Runs a program, which answers its exit status, on the words after its name and on the files of the system. Where the words
-/// can't be had, it isn't run, and standard error is told.
+/// Runs a program, which answers its exit status, on the words after its name and on the files of the system. If the
+/// words can't be had, the program isn't run, and standard error says why.
 pub fn run_on_system<P>(rt: &HostRuntime, program: P) -> ExitCode
 where
     P: FnOnce(&[&str], &SystemFiles<'_>) -> u8 + Drop,
@@ -33,7 +33,7 @@ where
     }
 }
 
-/// The exit status of the program. Fails where there is no memory for the words, or one of them isn't UTF-8.
+/// The exit status of the program. Fails if there is no memory for the words, or if one of them isn't UTF-8.
 fn status_of<P>(rt: &HostRuntime, program: P) -> io::Result<u8>
 where
     P: FnOnce(&[&str], &SystemFiles<'_>) -> u8 + Drop,
@@ -50,7 +50,7 @@ where
     Ok(program(words.as_slice(), &SystemFiles { rt }))
 }
 
-/// The exit status where the words can't be had, which `err` is told.
+/// The exit status if the words can't be had; `err` says why.
 fn status_without_words<E: Write>(error: &io::Error, err: &mut E) -> u8 {
     match error.kind() {
         ErrorKind::OutOfMemory => without_words(err),

@@ -1,4 +1,4 @@
-//! Texts that are printed or told, and the exit status behind them.
+//! Texts that are printed, on standard output or standard error, and the exit status after them.
 ghost use Rattle.std.specs.Prelude.{◌≡◌, ◌≢◌, ◌≤◌, ◌<◌, ◌⊎◌, MatchResult, OnOk};
 ghost use Rattle.std.specs.Io.KnownBytes.{Appends};
 ghost use Rattle.pcboard_texts.specs.Faults.{fault_text};
@@ -9,12 +9,12 @@ use board_plain::fault::BoardFault;
 use std::io;
 use std::io::Write;
 
-/// What is told where a word isn't UTF-8.
+/// What is printed if a word isn't UTF-8.
 const UNREADABLE_WORDS: &str =
     "error: invalid UTF-8 was detected in one or more arguments\n\nFor more information, try '--help'.\n";
 
-/// What `program` does where the words found no memory: it tells so, and answers the exit status, 1, or 3 where that
-/// failed.
+/// What a program does if there is no memory for its words: it says so, and answers the exit status, which is 1, or 3
+/// if writing failed.
 pub fn without_words<E: Write>(err: &mut E) -> u8
     ensures above { 0 < result }
     ensures within { result ≤ 3 }
@@ -24,8 +24,8 @@ pub fn without_words<E: Write>(err: &mut E) -> u8
     refused(err, Fault::Board(BoardFault::Memory))
 }
 
-/// What `program` does where a word isn't UTF-8, so that it can't be read: it tells so, and answers the exit status, 2,
-/// or 3 where that failed.
+/// What a program does if a word isn't UTF-8, and so can't be read: it says so, and answers the exit status, which is
+/// 2, or 3 if writing failed.
 pub fn with_unreadable_words<E: Write>(err: &mut E) -> u8
     ensures status { result ≡ 2 ⊎ result ≡ 3 }
     ensures told { result ≡ 2 → Appends (E.contents err.old) (E.contents err.new) unreadable_text }
@@ -34,7 +34,7 @@ pub fn with_unreadable_words<E: Write>(err: &mut E) -> u8
     told(err, text, status)
 }
 
-/// The exit status for words that can't be read, and what is told of them.
+/// The exit status for words that can't be read, and the text that says so.
 pub fn unreadable_words() -> (u8, &'static str)
     ensures status { result.0 ≡ 2 }
     ensures text { result.1.now ≡ unreadable_text }
@@ -42,7 +42,7 @@ pub fn unreadable_words() -> (u8, &'static str)
     (2, UNREADABLE_WORDS)
 }
 
-/// Prints a text, and sees to it that it reaches its end.
+/// Prints a text, and flushes it.
 pub fn print<W: Write>(to: &mut W, text: &str) -> io::Result<()>
     ensures { OnOk result (Appends (W.contents to.old) (W.contents to.new) text.now) }
 {
@@ -50,7 +50,7 @@ pub fn print<W: Write>(to: &mut W, text: &str) -> io::Result<()>
     to.flush()
 }
 
-/// Tells a text, and answers `status`, or 3 where that failed.
+/// Prints a text on `err`, and answers `status`, or 3 if writing failed.
 pub fn told<W: Write>(err: &mut W, text: &str, status: u8) -> u8
     requires above { 0 < status }
     requires within { status ≤ 3 }
@@ -62,7 +62,7 @@ pub fn told<W: Write>(err: &mut W, text: &str, status: u8) -> u8
     status_after(&print(err, text), status)
 }
 
-/// Tells a refusal, and answers the status.
+/// Prints the line of a refusal on `err`, and answers the exit status, which is 1, or 3 if writing failed.
 pub fn refused<W: Write>(err: &mut W, fault: Fault) -> u8
     ensures above { 0 < result }
     ensures within { result ≤ 3 }
@@ -72,7 +72,7 @@ pub fn refused<W: Write>(err: &mut W, fault: Fault) -> u8
     status_after(&write_fault(&fault, err), 1)
 }
 
-/// The exit status behind a text that was to be told: 3 where writing it failed, and nowhere else.
+/// The exit status after a text was to be printed: 3 if writing it failed, and else `status`.
 fn status_after(written: &io::Result<()>, status: u8) -> u8
     ensures { MatchResult written.now (λ _. result ≡ status) (λ _. result ≡ 3) }
 {

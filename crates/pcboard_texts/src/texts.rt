@@ -1,4 +1,4 @@
-//! What a program's bytes and the text of a run file give, and how a stored run has both in one text.
+//! What a program's bytes and the text of a run file give, and how one text has both for a stored run.
 ghost use Rattle.std.specs.Prelude.{◌≡◌, ◌<◌, ◌==◌, position, ℕ, List, length, IfErr, IfOk, IfSome, MatchResult, Ok};
 ghost use Rattle.loader.specs.declared.run_file.RunFile.{RunFile};
 ghost use Rattle.loader.specs.RunFile.{Answers, run_of_text};
@@ -13,8 +13,8 @@ use loader::run_file::RunFile;
 use loader::run_reader::read_run_text;
 use std::alloc::Global;
 
-/// The image of a HEX text, if `hex`, else of a source, and what the text of a run file says; or the first refusal: the
-/// program's fault comes before the run file's.
+/// The image of a HEX text, if `hex`, else of a source, and what the text of a run file says; or the first refusal, in
+/// which the program's fault comes before the run file's.
 pub fn read_texts(
     alloc: Global,
     hex: bool,
@@ -25,7 +25,7 @@ pub fn read_texts(
     ensures says { IfOk result (λ read. Answers (Ok read.1) (run_of_text run.now)) }
     ensures fault { IfErr result (IsTrueRefusal hex bytes.now run.now) }
 
-    // Where both texts give what they should, they give nothing else, and only the want of memory refuses them.
+    // If both texts give something, the answer is just that, or want of memory.
     ensures accepted { (image : List (ℕ × ℕ)) → GivesImage hex bytes.now image → (run_file : RunFile)
         → Answers (Ok run_file) (run_of_text run.now)
         → MatchResult result (λ read. (read.0 ≡ image) × (read.1 ≡ run_file)) IsWantOfMemory }
@@ -49,7 +49,7 @@ fn read_image(alloc: Global, hex: bool, bytes: &[u8]) -> Result<Image, Fault>
     }
 }
 
-/// The text before the first line feed, and the text after it: none where there is no line feed.
+/// The text before the first line feed, and the text after it, which is empty without a line feed.
 #[tactic(auto, using(crate::proofs::Parted::front, crate::proofs::Parted::back, crate::proofs::Parted::front_all, crate::proofs::Parted::back_none))]
 pub fn parted(text: &[u8]) -> (&[u8], &[u8])
     ensures run { result.0.now ≡ run_text_of text.now }
