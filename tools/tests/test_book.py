@@ -15,7 +15,7 @@ from toolbox.book import Book, text_of
 from toolbox.book_page import page_of
 from toolbox.definitions import Definitions
 
-CALLS = ('program', 'run_source', 'run_image', 'Session::command', 'probe::command')
+CALLS = ('program', 'run_source', 'run_image', 'Session::command', 'Probe::command')
 NAMES = (*CALLS, 'pit8253', 'pcboard_texts')  # crates, all of whose calls are taken
 # At most so many lines of definitions, with their comments: nobody can check more than he reads.
 MOST = {'program': 5700, 'run_source': 4400}
@@ -185,7 +185,7 @@ class Books(ToolCase):
 
     def test_believed_starts_at_the_same_call(self) -> None:
         """It lists the files in the order of the book's chapters."""
-        for call in ('program', 'Session::command', 'probe::command'):
+        for call in ('program', 'Session::command', 'Probe::command'):
             listed = self.tool('dev/believed', '--order', call)[0].splitlines()
             text = self.tool('dev/book', call, '--text')[0]
             self.assertEqual([f'crates/{each}' for each in re.findall(r'^# (\w+/specs/\w+\.antt)$', text, re.M)], listed)

@@ -79,7 +79,9 @@ WAYS: list[tuple[str, list[Node]]] = [
         [('debugger_meaning', 'Back', 'GoesBack'), ('debugger_meaning', 'Back', 'GoesBackTo'), ('debugger_meaning', 'Stands', 'StandsAt')],
     ),
     ('when `back` is refused', [('debugger_meaning', 'Back', 'RefusesBack'), ('debugger_meaning', 'Back', 'RefusesBackTo')]),
-    ('what the probe answers', [('probe', 'Session', 'AnswersProbe')]),
+    ('what the probe answers', [('probe', 'Probe', 'AnswersStopping'), ('probe', 'Session', 'AnswersProbe')]),
+    ('when a stop on what happens holds', [('probe', 'Stops', 'meets')]),
+    ("where the probe's `go` stops", [('probe', 'Stops', 'EndsAt')]),
 ]
 # What the kit's library says of its own names, in short. Operators and constructors are in the first chapter.
 KIT: dict[str, str] = {
