@@ -15,8 +15,8 @@ from tests.test_held import WATCHED, Stepped
 
 from toolbox.command import Sorry
 from toolbox.conditions import Asked, count_of
-from toolbox.dap_values import Expression
-from toolbox.gdb_bytecode import Condition, signed
+from toolbox.dap.values import Expression
+from toolbox.gdb.bytecode import Condition, signed
 from toolbox.listing import Listing
 from toolbox.program import Files
 from toolbox.report import registers_of

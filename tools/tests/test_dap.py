@@ -18,7 +18,7 @@ from typing import Any
 from tests.protocol import types
 from tests.support import SECONDS, SLOW, TOOLS, ToolCase, example, not_run
 
-from toolbox.dap_values import number_in
+from toolbox.dap.values import number_in
 from toolbox.framing import Broken, Reader
 from toolbox.places import is_repeated, operation_of
 from toolbox.program import Files, Session, path

@@ -23,24 +23,25 @@ from unittest import mock
 from tests.support import EXAMPLES, SECONDS, TOOLS, TOP, ToolCase, children, example, is_running, processor_seconds, until
 from tests.test_symbols import NASM, ROM, hex_of
 
-from toolbox import desk_board, desk_http, desk_words, desk_work
 from toolbox.chips import chip_lines
 from toolbox.command import Sorry
-from toolbox.dap_values import is_code
-from toolbox.desk_drafts import Drafts
-from toolbox.desk_files import Given, Kept
-from toolbox.desk_http import LONGEST_BODY, MOST_CONNECTIONS, MOST_STRANGERS, SECONDS_OF_A_STRANGER, Refused, Server, policy_of
-from toolbox.desk_pages import as_html, examples, grammar, page_of
-from toolbox.desk_sound import Speaker
-from toolbox.desk_words import MOST_BOARDS, Desk
-from toolbox.desk_work import Helpers
-from toolbox.listing import line_of
+from toolbox.dap.values import is_code
+from toolbox.desk import board as desk_board, http as desk_http, words as desk_words, work as desk_work
+from toolbox.desk.drafts import Drafts
+from toolbox.desk.files import Given, Kept
+from toolbox.desk.http import LONGEST_BODY, MOST_CONNECTIONS, MOST_STRANGERS, SECONDS_OF_A_STRANGER, Refused, Server, policy_of
+from toolbox.desk.pages import as_html, examples, grammar, page_of
+from toolbox.desk.sound import Speaker
+from toolbox.desk.words import MOST_BOARDS, Desk
+from toolbox.desk.work import Helpers
 from toolbox.events import events
+from toolbox.listing import line_of
 from toolbox.program import Files, Session
 from toolbox.report import registers_of, report_of
 from toolbox.runfile import text_of
 
 Fields = dict[str, Any]
+PAGE = f'{TOOLS}/toolbox/desk/page'
 RUN = {'version': 1, 'ram': 64, 'sw1': 0, 'sw2': 0, 'budget': 1000, 'keys': []}
 SHORT = 'SEGMENT RESET AT 0FFFFh\n        HLT\nENDS\n'
 FOREVER = 'SEGMENT MAIN AT 0F000h\nstart:  CALL deep\nstay:   JMP SHORT stay\ndeep:   INC AX\n        JMP SHORT deep\nENDS\nSEGMENT RESET AT 0FFFFh\n        JMP FAR start\nENDS\n'
@@ -94,10 +95,9 @@ def text_of_screen(rows: list[list[list[Any]]]) -> list[str]:
 
 def modules() -> dict[str, str]:
     """The page's modules, by their names."""
-    folder = f'{TOOLS}/toolbox/desk'
     found = dict[str, str]()
-    for name in os.listdir(folder):
-        with open(f'{folder}/{name}', encoding='utf-8') as file:
+    for name in sorted({*os.listdir(PAGE)} - {'desk.html'}):
+        with open(f'{PAGE}/{name}', encoding='utf-8') as file:
             found[name] = file.read()
     return found
 
@@ -590,7 +590,7 @@ class Boards(Served):
         board = self.client.open('ticks')['board']
         path = f'/{self.client.token}/do'
         for error, sentence in ((MemoryError(), 'desk has not enough memory'), (ZeroDivisionError('by 0'), 'a mistake of its own: ZeroDivisionError: by 0')):
-            with unittest.mock.patch('toolbox.desk_board.Board.memory', side_effect=error):
+            with unittest.mock.patch('toolbox.desk.board.Board.memory', side_effect=error):
                 body = json.dumps({'do': 'memory', 'board': board, 'place': '0'}).encode()
                 status, text, _ = self.client.request('POST', path, body)
                 self.assertEqual(status, 500)
@@ -1180,7 +1180,7 @@ class Pages(unittest.TestCase):
     """The page's own text, and the project's pages in it."""
 
     def test_the_page_has_no_address_outside(self) -> None:
-        with open(f'{TOOLS}/toolbox/desk.html', encoding='utf-8') as file:
+        with open(f'{PAGE}/desk.html', encoding='utf-8') as file:
             page = file.read()
         self.assertNotRegex(page, r'https?:|//\w+\.|@import|url\(')
         self.assertEqual(
@@ -1207,7 +1207,7 @@ class Pages(unittest.TestCase):
 
     def test_it_can_be_read_in_light_and_dark(self) -> None:
         """Each text has a contrast of 4.5 to what is behind it, each mark one of 3, as the accessibility guidelines want it."""
-        with open(f'{TOOLS}/toolbox/desk.html', encoding='utf-8') as file:
+        with open(f'{PAGE}/desk.html', encoding='utf-8') as file:
             light, dark = (dict(re.findall(r'--([\w-]+): (#\w+);', rule)) for rule in re.findall(r':root \{(.*?)\}', file.read(), re.S)[:2])
         for colours in (light, light | dark):
             for fore, back, least in (
@@ -1232,7 +1232,7 @@ class Pages(unittest.TestCase):
         with open(f'{TOP}/editors/vscode/zebludor.tmLanguage.json', encoding='utf-8') as file:
             rows = json.load(file)['patterns']
         self.assertEqual(grammar(), rows)
-        with open(f'{TOOLS}/toolbox/desk.html', encoding='utf-8') as file:
+        with open(f'{PAGE}/desk.html', encoding='utf-8') as file:
             page = file.read()
         for row in rows:
             self.assertRegex(page, rf"\.{'-'.join(row['name'].split('.')[:2])}\b", row['name'])

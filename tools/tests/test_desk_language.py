@@ -8,7 +8,7 @@ from tests.support import ToolCase, not_run
 from tests.test_desk_page import Page
 
 from toolbox.command import Sorry
-from toolbox.desk_language import Language
+from toolbox.desk.language import Language
 
 SOURCE = 'SEGMENT MAIN AT 50h\nstart:  MOV AL,34h\n        OUT 43h,AL\nENDS\n'
 

@@ -18,7 +18,7 @@ from tests.support import EXAMPLES, SECONDS, TOOLS, ToolCase, children, example,
 from tests.test_desk import BUZZ, DARK, DATA, NESTED
 
 from toolbox.chips import END_OF_INTERRUPT, chip_lines
-from toolbox.dap_board import FLAG_BITS
+from toolbox.dap.board import FLAG_BITS
 from toolbox.program import Files, Session
 from toolbox.report import Report, registers_of, report_of
 

@@ -18,8 +18,8 @@ from tests.test_desk import FOREVER, RUN, Fields
 from tests.test_desk_page import Page
 from tests.test_writing import full_disk
 
-from toolbox.desk_drafts import MOST_DRAFTS
-from toolbox.desk_files import Given, Kept, with_ends
+from toolbox.desk.drafts import MOST_DRAFTS
+from toolbox.desk.files import Given, Kept, with_ends
 from toolbox.report import report_of
 from toolbox.runfile import text_of
 

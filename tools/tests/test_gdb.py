@@ -14,12 +14,12 @@ import unittest.mock
 
 from tests.support import SECONDS, SLOW, STORED, TOOLS, TOP, ToolCase, children, example, is_at_work, name_of, not_run, processor_seconds, until
 
-from toolbox.gdb_board import far_of_address
-from toolbox.gdb_elf import is_call, sleb, uleb
-from toolbox.gdb_flow import goes_on, outermost, target_of
-from toolbox.gdb_frames import pushed_by
-from toolbox.gdb_stub import NAMES
-from toolbox.gdb_wire import framed, unescaped
+from toolbox.gdb.board import far_of_address
+from toolbox.gdb.elf import is_call, sleb, uleb
+from toolbox.gdb.flow import goes_on, outermost, target_of
+from toolbox.gdb.frames import pushed_by
+from toolbox.gdb.stub import NAMES
+from toolbox.gdb.wire import framed, unescaped
 from toolbox.listing import Line, Listing, listing_of
 from toolbox.places import event_of
 from toolbox.program import Files, Session

@@ -15,7 +15,7 @@ import unittest
 from typing import Any
 
 from tests.support import SECONDS, TOOLS, ToolCase, not_run
-from toolbox.desk_http import Server
+from toolbox.desk.http import Server
 
 # Asks for a page from within a namespace, and prints its status.
 FETCH = 'import sys, urllib.request; print(urllib.request.urlopen(sys.argv[1], timeout=60).status)'

@@ -8,7 +8,7 @@ import unittest
 
 from tests.support import ToolCase, children, processor_seconds
 
-from toolbox.dap_board import Machine
+from toolbox.dap.board import Machine
 from toolbox.listing import listing_of
 from toolbox.places import event_of
 from toolbox.program import Files, Session

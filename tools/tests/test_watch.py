@@ -11,9 +11,9 @@ from tests.test_dap import Client as Editor
 from tests.test_held import WATCHED, Stepped
 
 from toolbox.command import Sorry
-from toolbox.dap_board import Machine
-from toolbox.desk_board import Board as DeskBoard
-from toolbox.gdb_board import Board
+from toolbox.dap.board import Machine
+from toolbox.desk.board import Board as DeskBoard
+from toolbox.gdb.board import Board
 from toolbox.listing import Listing, listing_of
 from toolbox.program import Files
 from toolbox.runfile import read_run_file

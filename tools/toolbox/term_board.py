@@ -6,7 +6,7 @@ from dataclasses import replace
 from typing import Callable
 
 from toolbox.command import Sorry, write_text
-from toolbox.dap_board import Machine
+from toolbox.dap.board import Machine
 from toolbox.listing import Listing, physical
 from toolbox.places import operation_of
 from toolbox.program import LAST_CLOCK, Files

@@ -4,7 +4,7 @@ from __future__ import annotations
 import functools
 import re
 
-from toolbox.desk_pages import grammar
+from toolbox.desk.pages import grammar
 
 KINDS = {
     'keyword.mnemonic': 'mnemonic',

@@ -1,12 +1,12 @@
 """Where gdb finds the callers, as DWARF's `.debug_frame`. A frame is where its stack ends, at the return address, and its routine.
-Everywhere one rule goes by what `gdb_frames` tells, in records beyond memory, of which the status word of a coprocessor that isn't
+Everywhere one rule goes by what `frames` tells, in records beyond memory, of which the status word of a coprocessor that isn't
 there has the place. A routine that begins with PUSH BP and MOV BP,SP, as those of C do, has rules of its own behind these, by BP."""
 from __future__ import annotations
 
 import struct
 
-from toolbox.gdb_flow import outermost
-from toolbox.gdb_frames import RECORDS
+from toolbox.gdb.flow import outermost
+from toolbox.gdb.frames import RECORDS
 from toolbox.listing import Listing
 
 MEMORY = 1 << 20

@@ -4,8 +4,8 @@ from __future__ import annotations
 import threading
 
 from toolbox.command import Sorry
-from toolbox.desk_pages import as_html
-from toolbox.desk_work import Fields
+from toolbox.desk.pages import as_html
+from toolbox.desk.work import Fields
 from toolbox.lsp.asked import Unfit
 from toolbox.lsp.completing import completion
 from toolbox.lsp.diagnosing import of_a_fault

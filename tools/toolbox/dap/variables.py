@@ -5,8 +5,8 @@ import re
 from typing import Any, Callable
 
 from toolbox.command import Sorry
-from toolbox.dap_board import FLAG_BITS, Machine
-from toolbox.dap_values import Value
+from toolbox.dap.board import FLAG_BITS, Machine
+from toolbox.dap.values import Value
 from toolbox.data_labels import MOST_BYTES, SIZES, Datum
 from toolbox.listing import physical
 

@@ -7,7 +7,7 @@ from dataclasses import dataclass
 from typing import Callable
 
 from toolbox.command import Sorry
-from toolbox.dap_board import FLAG_BITS, Machine
+from toolbox.dap.board import FLAG_BITS, Machine
 from toolbox.disassembly import LONGEST, NONE, instructions
 from toolbox.listing import Line, Listing, code_of, label_in, physical
 from toolbox.places import far_of

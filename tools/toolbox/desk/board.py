@@ -12,11 +12,11 @@ from typing import Any, Callable
 
 from toolbox.chips import Chips, facts
 from toolbox.command import Sorry
-from toolbox.dap_board import ENDS, MOST_BREAKPOINTS, Machine
+from toolbox.dap.board import ENDS, MOST_BREAKPOINTS, Machine
 from toolbox.data_labels import Datum, labels_of_data, values_of
+from toolbox.desk.sound import MOST_SAMPLES, Speaker
+from toolbox.desk.work import Fields, Helpers, Job
 from toolbox.disassembly import instructions
-from toolbox.desk_sound import MOST_SAMPLES, Speaker
-from toolbox.desk_work import Fields, Helpers, Job
 from toolbox.events import commands
 from toolbox.listing import labels_alone, listing_of, physical
 from toolbox.nowhere import told_of_end

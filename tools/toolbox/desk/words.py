@@ -11,13 +11,13 @@ from dataclasses import asdict
 from typing import Any, Callable
 
 from toolbox.command import Sorry, read_text
-from toolbox.desk_board import Board
-from toolbox.desk_drafts import Drafts
-from toolbox.desk_files import Given, Kept, difference
-from toolbox.desk_http import Refused
-from toolbox.desk_language import Language
-from toolbox.desk_pages import examples, files_of, grammar, page_of
-from toolbox.desk_work import Fields
+from toolbox.desk.board import Board
+from toolbox.desk.drafts import Drafts
+from toolbox.desk.files import Given, Kept, difference
+from toolbox.desk.http import Refused
+from toolbox.desk.language import Language
+from toolbox.desk.pages import examples, files_of, grammar, page_of
+from toolbox.desk.work import Fields
 from toolbox.faults import fault_in
 from toolbox.messages import messages
 from toolbox.program import LAST_CLOCK, TOP, Files

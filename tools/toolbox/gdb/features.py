@@ -13,7 +13,7 @@ FIRST_OWN = FIRST_CONTROL + len(CONTROLS)
 
 
 UNKNOWN = 8 * 'x'
-WORD_OF_FRAMES = FIRST_CONTROL + 1  # where the record of the present frame stands, for `gdb_cfi`
+WORD_OF_FRAMES = FIRST_CONTROL + 1  # where the record of the present frame stands, for `cfi`
 
 
 def register(name: str, bits: int, kind: str, more: str = '') -> str:

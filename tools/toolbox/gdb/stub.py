@@ -6,11 +6,11 @@ import re
 
 from toolbox.command import Sorry
 from toolbox.conditions import Asked
-from toolbox.gdb_board import MEMORY, Board, Met, far_of_address
-from toolbox.gdb_bytecode import Condition
-from toolbox.gdb_features import FIRST_OWN, OWN, UNKNOWN, WORD_OF_FRAMES, description, without_value
-from toolbox.gdb_frames import RECORD, RECORDS, Frames
-from toolbox.gdb_wire import MOST_BYTES, Wire
+from toolbox.gdb.board import MEMORY, Board, Met, far_of_address
+from toolbox.gdb.bytecode import Condition
+from toolbox.gdb.features import FIRST_OWN, OWN, UNKNOWN, WORD_OF_FRAMES, description, without_value
+from toolbox.gdb.frames import RECORD, RECORDS, Frames
+from toolbox.gdb.wire import MOST_BYTES, Wire
 from toolbox.keying import key_lines, type_words
 from toolbox.listing import Listing, physical
 from toolbox.program import LAST_CLOCK

@@ -6,7 +6,7 @@ import struct
 from dataclasses import dataclass
 from typing import Callable
 
-from toolbox.gdb_flow import Flow, target_of
+from toolbox.gdb.flow import Flow, target_of
 from toolbox.listing import Listing, physical
 from toolbox.places import Event, operation_of
 
@@ -55,7 +55,7 @@ class Call:
 
 @dataclass(frozen=True)
 class Frame:
-    """What the rules of `gdb_cfi` ask of a frame: how far from its SP its stack ends; how far from there its caller's SP is, and the
+    """What the rules of `cfi` ask of a frame: how far from its SP its stack ends; how far from there its caller's SP is, and the
     place to which it returns, or 0 and its own place, by which gdb ends the list."""
 
     end: int

@@ -6,7 +6,7 @@ import os
 import struct
 from dataclasses import dataclass, field
 
-from toolbox.gdb_cfi import MEMORY, counted, frames_of, sleb, uleb
+from toolbox.gdb.cfi import MEMORY, counted, frames_of, sleb, uleb
 from toolbox.listing import Line, Listing, physical
 
 MACHINE, EXECUTABLE, PROGBITS, SYMTAB, STRTAB, NOBITS = 3, 2, 1, 2, 3, 8

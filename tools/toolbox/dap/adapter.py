@@ -11,10 +11,10 @@ from typing import Any, Callable
 
 from toolbox.command import PYTHON, Sorry
 from toolbox.conditions import Asked, count_of
-from toolbox.dap_sources import Sources, path_in
-from toolbox.dap_board import ENDS, IF, MOST_BREAKPOINTS, Machine
-from toolbox.dap_values import Disassembly, Expression, is_code
-from toolbox.dap_variables import Variables
+from toolbox.dap.board import ENDS, IF, MOST_BREAKPOINTS, Machine
+from toolbox.dap.sources import Sources, path_in
+from toolbox.dap.values import Disassembly, Expression, is_code
+from toolbox.dap.variables import Variables
 from toolbox.data_labels import labels_of_data
 from toolbox.framing import Broken, Read
 from toolbox.keying import key_lines, type_words
