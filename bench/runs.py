@@ -8,7 +8,7 @@ import subprocess
 import sys
 
 HERE = os.path.dirname(os.path.realpath(__file__))
-sys.path.insert(0, f'{os.path.dirname(HERE)}/tools')
+sys.path[:0] = [f'{os.path.dirname(HERE)}/{folder}' for folder in ('tools', 'dev')]
 
 from toolbox.command import Sorry
 from toolbox.program import path as built_program

@@ -7,8 +7,8 @@ import shutil
 import subprocess
 from typing import Any
 
+from parts import release
 from tests.support import TOP
-from toolbox import release
 from toolbox.crates import Crates
 from toolbox.proved import PROGRAMS, out
 

@@ -33,10 +33,11 @@ class Repository(ToolCase):
 
     def setUp(self) -> None:
         super().setUp()
-        for folder in ('dev', 'tools/toolbox'):
+        for folder in ('dev/parts', 'tools/toolbox'):
             os.makedirs(f'{self.room}/top/{folder}')
-        shared = (f'tools/toolbox/{stem}.py' for stem in ('__init__', 'building', 'command', 'crates', 'proved', 'sources', 'writing'))
-        for name in ('pcboard', 'VERSION', 'README.md', 'dev/build', *shared):
+        shared = (f'tools/toolbox/{stem}.py' for stem in ('__init__', 'command', 'crates', 'proved', 'sources', 'writing'))
+        parts = (f'dev/parts/{stem}.py' for stem in ('__init__', 'building'))
+        for name in ('pcboard', 'VERSION', 'README.md', 'dev/build', *parts, *shared):
             shutil.copy(f'{TOP}/{name}', f'{self.room}/top/{name}')
         os.symlink('pcboard', f'{self.room}/top/pcprobe')
         for name in ('low', 'pcboard', 'probe', 'pcprobe', 'other'):

@@ -5,7 +5,7 @@ import subprocess
 import sys
 import unittest
 
-from tests.support import TOOLS, TOP, ToolCase
+from tests.support import TOP, ToolCase
 
 HEADLINE = '-- To be believed: the headline rests on it.'
 CALLERS = '-- To be believed by callers of this crate: the headline does not rest on it.'
@@ -37,7 +37,8 @@ class Believed(ToolCase):
         (self.path / 'dev').mkdir()
         (self.path / 'tools').mkdir()
         shutil.copy(f'{TOP}/dev/believed', f'{self.room}/dev/believed')
-        shutil.copytree(f'{TOOLS}/toolbox', f'{self.room}/tools/toolbox', ignore=shutil.ignore_patterns('__pycache__'))
+        for folder in ('dev/parts', 'tools/toolbox'):
+            shutil.copytree(f'{TOP}/{folder}', f'{self.room}/{folder}', ignore=shutil.ignore_patterns('__pycache__'))
         self.file('crates.txt', ''.join(f'{crate}:\n' for crate in crates))
         for crate, (named, files) in crates.items():
             for folder in ('src', 'specs'):

@@ -9,11 +9,11 @@ import subprocess
 import sys
 import unittest
 
-from tests.support import TOOLS, TOP, ToolCase
-from toolbox import book_words
-from toolbox.book import Book, text_of
-from toolbox.book_page import page_of
-from toolbox.definitions import Definitions
+from parts import book_words
+from parts.book import Book, text_of
+from parts.book_page import page_of
+from parts.definitions import Definitions
+from tests.support import TOP, ToolCase
 
 CALLS = ('program', 'run_source', 'run_image', 'Session::command', 'Probe::command')
 NAMES = (*CALLS, 'pit8253', 'pcboard_texts')  # crates, all of whose calls are taken
@@ -280,7 +280,8 @@ class SmallBook(ToolCase):
         path = pathlib.Path(self.room)
         (path / 'dev').mkdir()
         shutil.copy(f'{TOP}/dev/book', f'{self.room}/dev/book')
-        shutil.copytree(f'{TOOLS}/toolbox', f'{self.room}/tools/toolbox', ignore=shutil.ignore_patterns('__pycache__'))
+        for folder in ('dev/parts', 'tools/toolbox'):
+            shutil.copytree(f'{TOP}/{folder}', f'{self.room}/{folder}', ignore=shutil.ignore_patterns('__pycache__'))
         self.file('crates.txt', 'wire:\nlamp: wire\n')
         for crate, source, definitions in (('wire', WIRE, LEVEL), ('lamp', LAMP, LIGHT)):
             for folder, name, text in (('src', 'lib.rt', source), ('specs', 'Level.antt', definitions)):

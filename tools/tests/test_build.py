@@ -10,9 +10,10 @@ import signal
 import subprocess
 import unittest
 
+from parts import building
 from tests.repository import Repository
 from tests.support import SECONDS, TOP, is_running, not_run, until
-from toolbox import building, sources
+from toolbox import sources
 from toolbox.crates import Crates
 
 

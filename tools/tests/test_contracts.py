@@ -6,9 +6,9 @@ import subprocess
 import sys
 import unittest
 
-from tests.support import TOOLS, TOP, ToolCase
-from toolbox.definitions import items
-from toolbox.one_sided import function_of, worst_of
+from parts.definitions import items
+from parts.one_sided import function_of, worst_of
+from tests.support import TOP, ToolCase
 
 # Words of the row that are no such function.
 OTHERS = {'None', 'slot_for', 'Other', 'dev/contracts --one-sided', 'slot_for.rt', 'parts.rt'}
@@ -64,7 +64,8 @@ class Contracts(ToolCase):
         for folder in ('dev', 'tools'):
             (self.path / folder).mkdir()
         shutil.copy(f'{TOP}/dev/contracts', f'{self.room}/dev/contracts')
-        shutil.copytree(f'{TOOLS}/toolbox', f'{self.room}/tools/toolbox', ignore=shutil.ignore_patterns('__pycache__'))
+        for folder in ('dev/parts', 'tools/toolbox'):
+            shutil.copytree(f'{TOP}/{folder}', f'{self.room}/{folder}', ignore=shutil.ignore_patterns('__pycache__'))
         shutil.copytree(f'{TOP}/crates/bus', f'{self.room}/crates/bus', ignore=shutil.ignore_patterns('out'))
         self.file('crates.txt', '# Libraries.\nbus: board_types\n')
         printed = self.run_it('bus')

@@ -47,7 +47,7 @@ class Fresh(Repository):
     def setUp(self) -> None:
         super().setUp()
         self.top = f'{self.room}/top'
-        for folder in ('tools', 'python'):
+        for folder in ('dev/parts', 'tools', 'python'):
             shutil.copytree(f'{TOP}/{folder}', f'{self.top}/{folder}', ignore=shutil.ignore_patterns('tests', '__pycache__'), dirs_exist_ok=True)
         os.mkdir(f'{self.top}/tools/tests')
         for name in ('__init__', 'support', 'fresh'):

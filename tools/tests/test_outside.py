@@ -9,10 +9,10 @@ from unittest import mock
 
 from tests.support import STORED, ToolCase, not_run
 
+from parts.outside import both, comparison, controller, instruction_flaws, instructions, mame, nasm, port, screens, sequences, timer, unicorn, unicorn_flaws
+from parts.outside.counter import ALL, CAUSES, Counter
+from parts.outside.instruction_flaws import FLAWS, witness
 from toolbox.command import Sorry
-from toolbox.outside import both, comparison, controller, instruction_flaws, instructions, mame, nasm, port, screens, sequences, timer, unicorn, unicorn_flaws
-from toolbox.outside.counter import ALL, CAUSES, Counter
-from toolbox.outside.instruction_flaws import FLAWS, witness
 
 KINDS = (controller.KIND, port.KIND)
 # Instructions beside those in which Unicorn does otherwise; in these it does as this board.

@@ -18,9 +18,10 @@ import urllib.request
 import zipfile
 from typing import Any, Callable
 
+from parts import debian, release, wheel
 from tests.support import SECONDS, but_progress, is_there, not_run
 from tests.test_release import MADE, PYTHON, RUN, Unpacked, shown_by_readme
-from toolbox import debian, manual, release, wheel
+from toolbox import manual
 
 WHEEL, PACKAGE = MADE[1], MADE[2]
 README = re.compile(r'^```\n\./pcboard run .*\n```\n\nprints\n\n```\n(.*?)^```', re.M | re.S)

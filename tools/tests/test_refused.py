@@ -6,8 +6,8 @@ import shutil
 import subprocess
 import sys
 
+from parts.edits import FOLDERS, edits_of, function_at, judge
 from tests.support import TOP, ToolCase, is_there, not_run
-from toolbox.edits import FOLDERS, edits_of, function_at, judge
 
 RT = """
 import os, re, types
@@ -79,10 +79,11 @@ class Refused(ToolCase):
 
     def setUp(self) -> None:
         super().setUp()
-        for folder in ('bin', 'top/dev', 'top/tools/toolbox'):
+        for folder in ('bin', 'top/dev/parts', 'top/tools/toolbox'):
             os.makedirs(f'{self.room}/{folder}')
-        shared = (f'tools/toolbox/{stem}.py' for stem in ('__init__', 'building', 'command', 'crates', 'edits', 'proved', 'sources', 'writing'))
-        for file in ('dev/refused', *shared):
+        shared = (f'tools/toolbox/{stem}.py' for stem in ('__init__', 'command', 'crates', 'proved', 'sources', 'writing'))
+        parts = (f'dev/parts/{stem}.py' for stem in ('__init__', 'building', 'edits'))
+        for file in ('dev/refused', *parts, *shared):
             shutil.copy(f'{TOP}/{file}', f'{self.room}/top/{file}')
         for name in ('low', 'high', 'broken'):
             for folder in ('src', 'refused', 'must-fail'):

@@ -13,10 +13,11 @@ import sys
 import tarfile
 import unittest
 
+from parts import debian, release, wheel
 from tests.repository import KIT, LOGIC, Repository
 from tests.support import SECONDS, TOP, but_progress, is_there, not_run
 from tests.test_pages import blocks, commands
-from toolbox import debian, program, release, wheel
+from toolbox import program
 from toolbox.crates import Crates
 from toolbox.proved import PROGRAMS, Made, Proved
 from toolbox.sources import sum_of, sum_of_sources

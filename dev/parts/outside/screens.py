@@ -7,8 +7,8 @@ from typing import Any
 
 from zebludor import TOP, assemble, run
 
+from parts.outside import mame
 from toolbox.command import read_text
-from toolbox.outside import mame
 from toolbox.runfile import read_run_file
 
 # What MAME can't show as it is, and why.

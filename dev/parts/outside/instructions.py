@@ -7,10 +7,10 @@ from collections.abc import Callable
 from dataclasses import dataclass, field
 from typing import NamedTuple
 
+from parts.outside import both, mame
+from parts.outside.both import RESET, with_bytes, word
+from parts.outside.mame import Answer, Image
 from toolbox.command import Sorry
-from toolbox.outside import both, mame
-from toolbox.outside.both import RESET, with_bytes, word
-from toolbox.outside.mame import Answer, Image
 
 BLOCK, FIRST, MOST = 512, 0x1000, 1250  # bytes of a block; where the first stands; so many have room
 KEPT, MARK, WINDOW = 0xA0, 0xC0, 0x100  # of a block: registers, whether a transfer was made or an interrupt entered, data

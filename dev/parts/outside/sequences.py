@@ -5,9 +5,9 @@ import random
 from collections.abc import Callable
 from typing import NamedTuple
 
-from toolbox.outside import both
-from toolbox.outside.both import with_bytes, word
-from toolbox.outside.mame import Image
+from parts.outside import both
+from parts.outside.both import with_bytes, word
+from parts.outside.mame import Image
 
 SLOT, RESULTS, CODE, SIZE = 64, 0x20000, 0x9000, 0xF000  # bytes of a sequence's answers; where they stand; the code, and its room
 MOST = 60  # answers of a sequence

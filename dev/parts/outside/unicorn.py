@@ -9,10 +9,10 @@ import os
 from dataclasses import replace
 from typing import Any, Protocol
 
+from parts.outside import instructions, mame
+from parts.outside.instructions import Case
+from parts.outside.mame import Answer, Image
 from toolbox.command import Sorry
-from toolbox.outside import instructions, mame
-from toolbox.outside.instructions import Case
-from toolbox.outside.mame import Answer, Image
 
 VERSION = '2.0.1'  # the one whose differences are known
 PACKAGE = 'apt-get install --no-install-recommends libunicorn2'

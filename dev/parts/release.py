@@ -13,12 +13,13 @@ import tarfile
 import tempfile
 from typing import Iterator
 
-from toolbox import debian, proved, wheel
-from toolbox.book import Book, text_of
-from toolbox.book_page import page_of
+from parts import debian, wheel
+from parts.book import Book, text_of
+from parts.book_page import page_of
+from parts.definitions import Definitions
+from toolbox import proved
 from toolbox.command import Sorry
 from toolbox.crates import TOP, Crates
-from toolbox.definitions import Definitions
 from toolbox.proved import PROGRAMS, STORED, Made, Proved
 from toolbox.sources import sum_of, sum_of_sources
 

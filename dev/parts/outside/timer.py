@@ -10,10 +10,10 @@ from typing import NamedTuple
 
 from zebludor import TOP
 
+from parts.outside import mame
+from parts.outside.both import RESET
+from parts.outside.counter import ALL, CAUSES, Cause, Counter
 from toolbox.command import Sorry, read_text
-from toolbox.outside import mame
-from toolbox.outside.both import RESET
-from toolbox.outside.counter import ALL, CAUSES, Cause, Counter
 
 CASES = f'{TOP}/crates/chip_cases/stdin'
 FARTHEST, LONGEST = 3000, 70_000  # ticks ahead of a state, and of a case's own; longer ones are left out

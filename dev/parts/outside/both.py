@@ -3,9 +3,9 @@ from __future__ import annotations
 
 from zebludor import Session
 
+from parts.outside import mame
+from parts.outside.mame import Answer, Image
 from toolbox.command import Sorry
-from toolbox.outside import mame
-from toolbox.outside.mame import Answer, Image
 
 SECONDS = 4.0  # at most, of MAME's time
 CLOCKS = 40_000_000

@@ -4,11 +4,11 @@ from __future__ import annotations
 
 import random
 
-from toolbox.outside import mame
-from toolbox.outside.both import RESET, kept, out
-from toolbox.outside.controller import PAUSE
-from toolbox.outside.mame import Image
-from toolbox.outside.sequences import Flaw, Kind
+from parts.outside import mame
+from parts.outside.both import RESET, kept, out
+from parts.outside.controller import PAUSE
+from parts.outside.mame import Image
+from parts.outside.sequences import Flaw, Kind
 
 SW1, SW2 = 0x6D, 0x12  # MAME's own, and those of the run here
 READS = kept(0x60) + kept(0x61) + kept(0x62)

@@ -4,10 +4,10 @@ from __future__ import annotations
 
 import random
 
-from toolbox.outside import mame
-from toolbox.outside.both import RESET, kept, out, with_bytes, word
-from toolbox.outside.mame import Image
-from toolbox.outside.sequences import Flaw, Kind
+from parts.outside import mame
+from parts.outside.both import RESET, kept, out, with_bytes, word
+from parts.outside.mame import Image
+from parts.outside.sequences import Flaw, Kind
 
 RESULTS, HANDLERS = 0x20000, 0x50000
 PAUSE = b'\xb9\x08\x00\xe2\xfe'  # MOV CX,8; LOOP to itself

@@ -4,13 +4,13 @@ from __future__ import annotations
 from collections import Counter
 from collections.abc import Callable
 
+from parts.outside import both, controller, instruction_flaws, instructions, nasm, port, screens, sequences, timer, unicorn, unicorn_flaws
+from parts.outside.counter import CAUSES
+from parts.outside.instruction_flaws import Flaw
+from parts.outside.instructions import Case
+from parts.outside.mame import Answer, Image
+from parts.outside.sequences import Kind
 from toolbox.command import waiting
-from toolbox.outside import both, controller, instruction_flaws, instructions, nasm, port, screens, sequences, timer, unicorn, unicorn_flaws
-from toolbox.outside.counter import CAUSES
-from toolbox.outside.instruction_flaws import Flaw
-from toolbox.outside.instructions import Case
-from toolbox.outside.mame import Answer, Image
-from toolbox.outside.sequences import Kind
 
 SHOWN = 10  # differences that are told in full
 

@@ -5,9 +5,9 @@ import html
 import re
 from collections.abc import Iterator
 
-from toolbox import book_words
-from toolbox.book import Book, Chapter, Entry, contract_lines, headings_of, index, source_of, ways, where
-from toolbox.definitions import Root, Scope, meant
+from parts import book_words
+from parts.book import Book, Chapter, Entry, contract_lines, headings_of, index, source_of, ways, where
+from parts.definitions import Root, Scope, meant
 
 TOKEN = re.compile(r'(\s+--.*$|^--.*$|\s*//.*$)|([^\s(){}\[\];,«»:&<>]+)|([\s\S])', re.M)
 STYLE = """

@@ -6,8 +6,8 @@ import re
 from collections.abc import Iterator
 from typing import NamedTuple
 
+from parts.definitions import CRATES, NOTE, Item, items, read, signature
 from toolbox.crates import Crates
-from toolbox.definitions import CRATES, NOTE, Item, items, read, signature
 from toolbox.proved import PROGRAMS
 
 CLAUSE = re.compile(r'^\s*(requires|ensures)\*?(?: \w+)? \{(.*?)\}[;,]?\s*(?=^\s*(?:requires|ensures)\b|\Z)', re.M | re.S)

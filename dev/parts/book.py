@@ -7,9 +7,9 @@ import textwrap
 from collections.abc import Iterable, Iterator, Sequence
 from typing import NamedTuple
 
-from toolbox import book_words
+from parts import book_words
+from parts.definitions import COMMENT, CRATES, NOTE, WORD, Definition, Definitions, Node, Root, constructors, first_sentence, meant, opening, read
 from toolbox.command import Sorry
-from toolbox.definitions import COMMENT, CRATES, NOTE, WORD, Definition, Definitions, Node, Root, constructors, first_sentence, meant, opening, read
 
 CLASS = (' To be believed', ' Laws:', ' For proofs alone:')  # how the line of a head begins that says what rests on its file
 WORKS = (

@@ -5,7 +5,7 @@ from __future__ import annotations
 from collections.abc import Callable
 from typing import NamedTuple
 
-from toolbox.outside.instructions import FLAGS, NAMES, NUMBERS, WINDOW, Case, Difference
+from parts.outside.instructions import FLAGS, NAMES, NUMBERS, WINDOW, Case, Difference
 
 EVERYWHERE = frozenset((*NAMES, *(f'FL:{flag}' for flag in FLAGS), 'mark', 'data', 'stack'))
 HALVES = ('AL', 'CL', 'DL', 'BL', 'AH', 'CH', 'DH', 'BH')

@@ -4,10 +4,10 @@ from __future__ import annotations
 from collections.abc import Iterable
 from typing import TYPE_CHECKING
 
-from toolbox.definitions import Node
+from parts.definitions import Node
 
 if TYPE_CHECKING:
-    from toolbox.book import Count, Entry
+    from parts.book import Count, Entry
 
 Rows = list[tuple[str, str]]
 WHERE = 'Where it is said'

@@ -10,9 +10,9 @@ import tempfile
 from collections.abc import Callable
 from typing import NamedTuple
 
+from parts.outside import instructions
 from toolbox import disassembly
 from toolbox.command import Sorry
-from toolbox.outside import instructions
 
 VERSION = '2.16.01'  # the one whose differences are known
 PACKAGE = 'apt-get install --no-install-recommends nasm'

@@ -1,8 +1,8 @@
 """What Unicorn 2.0.1, which models a later processor, does otherwise than docs/machine.md, in the form of instruction_flaws."""
 from __future__ import annotations
 
-from toolbox.outside.instruction_flaws import ADJUSTMENTS, EVERYWHERE, PRODUCTS, carries, flaw, has, has_no_quotient, low, operand, signed, witness
-from toolbox.outside.instructions import NUMBERS, Case
+from parts.outside.instruction_flaws import ADJUSTMENTS, EVERYWHERE, PRODUCTS, carries, flaw, has, has_no_quotient, low, operand, signed, witness
+from parts.outside.instructions import NUMBERS, Case
 
 UNDEFINED = 'undefined in the manual'
 
