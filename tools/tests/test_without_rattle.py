@@ -7,8 +7,9 @@ import shutil
 import subprocess
 import unittest
 
+from tests import stored_cases
 from tests.support import TOP, ToolCase
-from toolbox import program, stored_cases
+from toolbox import program
 
 HELLO = 'SEGMENT M AT 0F000h|go: HLT|ENDS|SEGMENT R AT 0FFFFh| JMP FAR go|ENDS|'
 RUN = '{"version":1,"ram":64,"sw1":0,"sw2":0,"budget":0,"keys":[]}'
@@ -101,7 +102,7 @@ class Whole(ToolCase):
         for folder in ('tools', 'python', '.ci'):
             shutil.copytree(f'{TOP}/{folder}', f'{self.top}/{folder}', ignore=ignored)
         os.makedirs(f'{self.top}/tools/tests')
-        for name in ('__init__', 'support'):
+        for name in ('__init__', 'stored_cases', 'support'):
             shutil.copy(f'{TOP}/tools/tests/{name}.py', f'{self.top}/tools/tests')
         self.file('top/tools/tests/test_it.py', MODULE)
         self.file('top/crates.txt', '')
