@@ -1,4 +1,4 @@
-"""Python's layout and names, by Debian's black and pyflakes3, where they are installed.
+"""Python's layout and names, by Debian's black and pyflakes3, where they are installed, and where its modules stand.
 
   python3 -m tests.test_style --write     in tools/: lays out all files as black does"""
 from __future__ import annotations
@@ -13,6 +13,7 @@ import sys
 import tokenize
 import unittest
 
+from parts import release
 from tests.support import TOP, is_there, not_run
 
 FOLDERS = ('bench', 'c', 'dev', 'editors', 'examples', 'python', 'tools')
@@ -57,6 +58,18 @@ def span_of_it(node: ast.AST) -> tuple[int, int, int] | None:
     return (first.lineno, first.col_offset, last.end_col_offset) if is_one else None
 
 
+def imported(path: str) -> set[str]:
+    """The files below tools/ and dev/ that a file imports, anywhere in it. Paths are from the repository on."""
+    with open(f'{TOP}/{path}', 'rb') as file:
+        nodes = list(ast.walk(ast.parse(file.read())))
+    names = [name.name for node in nodes if isinstance(node, ast.Import) for name in node.names]
+    for node in nodes:
+        if isinstance(node, ast.ImportFrom):
+            names += [f'{node.module}', *(f'{node.module}.{name.name}' for name in node.names)]
+    places = (f'{folder}/{name.replace(".", "/")}.py' for folder in ('tools', 'dev') for name in names)
+    return {place for place in places if os.path.isfile(f'{TOP}/{place}')}
+
+
 def astray(source: bytes, names: list[tokenize.TokenInfo]) -> list[int]:
     """The lines of those names in a file that are an `it` which isn't the one variable of a comprehension or lambda of one line."""
     spans = [span for span in map(span_of_it, ast.walk(ast.parse(source))) if span]
@@ -91,6 +104,17 @@ class Style(unittest.TestCase):
     def test_all_files_are_found(self) -> None:
         found = {os.path.relpath(path, TOP) for path in files()}
         self.assertLess({'tools/why', 'tools/toolbox/command.py', 'dev/build', 'bench/count', 'python/zebludor.py', 'editors/grammar'}, found)
+
+    def test_toolbox_is_what_users_programs_reach(self) -> None:
+        """Programs of a release reach each module of toolbox by their imports, and none that a release leaves out."""
+        taken = {path for path in release.paths() if is_python(f'{TOP}/{path}')}
+        toolbox = {path for path in taken if path.startswith('tools/toolbox/')}
+        reached, last = set[str](), taken - toolbox
+        while last:
+            last = {found for path in last for found in imported(path)} - reached
+            reached |= last
+        self.assertEqual(sorted(reached), sorted(path for path in toolbox if not path.endswith('/__init__.py')))
+        self.assertLess({'tools/toolbox/command.py', 'tools/toolbox/desk/words.py'}, reached)
 
     def test_names_say_what_they_stand_for(self) -> None:
         """`it` is the one variable of a comprehension or lambda of one line, and neither it nor `told` is frequent."""
