@@ -110,6 +110,17 @@ class Refused(ToolCase):
         self.assertEqual(self.refused('--all', 'high').stdout, '2 refused, 0 not\n')
         self.assertEqual(self.refused('low').stdout, '2 refused, 0 not\n')
 
+    def test_one_edit(self) -> None:
+        """By its crate and name, from either folder; named twice, or with its crate, it is tried once."""
+        for path in ('low/refused/a', 'low/refused/is_proved', 'high/must-fail/d'):
+            self.edit(path)
+        self.assertEqual(self.refused('low/a').stdout, '1 refused, 0 not\n')
+        self.assertEqual(self.refused('low/a', 'high/d', 'low/a').stdout, '2 refused, 0 not\n')
+        self.assertEqual(self.refused('low/a', 'low').stdout, 'must-fail low/is_proved.edit: NOT REFUSED\n1 refused, 1 not\n')
+        none = self.refused('low/b')
+        self.assertEqual((none.returncode, none.stdout), (2, ''))
+        self.assertIn('crates/low has no b.edit, neither in refused/ nor in must-fail/', none.stderr)
+
     def test_one_that_is_proved_is_told(self) -> None:
         self.edit('low/refused/is_proved')
         self.edit('low/refused/is_not')
