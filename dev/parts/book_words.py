@@ -233,8 +233,8 @@ def chapter(called: str, count: Count, ways: list[tuple[str, list[Entry]]]) -> l
         'does what you mean, and you need not read it.',
         'What is taken for granted besides, as the checker and the kit\'s library, what is only tested, and in which ways a wrong body could still be '
         'proved, is on the page docs/proofs.md.',
-        'The contract comes first. Then come the crates: what is asked, printed and refused, sessions, the board, the processor with its instructions, '
-        'the assembler, the chips. Each file of definitions is a chapter, in its own order, most often the simple before what is made of it. Each '
+        'The contract comes first. Then come the crates: what is asked, printed and refused, sessions, the assembler, the board, the processor '
+        'with its instructions, the chips. Each file of definitions is a chapter, in its own order, most often the simple before what is made of it. Each '
         'definition has a number, and below it stands who names it. The index is at the end, with a second one of the cases of types, as instructions and modes.',
     ]
     found: list[tuple[str, list[str | Rows]]] = [('What is claimed', claimed), ('How to read a contract', [CONTRACT]), ('How to read a definition', [NOTATION])]

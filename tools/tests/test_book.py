@@ -243,7 +243,7 @@ class Books(ToolCase):
 
     def test_cases_lead_to_who_names_them(self) -> None:
         text = text_of(self.book('program'))
-        self.assertRegex(text, r'\nSti  \[\d+\] Processor: shadow_of \[\d+\], after_flag_operation ')
+        self.assertRegex(text, r'\nSti  \[\d+\] Processor: words \[\d+\], shadow_of \[\d+\], after_flag_operation ')
         self.assertRegex(text, r'\nSquareWave  \[\d+\] Mode: after_due_load ')
 
     def test_manuals_are_cited(self) -> None:
