@@ -1,4 +1,4 @@
--- The bytes of an image, address by address: what a byte that is put changes, and that they tell the image.
+-- The bytes of an image, address by address: what a byte that is put changes, and that they determine the image.
 use Rattle.std.proofs.Common.{◌≡◌, ◌∙◌, ℕ, ◌<◌, ◌≤◌, ◌==◌, List, [], ◌∷◌, refl, sym, ap, ap₂, inl, inr, arith, Bool, true, false, Option, None, Some, nat_lt, if◌then◌else◌}
 use Rattle.std.specs.Ordering.{nat_cmp, is_eq}
 use Rattle.std.specs.BTreeMap.{insert_entry}

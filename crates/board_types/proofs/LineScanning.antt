@@ -10,7 +10,7 @@ and_false : (test : Bool) → (test && false) ≡ false
 and_false true = refl
 and_false false = refl
 
--- a carriage return is looked for behind the first byte
+-- a carriage return is looked for after the first byte
 strip_longer : (b c : ℕ) (cs : List ℕ) → strip_carriage_return (b ∷ c ∷ cs) ≡ b ∷ strip_carriage_return (c ∷ cs)
 strip_longer b c cs =
     let outer : suc (suc (length cs)) - 1 ≡ suc (length cs) = omega arith in
@@ -42,7 +42,7 @@ last_by b (c ∷ cs) false returns false at_feed some ended lines =
 feed_size : (c : ℕ) (cs : List ℕ) → (c == 10) ≡ true → size_before 10 (c ∷ cs) ≡ 0
 feed_size c cs is = rw is refl
 
--- the text's first line is its last, where no line feed stands in it
+-- the text's first line is its last, if no line feed stands in it
 pub line_last : (b : ℕ) (bs : List ℕ) → drop (size_before 10 (b ∷ bs)) (b ∷ bs) ≡ [] → text_lines (b ∷ bs) ≡ take (size_before 10 (b ∷ bs)) (b ∷ bs) ∷ []
 line_last b [] ended = last_one b (b == 10) (b == 13) ended
 line_last b (c ∷ cs) ended = last_by b (c ∷ cs) (b == 10) (b == 13) (c == 10) (feed_size c cs) (omega arith) ended (line_last c cs)

@@ -6,6 +6,6 @@ use Rattle.std.specs.Prelude.{ℕ, ◌+◌, ◌*◌, ◌%◌, ◌^◌}
 abbrev pub physical : ℕ → ℕ → ℕ
 physical segment offset = (16 * segment + offset) % 2 ^ 20
 
--- an offset so far on, which wraps at 65,536
+-- the offset `more` bytes further on, which wraps at 65,536
 abbrev pub offset_after : ℕ → ℕ → ℕ
 offset_after offset more = (offset + more) % 65536

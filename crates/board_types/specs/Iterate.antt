@@ -13,7 +13,7 @@ unfoldable pub gathered : {S A : Type 0} → (S → S) → (S → List A) → �
 gathered step seen zero s = []
 gathered step seen (suc n) s = gathered step seen n s ++ seen (iterate step n s)
 
--- the cost of n steps, each told at its start
+-- the sum of the costs of n steps, each taken from the state in which the step begins
 unfoldable pub total : {S : Type 0} → (S → S) → (S → ℕ) → ℕ → S → ℕ
 total step cost zero s = 0
 total step cost (suc n) s = total step cost n s + cost (iterate step n s)

@@ -6,7 +6,7 @@ use Rattle.board_types.specs.declared.keys.StampedKey.{StampedKey}
 use Rattle.board_types.specs.declared.keys.KeyFault.{KeyFault}
 use Rattle.board_types.specs.declared.keys.KeyFault.TheVariants.{BadScan, StampsFall, Memory}
 
--- a make code is 01h to 53h, and its break code 80h more
+-- whether a code is a key's: a make code is 01h to 53h, and its break code 80h more
 abbrev pub names_key : ℕ → Bool
 names_key code = (nat_le 0x01 code && nat_le code 0x53) || (nat_le 0x81 code && nat_le code 0xD3)
 
@@ -19,7 +19,7 @@ pub record IsInOrder (keys : List StampedKey) : Type 0 where
   pub codes : All (λ k. IsTrue (names_key k.code)) keys
   pub stamps : AllPairs (λ a b. a.stamp ≤ b.stamp) keys
 
--- why a code isn't taken after these keys, memory aside
+-- why a code with a stamp isn't taken after these keys, or none if it is, want of memory aside
 abbrev pub push_fault : List StampedKey → ℕ → ℕ → Option KeyFault
 push_fault keys stamp code =
     if names_key code then (if nat_lt stamp (last_stamp keys) then Some StampsFall else None) else Some BadScan

@@ -4,7 +4,7 @@ use Rattle.std.specs.Prelude.{Bool, true, false}
 use Rattle.board_types.specs.declared.line.Line.{Line}
 use Rattle.board_types.specs.declared.line.Line.TheVariants.{Low, High}
 
--- the level of a wire that is high where this holds
+-- a high wire for true, and a low one for false
 abbrev pub from_bool : Bool → Line
 from_bool true = High
 from_bool false = Low

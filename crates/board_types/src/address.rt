@@ -5,7 +5,7 @@ ghost use Rattle.board_types.specs.Address.{physical};
 /// How many physical addresses there are: 2^20.
 pub const ADDRESS_COUNT: u32 = 0x10_0000;
 
-/// RAM can't reach this address (IBM PC Technical Reference, "System Memory Map").
+/// The address below which all RAM lies (IBM PC Technical Reference, "System Memory Map").
 pub const RAM_LIMIT: u32 = 0xA0000;
 
 /// Where text memory begins.

@@ -62,8 +62,8 @@ impl Image {
         self.bytes.iter()
     }
 
-    /// Places `byte` at the loadable address `addr`, in place of a byte that was there. Fails only where the
-    /// image can't grow, and then stays as it was; where it has a byte at `addr` already it doesn't grow.
+    /// Places `byte` at the loadable address `addr`, in place of a byte that was there. Fails only if the image can't
+    /// grow, and then stays as it was; if it has a byte at `addr` already, it needn't grow.
     pub fn put(&mut self, addr: u32, byte: u8) -> Result<(), AllocError>
         requires { IsLoadable addr }
         ensures ok { OnOk result (self.new ≡ insert_entry nat_cmp self.old addr byte) }

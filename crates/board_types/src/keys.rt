@@ -46,8 +46,8 @@ pub fn is_scan_code(code: u8) -> bool
     matches!(code, 0x01..=0x53 | 0x81..=0xD3)
 }
 
-/// Stamped key codes in the order of their arrival: each is a scan code, and no stamp lies before the one
-/// of the key before.
+/// Stamped key codes in the order of their arrival: each is a scan code, and no stamp is earlier than that of the key
+/// before.
 #[derive(Drop)]
 pub struct Keys {
     keys: Vec<StampedKey>,
@@ -66,7 +66,7 @@ impl Model for Keys {
 }
 
 impl Keys {
-    /// No key codes.
+    /// A list with no key codes.
     pub fn new(alloc: Global) -> Self
         ensures { result ≡ [] }
     {
@@ -82,7 +82,7 @@ impl Keys {
         self.keys.len()
     }
 
-    /// Whether there are none.
+    /// Whether there are no key codes.
     pub fn is_empty(&self) -> bool
         ensures { IsTrue result ↔ (self.now ≡ []) }
     {
@@ -97,9 +97,9 @@ impl Keys {
         self.keys.as_slice()
     }
 
-    /// Adds `code`, which reaches the keyboard at the clock `stamp`. Refused as `BadScan` where no key sends
-    /// it, else as `StampsFall` where the last key's stamp lies after `stamp`, else as `Memory` where the list
-    /// can't grow. A refusal changes nothing.
+    /// Adds `code`, which reaches the keyboard at the clock `stamp`. Refused as `BadScan` if no key sends it, else as
+    /// `StampsFall` if the last key's stamp is later than `stamp`, else as `Memory` if the list can't grow. A refusal
+    /// changes nothing.
     pub fn push(&mut self, stamp: Clock, code: u8) -> Result<(), KeyFault>
         ensures ok { OnOk result (self.new ≡ self.old ++ (record { stamp = stamp; code = code }) ∷ []) }
         ensures err { OnErr result (self.new ≡ self.old) }
@@ -118,7 +118,7 @@ impl Keys {
         }
     }
 
-    /// The same key codes, in memory of their own.
+    /// A copy of the key codes, in memory of its own. Fails only if there is no memory for it.
     pub fn copy(&self) -> Result<Keys, AllocError>
         ensures { IfOk result (λ keys. keys ≡ self.now) }
     {

@@ -1,6 +1,6 @@
 //! The words that every part of the board shares: the processor clock, a wire's level, the bits of a byte, addresses,
-//! the bytes of an image, the stamped key codes, the 8086's register file, and how a text parts into lines and digits
-//! spell numbers.
+//! the bytes of an image, the stamped key codes, the 8086's register file, the lines of a text, and the digits of
+//! numbers.
 #![tactic(auto)]
 
 pub mod address;

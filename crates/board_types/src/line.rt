@@ -10,7 +10,7 @@ pub enum Line {
 }
 
 impl Line {
-    /// The level of a wire that is high where `high` holds.
+    /// The level of a wire that is high if `high` holds.
     pub fn from_bool(high: bool) -> Line
         ensures { result ≡ from_bool high }
     {

@@ -3,10 +3,10 @@
 /// What the processor is doing.
 #[derive(Clone, Copy, Debug, PartialEq, Eq)]
 pub enum State {
-    /// It makes steps.
+    /// The processor makes steps.
     Running,
     /// After HLT, until an interrupt is taken.
     Halted,
-    /// No instruction stood at CS:IP; it stays so.
+    /// No instruction stood at CS:IP; the processor stays jammed.
     Jammed,
 }

@@ -3,13 +3,13 @@ ghost use Rattle.std.specs.Prelude.{ℕ, ◌≡◌, ◌<◌, ◌≤◌, List, []
 ghost use Rattle.std.specs.Str.Lines.{strip_carriage_return};
 ghost use Rattle.board_types.specs.TextLines.{size_before, text_lines};
 
-/// The first line of the text, without what ends it, and what follows it; `None` where the text is at its end. A line
+/// The first line of the text, without what ends it, and what follows it; `None` if the text is at its end. A line
 /// feed, with a carriage return just before it or without one, ends a line, and so does the text's end.
 #[tactic(auto, using(crate::proofs::LineScanning::line_last, crate::proofs::LineScanning::line_ended))]
 pub fn next_line(text: &[u8]) -> Option<(&[u8], &[u8])>
     ensures some { IfSome result (λ p. text_lines text.now ≡ p.0.now ∷ text_lines p.1.now) }
     ensures shorter { IfSome result (λ p. length p.1.now < length text.now) }
-    // The line stands in the text, and what follows it is the text's end.
+    // the line stands in the text, and what follows it is the text's end
     ensures parts { IfSome result (λ p. (ending : List ℕ) × (text.now ≡ p.0.now ++ (ending ++ p.1.now))) }
     ensures none { IfNone result (text_lines text.now ≡ []) }
 {
@@ -23,7 +23,7 @@ pub fn next_line(text: &[u8]) -> Option<(&[u8], &[u8])>
     }
 }
 
-/// How many bytes of the text stand before the first `mark`; all of them where it has none.
+/// How many bytes of the text come before the first `mark`; all of them if it has none.
 pub fn length_before(mark: u8, text: &[u8]) -> usize
     ensures size { result ≡ size_before mark text.now }
     ensures within { result ≤ length text.now }

@@ -3,12 +3,13 @@ ghost use Rattle.std.specs.Prelude.{◌≡◌, ℕ, ◌+◌};
 ghost use Rattle.board_types.specs.Timed.{IsUntilTurn};
 ghost use Rattle.board_types.specs.declared.line.Line.{Line};
 
-/// What goes on by itself as time passes, and gives out a level. Time is counted in ticks of the clock that drives it.
+/// A part that goes on by itself as time passes, and gives out a level. Time is counted in ticks of the clock that
+/// drives the part.
 pub trait Timed {
-    // the state after so many ticks
+    // the state after this number of ticks
     ghost after: { Self → ℕ → Self };
 
-    // the level that it gives out
+    // the level that the part gives out
     ghost output: { Self → Line };
 
     /// Lets `ticks` ticks pass.
@@ -16,10 +17,10 @@ pub trait Timed {
         ensures { self.new ≡ after self.old ticks };
 
     /// After how many ticks, from 1 on, the output first differs from what it is now, as long as nothing else happens;
-    /// `None` where it never does.
+    /// `None` if it never does.
     fn until_change(&self) -> Option<u64>
         ensures { IsUntilTurn after output self.now result };
 
-    // to let some ticks pass and then more is to let all of them pass
+    // letting some ticks pass, and then more, is letting all of them pass
     ghost adds: { (s : Self) (k m : ℕ) → after (after s k) m ≡ after s (k + m) };
 }
