@@ -3,8 +3,8 @@
 use Rattle.std.specs.Prelude.{ℕ, ◌≡◌, ◌≢◌, true, false}
 use Rattle.bus.specs.Bus.{BusMeaning}
 
--- what a bus keeps: a byte that is written reads back where the address takes it, elsewhere the byte stays, and a write
--- leaves every other byte as it is; which addresses take bytes stays, and no port changes memory
+-- what a bus keeps: a byte that is written reads back if its address takes bytes, and is ignored if it doesn't; a write
+-- leaves every other byte as it is; which addresses take bytes never changes; and no port changes memory
 pub record IsBus {S : Type 0} (bus : BusMeaning S) : Type 0 where
   pub written : (s : S) (address byte : ℕ) → bus.is_writable s address ≡ true
       → bus.byte_at (bus.after_write s address byte) address ≡ byte

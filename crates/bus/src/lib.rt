@@ -8,17 +8,17 @@ ghost use Rattle.bus.specs.Kept.{IsBus};
 
 use board_types::address::physical;
 
-/// Memory and ports, as an instruction reaches them. What stands behind the bus is seen as a state of its own,
-/// which may be kept in another form.
+/// Memory and ports, as an instruction reaches them. Contracts see what the bus reaches as a state of its own, which
+/// may be kept in another form.
 pub trait Bus {
-    // what stands behind the bus, and what each access makes of it
+    // what the bus reaches, and what each access makes of it
     ghost State: { Type 0 };
 
     ghost state: { Self → State };
 
     ghost meaning: { BusMeaning State };
 
-    /// The byte at the physical address `addr`, below 100000h. To read it changes nothing.
+    /// The byte at the physical address `addr`, below 100000h. Reading it changes nothing.
     fn read8(&self, addr: u32) -> u8
         requires { addr < 2 ^ 20 }
         ensures { result ≡ meaning.byte_at (state self.now) addr };
@@ -37,7 +37,7 @@ pub trait Bus {
     fn out8(&mut self, port: u16, value: u8)
         ensures { state self.new ≡ meaning.after_output (state self.old) port value };
 
-    /// The word at a segment and an offset. A bus that reaches it at once has a body of its own.
+    /// The word at a segment and an offset. A bus that reaches both bytes at once has a body of its own.
     #[tactic(auto, unfolding(crate::specs::Bus::word_at))]
     fn read_word(&self, segment: u16, offset: u16) -> u16
         ensures { result ≡ word_at meaning (state self.now) segment offset }
@@ -47,7 +47,8 @@ pub trait Bus {
         u16::from(low) + 256 * u16::from(high)
     }
 
-    /// Writes a word at a segment and an offset, low byte first. A bus that reaches it at once has a body of its own.
+    /// Writes a word at a segment and an offset, low byte first. A bus that reaches both bytes at once has a body of
+    /// its own.
     #[tactic(auto, unfolding(crate::specs::Bus::with_word_at))]
     fn write_word(&mut self, segment: u16, offset: u16, word: u16)
         ensures { state self.new ≡ with_word_at meaning (state self.old) segment offset word }
@@ -57,6 +58,6 @@ pub trait Bus {
         self.write8(high, (word / 256) as u8);
     }
 
-    // a byte that is written reads back where the address takes one, all else stays, and no port changes memory
+    // a byte that is written reads back if its address takes bytes, all else stays, and no port changes memory
     ghost keeps_bytes: { IsBus meaning };
 }
