@@ -33,7 +33,7 @@ still_in set n level is_in =
       | inr differ ↦ get_or-set_other set n level true false differ ∙ is_in
     ]
 
--- one that doesn't hold it doesn't after one is taken out
+-- a set that doesn't hold a level doesn't hold it after another is taken out
 still_out : (set : Levels) (n level : ℕ) → contains set level ≡ false → contains (without_level set n) level ≡ false
 still_out set n level is_out =
     elim (cases_eq level n) [

@@ -1,4 +1,4 @@
--- Where a list's first element stands that passes a test, and what a count says of it.
+-- The place of a list's first element that passes a test, and what a count says of it.
 use Rattle.std.proofs.Common.{◌≡◌, ℕ, ◌+◌, ◌<◌, ◌≤◌, Bool, true, false, not, ◌||◌, cond, List, [], ◌∷◌, ◌++◌, length, get_or, take, find, count_by, All, None, Some, refl, sym, ap, ◌∙◌, arith, append-nil, inl, inr}
 use Rattle.std.specs.List.{list_any, before_first, position_or_len}
 use Rattle.std.proofs.lemmas.Bool.{cases_Bool}
@@ -7,7 +7,7 @@ use Rattle.std.proofs.lemmas.List.Elements.{All-nil, All-cons, All-head, All-tai
 use Rattle.std.proofs.lemmas.List.Folds.{list_any-append, list_any_at}
 use Rattle.std.proofs.lemmas.List.Sums.{sum_by-append, sum_by-cons, sum_by_more_le, take_while-cons}
 
--- an element that passes, where all before it fail
+-- an element that passes, all before it failing
 pub record FoundAt {X : Type 0} (p : X → Bool) (xs : List X) (x : X) : Type 0 where
   pub before : List X
   pub after : List X
@@ -60,7 +60,7 @@ pub any_here : {X : Type 0} (p : X → Bool) (xs : List X) (x : X) (ys : List X)
 any_here p xs x ys passes =
     list_any-append p xs (x ∷ ys) ∙ ap (λ b. list_any p xs || (b || list_any p ys)) passes ∙ or-true (list_any p xs)
 
--- none passes where `list_any` fails
+-- no element passes if `list_any` fails
 pub none_where_any_fails : {X : Type 0} (p : X → Bool) (xs : List X) (d : X) → list_any p xs ≡ false → All (λ x. p x ≡ false) xs
 none_where_any_fails p xs d none =
     All-from_get_or (λ x. p x ≡ false) xs d
@@ -80,7 +80,7 @@ counted_here p xs i d within passes =
     let one : cond {A = ℕ} (p (get_or xs i d)) 1 0 ≡ 1 = ap (λ b. cond b 1 0) passes in
     omega arith
 
--- none passes where the count is 0
+-- no element passes if the count is 0
 pub none_counted : {X : Type 0} (p : X → Bool) (xs : List X) (d : X) → count_by p xs ≡ 0 → All (λ x. p x ≡ false) xs
 none_counted p xs d none =
     All-from_get_or (λ x. p x ≡ false) xs d
@@ -100,7 +100,7 @@ passing_step p x xs false fails some more =
     let later : position_or_len p xs < length xs = more (omega arith) in
     rw next (omega arith)
 
--- where something is counted, something passes
+-- if something is counted, something passes
 pub passing_counted : {X : Type 0} (p : X → Bool) (xs : List X) → 0 < count_by p xs → position_or_len p xs < length xs
 passing_counted p [] some = absurd (omega arith)
 passing_counted p (x ∷ xs) some = passing_step p x xs (p x) refl some (passing_counted p xs)

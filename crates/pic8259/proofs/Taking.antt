@@ -79,7 +79,7 @@ blocked s level other before between here reach =
     let some : list_any (blocks s) (up_to s.order other) ≡ true = ap (list_any (blocks s)) reach ∙ any_here (blocks s) before level between here in
     ap (λ b. is_pending s other && not b) some ∙ and-false (is_pending s other)
 
--- one after it in an order that holds each once
+-- a level after one that blocks, in an order that holds each level once, may not be taken
 blocked_after : (s : PicState) (level other : ℕ) (before after : List ℕ) → HoldsEachLevelOnce s.order → s.order ≡ before ++ level ∷ after → blocks s level ≡ true → other < 8 → 0 < count_by (λ n. n == other) after → may_be_taken s other ≡ false
 blocked_after s level other before after whole placed here within later =
     let p : ℕ → Bool = λ n. n == other in

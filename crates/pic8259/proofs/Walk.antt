@@ -31,7 +31,7 @@ pub blocked_more : (s : PicState) (xs : List ℕ) (i : ℕ) (before here : Bool)
 blocked_more s xs i before here within is_before is_here =
     ap (λ b. b || here) is_before ∙ ap (λ b. list_any (blocks s) (take i xs) || b) is_here ∙ sym (list_any_more (blocks s) xs i 0 within)
 
--- none is found where each fails
+-- none is found if each fails
 find_none : {X : Type 0} (p : X → Bool) (xs : List X) → All (λ x. p x ≡ false) xs → find p xs ≡ None
 find_none p [] all = refl
 find_none p (x ∷ xs) all =
@@ -45,7 +45,7 @@ pending_at s level is_level =
 nothing_at : (level : ℕ) → level < 8 → contains no_levels level ≡ false
 nothing_at level is_level = by_level (λ n. contains no_levels n ≡ false) refl refl refl refl refl refl refl refl level is_level
 
--- where no level is pending, none may be taken
+-- if no level is pending, none may be taken
 pub none_pending : (s : PicState) (lowest : ℕ) → s.order ≡ order_with_lowest lowest → map (is_pending s) all_levels ≡ no_levels → find (may_be_taken s) s.order ≡ None
 unfolding order_with_lowest
 none_pending s lowest is_order none =

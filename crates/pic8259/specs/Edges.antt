@@ -7,7 +7,7 @@ use Rattle.pic8259.specs.Levels.{contains}
 use Rattle.pic8259.specs.Pic.{PicState, asks, after_taking, after_line}
 use Rattle.pic8259.specs.Laws.{Event, line_change, read, write, acknowledge, after_events}
 
--- an event that neither lets this level's line fall nor is an ICW1 that asks for level mode
+-- whether an event neither lets this level's line fall nor is an ICW1 that asks for level mode
 abbrev pub keeps_line : Event → ℕ → Bool
 keeps_line (line_change n High) level = true
 keeps_line (line_change n Low) level = not (n == level)
@@ -20,8 +20,8 @@ abbrev pub all_keep_line : List Event → ℕ → Bool
 all_keep_line [] level = true
 all_keep_line (event ∷ earlier) level = keeps_line event level && all_keep_line earlier level
 
--- in edge mode a level that was taken doesn't ask again until its line has fallen and risen; then it asks. In level
--- mode it asks as long as its line is high
+-- in edge mode a level that was taken doesn't ask again until its line has fallen and risen; then it does. In level
+-- mode a level asks as long as its line is high
 pub record AsksByEdge (s : PicState) (level : ℕ) : Type 0 where
   pub once : s.is_level_triggered ≡ false → contains s.high level ≡ true → (later : List Event)
       → all_keep_line later level ≡ true → asks (after_events (after_taking s level) later) level ≡ false

@@ -8,19 +8,19 @@ use Rattle.pic8259.specs.declared.image.PicImage.{PicImage}
 use Rattle.pic8259.specs.Levels.{levels_of, order_with_lowest}
 use Rattle.pic8259.specs.Pic.{PicState}
 
--- 0 is no, and any other number yes
+-- false for 0, and true for any other number
 abbrev pub flag_of : ℕ → Bool
 flag_of n = if n == 0 then false else true
 
--- the word that is waited for by its number, 2 to 4; any other number is none
+-- the word that is waited for, by its number from 2 to 4; any other number stands for none
 abbrev pub expected_of : ℕ → Expected
 expected_of n = if n == 2 then Icw2 else (if n == 3 then Icw3 else (if n == 4 then Icw4 else Operation))
 
--- 248 is the largest base: the last vector is then 255
+-- the base of the vectors by a number, at most 248, since the last vector is then 255
 abbrev pub base_of : ℕ → ℕ
 base_of n = if nat_lt 248 n then 248 else n
 
--- the lowest level modulo 8, sets as their registers show them
+-- the controller of an image: its lowest level counts modulo 8, and its sets are spelled as their registers show them
 unfoldable pub pic_of : PicImage → PicState
 pic_of i = record {
   order = order_with_lowest (i.lowest % 8);

@@ -8,7 +8,8 @@ use Rattle.board_types.specs.declared.line.Line.TheVariants.{Low, High}
 use Rattle.pic8259.specs.Levels.{contains, up_to}
 use Rattle.pic8259.specs.Pic.{PicState, blocks, is_ready, may_be_taken, level_to_take, after_line}
 
--- the controller isn't ready, or the level is masked, or one that blocks stands in the list at or before its place
+-- whether a level is inhibited: the controller isn't ready, or the level is masked, or one that blocks stands in the
+-- list at or before its place
 abbrev pub is_inhibited : PicState → ℕ → Bool
 is_inhibited s level = not (is_ready s) || (contains s.masked level || list_any (blocks s) (up_to s.order level))
 
@@ -17,12 +18,13 @@ pub record RequestsNothing (s : PicState) (level : ℕ) : Type 0 where
   pub never : (is_ready s && may_be_taken s level) ≡ false
   pub unheard : (line : Line) → level_to_take (after_line s level line) ≡ level_to_take s
 
--- the controller is ready, and may take it
+-- the controller is ready, and may take this level
 pub record IsTakenInTurn (s : PicState) (level : ℕ) : Type 0 where
   pub ready : is_ready s ≡ true
   pub may : may_be_taken s level ≡ true
 
--- every other is taken in its turn once its line has fallen and risen; and no line makes a level inhibited, or ends that
+-- an inhibited level requests nothing; any other is taken in its turn once its line has fallen and risen; and no line
+-- makes a level inhibited, or ends that
 pub record IsInhibitedAlone (s : PicState) (level : ℕ) : Type 0 where
   pub inhibited : is_inhibited s level ≡ true → RequestsNothing s level
   pub other : is_inhibited s level ≡ false → level < length s.high → level < length s.risen

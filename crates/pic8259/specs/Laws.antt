@@ -19,12 +19,12 @@ after_event s read = after_read s
 after_event s (write a0 value) = after_write s a0 value
 after_event s acknowledge = after_acknowledge s
 
--- the state after events, the newest first
+-- the state after these events, of which the list has the newest first
 abbrev pub after_events : PicState → List Event → PicState
 after_events s [] = s
 after_events s (event ∷ earlier) = after_event (after_events s earlier) event
 
--- the eight levels, each once
+-- the list has each of the eight levels once
 pub record HoldsEachLevelOnce (order : List ℕ) : Type 0 where
   pub only : All (λ level. level < 8) order
   pub once : (level : ℕ) → level < 8 → count_by (λ other. other == level) order ≡ 1
@@ -56,17 +56,17 @@ BeginsAnew =
     → after_write s false value
     ≡ after_write (record power_on { high = s.high; vector_base = s.vector_base; slaves = s.slaves }) false value
 
--- the words that follow this ICW1 at A0 = 1: ICW2, ICW3 where it isn't single, and ICW4 where it asks for it
+-- the words that follow this ICW1 at A0 = 1: ICW2, then ICW3 unless it chooses single mode, and ICW4 if it asks for it
 abbrev pub later_words : ℕ → ℕ → ℕ → ℕ → List ℕ
 later_words icw1 icw2 icw3 icw4 =
     icw2 ∷ ((if has_bit icw1 1 then [] else icw3 ∷ []) ++ (if has_bit icw1 0 then icw4 ∷ [] else []))
 
--- words written at A0 = 1, in their order
+-- the state after words written at A0 = 1, in their order
 abbrev pub after_words : PicState → List ℕ → PicState
 after_words s [] = s
 after_words s (word ∷ words) = after_words (after_write s true word) words
 
--- what the words of a sequence leave; without ICW4 its bits count as 0
+-- the state after the words of a sequence; without ICW4 its bits count as 0
 pub record HasEnded (s : PicState) (icw1 icw2 icw4 : ℕ) : Type 0 where
   pub operating : is_operating s.expected ≡ true
   pub base : s.vector_base ≡ 8 * (icw2 / 8)
@@ -74,17 +74,18 @@ pub record HasEnded (s : PicState) (icw1 icw2 icw4 : ℕ) : Type 0 where
   pub automatic : s.auto_end ≡ (has_bit icw1 0 && has_bit icw4 1)
   pub unmasked : s.masked ≡ no_levels
 
--- "Programming the 8259A", the initialization sequence
+-- "Programming the 8259A": the initialization sequence ends after its words, and leaves what they say
 abbrev pub SequenceEnds : Type 0
 SequenceEnds =
     (s : PicState) (icw1 icw2 icw3 icw4 : ℕ) → has_bit icw1 4 ≡ true
     → HasEnded (after_words (after_write s false icw1) (later_words icw1 icw2 icw3 icw4)) icw1 icw2 icw4
 
--- nothing is taken before 8086 mode has been chosen, nor in mid-sequence, where no operation word is heard at A0 = 0
+-- nothing is taken, and no operation word is heard at A0 = 0, as in mid-sequence
 pub record IsDeafInSequence (s : PicState) : Type 0 where
   pub none : level_to_take s ≡ None
   pub unheard : (value : ℕ) → has_bit value 4 ≡ false → after_write s false value ≡ s
 
+-- nothing is taken in mid-sequence, or before 8086 mode has been chosen
 abbrev pub WaitsForSequence : Type 0
 WaitsForSequence =
     (s : PicState)
@@ -107,13 +108,13 @@ pub record Takes (s : PicState) (level : ℕ) : Type 0 where
   pub vector : vector s ≡ s.vector_base + level
   pub state : after_acknowledge s ≡ after_taking s level
 
--- an acknowledge finds nothing to take: it answers level 7 and changes nothing
+-- an acknowledge finds nothing to take, answers the vector of level 7 and changes nothing
 pub record TakesNone (s : PicState) : Type 0 where
   pub none : is_ready s ≡ true → All (λ level. may_be_taken s level ≡ false) s.order
   pub vector : vector s ≡ s.vector_base + 7
   pub state : after_acknowledge s ≡ s
 
--- "Interrupt Sequence"
+-- "Interrupt Sequence": an acknowledge takes the first level that may be taken, if there is one
 abbrev pub AcknowledgeTakesFirst : Type 0
 AcknowledgeTakesFirst = (s : PicState) → MatchOption (level_to_take s) (TakesNone s) (λ level. Takes s level)
 
@@ -124,8 +125,8 @@ ServiceBlocks =
     → contains s.served level ≡ true → (s.special_mask && contains s.masked level) ≡ false
     → All (λ other. may_be_taken s other ≡ false) (level ∷ after)
 
--- "Special Mask Mode": one that it excepts stands in no level's way, as if it weren't in service, and a plain end of
--- interrupt doesn't end it
+-- "Special Mask Mode": a level that it excepts stands in no level's way, as if it weren't in service, and a plain end
+-- of interrupt doesn't end it
 pub record IsExcepted (s : PicState) (level : ℕ) : Type 0 where
   pub others : (other : ℕ) → may_be_taken s other ≡ may_be_taken (after_end s level) other
   pub kept : highest_served s ≢ Some level
@@ -134,7 +135,7 @@ abbrev pub SpecialMaskExcepts : Type 0
 SpecialMaskExcepts =
     (s : PicState) (level : ℕ) → s.special_mask ≡ true → contains s.masked level ≡ true → IsExcepted s level
 
--- the level is in service and not excepted, and none before it in the order is
+-- the level is in service and not excepted, and no level before it in the order is
 pub record IsFirstInService (s : PicState) (level : ℕ) : Type 0 where
   pub before : List ℕ
   pub after : List ℕ
@@ -148,19 +149,19 @@ pub record Ends (s : PicState) (level : ℕ) : Type 0 where
   pub first : IsFirstInService s level
   pub state : after_write s false 0x20 ≡ after_end s level
 
--- it finds no level in service, and changes nothing
+-- a plain end of interrupt finds no level in service, and changes nothing
 pub record EndsNone (s : PicState) : Type 0 where
   pub none : All (λ level. blocks s level ≡ false) s.order
   pub state : after_write s false 0x20 ≡ s
 
--- "End of Interrupt (EOI)"
+-- "End of Interrupt (EOI)": a plain end of interrupt ends the first level in service, if there is one
 abbrev pub EndsFirstInService : Type 0
 EndsFirstInService =
     (s : PicState) → is_operating s.expected ≡ true
     → MatchOption (highest_served s) (EndsNone s) (λ level. Ends s level)
 
--- "In-Service Register": a level that is taken comes into service. "Automatic End of Interrupt (AEOI) Mode": then it
--- doesn't, and the order stays but under "Automatic Rotation", which makes it the lowest
+-- "In-Service Register": a level that is taken comes into service. "Automatic End of Interrupt (AEOI) Mode": in that
+-- mode it doesn't, and the order stays, unless "Automatic Rotation" makes the level the lowest
 pub record Serves (s : PicState) (level : ℕ) : Type 0 where
   pub in_service : s.auto_end ≡ false → level < length s.served → contains (after_taking s level).served level ≡ true
   pub at_once : s.auto_end ≡ true → (after_taking s level).served ≡ s.served
@@ -171,7 +172,8 @@ pub record Serves (s : PicState) (level : ℕ) : Type 0 where
 abbrev pub ServesTaken : Type 0
 ServesTaken = (s : PicState) (level : ℕ) → Serves s level
 
--- "Interrupt Mask Register (IMR)": what OCW1 leaves; a pending poll is answered in the mask's place
+-- "Interrupt Mask Register (IMR)": OCW1 sets the mask, which reads back unless a poll is pending, and no masked level
+-- may be taken
 pub record HoldsMask (s : PicState) (mask : ℕ) : Type 0 where
   pub reads : s.polled ≡ false → byte_at s true ≡ mask
   pub held : (level : ℕ) → level < 8 → has_bit mask level ≡ true → may_be_taken s level ≡ false
@@ -185,7 +187,8 @@ pub record Reads (s : PicState) (a0 : Bool) (byte : ℕ) (after : PicState) : Ty
   pub answer : byte_at s a0 ≡ byte
   pub state : after_read s ≡ after
 
--- "Poll Command": the read after the poll word, 0Ch
+-- "Poll Command": the read after the poll word, 0Ch, takes the level that an acknowledge would and answers it with bit
+-- 7 set, or answers 0 if there is none
 abbrev pub PollTakes : Type 0
 PollTakes =
     (s : PicState) (a0 : Bool) → is_operating s.expected ≡ true → s.polled ≡ false

@@ -32,7 +32,7 @@ byte_of set = sum_by (λ level. if contains set level then 2 ^ level else 0) all
 abbrev pub levels_of : ℕ → Levels
 levels_of byte = map (has_bit byte) all_levels
 
--- the levels of the list up to this one, itself among them
+-- the levels of the list up to this one, including it
 abbrev pub up_to : List ℕ → ℕ → List ℕ
 up_to order level = before_first (λ other. other == level) order ++ level ∷ []
 

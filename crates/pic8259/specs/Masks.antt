@@ -1,5 +1,5 @@
--- How the code holds the list and the sets: the number of the lowest level, and a byte for each set. Both give back
--- what they stand for.
+-- How the code holds the list and the sets of levels: by the number of the lowest level, and by a byte for each set.
+-- From both you get back what they stand for.
 -- For proofs alone: no public contract rests on it.
 use Rattle.std.specs.Prelude.{◌≡◌, ℕ, ◌+◌, ◌*◌, ◌/◌, ◌%◌, ◌<◌, ◌==◌, ◌&&◌, if◌then◌else◌, map, slice_index}
 use Rattle.std.proofs.Common.{arith, ap, ◌∙◌, inl, inr}

@@ -9,6 +9,6 @@ use Rattle.pic8259.specs.Pic.{PicState, asks}
 abbrev pub requests : PicState → Levels
 requests s = map (asks s) all_levels
 
--- the level asks, and is unmasked
+-- whether a level asks, and is unmasked
 abbrev pub is_pending : PicState → ℕ → Bool
 is_pending s level = asks s level && not (contains s.masked level)

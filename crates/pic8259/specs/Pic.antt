@@ -36,12 +36,12 @@ pub record PicState : Type 0 where
   pub is_8086 : Bool
   pub auto_end : Bool
   pub is_specially_nested : Bool
-  -- rotation under automatic end of interrupt
+  -- whether levels rotate under automatic end of interrupt, and whether special mask mode is on
   pub rotates : Bool
   pub special_mask : Bool
-  -- a poll command waits for its read
+  -- whether a poll command waits for its read
   pub polled : Bool
-  -- a read at A0 = 0 gives the levels in service, and else the requests
+  -- whether a read at A0 = 0 gives the levels in service, and not the requests
   pub reads_served : Bool
 
 -- power-on, this board's choice: no sequence has been written; edge mode, nothing masked
@@ -71,24 +71,25 @@ abbrev pub is_operating : Expected → Bool
 is_operating Operation = true
 is_operating _ = false
 
--- the newest sequence has ended, in 8086 mode; before, nothing is taken (this board's choice)
+-- whether the newest sequence has ended, in 8086 mode; before, nothing is taken (this board's choice)
 abbrev pub is_ready : PicState → Bool
 is_ready s = is_operating s.expected && s.is_8086
 
--- "Edge and Level Triggered Modes"
+-- "Edge and Level Triggered Modes": a level asks while its line is high, in edge mode only if it has risen since the
+-- level was last taken
 abbrev pub asks : PicState → ℕ → Bool
 asks s level = contains s.high level && (s.is_level_triggered || contains s.risen level)
 
--- "Fully Nested Mode": a level in service blocks; "Special Mask Mode": but not where it is masked
+-- "Fully Nested Mode": a level in service blocks; "Special Mask Mode": but not if it is masked
 abbrev pub blocks : PicState → ℕ → Bool
 blocks s level = contains s.served level && not (s.special_mask && contains s.masked level)
 
--- "Interrupt Mask Register (IMR)": it asks, and is unmasked; "Priority Resolver": and no level that blocks stands in the
--- list at or before its place
+-- "Interrupt Mask Register (IMR)": a level may be taken if it asks and is unmasked; "Priority Resolver": and no level
+-- that blocks stands in the list at or before its place
 abbrev pub may_be_taken : PicState → ℕ → Bool
 may_be_taken s level = (asks s level && not (contains s.masked level)) && not (list_any (blocks s) (up_to s.order level))
 
--- the level that an acknowledge or a poll takes
+-- the level that an acknowledge or a poll takes, if there is one
 unfoldable pub level_to_take : PicState → Option ℕ
 level_to_take s = if is_ready s then find (may_be_taken s) s.order else None
 
@@ -96,8 +97,8 @@ level_to_take s = if is_ready s then find (may_be_taken s) s.order else None
 abbrev pub is_requesting : PicState → Bool
 is_requesting s = is_some (level_to_take s)
 
--- "Interrupt Sequence": its edge bit goes and it comes into service; "Automatic End of Interrupt (AEOI) Mode": or it
--- doesn't; "Automatic Rotation": and then becomes the lowest
+-- "Interrupt Sequence": a level that is taken loses its edge bit and comes into service; "Automatic End of Interrupt
+-- (AEOI) Mode": in that mode it doesn't come into service; "Automatic Rotation": and may become the lowest
 unfoldable pub after_taking : PicState → ℕ → PicState
 after_taking s level = record s {
   risen = without_level s.risen level;
@@ -105,17 +106,17 @@ after_taking s level = record s {
   order = if s.auto_end && s.rotates then with_lowest s.order level else s.order;
 }
 
--- an acknowledge or a poll takes that level, if there is one; a pending poll stays pending (this board's choice)
+-- an acknowledge or a poll takes the level to take, if there is one; a pending poll stays pending (this board's choice)
 unfoldable pub after_acknowledge : PicState → PicState
 after_acknowledge s = option_map_or (λ level. after_taking s level) (level_to_take s) s
 
--- "Interrupt Sequence": the vector's upper bits and the level, or level 7 where the request has gone
+-- "Interrupt Sequence": the vector's upper bits and the level, or level 7 if the request has gone
 abbrev pub vector : PicState → ℕ
 vector s = s.vector_base + unwrap_or (level_to_take s) 7
 
 -- "Reading the 8259A Status": a pending poll is answered at either port (this board's choice), by bit 7 and the level,
--- or by 0 where there is none (this board's choice; "Poll Command"); else A0 = 1 reads the mask, in mid-sequence too
--- (this board's choice), and A0 = 0 the register that was chosen: the levels in service, or the requests in the IRR
+-- or by 0 if there is none (this board's choice; "Poll Command"); else A0 = 1 reads the mask, in mid-sequence too (this
+-- board's choice), and A0 = 0 the register that was chosen: the levels in service, or the requests in the IRR
 unfoldable pub byte_at : PicState → Bool → ℕ
 byte_at s a0 =
     if s.polled then option_map_or (λ level. 0x80 + level) (level_to_take s) 0
@@ -123,7 +124,7 @@ byte_at s a0 =
     else if s.reads_served then byte_of s.served
     else byte_of (map (asks s) all_levels)
 
--- a read changes something only where it answers a poll
+-- a read changes something only if it answers a poll
 unfoldable pub after_read : PicState → PicState
 after_read s = if s.polled then record (after_acknowledge s) { polled = false } else s
 
@@ -135,9 +136,9 @@ after_line s level High = record s {
   risen = if contains s.high level then s.risen else with_level s.risen level;
 }
 
--- "Initialization Command Words 1 and 2": ICW1 begins a sequence, from power-on but for the lines, the vector's bits and
--- ICW3. That it also clears the levels in service, a pending poll and rotation under automatic end of interrupt is this
--- board's choice
+-- "Initialization Command Words 1 and 2": ICW1 begins a sequence, from power-on but for the lines, the vector's bits
+-- and ICW3. That it also clears the levels in service, a pending poll and rotation under automatic end of interrupt is
+-- this board's choice
 unfoldable pub after_icw1 : PicState → ℕ → PicState
 after_icw1 s value = record power_on {
   high = s.high;
@@ -153,14 +154,15 @@ after_icw1 s value = record power_on {
 abbrev pub expected_after_icw3 : PicState → Expected
 expected_after_icw3 s = if s.asks_icw4 then Icw4 else Operation
 
--- A0 = 1: the word that the sequence waits for, and the mask outside a sequence
+-- a word written at A0 = 1: the one that the sequence waits for, or the mask outside a sequence
 unfoldable pub after_word : PicState → Expected → ℕ → PicState
--- bits 7 to 3 are those of the vector
+-- ICW2: its bits 7 to 3 are those of the vector
 after_word s Icw2 value = record s {
   vector_base = 8 * (value / 8);
   expected = if s.is_cascaded then Icw3 else expected_after_icw3 s;
 }
--- "Initialization Command Word 3 (ICW3)": no slave hangs on this board, so it is kept without effect (this board's choice)
+-- "Initialization Command Word 3 (ICW3)": no slave hangs on this board, so it is kept without effect (this board's
+-- choice)
 after_word s Icw3 value = record s { slaves = value; expected = expected_after_icw3 s }
 -- "Initialization Command Word 4 (ICW4)": special fully nested mode is kept without effect (this board's choice)
 after_word s Icw4 value = record s {
@@ -169,7 +171,7 @@ after_word s Icw4 value = record s {
   is_specially_nested = has_bit value 4;
   expected = Operation;
 }
--- "Operation Control Word 1 (OCW1)"
+-- "Operation Control Word 1 (OCW1)" is the mask
 after_word s Operation value = record s { masked = levels_of value }
 
 -- "Specific EOI": this level is no longer in service
@@ -185,7 +187,7 @@ unfoldable pub highest_served : PicState → Option ℕ
 highest_served s = find (blocks s) s.order
 
 -- "Operation Control Word 2 (OCW2)", by its bits R, SL and EOI, and the level in its bits 2 to 0. That R, SL and EOI
--- together make the level the lowest even where it wasn't in service is this board's choice
+-- together make the level the lowest even if it wasn't in service is this board's choice
 unfoldable pub after_ocw2 : PicState → Bool → Bool → Bool → ℕ → PicState
 after_ocw2 s false false true level = option_map_or (λ highest. after_end s highest) (highest_served s) s
 after_ocw2 s false true true level = after_end s level
@@ -206,8 +208,8 @@ after_ocw3 s value = record s {
   polled = has_bit value 2;
 }
 
--- A0 = 0: bit 4 makes it ICW1, which is heard at any time. In mid-sequence an operation word is ignored (this board's
--- choice); else bit 3 tells OCW3 from OCW2
+-- a word written at A0 = 0: bit 4 makes it ICW1, which is heard at any time. In mid-sequence an operation word is
+-- ignored (this board's choice); else bit 3 tells OCW3 from OCW2
 unfoldable pub after_command : PicState → ℕ → PicState
 after_command s value =
     if has_bit value 4 then after_icw1 s value

@@ -217,9 +217,9 @@ impl Pic {
         self.risen.contains(n)
     }
 
-    /// Reads at address line A0. A pending poll is answered at either port: it takes a level as an acknowledge does
-    /// and gives 80h plus it, or 0. Else A0 = 1 gives the mask, and A0 = 0 the requests or the levels in service
-    /// ("Poll Command", "Reading the 8259A Status").
+    /// Reads at address line A0. A pending poll is answered at either port: it takes a level as an acknowledge does and
+    /// gives 80h plus its number, or gives 0. Else A0 = 1 gives the mask, and A0 = 0 the requests or the levels in
+    /// service ("Poll Command", "Reading the 8259A Status").
     #[tactic(auto, unfolding(crate::specs::Pic::byte_at, crate::specs::Pic::after_read))]
     pub fn read(&mut self, a0: bool) -> u8
         ensures value { result ≡ byte_at self.old a0 }
@@ -236,8 +236,8 @@ impl Pic {
         }
     }
 
-    /// Writes at address line A0. At A0 = 0 it is ICW1, OCW2 or OCW3, by its bits 4 and 3; at A0 = 1 the word that
-    /// the initialisation sequence waits for, and else the mask ("Programming the 8259A").
+    /// Writes at address line A0. At A0 = 0 the value is ICW1, OCW2 or OCW3, by its bits 4 and 3; at A0 = 1 it is the
+    /// word that the initialisation sequence waits for, and else the mask ("Programming the 8259A").
     #[tactic(auto, unfolding(crate::specs::Pic::after_write))]
     pub fn write(&mut self, a0: bool, value: u8)
         ensures state { self.new ≡ after_write self.old a0 value }
@@ -279,7 +279,7 @@ impl Pic {
         requires { n < 8 }
         ensures { result ≡ list_any (blocks self.now) (up_to self.now.order n) }
     {
-        // Mostly none is in service, and then the order isn't gone through.
+        // mostly no level is in service, and then the order isn't gone through
         if self.served.is_empty() {
             return false;
         }
@@ -301,9 +301,9 @@ impl Pic {
         usize::from((n + 7 - self.lowest) % 8)
     }
 
-    /// The processor's interrupt acknowledge: takes the first level in the order of priority that asks, is unmasked
-    /// and isn't blocked, and answers its vector. Where there is none, the vector is that of level 7 and nothing
-    /// changes ("Interrupt Sequence").
+    /// The processor's interrupt acknowledge: takes the first level in the order of priority that asks, is unmasked and
+    /// isn't blocked, and answers its vector. If there is none, the vector is that of level 7 and nothing changes
+    /// ("Interrupt Sequence").
     pub fn acknowledge(&mut self) -> u8
         ensures vector { result ≡ vector self.old }
         ensures state { self.new ≡ after_acknowledge self.old }
@@ -337,7 +337,7 @@ impl Pic {
         }
     }
 
-    /// Takes the level that has its turn, if one has.
+    /// Takes the level that an acknowledge or a poll takes, if there is one.
     #[tactic(auto, unfolding(crate::specs::Pic::after_acknowledge))]
     fn take_level(&mut self) -> Option<u8>
         ensures level { result ≡ level_to_take self.old }
@@ -386,7 +386,7 @@ impl Pic {
         self.asks(level) && !self.masked.contains(level)
     }
 
-    /// The levels that ask and are unmasked. Where there are none, no level may be taken.
+    /// The levels that ask and are unmasked. If there are none, no level may be taken.
     #[tactic(auto, using(crate::proofs::Walk::none_pending))]
     fn pending(&self) -> LevelSet
         ensures levels { result ≡ map (is_pending self.now) all_levels }

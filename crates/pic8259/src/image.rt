@@ -1,4 +1,4 @@
-//! A controller as plain numbers, laid out as C lays them out: for callers that know no enums, as benches in C.
+//! A controller as plain numbers, laid out as C lays them out: for callers that know no enums, such as benches in C.
 ghost use Rattle.std.specs.Prelude.{◌≡◌, ◌≤◌};
 ghost use Rattle.pic8259.specs.Image.{flag_of, expected_of, base_of};
 

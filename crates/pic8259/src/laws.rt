@@ -26,7 +26,8 @@ pub fn sequence_ends()
     ensures { SequenceEnds }
 {}
 
-/// Nothing is taken in mid-sequence, where no operation word is heard at A0 = 0, nor before 8086 mode is chosen.
+/// Nothing is taken in mid-sequence or before 8086 mode is chosen, and in mid-sequence no operation word is heard at A0
+/// = 0.
 pub fn waits_for_sequence()
     ensures { WaitsForSequence }
 {}
@@ -51,8 +52,8 @@ pub fn special_mask_excepts()
     ensures { SpecialMaskExcepts }
 {}
 
-/// A plain end of interrupt, the word 20h, ends the first level in the order that is in service and not
-/// excepted, and changes nothing where there is none.
+/// A plain end of interrupt, the word 20h, ends the first level in the order that is in service and not excepted, and
+/// changes nothing if there is none.
 #[tactic(auto, using(crate::proofs::Taking::ends_first_in_service))]
 pub fn ends_first_in_service()
     ensures { EndsFirstInService }
@@ -65,7 +66,7 @@ pub fn asks_once_a_rise()
     ensures { AsksOnceARise }
 {}
 
-/// A level that is taken comes into service; under automatic end of interrupt it doesn't, and becomes the lowest where
+/// A level that is taken comes into service; under automatic end of interrupt it doesn't, and becomes the lowest if
 /// rotation goes with that.
 #[tactic(auto, using(crate::proofs::Words::serves_taken))]
 pub fn serves_taken()
@@ -78,15 +79,15 @@ pub fn mask_holds()
     ensures { MaskHolds }
 {}
 
-/// After the poll word the next read, at either port, takes a level as an acknowledge does and answers 80h plus it,
-/// or 0 where there is none.
+/// After the poll word the next read, at either port, takes a level as an acknowledge does and answers 80h plus its
+/// number, or 0 if there is none.
 #[tactic(auto, using(crate::proofs::Words::poll_takes))]
 pub fn poll_takes()
     ensures { PollTakes }
 {}
 
-/// A level that is masked, or at or behind one in service that blocks, requests nothing, whatever its line does; every other
-/// may be taken once its line has fallen and risen.
+/// A level requests nothing, whatever its line does, if it is masked, or blocks and is in service, or comes after one
+/// that does; every other level may be taken once its line has fallen and risen.
 #[tactic(auto, using(crate::proofs::Inhibited::inhibited_request_nothing))]
 pub fn inhibited_request_nothing()
     ensures { InhibitedRequestNothing }

@@ -9,7 +9,7 @@ use std::marker::Model;
 /// A set of the eight levels IR0 to IR7.
 #[derive(Clone, Copy)]
 pub struct LevelSet {
-    /// Bit n is 1 where level n is in the set.
+    /// Bit n is 1 if level n is in the set.
     mask: u8,
 }
 
@@ -47,7 +47,7 @@ impl LevelSet {
         self.mask
     }
 
-    /// There is a place in it for each of the eight levels.
+    /// The set has a place for each of the eight levels.
     #[inline(always)]
     pub(crate) fn has_eight(self)
         ensures { length self ≡ 8 }

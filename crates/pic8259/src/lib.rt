@@ -1,5 +1,5 @@
-//! The Intel 8259A interrupt controller, alone and in 8086 mode: eight request lines, their mask and
-//! priority, and the vector that an acknowledge answers. A usage of its calls stands in the program parts_alone.
+//! The Intel 8259A interrupt controller, alone and in 8086 mode: eight request lines, their mask and priority, and the
+//! vector that an acknowledge answers. The program parts_alone shows how its calls are used.
 #![tactic(auto)]
 
 pub mod controller;
