@@ -265,7 +265,7 @@ runs_square c sound due mode n false rests =
     iterate_fixed after_tick n c
     (tick_counts c c due refl ∙ ap (λ m. after_count c m) mode ∙ if_no (is_counting c SquareWave) (after_square_count c) c rests)
 
--- modes 4 and 5: where the ticks don't count, the first ends a strobe
+-- modes 4 and 5: if the ticks don't count, the first ends a strobe
 
 rests_high : (c : CounterState) → (after_tick c ≡ after_rest c) → (after_tick (after_rest c) ≡ after_rest c) → (n : ℕ) → after_ticks c n ≡ (if n == 0 then c else after_rest c)
 rests_high c first stays zero = iterate_zero after_tick c
@@ -316,7 +316,7 @@ pub due_load : (c : CounterState) → c.load_due ≡ true → after_tick c ≡ a
 unfolding after_tick
 due_load c due = if_yes c.load_due (after_due_load c c.mode) (after_count c c.mode) due
 
--- what such a load makes: counts within their radices, and none due
+-- what a load that is due makes: counts within their radices, and none due
 pub record DueLoad (c d : CounterState) : Type 0 where
   pub sound : Sound d
   pub none : d.load_due ≡ false

@@ -19,7 +19,7 @@ gate_kept c line same still =
     ∙ ap (λ b. record c { load_due = b; out = out_at_gate c.mode line c.out }) (no_rise c.gate c.load_due (is_triggered c.mode) (not (is_awaited c.progress)))
     ∙ ap (λ out. record c { out = out }) still
 
--- and what stays as it is had the level before
+-- if a gate that takes a level changes nothing, it had that level before
 pub gate_was : (c : CounterState) (line : Line) → after_gate c line ≡ c → c.gate ≡ line
 unfolding after_gate
 gate_was c line same = sym (ap (λ (x : CounterState). x.gate) same)

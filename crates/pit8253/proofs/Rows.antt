@@ -39,7 +39,7 @@ after c (event ∷ later) = after (after_event c event) later
 started : List Event → CounterState
 started events = after (power_on I8253 High) events
 
--- the same of an 8254
+-- counter 0 of an 8254 with its gate high
 started_8254 : List Event → CounterState
 started_8254 events = after (power_on I8254 High) events
 
@@ -163,7 +163,7 @@ mode_4_ends : (started (control 0x18 ∷ write 2 ∷ tick ∷ tick ∷ tick ∷ 
 unfolding started on_events
 mode_4_ends = refl
 
--- "Mode 5": the same, from the trigger on
+-- "Mode 5": OUT is low for one tick, as the count comes to 0, from the trigger on
 mode_5_waits : (started (control 0x1A ∷ write 2 ∷ tick ∷ tick ∷ tick ∷ [])).out ≡ High
 unfolding started on_events
 mode_5_waits = refl
@@ -210,7 +210,7 @@ no_status_in_an_8253 : next_byte (started (control 0x16 ∷ write 5 ∷ tick ∷
 unfolding started on_events
 no_status_in_an_8253 = refl
 
--- its "Mode 3": five ticks as 4, 2 and 0 with OUT high, and 4 and 2 with OUT low
+-- "Mode 3" of the 8254: five ticks as 4, 2 and 0 with OUT high, and 4 and 2 with OUT low
 odd_loads_less : (started_8254 (control 0x16 ∷ write 5 ∷ tick ∷ [])).count ≡ 4
 unfolding started_8254 on_events
 odd_loads_less = refl
@@ -266,8 +266,8 @@ gate_keeps_odd_high : (started_8254 (control 0x16 ∷ write 3 ∷ tick ∷ tick 
 unfolding started_8254 on_events
 gate_keeps_odd_high = refl
 
--- "Null Count Operation": of two bytes the second sets it, and in modes 1 and 5 a new count does while the old one runs, until
--- a trigger's load
+-- "Null Count Operation": the second of two bytes sets the null count, and in modes 1 and 5 a new count does while the
+-- old one runs, until a trigger's load
 null_after_first_byte : next_byte (started_8254 (control 0x34 ∷ write 9 ∷ write 0 ∷ tick ∷ write 5 ∷ back 0xE2 ∷ [])) ≡ 0xB4
 unfolding started_8254 on_events
 null_after_first_byte = refl
@@ -326,7 +326,7 @@ both_latches_end = refl
 
 -- The whole timer by its ports.
 
--- what happens to it
+-- what happens to a timer
 data PortEvent : Type 0 where
   output : ℕ → ℕ → PortEvent
   wire : ℕ → Line → PortEvent

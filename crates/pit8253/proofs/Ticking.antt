@@ -63,7 +63,7 @@ tick_hardware_strobe c runs mode n due out =
     tick_counts c d runs.none_due refl ∙ ap (λ m. after_count d m) mode
     ∙ ap (λ p. if is_loaded p then after_strobe_count d else after_rest d) runs.loaded
 
--- what the rules make of it, where the count falls to m
+-- what the rules make of a counter whose count falls to m
 
 pub countdown : (c : CounterState) (n m : ℕ) (due : Bool) (out : Line) → count_minus c.count_radix n 1 ≡ m → after_countdown (with_count c n due out) ≡ with_count c m due (if m == 0 then High else out)
 countdown c n m due out is = ap (λ k. with_count c k due (if k == 0 then High else out)) is

@@ -59,7 +59,7 @@ counts_even c kind mode gate within odd other out k before = by_out out before
         ∙ ap (λ s. if k == 0 then s.count else 2 * (falls_left s - k)) is
         ∙ start c.newest (length_of c.radix (c.newest - 1) / 2) k odd (omega (arith, odd, length_less))
 
--- the same wave
+-- both kinds make the same wave
 
 abbrev of_kind : TimerKind → CounterState → CounterState
 of_kind kind c = record c { kind = kind }

@@ -19,7 +19,7 @@ use Rattle.pit8253.proofs.Counts.{differs, same, below, not_below, modulus_large
 use Rattle.pit8253.proofs.Waves.{counts_period, square_load_of_one, a_count_of_1, mode_2, mode_3}
 use Rattle.pit8253.proofs.Ahead.{Sound, one_or_other, runs_of, runs_terminal, runs_one_shot, runs_rate, runs_square, runs_software, runs_hardware, HalfEnds, half_ends, enabled, Enabled, a_tick_first}
 
--- OUT turns first after so many ticks, or never
+-- OUT first turns after `turn` ticks, or never
 abbrev pub Turns : CounterState → Option ℕ → Type 0
 Turns c turn = IsUntilTurn after_ticks out_of c turn
 
@@ -116,7 +116,7 @@ strobe_first : (c : CounterState) → Sound c → ((n : ℕ) → after_ticks c n
 strobe_first c sound form =
     strobe_turns c c.out c.strobe_due (ticks_left c) refl (lengths c.count_radix c.count sound.count).some (λ k. ap (λ s. s.out) (form k))
 
--- where no tick counts
+-- if no tick counts
 
 still_turns : (c : CounterState) → ((n : ℕ) → after_ticks c n ≡ c) → Turns c None
 still_turns c still = λ k. ap (λ s. s.out) (still k)

@@ -158,7 +158,7 @@ pub counts_to_strobe : CountsToStrobe
 counts_to_strobe c runs (inl software) n = falls_to_strobe c runs (tick_software_strobe c runs software.0 software.1) n
 counts_to_strobe c runs (inr hardware) n = falls_to_strobe c runs (tick_hardware_strobe c runs hardware) n
 
--- OUT after a load, where the strobe is due
+-- OUT after a load, if the strobe is due
 strobe_out : (n size : ℕ) → 0 < size → (if n == 0 then High else (if (n == size) && true then Low else High)) ≡ (if n == size then Low else High)
 strobe_out n size some = elim (cases_lt 0 n) [
   | inl more ↦
@@ -280,7 +280,7 @@ odd_step n out odd = if_no (n % 2 == 0) 2 (if is_high out then 1 else 3) (differ
 falls_by : (radix : Radix) (n by m : ℕ) (out : Line) → half_step n out ≡ by → count_minus radix n by ≡ m → count_minus radix n (half_step n out) ≡ m
 falls_by radix n by m out step is = ap (λ s. count_minus radix n s) step ∙ is
 
--- a half of so many ticks: the first of them leaves twice the ticks that are then to come
+-- a half of `len` ticks: the first of them leaves twice the ticks that are then to come
 record Half (radix : Radix) (count : ℕ) (out : Line) (len : ℕ) : Type 0 where
   some : 0 < len
   first : count_minus radix count (half_step count out) ≡ 2 * (len - 1)
@@ -343,7 +343,7 @@ record HalfGoes (c : CounterState) (fall len : ℕ) : Type 0 where
   goes : (k : ℕ) → k + 1 < len → after_square_count (with_count c (if k == 0 then c.count else 2 * (fall - k)) c.strobe_due c.out) ≡ with_count c (2 * (fall - (k + 1))) c.strobe_due c.out
   ends : (k : ℕ) → k + 1 ≡ len → after_square_count (with_count c (if k == 0 then c.count else 2 * (fall - k)) c.strobe_due c.out) ≡ after_square_load c (if c.newest == 1 then High else opposite c.out)
 
--- a fall to 0 ends it
+-- a fall to 0 ends a half
 goes_plain : (c : CounterState) → Runs c → c.count ≢ 1 → c.keeps_zero ≡ false → (fall : ℕ) → Half c.count_radix c.count c.out fall → HalfGoes c fall fall
 goes_plain c runs other plain fall start = record {
   some = start.some;
@@ -361,7 +361,7 @@ goes_plain c runs other plain fall start = record {
       (ap (λ b. ends_at b now next) plain ∙ same next 0 (omega arith));
 }
 
--- a kept 0 ends it
+-- a kept 0 ends a half
 goes_kept : (c : CounterState) → c.count ≢ 1 → 0 < c.count → c.keeps_zero ≡ true → (fall : ℕ) → Half c.count_radix c.count c.out fall → HalfGoes c fall (fall + 1)
 goes_kept c other some kept fall start = record {
   some = omega arith;

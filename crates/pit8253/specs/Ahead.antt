@@ -19,7 +19,7 @@ is_counting c SquareWave = is_loaded c.progress && is_high c.gate
 is_counting c SoftwareStrobe = is_loaded c.progress && is_high c.gate
 is_counting c HardwareStrobe = is_loaded c.progress
 
--- where it doesn't: a strobe ends all the same
+-- n ticks that load nothing and don't count: a strobe ends all the same
 abbrev pub after_rests : CounterState → Mode → ℕ → CounterState
 after_rests c TerminalCount n = c
 after_rests c OneShot n = c
@@ -28,7 +28,7 @@ after_rests c SquareWave n = c
 after_rests c SoftwareStrobe n = if n == 0 then c else after_rest c
 after_rests c HardwareStrobe n = if n == 0 then c else after_rest c
 
--- mode 2: up to the load, and then the remainder of its periods
+-- mode 2, n ticks on: up to the load, and then the remainder of its periods
 unfoldable pub after_rate : CounterState → ℕ → CounterState
 after_rate c n =
     if nat_lt n (ticks_left c) then after_rate_fall c n
@@ -38,16 +38,16 @@ after_rate c n =
 abbrev pub half_ticks : CounterState → ℕ
 half_ticks c = if c.count == 1 then 1 else half_left c
 
--- that load: OUT turns, but at a count of 1 and for a newest count of 1, where it is then high
+-- mode 3: the next load, which turns OUT; but after a count of 1, and with a newest count of 1, OUT is high
 unfoldable pub after_turn : CounterState → CounterState
 after_turn c = after_square_load c (if (c.count == 1) || (c.newest == 1) then High else opposite c.out)
 
--- at most one turn
+-- mode 3, n ticks on, with at most one turn
 unfoldable pub after_halves : CounterState → ℕ → CounterState
 after_halves c n =
     if nat_lt n (half_ticks c) then after_half_fall c n else after_half_fall (after_turn c) (n - half_ticks c)
 
--- up to the load, and then the remainder of its periods
+-- mode 3, n ticks on: up to the load, and then the remainder of its periods
 unfoldable pub after_square : CounterState → ℕ → CounterState
 after_square c n =
     if nat_lt n (half_ticks c) then after_half_fall c n else after_halves (after_turn c) ((n - half_ticks c) % size c)
@@ -64,7 +64,7 @@ after_counting c HardwareStrobe n = after_strobe_fall c n
 unfoldable pub after_run : CounterState → ℕ → CounterState
 after_run c n = if is_counting c c.mode then after_counting c c.mode n else after_rests c c.mode n
 
--- The ticks up to the first change of OUT, where no load is due.
+-- The ticks up to the first change of OUT, if no load is due.
 
 -- modes 0 and 1: the end of the count
 abbrev pub until_end : CounterState → Option ℕ
@@ -97,7 +97,7 @@ until_counting c SquareWave = until_half c
 until_counting c SoftwareStrobe = until_strobe c
 until_counting c HardwareStrobe = until_strobe c
 
--- where no tick counts: the end of a strobe
+-- if no tick counts: the end of a strobe
 abbrev pub until_rest : CounterState → Mode → Option ℕ
 until_rest c TerminalCount = None
 until_rest c OneShot = None
@@ -109,7 +109,7 @@ until_rest c HardwareStrobe = if is_high c.out then None else Some 1
 unfoldable pub until_turn : CounterState → Option ℕ
 until_turn c = if is_counting c c.mode then until_counting c c.mode else until_rest c c.mode
 
--- The same where a load is due: it takes a tick.
+-- The ticks up to the first change of OUT if a load is due, which takes a tick.
 
 abbrev pub a_tick_later : Option ℕ → Option ℕ
 a_tick_later None = None

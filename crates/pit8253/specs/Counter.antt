@@ -43,9 +43,9 @@ pub record CounterState : Type 0 where
   pub is_null : Bool
   -- mode 3 of the 8254: whether the running half is the high one of an odd count, which keeps its fall to 0 for a tick
   pub keeps_zero : Bool
-  -- what a latch holds, as it is read
+  -- the latched count, as it is read, if there is one
   pub latch : Option ℕ
-  -- what the 8254's latch of its status holds
+  -- the latched status of an 8254, if there is one
   pub status : Option ℕ
   -- whether the high byte is the next to be read of two: reading and writing keep byte orders of their own (this
   -- board's choice)
@@ -113,7 +113,7 @@ after_load c out = record c {
 abbrev pub loads_less : CounterState → Bool
 loads_less c = is_8254 c.kind && (c.newest % 2 == 1) && not (c.newest == 1)
 
--- mode 3: so loaded, the high half keeps its fall to 0 for a tick
+-- mode 3: a load of the newest count; if it is 1 less, the high half keeps its fall to 0 for a tick
 abbrev pub after_square_load : CounterState → Line → CounterState
 after_square_load c out = record (after_load c out) {
   count = (if loads_less c then c.newest - 1 else c.newest);
@@ -183,7 +183,7 @@ after_tick c = if c.load_due then after_due_load c c.mode else after_count c c.m
 abbrev pub after_ticks : CounterState → ℕ → CounterState
 after_ticks c n = iterate after_tick n c
 
--- the level that it gives out
+-- the level of OUT
 abbrev pub out_of : CounterState → Line
 out_of c = c.out
 
@@ -198,7 +198,8 @@ out_at_control _ = High
 abbrev pub reading : CounterState → ℕ
 reading c = unwrap_or c.latch (digits_of c.count_radix c.count)
 
--- a latch holds what the counter shows: what was latched before and isn't read yet stays (this board's choice)
+-- a latch of the count holds what the counter shows: what was latched before and isn't read yet stays (this board's
+-- choice)
 unfoldable pub after_latch : CounterState → CounterState
 after_latch c = record c { latch = Some (reading c) }
 
@@ -235,7 +236,7 @@ abbrev pub out_at_write : Mode → Line → Line
 out_at_write TerminalCount out = Low
 out_at_write _ out = out
 
--- a full count of sixteen bits: it takes the place of the one before, also where that isn't loaded yet
+-- a full count of sixteen bits takes the place of the one before, even if that isn't loaded yet
 abbrev pub after_full_count : CounterState → ℕ → CounterState
 after_full_count c word = record c {
   first_byte = None;
@@ -260,7 +261,7 @@ after_write_by c LowThenHigh byte = after_byte_of_two c c.first_byte byte
 unfoldable pub after_write : CounterState → ℕ → CounterState
 after_write c byte = after_write_by c c.access byte
 
--- Reading it.
+-- Reading the counter.
 
 -- whether a read gives the high byte
 abbrev pub reads_high : Access → Bool → Bool
@@ -278,14 +279,14 @@ after_read_by c LowThenHigh =
     if c.high_next then record c { latch = None; high_next = false } else record c { high_next = true }
 after_read_by c _ = record c { latch = None }
 
--- a read of a latched status ends it, and leaves the order of two bytes
+-- a read of a latched status ends it, and leaves the order of two bytes as it is
 unfoldable pub after_read : CounterState → CounterState
 after_read c = if is_some c.status then record c { status = None } else after_read_by c c.access
 
 -- Reading the 8254 back.
 
--- the status byte: OUT, the null count, and the access, the mode and the radix of the control word. Modes x10 and x11 show
--- as 2 and 3 (this board's choice).
+-- the status byte: OUT, the null count, and the access, the mode and the radix of the control word. Modes x10 and x11
+-- show as 2 and 3 (this board's choice).
 abbrev pub status_of : CounterState → ℕ
 status_of c =
     128 * (if is_high c.out then 1 else 0) + 64 * (if c.is_null then 1 else 0) + 16 * access_number c.access
@@ -295,8 +296,7 @@ status_of c =
 unfoldable pub after_status_latch : CounterState → CounterState
 after_status_latch c = record c { status = Some (unwrap_or c.status (status_of c)) }
 
--- a read-back that names the counter: it latches the count where bit 5 is 0, and the status where bit 4 is 0. The 8253 has
--- none.
+-- a read-back that names the counter latches the count if bit 5 is 0, and the status if bit 4 is 0. The 8253 has none.
 unfoldable pub after_read_back : CounterState → ℕ → CounterState
 after_read_back c word =
     let counted : CounterState = if word / 32 % 2 == 0 then after_latch c else c in

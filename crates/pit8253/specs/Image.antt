@@ -14,15 +14,15 @@ use Rattle.pit8253.specs.Program.{mode_of, access_of, radix_of, modulus}
 use Rattle.pit8253.specs.Counter.{CounterState}
 use Rattle.pit8253.specs.Pit.{PitState}
 
--- 0 is no, and any other number yes
+-- false for 0, and true for any other number
 abbrev pub flag_of : ℕ → Bool
 flag_of n = if n == 0 then false else true
 
--- 0 is a low wire, and any other number a high one
+-- a low wire for 0, and a high one for any other number
 abbrev pub line_of : ℕ → Line
 line_of n = if n == 0 then Low else High
 
--- a number that is there, or isn't
+-- the number, or none if `is_there` is 0
 abbrev pub option_of : ℕ → ℕ → Option ℕ
 option_of is_there n = if is_there == 0 then None else Some n
 
@@ -69,7 +69,7 @@ pit_of i = record {
 abbrev pub IsCounter : CounterState → Type 0
 IsCounter c = (c.newest < modulus c.radix) × (c.count < modulus c.count_radix)
 
--- any numbers are a timer that can be
+-- any numbers give a timer each of whose counts is below its radix's number of counts
 abbrev pub AnyNumbersAreATimer : Type 0
 AnyNumbersAreATimer =
     (i : PitImage)

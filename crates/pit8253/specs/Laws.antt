@@ -47,7 +47,7 @@ after_fall c n = record c {
   out = (if nat_lt n (ticks_left c) then c.out else High);
 }
 
--- modes 4 and 5, n ticks on: OUT is low at the end of the count alone, where a strobe is due
+-- modes 4 and 5, n ticks on: OUT is low only at the end of the count, if a strobe is due
 abbrev pub after_strobe_fall : CounterState → ℕ → CounterState
 after_strobe_fall c n = record c {
   count = count_after c.count_radix c.count n;
@@ -62,8 +62,8 @@ after_rate_fall c n = record c {
   out = (if n == 0 then c.out else (if n + 1 == ticks_left c then Low else c.out));
 }
 
--- mode 3: the falls that bring the count to 0; an odd count has one more in the high half. Where a 0 is kept, a count of 0
--- is there already.
+-- mode 3: the falls that bring the count to 0; an odd count has one more in the high half. If a 0 is kept, a
+-- count of 0 has no fall left.
 abbrev pub falls_left : CounterState → ℕ
 falls_left c =
     let count : ℕ = if c.keeps_zero then c.count else ticks_left c in
@@ -73,8 +73,8 @@ falls_left c =
 abbrev pub half_left : CounterState → ℕ
 half_left c = falls_left c + (if c.keeps_zero then 1 else 0)
 
--- mode 3, n ticks on in the same half: the count is twice the falls that are left. So an odd count falls by 1 first
--- while OUT is high and by 3 first while it is low, and then by 2.
+-- mode 3, n ticks on in the same half: the count is twice the number of falls that are left. An odd count therefore
+-- falls by 1 first while OUT is high and by 3 first while it is low, and then by 2.
 abbrev pub after_half_fall : CounterState → ℕ → CounterState
 after_half_fall c n = record c { count = (if n == 0 then c.count else 2 * (falls_left c - n)) }
 
@@ -85,21 +85,21 @@ CountsDown =
     → ((c.mode ≡ TerminalCount) × (c.gate ≡ High) × (c.first_byte ≡ None)) ⊎ (c.mode ≡ OneShot) → (n : ℕ)
     → after_ticks c n ≡ after_fall c n
 
--- and so do modes 4 and 5
+-- modes 4 and 5 count down and strobe at the end, from any count and for any number of ticks
 abbrev pub CountsToStrobe : Type 0
 CountsToStrobe =
     (c : CounterState) → Runs c → ((c.mode ≡ SoftwareStrobe) × (c.gate ≡ High)) ⊎ (c.mode ≡ HardwareStrobe) → (n : ℕ)
     → after_ticks c n ≡ after_strobe_fall c n
 
--- mode 2 counts down to the end of the period, and there loads the newest count with OUT high
+-- mode 2 counts down to the end of the period, which loads the newest count with OUT high
 abbrev pub CountsPeriod : Type 0
 CountsPeriod =
     (c : CounterState) → Runs c → c.mode ≡ RateGenerator → c.gate ≡ High
     → ((n : ℕ) → n < ticks_left c → after_ticks c n ≡ after_rate_fall c n)
     × (after_ticks c (ticks_left c) ≡ after_load c High)
 
--- mode 3 counts down to the end of the half, and there loads the newest count and turns OUT, but for a newest count
--- of 1, which leaves it high
+-- mode 3 counts down to the end of the half, which loads the newest count and turns OUT, except that a newest count of
+-- 1 leaves it high
 abbrev pub CountsHalf : Type 0
 CountsHalf =
     (c : CounterState) → Runs c → c.mode ≡ SquareWave → c.gate ≡ High → c.count ≢ 1
@@ -144,7 +144,7 @@ CountsOut =
     → c.newest < modulus c.radix → (n : ℕ)
     → (after_ticks (after_load c Low) n).out ≡ (if nat_lt n (size c) then Low else High)
 
--- mode 1: the same, whatever the gate
+-- mode 1: n ticks after the load OUT is low below the count, and high from then on, whatever the gate
 abbrev pub ShootsOnce : Type 0
 ShootsOnce =
     (c : CounterState) → c.mode ≡ OneShot → c.newest < modulus c.radix → (n : ℕ)
@@ -169,7 +169,7 @@ StrobesOnce =
     (c : CounterState) → c.mode ≡ SoftwareStrobe → c.gate ≡ High → c.newest < modulus c.radix → (n : ℕ)
     → (after_ticks (after_load c High) n).out ≡ (if n == size c then Low else High)
 
--- mode 5: the same, whatever the gate
+-- mode 5: OUT is low for one tick, the one that ends the count, and never again, whatever the gate
 abbrev pub StrobesOnTrigger : Type 0
 StrobesOnTrigger =
     (c : CounterState) → c.mode ≡ HardwareStrobe → c.newest < modulus c.radix → (n : ℕ)
@@ -181,7 +181,7 @@ GateSetsHigh =
     (c : CounterState) → (c.mode ≡ RateGenerator) ⊎ (c.mode ≡ SquareWave)
     → after_gate c Low ≡ record c { gate = Low; out = High }
 
--- there a rise after a full count reloads: the next tick loads the newest count with OUT high
+-- modes 2 and 3: a rise of the gate after a full count reloads: the next tick loads the newest count with OUT high
 abbrev pub RiseReloads : Type 0
 RiseReloads =
     (c : CounterState) → c.gate ≡ Low → is_awaited c.progress ≡ false
@@ -225,7 +225,7 @@ GateStops =
     (c : CounterState) → c.load_due ≡ false → c.gate ≡ Low
     → (c.mode ≡ TerminalCount) ⊎ ((c.mode ≡ RateGenerator) ⊎ (c.mode ≡ SquareWave)) → (n : ℕ) → after_ticks c n ≡ c
 
--- and in mode 4, where OUT goes high, the count stays
+-- mode 4: the low gate stops counting: with no load due, ticks leave the count as it is
 abbrev pub GateStopsStrobe : Type 0
 GateStopsStrobe =
     (c : CounterState) → c.load_due ≡ false → c.gate ≡ Low → c.mode ≡ SoftwareStrobe → (n : ℕ)
@@ -261,11 +261,11 @@ WaitsForLoad =
 abbrev pub ticks_of : ℕ → ℕ → ℕ
 ticks_of low high = length_of Binary (low + 256 * high)
 
--- a counter that is told two-byte access and a mode by a control word, and then the two bytes
+-- a counter after a control word, which chooses two-byte access and a mode, and then the two bytes
 abbrev pub after_setup : CounterState → ℕ → ℕ → ℕ → CounterState
 after_setup c word low high = after_write (after_write (after_control_word c word) low) high
 
--- the same, and then a fall and a rise of its gate
+-- a counter after a control word and the two bytes, and then a trigger: its gate falls and rises
 abbrev pub after_trigger : CounterState → ℕ → ℕ → ℕ → CounterState
 after_trigger c word low high = after_gate (after_gate (after_setup c word low high) Low) High
 
@@ -281,27 +281,27 @@ ShootsAsTriggered =
     (c : CounterState) → (low high : ℕ) → low < 256 → high < 256 → (n : ℕ)
     → (after_ticks (after_trigger c 0x32 low high) (1 + n)).out ≡ (if nat_lt n (ticks_of low high) then Low else High)
 
--- mode 2: then OUT is low for the last tick of each period
+-- mode 2 as a program sets it up: the first tick loads; then OUT is low for the last tick of each period
 abbrev pub DividesAsTold : Type 0
 DividesAsTold =
     (c : CounterState) → c.gate ≡ High → (low high : ℕ) → low < 256 → high < 256 → ticks_of low high ≢ 1 → (n : ℕ)
     → (after_ticks (after_setup c 0x34 low high) (1 + n)).out
     ≡ (if n % ticks_of low high + 1 == ticks_of low high then Low else High)
 
--- mode 3: then OUT is high for the first half of each period
+-- mode 3 as a program sets it up: the first tick loads; then OUT is high for the first half of each period
 abbrev pub MakesSquaresAsTold : Type 0
 MakesSquaresAsTold =
     (c : CounterState) → c.gate ≡ High → (low high : ℕ) → low < 256 → high < 256 → ticks_of low high ≢ 1 → (n : ℕ)
     → (after_ticks (after_setup c 0x36 low high) (1 + n)).out
     ≡ (if nat_lt (n % ticks_of low high) ((ticks_of low high + 1) / 2) then High else Low)
 
--- mode 4: then OUT is low for the one tick that ends the count
+-- mode 4 as a program sets it up: the first tick loads; then OUT is low for the one tick that ends the count
 abbrev pub StrobesAsTold : Type 0
 StrobesAsTold =
     (c : CounterState) → c.gate ≡ High → (low high : ℕ) → low < 256 → high < 256 → (n : ℕ)
     → (after_ticks (after_setup c 0x38 low high) (1 + n)).out ≡ (if n == ticks_of low high then Low else High)
 
--- mode 5: the same after a trigger
+-- mode 5: the first tick after the trigger loads; then OUT is low for the one tick that ends the count
 abbrev pub StrobesAsTriggered : Type 0
 StrobesAsTriggered =
     (c : CounterState) → (low high : ℕ) → low < 256 → high < 256 → (n : ℕ)

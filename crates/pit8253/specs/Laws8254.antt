@@ -1,4 +1,4 @@
--- What the 8254 does otherwise than the 8253, over time (Intel 8254 data sheet, "Read-Back Command" with "Null Count
+-- What the 8254 does differently from the 8253, over time (Intel 8254 data sheet, "Read-Back Command" with "Null Count
 -- Operation", and "Mode 3: Square Wave Mode").
 -- Laws: claims above the definitions, each proved as the contract of a function.
 use Rattle.std.specs.Prelude.{◌≡◌, ◌≢◌, ℕ, ◌-◌, ◌*◌, ◌+◌, ◌/◌, ◌%◌, ◌<◌, ◌≤◌, ◌==◌, true, false, not, if◌then◌else◌, ◌||◌, ◌&&◌, Bool, None, unwrap_or}
@@ -15,8 +15,8 @@ use Rattle.pit8253.specs.Laws.{ends_half}
 use Rattle.pit8253.specs.Pit as pit
 use Rattle.pit8253.specs.Pit.{PitState}
 
--- a read-back of the status and the count, and then three reads with any ticks between: the status as it was, and the two
--- bytes of the count as it was; then both latches have ended
+-- a read-back of the status and the count, and then three reads with any ticks between: the status as it was, and the
+-- two bytes of the count as it was; then both latches have ended
 abbrev pub ReadsBack : Type 0
 ReadsBack =
     (c : CounterState) → c.kind ≡ I8254 → c.access ≡ LowThenHigh → c.high_next ≡ false → c.latch ≡ None → c.status ≡ None
@@ -30,8 +30,8 @@ ReadsBack =
     × ((after_read third).status ≡ None)
     × ((after_read third).latch ≡ None)
 
--- a status that is latched, after a count or before it, is read before all else; its read leaves the latched count and
--- the order of two bytes as they were
+-- a status that is latched, after a count or before it, is read first; its read leaves the latched count and the order
+-- of two bytes as they were
 abbrev pub StatusComesFirst : Type 0
 StatusComesFirst =
     (c : CounterState) → c.kind ≡ I8254 → (word : ℕ) → word / 16 % 2 ≡ 0
@@ -52,7 +52,7 @@ ReadBackIsHeld =
     (c : CounterState) (word k : ℕ)
     → after_read_back (after_ticks (after_read_back c word) k) word ≡ after_ticks (after_read_back c word) k
 
--- whether the next tick loads: where a write or a trigger asked for it, and at the end of a period or of a half
+-- whether the next tick loads: if a write or a trigger asked for it, and at the end of a period or of a half
 abbrev pub ends_in : CounterState → Mode → Bool
 ends_in c TerminalCount = false
 ends_in c OneShot = false
@@ -64,7 +64,7 @@ ends_in c HardwareStrobe = false
 abbrev pub loads_next : CounterState → Bool
 loads_next c = c.load_due || (is_loaded c.progress && is_high c.gate && ends_in c c.mode)
 
--- a full count sets the null count, and of all ticks the one that loads clears it
+-- a full count sets the null count, and a tick clears it exactly if it loads
 abbrev pub NullTillLoaded : Type 0
 NullTillLoaded =
     (c : CounterState) (word : ℕ)
@@ -84,7 +84,7 @@ KnowsNoReadBack =
     (p : PitState) → p.counter_0.kind ≡ I8253 → p.counter_1.kind ≡ I8253 → p.counter_2.kind ≡ I8253
     → (word : ℕ) → 192 ≤ word → word < 256 → pit.after_write p 3 word ≡ p
 
--- from a load on OUT of an 8254 is that of an 8253, in each mode
+-- from a load on, OUT of an 8254 is that of an 8253, in each mode
 abbrev pub MakesTheSameWave : Type 0
 MakesTheSameWave =
     (c : CounterState) → c.load_due ≡ true → c.newest < modulus c.radix → c.count < modulus c.count_radix → (n : ℕ)

@@ -1,5 +1,5 @@
--- The timer: three counters behind four ports (Intel 8253 data sheet, "Block Diagram" and "Programming the 8253"; Intel
--- 8254 data sheet, "Read-Back Command").
+-- The timer: three counters, reached through four ports (Intel 8253 data sheet, "Block Diagram" and "Programming the
+-- 8253"; Intel 8254 data sheet, "Read-Back Command").
 -- To be believed: the headline rests on it.
 use Rattle.std.specs.Prelude.{ℕ, ◌/◌, ◌%◌, ◌==◌, if◌then◌else◌}
 use Rattle.board_types.specs.Iterate.{iterate}
@@ -26,7 +26,7 @@ power_on kind = record {
 abbrev pub counter : PitState → ℕ → CounterState
 counter p n = if n == 0 then p.counter_0 else (if n == 1 then p.counter_1 else p.counter_2)
 
--- the timer with another state of counter n; there is none from 3 on
+-- the timer with another state of counter n; nothing changes if n is 3 or more
 abbrev pub with_counter : PitState → ℕ → CounterState → PitState
 with_counter p n c =
     if n == 0 then record p { counter_0 = c } else (
@@ -41,11 +41,11 @@ after_tick p = record {
   counter_2 = one.after_tick p.counter_2;
 }
 
--- n ticks of them, one after another
+-- n ticks of the three counters, one after another
 abbrev pub after_ticks : PitState → ℕ → PitState
 after_ticks p n = iterate after_tick n p
 
--- a read-back reaches counters 0, 1 and 2 where bits 1, 2 and 3, which name them, are 1; bit 0 names none (this board's
+-- a read-back reaches counters 0, 1 and 2 if bits 1, 2 and 3, which name them, are 1; bit 0 names none (this board's
 -- choice)
 abbrev pub after_read_back : PitState → ℕ → PitState
 after_read_back p word = record {
@@ -54,8 +54,8 @@ after_read_back p word = record {
   counter_2 = if word / 8 % 2 == 1 then one.after_read_back p.counter_2 word else p.counter_2;
 }
 
--- a control word goes to the counter that its bits 7 and 6 name; 11 is a read-back, which the 8253 doesn't know and
--- leaves all as it is (this board's choice)
+-- a control word goes to the counter that its bits 7 and 6 name; 11 is a read-back, which an 8253 ignores (this board's
+-- choice)
 abbrev pub after_control_word : PitState → ℕ → PitState
 after_control_word p word =
     if word / 64 == 3 then after_read_back p word
@@ -66,7 +66,7 @@ unfoldable pub after_write : PitState → ℕ → ℕ → PitState
 after_write p port byte =
     if port == 3 then after_control_word p byte else with_counter p port (one.after_write (counter p port) byte)
 
--- the byte read at a port: port 3 gives FFh, as the board's bus does where nothing answers
+-- the byte read at a port: port 3 gives FFh, as the board's bus does if nothing answers
 unfoldable pub byte_at : PitState → ℕ → ℕ
 byte_at p port = if port == 3 then 0xFF else one.next_byte (counter p port)
 

@@ -1,5 +1,5 @@
--- What the control word and the bytes of a count mean (Intel 8253 data sheet, "Control Word Format" and
--- "Programming the 8253"), and how the control word's fields are spelled in a status (Intel 8254 data sheet, "Status Byte").
+-- What the control word and the bytes of a count mean (Intel 8253 data sheet, "Control Word Format" and "Programming
+-- the 8253"), and how the control word's fields are spelled in a status (Intel 8254 data sheet, "Status Byte").
 -- To be believed: the headline rests on it.
 use Rattle.std.specs.Prelude.{ℕ, ◌+◌, ◌*◌, ◌/◌, ◌%◌, ◌-◌, ◌==◌, if◌then◌else◌, nat_lt}
 use Rattle.pit8253.specs.declared.program.Mode.{Mode}
@@ -9,7 +9,7 @@ use Rattle.pit8253.specs.declared.program.Access.TheVariants.{LowByte, HighByte,
 use Rattle.pit8253.specs.declared.program.Radix.{Radix}
 use Rattle.pit8253.specs.declared.program.Radix.TheVariants.{Binary, Decimal}
 
--- bits 3 to 1 of the control word: 0, 1, 4 and 5 name their mode, x10 is mode 2 and x11 mode 3
+-- the mode that bits 3 to 1 of the control word name: 0, 1, 4 and 5 are that mode, x10 is mode 2 and x11 mode 3
 abbrev pub mode_of : ℕ → Mode
 mode_of bits =
     if bits == 0 then TerminalCount else (
@@ -18,15 +18,15 @@ mode_of bits =
     if bits == 5 then HardwareStrobe else (
     if bits % 2 == 0 then RateGenerator else SquareWave))))
 
--- bits 5 and 4 of the control word, where they aren't 00, which latches
+-- the access that bits 5 and 4 of the control word name, unless they are 00, which latches
 abbrev pub access_of : ℕ → Access
 access_of bits = if bits == 1 then LowByte else (if bits == 2 then HighByte else LowThenHigh)
 
--- bit 0 of the control word
+-- the radix that bit 0 of the control word names
 abbrev pub radix_of : ℕ → Radix
 radix_of bit = if bit == 0 then Binary else Decimal
 
--- and back, as a status spells them: bits 3 to 1, the mode's own number
+-- a mode as bits 3 to 1 of a status spell it: by its own number
 abbrev pub mode_number : Mode → ℕ
 mode_number TerminalCount = 0
 mode_number OneShot = 1
@@ -35,18 +35,18 @@ mode_number SquareWave = 3
 mode_number SoftwareStrobe = 4
 mode_number HardwareStrobe = 5
 
--- bits 5 and 4
+-- an access as bits 5 and 4 of a status spell it
 abbrev pub access_number : Access → ℕ
 access_number LowByte = 1
 access_number HighByte = 2
 access_number LowThenHigh = 3
 
--- bit 0
+-- a radix as bit 0 of a status spells it
 abbrev pub radix_number : Radix → ℕ
 radix_number Binary = 0
 radix_number Decimal = 1
 
--- how many counts there are
+-- how many counts a radix has
 abbrev pub modulus : Radix → ℕ
 modulus Binary = 65536
 modulus Decimal = 10000

@@ -21,7 +21,7 @@ pub(crate) fn length_of(radix: Radix, count: u16) -> u64
     }
 }
 
-// a count that falls by 1 at each of so many ticks, round below 0
+// a count that falls by 1 at each of `ticks` ticks, and goes on from the largest number below 0
 pub(crate) fn count_after(radix: Radix, count: u16, ticks: u64) -> u16
     requires { count < modulus radix }
     ensures after { result ≡ count_after radix count ticks }
@@ -34,7 +34,7 @@ pub(crate) fn count_after(radix: Radix, count: u16, ticks: u64) -> u16
     }
 }
 
-// what is left of a count after so many ticks, at least 0
+// what is left of a count after `ticks` ticks, at least 0
 pub(crate) fn left_after(count: u16, ticks: u64) -> u16
     ensures left { result ≡ count - ticks }
     ensures bound { result ≤ count }
@@ -42,7 +42,7 @@ pub(crate) fn left_after(count: u16, ticks: u64) -> u16
     u64::from(count).saturating_sub(ticks) as u16
 }
 
-// half a count: of an odd one the high half has one more
+// half a count; of an odd count the high half has one more
 pub(crate) fn half_of(count: u16, out: Line) -> u16
     ensures half { result ≡ (if is_high out then (count + 1) / 2 else count / 2) }
     ensures bound { result ≤ 32768 }

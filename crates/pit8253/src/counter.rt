@@ -204,7 +204,7 @@ impl Counter {
         self.program(mode_of(word / 2 % 8), access, radix_of(word % 2));
     }
 
-    /// Holds what the counter shows for the reads to come. What a latch holds already stays.
+    /// Holds what the counter shows for the reads to come. What is latched already stays.
     #[tactic(auto, unfolding(crate::specs::Counter::after_latch))]
     pub fn latch(&mut self)
         ensures { self.new ≡ after_latch self.old }
@@ -212,8 +212,8 @@ impl Counter {
         self.latch = Some(self.reading());
     }
 
-    /// A read-back that names the counter. An 8254 latches the count where bit 5 of `word` is 0, and the status where
-    /// bit 4 is 0; an 8253 does nothing.
+    /// A read-back that names the counter. An 8254 latches the count if bit 5 of `word` is 0, and the status if bit 4
+    /// is 0; an 8253 does nothing.
     #[tactic(auto, unfolding(crate::specs::Counter::after_read_back))]
     pub fn read_back(&mut self, word: u8)
         ensures { self.new ≡ after_read_back self.old word }
@@ -244,7 +244,7 @@ impl Counter {
         }
     }
 
-    /// The byte that is read: a latched status, or else of the latch or the running count, by the access.
+    /// The byte that is read: of a latched status, or else of the latch or the running count, by the access.
     #[tactic(auto, unfolding(crate::specs::Counter::next_byte, crate::specs::Counter::after_read))]
     pub fn read(&mut self) -> u8
         ensures byte { result ≡ next_byte self.old }
@@ -290,7 +290,8 @@ impl Counter {
         self.gate = line;
     }
 
-    /// Whether to give the level `line` to the gate changes nothing: the gate has it already, and OUT its level there.
+    /// Whether giving the level `line` to the gate changes nothing: the gate has it already, and OUT is as that level
+    /// makes it.
     #[tactic(auto, using(crate::proofs::GateKept::gate_kept, crate::proofs::GateKept::gate_was, crate::proofs::GateKept::out_was))]
     pub fn keeps_gate(&self, line: Line) -> bool
         ensures { IsTrue result ↔ after_gate self.now line ≡ self.now }
@@ -452,7 +453,8 @@ impl Counter {
         }
     }
 
-    // Where the count stays above 0 neither its length nor a remainder is needed: so most calls are short.
+    // lets the count fall by `ticks`; as long as it stays above 0, neither its length nor a remainder is needed: most
+    // calls are short
     #[tactic(auto, using(crate::proofs::Shorter::falls_short))]
     fn fall(&mut self, ticks: u64)
         ensures { self.new ≡ after_fall self.old ticks }
@@ -526,7 +528,7 @@ impl Counter {
         self.fall_in_half(ticks - half);
     }
 
-    // the falls that bring the count to 0, where an odd count has one more in the high half
+    // the falls that bring the count to 0; an odd count has one more in the high half
     fn falls_left(&self) -> u64
         ensures ticks { result ≡ falls_left self.now }
         ensures bound { 2 * result ≤ modulus self.now.count_radix }
@@ -542,7 +544,7 @@ impl Counter {
         }
     }
 
-    // the ticks to the end of the half, in which a 0 that is kept has one of its own
+    // the ticks to the end of the half; a 0 that is kept has one of its own
     fn half_left(&self) -> u64
         ensures ticks { result ≡ half_left self.now }
         ensures bound { result ≤ 32769 }
@@ -601,7 +603,7 @@ impl Counter {
         self.count = count_after(self.count_radix, self.count, ticks);
     }
 
-    // the first change of OUT where no load is due
+    // the ticks to the first change of OUT if no load is due
     #[tactic(auto, unfolding(crate::specs::Ahead::until_turn))]
     fn until_turn(&self) -> Option<u64>
         ensures turn { result ≡ until_turn self.now }
@@ -682,7 +684,7 @@ impl Counter {
     }
 }
 
-/// Its output is OUT.
+/// A counter's output is OUT.
 impl Timed for Counter {
     ghost use Rattle.std.proofs.Common.{sym};
     ghost use Rattle.std.specs.Prelude.{◌≡◌, ◌≤◌, IfSome};
@@ -709,8 +711,8 @@ impl Timed for Counter {
         }
     }
 
-    /// After how many ticks, from 1 on, OUT first changes as long as nothing is written and the gate stays; `None`
-    /// where it never does, and else at most 65,537.
+    /// After how many ticks, from 1 on, OUT first changes as long as nothing is written and the gate stays; `None` if
+    /// it never does, and else at most 65,537.
     fn until_change(&self) -> Option<u64>
         ensures turn { IsUntilTurn after_ticks out_of self.now result }
         ensures bound { IfSome result (λ ticks. ticks ≤ 65537) }

@@ -1,4 +1,4 @@
-//! A timer as plain numbers, laid out as C lays them out: for callers that know no enums, as benches in C.
+//! A timer as plain numbers, laid out as C lays them out: for callers that know no enums, such as benches in C.
 ghost use Rattle.std.specs.Prelude.{◌≡◌, ◌<◌, ◌≤◌, ◌%◌, if◌then◌else◌};
 ghost use Rattle.board_types.specs.declared.line.Line.{Line};
 ghost use Rattle.board_types.specs.Lines.{is_high};
@@ -10,28 +10,28 @@ use crate::program::{Access, Mode, Progress, Radix};
 use board_types::choice::TimerKind;
 use board_types::line::Line;
 
-/// A counter in 24 bytes. All numbers stand for something: where a field names its values, any other number stands
-/// for what is said there.
+/// A counter in 24 bytes. All numbers stand for something: if a field names its values, it also says what any other
+/// number stands for.
 #[repr(C)]
 #[derive(Clone, Copy)]
 pub struct CounterImage {
-    /// The newest full count; 0 is the largest. Modulo 10,000 where `radix` is decimal.
+    /// The newest full count; 0 is the largest. Modulo 10,000 if `radix` is decimal.
     pub newest: u16,
-    /// The running count; 0 is the largest. Modulo 10,000 where `count_radix` is decimal.
+    /// The running count; 0 is the largest. Modulo 10,000 if `count_radix` is decimal.
     pub count: u16,
-    /// What a latch holds, as it is read, where `has_latch` isn't 0.
+    /// The latched count, as it is read, if `has_latch` isn't 0.
     pub latch: u16,
     /// 0 to 5, as in bits 3 to 1 of a control word: 6 and 7 are modes 2 and 3. Modulo 8.
     pub mode: u8,
     /// 1 low byte, 2 high byte, 3 (and 0) low then high, as in bits 5 and 4 of a control word. Modulo 4.
     pub access: u8,
-    /// Of the control word: 0 binary, else decimal.
+    /// The control word's radix: 0 binary, else decimal.
     pub radix: u8,
-    /// Of the running count: 0 binary, else decimal.
+    /// The running count's radix: 0 binary, else decimal.
     pub count_radix: u8,
     /// 0 no full count yet, 1 one that waits to be loaded, else a loaded one.
     pub progress: u8,
-    /// The first byte of two, where `has_first_byte` isn't 0.
+    /// The first byte of two, if `has_first_byte` isn't 0.
     pub first_byte: u8,
     pub has_first_byte: u8,
     pub has_latch: u8,
@@ -41,13 +41,13 @@ pub struct CounterImage {
     pub strobe_due: u8,
     /// Whether the high byte is the next to be read of two: 0 no, else yes.
     pub high_next: u8,
-    /// 0 low, else high.
+    /// The gate: 0 low, else high.
     pub gate: u8,
-    /// 0 low, else high.
+    /// OUT: 0 low, else high.
     pub out: u8,
     /// 0 an 8253, else an 8254.
     pub kind: u8,
-    /// What the latch of an 8254's status holds, where `has_status` isn't 0.
+    /// An 8254's latched status, if `has_status` isn't 0.
     pub status: u8,
     pub has_status: u8,
     /// Whether a count is still to be loaded, which an 8254 shows: 0 no, else yes.

@@ -10,8 +10,8 @@ pub fn ticks_add()
     ensures { TicksAdd }
 {}
 
-/// A counter that counts, n ticks on: the count and OUT from any count, up to the next load in modes 2 and 3, and
-/// there what the load makes of it.
+/// A counter that counts, n ticks on: the count and OUT from any count, in modes 2 and 3 up to the next load, and what
+/// that load makes of it.
 #[tactic(auto, using(crate::proofs::Waves::counts_down, crate::proofs::Waves::counts_to_strobe, crate::proofs::Waves::counts_period, crate::proofs::Waves::counts_half, crate::proofs::Waves::reloads_at_one))]
 pub fn counts()
     ensures modes_0_and_1 { CountsDown }
@@ -66,7 +66,7 @@ pub fn strobes_once()
     ensures { StrobesOnce }
 {}
 
-/// Mode 5: the same, whatever the gate.
+/// Mode 5: OUT is low for the one tick that ends the count, and never again, whatever the gate.
 #[tactic(auto, using(crate::proofs::Waves::mode_5))]
 pub fn strobes_on_trigger()
     ensures { StrobesOnTrigger }
@@ -92,8 +92,8 @@ pub fn counts_in_decimal()
     ensures { CountsInDecimal }
 {}
 
-/// With the gate low modes 0, 2 and 3 stand still, and in mode 4 the count does, but for a load that is due. In
-/// mode 0 the first byte of two does the same.
+/// With the gate low the count stands still in modes 0, 2, 3 and 4, unless a load is due. In mode 0 the first byte of
+/// two stops it, too.
 #[tactic(auto, using(crate::proofs::Waits::gate_stops, crate::proofs::Waits::gate_stops_strobe, crate::proofs::Waits::first_byte_stops))]
 pub fn counting_stops()
     ensures gate { GateStops }
@@ -138,14 +138,14 @@ pub fn counters_tick_alike()
     ensures { CountersTickAlike }
 {}
 
-/// Any numbers of an image are a timer that can be.
+/// Any numbers of an image make a timer that can be.
 #[tactic(auto, using(crate::proofs::Numbers::any_numbers_are_a_timer))]
 pub fn any_numbers_are_a_timer()
     ensures { AnyNumbersAreATimer }
 {}
 
-/// An 8254 read back: its status first and then its count, as they were, whatever ticks follow; a second read-back before
-/// any read changes nothing.
+/// An 8254 read back: its status first and then its count, as they were, whatever ticks follow; a second read-back
+/// before any read changes nothing.
 #[tactic(auto, using(crate::proofs::ReadBack::reads_back, crate::proofs::ReadBack::read_back_is_held))]
 pub fn reads_back()
     ensures reads { ReadsBack }
@@ -182,7 +182,7 @@ pub fn knows_no_read_back()
     ensures { KnowsNoReadBack }
 {}
 
-/// From a load on OUT of an 8254 is that of an 8253, in each mode.
+/// From a load on, OUT of an 8254 is that of an 8253, in each mode.
 #[tactic(auto, using(crate::proofs::TwoKinds::makes_the_same_wave))]
 pub fn makes_the_same_wave()
     ensures { MakesTheSameWave }

@@ -1,5 +1,5 @@
-//! The timer: three counters behind four ports (Intel 8253 data sheet, "Block Diagram"; Intel 8254 data sheet, "Read-Back
-//! Command").
+//! The timer: three counters, reached through four ports (Intel 8253 data sheet, "Block Diagram"; Intel 8254 data
+//! sheet, "Read-Back Command").
 ghost use Rattle.std.specs.Prelude.{◌≡◌, ◌≤◌, ◌<◌, ◌↔◌, IfSome, IsTrue};
 ghost use Rattle.board_types.specs.Timed.{IsUntilTurn};
 ghost use Rattle.board_types.specs.declared.choice.TimerKind.{TimerKind};
@@ -43,7 +43,7 @@ impl Pit {
         Pit::with(TimerKind::I8253)
     }
 
-    /// A timer of the kind at power-on: each counter in mode 0 with no count, gates 0 and 1 high, gate 2 low.
+    /// A timer of this kind at power-on: each counter in mode 0 with no count, gates 0 and 1 high, gate 2 low.
     #[tactic(auto, unfolding(crate::specs::Pit::power_on))]
     pub fn with(kind: TimerKind) -> Self
         ensures { result ≡ power_on kind }
@@ -94,8 +94,8 @@ impl Pit {
         }
     }
 
-    /// Writes a byte of a count to counter `port`, or a control word to port 3. A control word whose bits 7
-    /// and 6 are 11 is a read-back, of which an 8253 makes nothing.
+    /// Writes a byte of a count to counter `port`, or a control word to port 3. A control word whose bits 7 and 6 are
+    /// 11 is a read-back, which an 8253 ignores.
     #[tactic(auto, unfolding(crate::specs::Pit::after_write))]
     pub fn write(&mut self, port: u8, value: u8)
         requires { port < 4 }
@@ -122,7 +122,8 @@ impl Pit {
         }
     }
 
-    /// Whether to give the level `line` to gate 2 changes nothing: the gate has it already, and OUT 2 its level there.
+    /// Whether giving the level `line` to gate 2 changes nothing: the gate has it already, and OUT2 is as that level
+    /// makes it.
     #[tactic(auto, unfolding(crate::specs::Pit::after_gate))]
     pub fn keeps_gate_2(&self, line: Line) -> bool
         ensures { IsTrue result ↔ after_gate self.now 2 line ≡ self.now }
@@ -151,7 +152,7 @@ impl Pit {
     }
 
     /// After how many ticks, from 1 on, OUT `n` first changes as long as nothing is written and gate `n` stays; `None`
-    /// where it never does, and else at most 65,537; `n` is below 3.
+    /// if it never does, and else at most 65,537; `n` is below 3.
     pub fn until_change(&self, n: u8) -> Option<u64>
         requires { n < 3 }
         ensures turn { IsUntilTurn one.after_ticks out_of (counter self.now n) result }
