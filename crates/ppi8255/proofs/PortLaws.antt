@@ -60,7 +60,7 @@ sets_one_bit s word is_bit_word = record {
   others = rw is_bit_word refl;
 }
 
--- the pins of port C by their bits: a number below 16, and 32 where the line is high
+-- the pins of port C by their bits: a number below 16, and 32 if the line is high
 pins_by_bits : (low : ℕ) (high : Bool) (k : ℕ) → low < 16 → k < 4 → has_bit (low + (if high then 2 ^ 5 else 0)) k ≡ has_bit low k
 pins_by_bits low true zero small within = ap (λ n. n == 1) (omega arith)
 pins_by_bits low true (suc zero) small within = ap (λ n. n == 1) (omega arith)
@@ -187,7 +187,7 @@ either_alike : (first : Bool) (s t u v : PpiState) → DiffersUnseen s t → Dif
 either_alike true s t u v alike others = alike
 either_alike false s t u v alike others = others
 
--- the same ports but for the latch of port C
+-- ports that differ unseen still do so with other latches of port C
 c_latch_alike : (s t : PpiState) (latch other : ℕ) → DiffersUnseen s t → (s.c_upper ≡ Output → latch / 16 ≡ other / 16) → (s.c_lower ≡ Output → latch % 16 ≡ other % 16) → DiffersUnseen (record s { c_latch = latch }) (record t { c_latch = other })
 c_latch_alike s t latch other alike upper lower = record {
   sw1 = alike.sw1;
@@ -202,7 +202,7 @@ c_latch_alike s t latch other alike upper lower = record {
   c_latch_lower = lower;
 }
 
--- the same byte in the latch of port A, and in that of port B
+-- ports that differ unseen still do so with the same byte in the latches of port A, or of port B
 a_latch_alike : (s t : PpiState) (byte : ℕ) → DiffersUnseen s t → DiffersUnseen (record s { a_latch = byte }) (record t { a_latch = byte })
 a_latch_alike s t byte alike = record {
   sw1 = alike.sw1;

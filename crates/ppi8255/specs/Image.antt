@@ -7,7 +7,7 @@ use Rattle.ppi8255.specs.declared.ppi.Direction.TheVariants.{Input, Output}
 use Rattle.ppi8255.specs.declared.image.PpiImage.{PpiImage}
 use Rattle.ppi8255.specs.Ppi.{PpiState}
 
--- as in a mode word: 0 is an output, and any other number an input
+-- a direction by its number, as in a mode word: 0 is an output, and any other number an input
 abbrev pub direction_by : ℕ → Direction
 direction_by n = if n == 0 then Output else Input
 

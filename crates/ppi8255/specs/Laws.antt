@@ -24,7 +24,7 @@ pub record SetsOneBit (s : PpiState) (word : ℕ) : Type 0 where
       → has_bit (after_write s 3 word).c_latch k ≡ (if k == word / 2 % 8 then has_bit word 0 else has_bit s.c_latch k)
   pub others : record (after_write s 3 word) { c_latch = s.c_latch } ≡ s
 
--- port C as an input: its bits 3 to 0 are the first four switches of SW2 where line 2 of port B is 1, else bit 0 the
+-- port C as an input: its bits 3 to 0 are the first four switches of SW2 if line 2 of port B is 1, else bit 0 is the
 -- fifth and bits 3 to 1 are 0; bit 5 is counter 2's output, and bits 4, 6 and 7 are 0
 pub record ShowsPins (s : PpiState) (inputs : Inputs) : Type 0 where
   pub four : has_bit (lines_b s) 2 ≡ true → (k : ℕ) → k < 4 → has_bit (byte_at s 2 inputs) k ≡ has_bit s.sw2 k
@@ -49,7 +49,7 @@ pub record LooksAlike (s t : PpiState) (writes : List (ℕ × ℕ)) : Type 0 whe
       → byte_at (after_writes s writes) port inputs ≡ byte_at (after_writes t writes) port inputs
   pub lines : lines_b (after_writes s writes) ≡ lines_b (after_writes t writes)
 
--- two ports that differ only in what the latches of inputs hold
+-- two ports differ only in what the latches of inputs hold
 pub record DiffersUnseen (s t : PpiState) : Type 0 where
   pub sw1 : s.sw1 ≡ t.sw1
   pub sw2 : s.sw2 ≡ t.sw2

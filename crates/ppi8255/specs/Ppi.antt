@@ -46,11 +46,11 @@ port_byte Input latch pins = pins
 abbrev pub lines_b : PpiState → ℕ
 lines_b s = port_byte s.b s.b_latch 0
 
--- the pins of port A: SW1 where line 7 of port B is 1, else the keyboard's latch
+-- the pins of port A: SW1 if line 7 of port B is 1, else the keyboard's latch
 abbrev pub pins_a : PpiState → Inputs → ℕ
 pins_a s inputs = if has_bit (lines_b s) 7 then s.sw1 else unwrap_or inputs.latch 0
 
--- pins 3 to 0 of port C: the first four switches of SW2 where line 2 of port B is 1, else the fifth alone
+-- pins 3 to 0 of port C: the first four switches of SW2 if line 2 of port B is 1, else the fifth alone
 abbrev pub switches_c : PpiState → ℕ
 switches_c s = if has_bit (lines_b s) 2 then s.sw2 % 16 else bit_at s.sw2 4
 
@@ -74,8 +74,8 @@ byte_at s port inputs =
 abbrev pub direction_of : ℕ → ℕ → Direction
 direction_of word k = if has_bit word k then Input else Output
 
--- a mode word sets the directions, and the output latches are clear as after reset; its mode bits 6, 5 and 2 are ignored
--- (this board's choice)
+-- a mode word sets the directions, and the output latches are clear as after reset; its mode bits 6, 5 and 2 are
+-- ignored (this board's choice)
 abbrev pub after_mode_word : PpiState → ℕ → PpiState
 after_mode_word s word = record (power_on s.sw1 s.sw2) {
   a = direction_of word 4;
@@ -84,12 +84,12 @@ after_mode_word s word = record (power_on s.sw1 s.sw2) {
   c_lower = direction_of word 0;
 }
 
--- a byte with its bit k made 1 where this holds, else 0
+-- a byte whose bit k is made 1 if `set` holds, else 0
 abbrev pub with_bit : ℕ → ℕ → Bool → ℕ
 with_bit byte k set = if set then bit_or byte (2 ^ k) else bit_and byte (2 ^ 8 - 1 - 2 ^ k)
 
--- what a write makes: a port's byte goes into its output latch, whatever its direction; a control word is a mode word
--- where its bit 7 is 1, and else its bits 3 to 1 name the bit of port C that becomes as its bit 0
+-- a write: a port's byte goes into its output latch, whatever its direction; a control word is a mode word if its bit 7
+-- is 1, and else its bits 3 to 1 name a bit of port C, which becomes its bit 0
 unfoldable pub after_write : PpiState → ℕ → ℕ → PpiState
 after_write s port byte =
     if port == 0 then record s { a_latch = byte }

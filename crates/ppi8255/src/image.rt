@@ -1,4 +1,4 @@
-//! A parallel port as plain numbers, laid out as C lays them out: for callers that know no enums, as benches in C.
+//! A parallel port as plain numbers, laid out as C lays them out: for callers that know no enums, such as benches in C.
 ghost use Rattle.std.specs.Prelude.{◌≡◌};
 ghost use Rattle.ppi8255.specs.Image.{direction_by};
 

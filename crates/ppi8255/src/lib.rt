@@ -1,5 +1,5 @@
-//! The 8255A Programmable Peripheral Interface as the IBM PC's system board wires it. A usage of its
-//! calls stands in the program parts_alone.
+//! The 8255A Programmable Peripheral Interface as the IBM PC's system board wires it. The program parts_alone shows how
+//! its calls are used.
 #![tactic(auto)]
 
 pub mod image;
