@@ -95,7 +95,7 @@ accounts_for_codes s es = record {
   within = within_run s es;
 }
 
--- settling moves a code only into an empty latch, and no second one behind it
+-- settling moves a code only into an empty latch, and no second one after it
 pub settles_once : (s : KeyboardState) (port_b : ℕ) → SettlesOnce s port_b
 unfolding after_settling
 settles_once s port_b = grind (arith, common_steps)

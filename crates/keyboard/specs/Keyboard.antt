@@ -14,19 +14,18 @@ pub record KeyboardState : Type 0 where
 abbrev pub power_on : KeyboardState
 power_on = record { waiting = []; latch = None; lost = 0 }
 
--- a code that arrives waits behind the others, or is lost where sixteen wait; the lost ones are counted up to the greatest
--- u64
+-- a code that arrives waits after the others, or is lost if sixteen wait; lost codes are counted up to the greatest u64
 unfoldable pub after_arrival : KeyboardState → ℕ → KeyboardState
 after_arrival s code =
     if nat_lt (length s.waiting) 16 then record s { waiting = s.waiting ++ code ∷ [] }
     else record s { lost = min (s.lost + 1) (2 ^ 64 - 1) }
 
--- the latch emptied
+-- the keyboard with an empty latch
 abbrev pub after_clearing : KeyboardState → KeyboardState
 after_clearing s = record s { latch = None }
 
--- settling to the lines of port B: line 7 clears the latch; while line 6 lets the keyboard send and the latch is empty, the
--- first waiting code, if there is one, moves into it
+-- settling to the lines of port B: line 7 clears the latch; while line 6 lets the keyboard send and the latch is empty,
+-- the first waiting code, if there is one, moves into it
 unfoldable pub after_settling : KeyboardState → ℕ → KeyboardState
 after_settling s port_b =
     if has_bit port_b 7 then after_clearing s

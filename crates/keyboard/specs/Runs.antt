@@ -19,27 +19,27 @@ unfoldable pub after_events : KeyboardState → List Event → KeyboardState
 after_events s [] = s
 after_events s (e ∷ es) = after_events (after_event s e) es
 
--- the codes that one event shows, for each event of a run, in order
+-- what `codes` shows at each event of a run, in order
 unfoldable pub codes_along : (KeyboardState → Event → List ℕ) → KeyboardState → List Event → List ℕ
 codes_along codes s [] = []
 codes_along codes s (e ∷ es) = codes s e ++ codes_along codes (after_event s e) es
 
--- the code that arrives
+-- the code that arrives in an event, if one does
 abbrev pub arriving_codes : KeyboardState → Event → List ℕ
 arriving_codes s (arrival code) = code ∷ []
 arriving_codes s (settling port_b) = []
 
--- the code that arrives and finds room
+-- the code that arrives and finds room, if one does
 abbrev pub accepted_codes : KeyboardState → Event → List ℕ
 accepted_codes s (arrival code) = if has_room s then code ∷ [] else []
 accepted_codes s (settling port_b) = []
 
--- the code that arrives and finds none
+-- the code that arrives and finds no room, if one does
 abbrev pub lost_codes : KeyboardState → Event → List ℕ
 lost_codes s (arrival code) = if has_room s then [] else code ∷ []
 lost_codes s (settling port_b) = []
 
--- the code that leaves the latch as line 7 of port B empties it
+-- the code that leaves the latch as line 7 of port B empties it, if there is one
 abbrev pub taken_codes : KeyboardState → Event → List ℕ
 taken_codes s (arrival code) = []
 taken_codes s (settling port_b) = if has_bit port_b 7 then option_to_list s.latch else []
@@ -54,20 +54,20 @@ pub data IsMerge : List ℕ → List ℕ → List ℕ → Type 0 where
   merged_left : {x : ℕ} {all left right : List ℕ} → IsMerge all left right → IsMerge (x ∷ all) (x ∷ left) right
   merged_right : {x : ℕ} {all left right : List ℕ} → IsMerge all left right → IsMerge (x ∷ all) left (x ∷ right)
 
--- what becomes of the codes of a run from a keyboard
+-- what becomes of the codes of a keyboard over a run of events
 pub record AccountsForCodes (s : KeyboardState) (es : List Event) : Type 0 where
-  -- first in, first out: those taken and then those still held are those held at first and then those accepted
+  -- first in, first out: the codes taken and then those still held are those held at first and then those accepted
   pub in_order : codes_along taken_codes s es ++ held_codes (after_events s es)
       ≡ held_codes s ++ codes_along accepted_codes s es
   -- each code that arrives is accepted or lost, and none is both
   pub once : IsMerge (codes_along arriving_codes s es) (codes_along accepted_codes s es) (codes_along lost_codes s es)
-  -- the lost ones are counted, up to the greatest u64
+  -- lost codes are counted, up to the greatest u64
   pub counted : s.lost < 2 ^ 64
       → (after_events s es).lost ≡ min (s.lost + length (codes_along lost_codes s es)) (2 ^ 64 - 1)
   -- no more than sixteen ever wait
   pub within : length s.waiting ≤ 16 → length (after_events s es).waiting ≤ 16
 
--- so many rounds, in each of which lines 7 and 6 of port B are 0 and 1, and then 1 and 1
+-- n rounds, in each of which lines 7 and 6 of port B are 0 and 1, and then 1 and 1
 abbrev pub rounds : ℕ → List Event
 rounds zero = []
 rounds (suc n) = settling 0x40 ∷ settling 0xC0 ∷ rounds n
@@ -76,6 +76,6 @@ rounds (suc n) = settling 0x40 ∷ settling 0xC0 ∷ rounds n
 abbrev pub ComesInTurn : KeyboardState → ℕ → Type 0
 ComesInTurn s n = codes_along taken_codes s (rounds n) ≡ take n (held_codes s)
 
--- to settle again to the same lines changes nothing more
+-- settling again to the same lines changes nothing more
 abbrev pub SettlesOnce : KeyboardState → ℕ → Type 0
 SettlesOnce s port_b = after_settling (after_settling s port_b) port_b ≡ after_settling s port_b

@@ -30,8 +30,8 @@ impl Model for Keyboard {
 }
 
 impl Keyboard {
-    /// A keyboard with no code waiting, an empty latch and no code lost. Fails only where there is no memory for
-    /// the queue.
+    /// A keyboard with no code waiting, an empty latch and no code lost. Fails only if there is no memory for the
+    /// queue.
     pub fn new(alloc: Global) -> Result<Keyboard, AllocError>
         ensures { IfOk result (λ keyboard. keyboard ≡ power_on) }
     {
@@ -42,7 +42,7 @@ impl Keyboard {
         })
     }
 
-    /// The same keyboard, in memory of its own. Fails only where there is none.
+    /// A copy of the keyboard, in memory of its own. Fails only if there is no memory for it.
     #[tactic(auto, using(crate::proofs::Copied::parts_kept))]
     pub fn copy(&self) -> Result<Keyboard, AllocError>
         ensures { IfOk result (λ keyboard. keyboard ≡ self.now) }
@@ -51,7 +51,7 @@ impl Keyboard {
             *self.waiting.allocator(),
             QUEUE_LENGTH,
         )?;
-        // both parts fit: no more than QUEUE_LENGTH codes wait
+        // both slices fit: no more than QUEUE_LENGTH codes wait
         let _count = self.waiting.len();
         let (first, rest) = self.waiting.as_slices();
         waiting.extend_from_slice(first);
@@ -63,8 +63,8 @@ impl Keyboard {
         })
     }
 
-    /// The scan code `code` comes from the keyboard: it waits behind the others, or, where `QUEUE_LENGTH` codes
-    /// wait, is lost and counted.
+    /// The scan code `code` comes from the keyboard: it waits after the others, or is lost and counted if
+    /// `QUEUE_LENGTH` codes wait.
     #[tactic(auto, unfolding(crate::specs::Keyboard::after_arrival))]
     pub fn arrive(&mut self, code: u8)
         ensures { self.new ≡ after_arrival self.old code }
@@ -87,7 +87,7 @@ impl Keyboard {
         }
     }
 
-    /// Whether nothing is left to do for these levels of port B's lines: settling to them changes nothing.
+    /// Whether nothing is left to do for these levels of port B's eight lines: settling to them changes nothing.
     #[tactic(auto, unfolding(crate::specs::Keyboard::after_settling))]
     pub fn has_settled(&self, port_b: u8) -> bool
         ensures { IsTrue result ↔ after_settling self.now port_b ≡ self.now }
@@ -98,14 +98,14 @@ impl Keyboard {
         !bit(port_b, 6) || self.latch.is_some() || self.waiting.is_empty()
     }
 
-    /// The code in the latch, `None` where it is empty.
+    /// The code in the latch, `None` if it is empty.
     pub fn latch(&self) -> Option<u8>
         ensures { result ≡ self.now.latch }
     {
         self.latch
     }
 
-    /// The waiting code at `index`, the one that moves first being at 0; `None` where no more wait.
+    /// The waiting code at `index`, the one that moves first being at 0; `None` if no more wait.
     pub fn waiting(&self, index: usize) -> Option<u8>
         ensures code { result ≡ slice_get self.now.waiting index }
         ensures few { length self.now.waiting ≤ 16 }

@@ -3,14 +3,14 @@ ghost use Rattle.std.specs.Prelude.{List, ℕ};
 ghost use Rattle.keyboard.specs.Keyboard.{KeyboardState};
 ghost use Rattle.keyboard.specs.Runs.{Event, AccountsForCodes, ComesInTurn, SettlesOnce};
 
-/// First in, first out: from any keyboard, over any run, the codes taken from the latch, the one in it and those
-/// that wait are, in this order, the codes held at first and those that arrived and found room. Each code that
-/// arrived either found room or was lost, and the lost ones are counted.
+/// First in, first out: from any keyboard, over any run, the codes taken from the latch, the one in it and those that
+/// wait are, in this order, the codes held at first and those that arrived and found room. Each code that arrived
+/// either found room or was lost, and lost codes are counted.
 pub fn accounts_for_codes()
     ensures { (s : KeyboardState) (es : List Event) → AccountsForCodes s es }
 {}
 
-/// Where no code arrives, each round in which line 6 of port B lets the keyboard send and line 7 then empties the latch
+/// If no code arrives, each round in which line 6 of port B lets the keyboard send and line 7 then empties the latch
 /// takes the next of the codes that the keyboard holds.
 pub fn comes_in_turn()
     ensures { (s : KeyboardState) (n : ℕ) → ComesInTurn s n }

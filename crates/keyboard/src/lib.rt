@@ -1,5 +1,5 @@
-//! The key codes on their way to the processor: a queue, the latch and a count of lost codes. A usage of its
-//! calls stands in the program parts_alone.
+//! The key codes on their way to the processor: a queue, the latch and a count of lost codes. The program parts_alone
+//! shows how its calls are used.
 #![tactic(auto)]
 
 pub mod keyboard;
