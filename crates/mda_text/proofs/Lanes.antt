@@ -1,10 +1,10 @@
--- What a comparison of lanes tells of the bytes.
+-- What a comparison of lanes says of the bytes.
 use Rattle.std.proofs.Common.{◌≡◌, ℕ, zero, suc, ◌+◌, ◌-◌, ◌%◌, ◌^◌, ◌<◌, ◌≤◌, ◌==◌, Bool, true, false, not, List, [], ◌∷◌, length, get_or, slice_index, refl, sym, ap, ◌∙◌, arith}
 use Rattle.std.proofs.lemmas.Bool.Decides.{nat_tests}
 use Rattle.std.proofs.lemmas.Simd.{get_or-zip2, get_or-chunk, length-chunk, length-zip2, mask_l-mod}
 use Rattle.std.specs.Simd.Lanes.{chunk, mask_l, zip2}
 
--- where no bit is set, no lane is
+-- if no bit is set, no lane is
 no_lane : (ms : List Bool) (i : ℕ) → mask_l ms ≡ 0 → get_or ms i false ≡ false
 no_lane [] i none = refl
 no_lane (true ∷ ms) i none = absurd (omega (arith, none))
@@ -17,7 +17,7 @@ differ a b = not (a == b)
 same_if_not : (a b : ℕ) → differ a b ≡ false → a ≡ b
 same_if_not a b told = grind (arith, nat_tests)
 
--- where the mask of 32 lanes is 0, the bytes under them are the same
+-- if the mask of 32 lanes is 0, the bytes under them are the same
 pub lanes_same : (a b : List ℕ) (at : ℕ) → at + 32 ≤ length a → at + 32 ≤ length b → mask_l (zip2 differ (chunk at 32 a) (chunk at 32 b)) % 2 ^ 64 ≡ 0 → (k : ℕ) → at ≤ k → k < at + 32 → slice_index a k ≡ slice_index b k
 lanes_same a b at first second none k from below =
     let xs = chunk at 32 a in

@@ -20,7 +20,7 @@ clocks_in_closed_form m (suc n) within =
     ap (λ k. iterate after_clock k m) (omega arith) ∙ iterate_more after_clock n m ∙ ap after_clock (clocks_in_closed_form m n within)
     ∙ ap (λ r. record m { raster = r }) (omega arith)
 
--- the same where clocks are counted on past the raster's end
+-- the raster after many clocks, if clocks are counted on past the raster's end
 pub clocks_are_counted : (m : MdaState) (beam n : ℕ) → m.raster ≡ beam % 259 → after_clocks m n ≡ record m { raster = (beam + n) % 259 }
 clocks_are_counted m beam n is =
     clocks_in_closed_form m n (omega arith) ∙ ap (λ r. record m { raster = r }) (omega arith)

@@ -33,7 +33,7 @@ shows_once m row column other_row other_column within other_within same =
     same_place m.start (80 * row + column) (80 * other_row + other_column) (omega arith) (omega arith) (regroup row column ∙ same ∙ sym (regroup other_row other_column)) in
     (omega arith, omega arith)
 
--- a cell from what tells it
+-- a cell, from all that it depends on
 cell_of : List ℕ → ℕ → Bool → ℕ → ℕ → ℕ
 cell_of bytes start video row column =
     let word = (start + 80 * row + column) % 2048 in character_of video (slice_index bytes (2 * word)) (slice_index bytes (2 * word + 1))
@@ -93,7 +93,7 @@ register_keeps part keeps m n byte =
     (kept_by_both part (n == 14) _ _ m (keeps m m.index m.start (with_high m.cursor byte) m.video)
     (kept_by_both part (n == 15) _ _ m (keeps m m.index m.start (with_low m.cursor byte) m.video) refl)))
 
--- it stays at a write to a port
+-- a part that no register holds stays at a write to a port
 pub write_keeps : {A : Type 0} (part : MdaState → A) → IsNoRegister part → (m : MdaState) (port byte : ℕ) → part (after_write m port byte) ≡ part m
 unfolding after_write
 write_keeps part keeps m port byte =

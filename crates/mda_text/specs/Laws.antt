@@ -16,8 +16,8 @@ abbrev pub with_start : MdaState → ℕ → MdaState
 with_start m start =
     after_write (after_write (after_write (after_write m 0x3B4 12) 0x3B5 (start / 256)) 0x3B4 13) 0x3B5 (start % 256)
 
--- a number below 2^14 that is given as a start address is the word that the first cell shows, round the 2,048 words;
--- cell (r, c) shows the word that is 80 r + c further on
+-- a number below 2^14 that is given as a start address becomes it; cell (r, c) then shows the word that is 80 r + c
+-- further on, round the 2,048 words
 pub record StartsAt (m : MdaState) (start : ℕ) : Type 0 where
   pub given : start < 2 ^ 14 → (with_start m start).start ≡ start
   pub words : (row column : ℕ) → start < 2 ^ 14
@@ -29,7 +29,7 @@ ShowsOnce m =
     (row column other_row other_column : ℕ) → IsCell row column → IsCell other_row other_column
     → word_at m row column ≡ word_at m other_row other_column → (row ≡ other_row) × (column ≡ other_column)
 
--- what cells show is told by text memory, start address and video enable alone
+-- what cells show depends on text memory, start address and video enable alone
 abbrev pub ShowsAlike : MdaState → MdaState → Type 0
 ShowsAlike m other =
     m.bytes ≡ other.bytes → m.start ≡ other.start → m.video ≡ other.video → (row column : ℕ)
@@ -41,7 +41,7 @@ Scrolls m start =
     (row column : ℕ) → start < 2 ^ 14 → start % 2048 ≡ (m.start + 80) % 2048
     → cell (with_start m start) row column ≡ cell m (row + 1) column
 
--- a byte written to text memory changes no cell but those that show its word
+-- a byte written to text memory changes no cell except those that show its word
 abbrev pub ChangesOneCell : MdaState → ℕ → ℕ → Type 0
 ChangesOneCell m offset byte =
     (row column : ℕ) → word_at m row column ≢ offset / 2
@@ -63,9 +63,9 @@ pub record IsBlank (m : MdaState) : Type 0 where
   pub size : length m.bytes ≡ 4096
   pub bytes : (offset : ℕ) → text_byte m offset ≡ 0
 
--- the status over time
+-- how the status follows the beam over time
 pub record TellsBeam (m : MdaState) : Type 0 where
-  -- it is F1h exactly while the raster, which goes round after 259 clocks, is 219 or more, and else F0h
+  -- the status is F1h exactly while the raster, which goes round after 259 clocks, is 219 or more, and else F0h
   pub high : (n : ℕ) → (status (after_clocks m n) ≡ 0xF1) ↔ (219 ≤ (m.raster + n) % 259)
   pub low : (n : ℕ) → (status (after_clocks m n) ≡ 0xF0) ↔ ((m.raster + n) % 259 < 219)
   -- nothing but clocks moves the beam
@@ -86,20 +86,20 @@ unfoldable pub after_events : MdaState → List Event → MdaState
 after_events m [] = m
 after_events m (e ∷ es) = after_events (after_event m e) es
 
--- a mark is made, and then these events happen
+-- the adapter after a mark and then these events
 abbrev pub since_mark : MdaState → List Event → MdaState
 since_mark m es = after_events (after_mark m) es
 
--- what the walk over the changed cells tells then
+-- which cells are named as changed after a mark and then these events
 pub record TellsChanges (m : MdaState) (es : List Event) : Type 0 where
-  -- a cell is named, while the mark has a number, exactly if it shows another character than at the mark
+  -- while the mark has a number, a cell is named exactly if it shows another character than at the mark
   pub named : m.next_mark ≢ 0 → (row column : ℕ) → IsCell row column
       → Contains (changed_cells (since_mark m es) m.next_mark) (row, column)
       ↔ (cell (since_mark m es) row column ≢ cell m row column)
-  -- by any other number all cells are named
+  -- for a number other than the mark's, all cells are named
   pub all : (mark row column : ℕ) → (mark ≢ m.next_mark) ⊎ (mark ≡ 0) → IsCell row column
       → Contains (changed_cells (since_mark m es) mark) (row, column)
-  -- in rising order, each once
+  -- cells are named in rising order, each once
   pub rising : (mark : ℕ) → AllPairs (λ a b. 80 * a.0 + a.1 < 80 * b.0 + b.1) (changed_cells (since_mark m es) mark)
 
 -- the n-th mark since power-on has the number n, as long as that is a u64, and then 0

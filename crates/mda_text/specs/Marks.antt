@@ -1,4 +1,4 @@
--- Marks: a mark keeps the characters that are shown, and later the cells are named whose character has changed since.
+-- Marks: a mark keeps the characters that are shown, and later the cells whose character has changed since are named.
 -- All of it is this board's choice.
 -- To be believed by callers of this crate: the headline does not rest on it.
 use Rattle.std.specs.Prelude.{ℕ, ◌+◌, ◌%◌, ◌^◌, ◌==◌, Bool, not, ◌&&◌, ◌||◌, if◌then◌else◌, List, map, slice_index}
@@ -6,11 +6,11 @@ use Rattle.std.specs.List.{range_with_len, filter}
 use Rattle.mda_text.specs.Mda.{MdaState, cell_count}
 use Rattle.mda_text.specs.Screen.{place, nth_character, characters}
 
--- marks are numbered from 1 up to the greatest u64, and after it 0 for ever
+-- the number of the mark after mark n: they rise from 1 to the greatest u64, and then are 0 for ever
 abbrev pub number_after : ℕ → ℕ
 number_after n = if n == 0 then 0 else (n + 1) % 2 ^ 64
 
--- a mark made, with the number that was the next one
+-- the adapter after a mark, which gets the number that was the next one
 unfoldable pub after_mark : MdaState → MdaState
 after_mark m = record m { kept = characters m; last_mark = m.next_mark; next_mark = number_after m.next_mark }
 
@@ -22,7 +22,7 @@ is_last m mark = mark == m.last_mark && not (mark == 0)
 unfoldable pub is_changed : MdaState → ℕ → ℕ → Bool
 is_changed m mark n = not (is_last m mark) || not (nth_character m n == slice_index m.kept n)
 
--- the cells from the n-th on, so many of them, that have changed since a mark, in reading order
+-- of `count` cells from the n-th on, in reading order, those that have changed since a mark
 unfoldable pub changed_among : MdaState → ℕ → ℕ → ℕ → List (ℕ × ℕ)
 changed_among m mark n count = map place (filter (is_changed m mark) (range_with_len n count))
 

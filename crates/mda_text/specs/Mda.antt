@@ -16,15 +16,15 @@ pub record MdaState : Type 0 where
   pub index : ℕ
   -- R12 and R13: the word that is shown first
   pub start : ℕ
-  -- R14 and R15
+  -- R14 and R15: the word that has the cursor
   pub cursor : ℕ
-  -- video enable
+  -- whether the video is enabled
   pub video : Bool
   -- where the beam stands, counted in processor clocks
   pub raster : ℕ
   -- the characters that were shown at the last mark, in reading order
   pub kept : List ℕ
-  -- the number of the last mark, 0 where there is none
+  -- the number of the last mark, 0 if there is none
   pub last_mark : ℕ
   -- the number that the next mark gets
   pub next_mark : ℕ
@@ -58,11 +58,11 @@ text_byte m offset = slice_index m.bytes offset
 unfoldable pub with_text_byte : MdaState → ℕ → ℕ → MdaState
 with_text_byte m offset byte = record m { bytes = slice_set m.bytes offset byte }
 
--- a register of 14 bits whose high part, six bits wide, is replaced
+-- a register of 14 bits with its high part, six bits wide, replaced
 abbrev pub with_high : ℕ → ℕ → ℕ
 with_high word byte = byte % 64 * 256 + word % 256
 
--- the same of its low part of eight bits
+-- a register of 14 bits with its low part, eight bits wide, replaced
 abbrev pub with_low : ℕ → ℕ → ℕ
 with_low word byte = word / 256 * 256 + byte
 
@@ -70,7 +70,7 @@ with_low word byte = word / 256 * 256 + byte
 abbrev pub register_byte : MdaState → ℕ → ℕ
 register_byte m n = if n == 14 then m.cursor / 256 else (if n == 15 then m.cursor % 256 else 0)
 
--- register n written; those that change nothing of the screen's text aren't kept
+-- the adapter after a write to register n; registers that change nothing of the screen's text aren't kept
 abbrev pub with_register : MdaState → ℕ → ℕ → MdaState
 with_register m n byte =
     if n == 12 then record m { start = with_high m.start byte }
@@ -84,11 +84,11 @@ with_register m n byte =
 abbrev pub status : MdaState → ℕ
 status m = if nat_le 219 (m.raster % 259) then 0xF1 else 0xF0
 
--- the level of its bit 0: high as the beam goes back
+-- the level of the status port's bit 0: high as the beam goes back
 abbrev pub retrace : MdaState → Line
 retrace m = from_bool (has_bit (status m) 0)
 
--- the byte that a read of a port gives; a read changes nothing, and FFh is read where nothing answers
+-- the byte that a read of a port gives; a read changes nothing, and FFh is read if nothing answers
 unfoldable pub byte_at : MdaState → ℕ → ℕ
 byte_at m port = if port == 0x3B5 then register_byte m m.index else (if port == 0x3BA then status m else 0xFF)
 

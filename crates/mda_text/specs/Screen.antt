@@ -1,17 +1,17 @@
--- What the screen shows: 25 rows of 80 characters, each told by text memory, the start address and the video enable
--- (Motorola MC6845 data sheet, "Start Address Register"; IBM PC Technical Reference, "IBM Monochrome Display and
--- Parallel Printer Adapter": code, then attribute).
+-- What the screen shows: 25 rows of 80 characters, each of which depends on text memory, the start address and the
+-- video enable (Motorola MC6845 data sheet, "Start Address Register"; IBM PC Technical Reference, "IBM Monochrome
+-- Display and Parallel Printer Adapter": code, then attribute).
 -- To be believed: the headline rests on it.
 use Rattle.std.specs.Prelude.{ℕ, ◌+◌, ◌*◌, ◌/◌, ◌%◌, ◌==◌, Bool, ◌&&◌, ◌||◌, not, if◌then◌else◌, nat_le, List, [], ◌∷◌, ◌++◌, map, bit_and}
 use Rattle.std.specs.List.{range_with_len, flat_map}
 use Rattle.mda_text.specs.Mda.{MdaState, text_byte, cell_count}
 
--- a code shows itself from 20h to 7Eh, and else as a full stop (this board's choice)
+-- the character of a code: itself from 20h to 7Eh, and else a full stop (this board's choice)
 abbrev pub glyph : ℕ → ℕ
 glyph code = if nat_le 0x20 code && nat_le code 0x7E then code else 46
 
--- a cell is a space where the video is off, where the attribute's foreground and background are both black, and where
--- the code is 0 (the last is this board's choice)
+-- a cell is a space if the video is off, if the attribute's foreground and background are both black, or if the code is
+-- 0 (the last is this board's choice)
 abbrev pub character_of : Bool → ℕ → ℕ → ℕ
 character_of video code attribute = if not video || (bit_and attribute 0x77 == 0) || (code == 0) then 32 else glyph code
 

@@ -18,17 +18,17 @@ showing bytes start video = record {
   next_mark = 0;
 }
 
--- text memory is still the copy, but in the blocks of 32 bytes that are marked as written
+-- text memory is still the copy, except in the blocks of 32 bytes that are marked as written
 abbrev pub IsCopied : List ℕ → List ℕ → List Bool → Type 0
 IsCopied bytes copy written =
     (k : ℕ) → k < 4096 → slice_index_or written (k / 32) false ≡ false → slice_index bytes k ≡ slice_index copy k
 
--- and the characters that are kept are the copy's
+-- the characters that are kept are those that the copy shows, and text memory is still the copy in unmarked blocks
 pub record Recalls (bytes kept copy : List ℕ) (start : ℕ) (video : Bool) (written : List Bool) : Type 0 where
   pub shown : kept ≡ characters (showing copy start video)
   pub copied : IsCopied bytes copy written
 
--- a word has the same two bytes in both
+-- a word has the same two bytes in text memory and in the copy
 pub record SameWord (bytes copy : List ℕ) (word : ℕ) : Type 0 where
   pub code : slice_index bytes (2 * word) ≡ slice_index copy (2 * word)
   pub attribute : slice_index bytes (2 * word + 1) ≡ slice_index copy (2 * word + 1)

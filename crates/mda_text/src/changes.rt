@@ -25,7 +25,7 @@ impl<'a> Model for ChangedCells<'a> {
 }
 
 impl<'a> ChangedCells<'a> {
-    /// The cells to name where `mark` is given.
+    /// The cells to name for `mark`.
     pub(crate) fn new(mda: &'a Mda, mark: u64) -> ChangedCells<'a>
         ensures { result ≡ changed_cells mda.now mark }
     {

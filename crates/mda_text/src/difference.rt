@@ -18,7 +18,7 @@ fn same_block(a: &[u8], b: &[u8], at: usize) -> bool
     differing.to_bitmask() == 0
 }
 
-/// How many bytes at the front are the same, told in whole blocks.
+/// How many bytes at the front are the same, counted in whole blocks.
 fn same_blocks(a: &[u8], b: &[u8]) -> usize
     requires { length a.now ≡ length b.now }
     ensures within { result ≤ length a.now }
@@ -31,7 +31,7 @@ fn same_blocks(a: &[u8], b: &[u8]) -> usize
     at
 }
 
-/// The least place where two slices of one length differ; none where they are the same.
+/// The least place where two slices of one length differ; none if they are the same.
 pub fn first_difference(a: &[u8], b: &[u8]) -> Option<usize>
     requires { length a.now ≡ length b.now }
     ensures { MatchOption result (a.now ≡ b.now) (DiffersFirstAt a.now b.now) }

@@ -14,7 +14,7 @@ pub fn shows_once()
     ensures { (m : MdaState) → ShowsOnce m }
 {}
 
-/// What the cells show is told by text memory, the start address and the video enable alone.
+/// What the cells show depends on text memory, the start address and the video enable alone.
 pub fn shows_alike()
     ensures { (m other : MdaState) → ShowsAlike m other }
 {}
@@ -39,13 +39,13 @@ pub fn is_blank()
     ensures { IsBlank power_on }
 {}
 
-/// The status over time: which it is after any number of clocks.
+/// The status over time: what it is after any number of clocks.
 pub fn tells_beam()
     ensures { (m : MdaState) → TellsBeam m }
 {}
 
-/// After a mark and whatever happens then, the cells that are named by its number are those that show another
-/// character than at the mark; by any other number all are. They come in reading order.
+/// After a mark and whatever happens then, the cells that are named by its number are those that show another character
+/// than at the mark; by any other number all are. They come in reading order.
 pub fn tells_changes()
     ensures { (m : MdaState) (es : List Event) → TellsChanges m es }
 {}

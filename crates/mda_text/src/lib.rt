@@ -1,5 +1,5 @@
-//! The monochrome text adapter: text memory, the MC6845's start and cursor, the mode register, the status port and
-//! the screen's text. A usage of its calls stands in the program parts_alone.
+//! The monochrome text adapter: text memory, the MC6845's start and cursor, the mode register, the status port and the
+//! screen's text. The program parts_alone shows how its calls are used.
 #![tactic(auto)]
 
 pub mod changes;

@@ -41,13 +41,13 @@ pub const CELL_COUNT: u16 = 2000;
 /// How many words text memory has: a code and an attribute each.
 pub(crate) const WORD_COUNT: u32 = 2048;
 
-/// After so many processor clocks the beam is where it was.
+/// The beam is back where it was after this number of processor clocks.
 const RASTER_CLOCKS: u64 = 259;
 
-/// In the clocks of the raster from this one on the beam goes back.
+/// The beam goes back in the clocks of the raster from this one on.
 const RETRACE_START: u64 = 219;
 
-/// The adapter, with the characters that its last mark kept, and what that mark found them in.
+/// The adapter, with the characters that its last mark kept, and a copy of what that mark found in text memory.
 #[derive(Drop)]
 pub struct Mda {
     pub(crate) bytes: Vec<u8>,
@@ -89,8 +89,8 @@ impl Model for Mda {
 }
 
 impl Mda {
-    /// The adapter at power-on. Fails only where there is no memory for its 4,096 bytes, and for the 2,000 characters
-    /// and the 4,096 bytes that a mark keeps.
+    /// The adapter at power-on. Fails only if there is no memory for its 4,096 bytes, and for the 2,000 characters and
+    /// the 4,096 bytes that a mark keeps.
     #[tactic(auto, unfolding(crate::specs::Mda::power_on))]
     pub fn new(alloc: Global) -> Result<Mda, AllocError>
         ensures { IfOk result (λ mda. mda ≡ power_on) }
@@ -115,7 +115,7 @@ impl Mda {
         })
     }
 
-    /// The same adapter in memory of its own. Fails only where there is none.
+    /// A copy of the adapter, in memory of its own. Fails only if there is no memory for it.
     pub fn copy(&self) -> Result<Mda, AllocError>
         ensures { IfOk result (λ mda. mda ≡ self.now) }
     {
@@ -154,7 +154,7 @@ impl Mda {
         }
     }
 
-    /// The byte that a read of `port` gives: FFh where the adapter doesn't answer, and at 3B4h and 3B8h, which can
+    /// The byte that a read of `port` gives: FFh if the adapter doesn't answer there, and at 3B4h and 3B8h, which can
     /// only be written.
     #[tactic(auto, unfolding(crate::specs::Mda::byte_at))]
     pub fn read_port(&self, port: u16) -> u8
@@ -167,7 +167,7 @@ impl Mda {
         }
     }
 
-    /// Writes `value` to `port`; where the adapter doesn't answer, and at 3BAh, nothing happens.
+    /// Writes `value` to `port`; if the adapter doesn't answer there, and at 3BAh, nothing happens.
     #[tactic(auto, unfolding(crate::specs::Mda::after_write))]
     pub fn write_port(&mut self, port: u16, value: u8)
         ensures { self.new ≡ after_write self.old port value }
@@ -214,8 +214,8 @@ impl Mda {
         character_of(self.video, self.read_mem(offset), self.read_mem(offset + 1))
     }
 
-    /// Keeps the characters that are shown now, and gives the mark's number: 1 and then one more each time, up to
-    /// the greatest `u64`, and after it always 0.
+    /// Keeps the characters that are shown now, and gives the mark's number: 1 and then one more each time, up to the
+    /// greatest `u64`, and always 0 after it.
     #[tactic(auto, unfolding(crate::specs::Marks::after_mark))]
     pub fn mark(&mut self) -> u64
         ensures number { result ≡ self.old.next_mark }
@@ -230,8 +230,8 @@ impl Mda {
         self.last_mark
     }
 
-    /// The cells whose character isn't the one that `mark` kept, in reading order, where it is the last mark that
-    /// was made; of any other number, and of 0, all 2,000 cells.
+    /// The cells whose character isn't the one that `mark` kept, in reading order, if it is the last mark that was
+    /// made; for any other number, and for 0, all 2,000 cells.
     pub fn changed_since(&self, mark: u64) -> ChangedCells<'_>
         ensures cells { result ≡ changed_cells self.now mark }
         ensures within { length result ≤ 2000 }
@@ -239,8 +239,8 @@ impl Mda {
         ChangedCells::new(self, mark)
     }
 
-    /// The screen's text: 25 lines of 80 characters, each ended by a line feed. Fails only where there is no memory
-    /// for it.
+    /// The screen's text: 25 lines of 80 characters, each ended by a line feed. Fails only if there is no memory for
+    /// it.
     #[tactic(auto, unfolding(crate::specs::Screen::screen_text))]
     pub fn text(&self) -> Result<String, AllocError>
         ensures { IfOk result (λ text. string_bytes text ≡ screen_text self.now) }
@@ -286,11 +286,11 @@ impl Mda {
     fn keep_characters(&mut self)
         ensures { self.new ≡ record self.old { kept = characters self.old } }
     {
-        // one is kept for each cell
+        // one character is kept for each cell
         let _ = &self.kept;
         for n in 0..CELL_COUNT {
             self.kept[n as usize] = self.nth_character(n);
-            // those that are kept are no longer the snapshot's
+            // the characters that are kept are no longer the snapshot's
             self.snapshot.taken = false;
         }
     }
@@ -336,7 +336,7 @@ impl Mda {
     }
 }
 
-/// Its tick is a processor clock, and its output bit 0 of the status port.
+/// The adapter's tick is a processor clock, and its output is bit 0 of the status port.
 impl Timed for Mda {
     ghost use Rattle.std.proofs.Common.{sym};
     ghost use Rattle.std.specs.Prelude.{◌≡◌};
@@ -353,7 +353,7 @@ impl Timed for Mda {
     fn advance(&mut self, ticks: u64)
         ensures { self.new ≡ after_clocks self.old ticks }
     {
-        // The clocks are only counted; where the beam stands is worked out where it is asked for.
+        // the clocks are only counted; where the beam stands is worked out when it is asked for
         self.beam = match self.beam.checked_add(ticks) {
             Some(beam) => beam,
             None => self.raster() + ticks % RASTER_CLOCKS,
@@ -374,14 +374,14 @@ impl Timed for Mda {
     ghost adds = { λ m k n. sym (iterate_add after_clock k n m) };
 }
 
-// the number with its high part replaced, which has six bits
+// a register of 14 bits with its high part, which has six bits, replaced
 fn with_high(word: u16, byte: u8) -> u16
     ensures { result ≡ with_high word byte }
 {
     u16::from(byte % 64) * 256 + word % 256
 }
 
-// the number with its low part replaced
+// a register of 14 bits with its low part replaced
 fn with_low(word: u16, byte: u8) -> u16
     ensures { result ≡ with_low word byte }
 {

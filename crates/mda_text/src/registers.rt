@@ -7,9 +7,9 @@ pub struct Registers {
     pub index: u8,
     /// R12 and R13: the word that is shown first.
     pub start: u16,
-    /// R14 and R15.
+    /// R14 and R15: the word that has the cursor.
     pub cursor: u16,
-    /// Video enable.
+    /// Whether the video is enabled.
     pub video: bool,
     /// Where the beam stands in its raster of 259 processor clocks.
     pub raster: u16,

@@ -10,7 +10,7 @@ use crate::mda::{CELL_COUNT, Mda, WORD_COUNT};
 /// How many bytes of text memory are marked as written at once.
 pub(crate) const BLOCK_BYTES: usize = 32;
 
-/// How many words they are.
+/// How many words a block has.
 const BLOCK_WORDS: usize = BLOCK_BYTES / 2;
 
 /// What the last mark found.
@@ -19,14 +19,15 @@ pub struct Snapshot {
     pub(crate) bytes: Vec<u8>,
     pub(crate) start: u16,
     pub(crate) video: bool,
-    /// The blocks of text memory that were written since.
+    /// The blocks of text memory that were written since the last mark.
     pub(crate) written: [bool; 128],
-    /// Not before the first mark.
+    /// Whether there is a snapshot: not before the first mark.
     pub(crate) taken: bool,
 }
 
 impl Mda {
-    /// Takes what text memory, start and video enable are now, where their characters are those that are kept.
+    /// Takes what text memory, start and video enable are now, when the characters that are kept are those that they
+    /// show.
     pub(crate) fn take_snapshot(&mut self)
         requires { self.old.kept ≡ characters self.old }
         ensures { self.new ≡ self.old }
@@ -39,7 +40,7 @@ impl Mda {
     }
 
     /// How many cells from the `n`-th on, below 2,000, can't have changed since `mark`, as far as their block of text
-    /// memory tells; 0 where that isn't known.
+    /// memory shows; 0 if that isn't known.
     pub(crate) fn unchanged_from(&self, mark: u64, n: u16) -> u16
         requires { n < 2000 }
         ensures within { n + result ≤ 2000 }
@@ -58,7 +59,7 @@ impl Mda {
     }
 }
 
-/// How many words from this one on, below 2,048, have the bytes that the mark found, as far as their block tells.
+/// How many words from `word` on, below 2,048, have the bytes that the mark found, as far as their block shows.
 fn same_words(bytes: &[u8], snapshot: &Snapshot, word: usize) -> usize
     requires below { word < 2048 }
     requires bytes { length bytes.now ≡ 4096 }
@@ -73,7 +74,7 @@ fn same_words(bytes: &[u8], snapshot: &Snapshot, word: usize) -> usize
         return end - word;
     }
     let (from, to) = (2 * word, 2 * end);
-    // where the code differs, as it mostly does in a word that has changed, the rest isn't compared
+    // if the code differs, as it mostly does in a word that has changed, the rest isn't compared
     if bytes[from] != snapshot.bytes[from] {
         return 0;
     }
