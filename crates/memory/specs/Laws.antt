@@ -3,7 +3,8 @@
 use Rattle.std.specs.Prelude.{ℕ, ◌≡◌, ◌≢◌, ◌<◌, true, false, List}
 use Rattle.memory.specs.Map.{address_count, MemoryMap, byte_at, is_writable, with_byte, IsMap, power_on_byte, power_on}
 
--- a byte reads back where there is RAM, elsewhere nothing changes, and a write leaves every other byte as it is
+-- a byte that is written to RAM reads back, a write elsewhere changes nothing, and a write leaves every other byte as
+-- it is
 abbrev pub WriteChangesRamAlone : Type 0
 WriteChangesRamAlone =
     (memory : MemoryMap) (address byte : ℕ) →
@@ -12,7 +13,7 @@ WriteChangesRamAlone =
     × ((other : ℕ) → other ≢ address → byte_at (with_byte memory address byte) other ≡ byte_at memory other)
     × ((with_byte memory address byte).ram_size ≡ memory.ram_size)
 
--- of a whole map all RAM can be written
+-- all RAM of a whole map can be written
 abbrev pub RamIsWritable : Type 0
 RamIsWritable =
     (memory : MemoryMap) (address : ℕ) → IsMap memory → address < memory.ram_size → is_writable memory address ≡ true

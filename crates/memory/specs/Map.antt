@@ -1,5 +1,5 @@
--- The memory map: one byte for each of 1,048,576 addresses. What stands at the text adapter's addresses is
--- its own, and not said here.
+-- The memory map: one byte for each of 1,048,576 addresses. What stands at the text adapter's addresses belongs to the
+-- adapter, and isn't defined here.
 -- To be believed: the headline rests on it.
 use Rattle.std.specs.Prelude.{ℕ, ◌≡◌, ◌%◌, ◌<◌, ◌≤◌, ◌&&◌, Bool, true, false, if◌then◌else◌, nat_lt, List, map, length, slice_index, slice_set, unwrap_or, Option, IsSome}
 use Rattle.std.specs.List.{range_with_len}
@@ -18,7 +18,7 @@ pub record MemoryMap : Type 0 where
   pub ram_size : ℕ
   pub cells : List ℕ
 
--- FFh is read where nothing answers
+-- the byte that is read: FFh if nothing answers
 abbrev pub byte_answered : Region → ℕ → ℕ
 byte_answered Nothing cell = 0xFF
 byte_answered _ cell = cell
@@ -44,7 +44,8 @@ pub record IsMap (memory : MemoryMap) : Type 0 where
   pub bytes : length memory.cells ≡ 1048576
   pub ram : memory.ram_size ≤ 0xA0000
 
--- RAM and text memory are 0 and the ROM FFh, but for the image's bytes (this board's choice)
+-- the byte of an address at power-on: RAM and text memory are 0 and the ROM FFh, but for the image's bytes (this
+-- board's choice)
 abbrev pub byte_of_region : Region → Option ℕ → ℕ
 byte_of_region Ram given = unwrap_or given 0
 byte_of_region Text given = 0

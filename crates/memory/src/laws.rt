@@ -1,7 +1,7 @@
 //! What holds of every memory map. Each is an empty function whose contract states it.
 ghost use Rattle.memory.specs.Laws.{WriteChangesRamAlone, RamIsWritable, PowerOnBytes};
 
-/// A write changes the byte of a RAM address and no other, and an address where nothing answers, or in the ROM,
+/// A write changes the byte of a RAM address and no other; an address at which nothing answers, or one in the ROM,
 /// keeps its byte.
 pub fn write_changes_ram_alone()
     ensures { WriteChangesRamAlone }

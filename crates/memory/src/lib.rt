@@ -1,5 +1,5 @@
-//! The memory of the system board outside the text adapter: RAM from 0, the ROM at F0000h, and nothing
-//! elsewhere (IBM PC Technical Reference, "System Memory Map"). A usage of its calls stands in the program parts_alone.
+//! The memory of the system board outside the text adapter: RAM from 0, the ROM at F0000h, and nothing elsewhere (IBM
+//! PC Technical Reference, "System Memory Map"). The program parts_alone shows how its calls are used.
 #![tactic(auto)]
 
 pub mod laws;

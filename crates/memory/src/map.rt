@@ -62,9 +62,9 @@ impl Model for Memory {
 }
 
 impl Memory {
-    /// The memory at power-on of a board with `ram_kb` times 1,024 bytes of RAM: RAM is 0 and the ROM FFh, but
-    /// for the image's bytes. Refused as `RamSize` where the size isn't a multiple of 16 from 16 to 640, or
-    /// the image has a byte between the RAM's end and A0000h.
+    /// The memory at power-on of a board with `ram_kb` times 1,024 bytes of RAM: RAM is 0 and the ROM FFh, but for the
+    /// image's bytes. Refused as `RamSize` if the size isn't a multiple of 16 from 16 to 640, or if the image has a
+    /// byte between the RAM's end and A0000h.
     #[tactic(auto, unfolding(crate::specs::Map::power_on))]
     pub fn new(alloc: Global, ram_kb: u16, image: &Image) -> Result<Memory, MemoryFault>
         ensures power_on { IfOk result (λ memory. memory ≡ power_on image.now (1024 * ram_kb)) }
@@ -99,7 +99,7 @@ impl Memory {
         }
     }
 
-    /// The eight bytes from `addr` on, below 100000h, the first one lowest, if they lie all in RAM, or all in the ROM.
+    /// The eight bytes from `addr` on, below 100000h, the first one lowest, if they lie all in RAM or all in the ROM.
     #[inline(always)]
     pub fn code(&self, addr: u32) -> Option<u64>
         requires { addr < 2 ^ 20 }
@@ -144,8 +144,7 @@ impl Memory {
         addr < self.ram_size
     }
 
-    /// Writes `byte` at `addr`, below 100000h and outside the text adapter's memory. Where there is no RAM
-    /// nothing changes.
+    /// Writes `byte` at `addr`, below 100000h and outside the text adapter's memory. Without RAM there nothing changes.
     #[tactic(auto, unfolding(crate::specs::Map::with_byte, crate::specs::Map::is_writable))]
     pub fn write(&mut self, addr: u32, byte: u8)
         requires within { addr < 2 ^ 20 }
@@ -166,13 +165,13 @@ impl Memory {
         ensures within { addr + 1 < 0xA0000 }
     {
         let at = addr as usize;
-        // Where the bytes lie is asked for once, so that the word is written in one access.
+        // the bytes' place is asked for once, so that the word is written in one access
         let cells = self.cells.as_mut_slice();
         cells[at] = (word % 256) as u8;
         cells[at + 1] = (word / 256) as u8;
     }
 
-    /// The same memory in a place of its own.
+    /// A copy of the memory, in a place of its own. Fails only if there is no memory for it.
     pub fn copy(&self) -> Result<Memory, AllocError>
         ensures { IfOk result (λ memory. memory ≡ self.now) }
     {
@@ -214,7 +213,8 @@ fn power_on_cells(alloc: Global, ram_size: u32, image: &Image) -> Result<Vec<u8>
     Ok(with_image(cells, image))
 }
 
-/// The bytes at power-on without an image's: RAM and text memory 0, the ROM FFh, and FFh where nothing answers.
+/// The bytes at power-on without an image's: RAM and text memory are 0, the ROM is FFh, and FFh is read if nothing
+/// answers.
 fn bare_cells(alloc: Global, ram_size: usize) -> Result<Vec<u8>, AllocError>
     requires { ram_size ≤ 0xA0000 }
     ensures cells { IfOk result (λ cells. (addr : ℕ) → addr < 1048576
