@@ -14,7 +14,7 @@ use Rattle.wiring.specs.Wires.{after_settling, after_clock, after_clocks}
 use Rattle.wiring.proofs.Latch.{latch_settled}
 use Rattle.wiring.proofs.Speaker.{ppi_of_clocks}
 
--- with the same parallel port and keyboard, others go on alone as well
+-- chips with the parallel port and the keyboard of chips that go on alone do so, too
 pub alone_alike : (s t : ChipsState) → t.ppi ≡ s.ppi → t.keyboard ≡ s.keyboard → GoesOnAlone s → GoesOnAlone t
 alone_alike s t ppi keyboard alone = record {
   muted = ap (λ p. has_bit (lines_b p) 1) ppi ∙ alone.muted;
@@ -38,7 +38,7 @@ keyboard_of_clocks s (suc n) settled =
     ap (λ (u : ChipsState). u.keyboard) (ap (λ k. after_clocks s k) more ∙ iterate_more after_clock n s)
     ∙ keyboard_of_clock t still ∙ same
 
--- it has settled then, too
+-- a keyboard that has settled has still settled at any later clock
 pub keys_settled_later : (s : ChipsState) (n : ℕ) → KeysSettled s → KeysSettled (after_clocks s n)
 keys_settled_later s n settled =
     let t : ChipsState = after_clocks s n in
@@ -46,7 +46,7 @@ keys_settled_later s n settled =
     ap (λ p. keys.after_settling t.keyboard (lines_b p)) (ppi_of_clocks s n) ∙ ap (λ k. keys.after_settling k (lines_b s.ppi)) same
     ∙ settled ∙ sym same
 
--- they go on alone at any later clock
+-- chips that go on alone still do so at any later clock
 pub alone_later : (s : ChipsState) (n : ℕ) → GoesOnAlone s → GoesOnAlone (after_clocks s n)
 alone_later s n alone = alone_alike s (after_clocks s n) (ppi_of_clocks s n) (keyboard_of_clocks s n alone.keys) alone
 
@@ -54,6 +54,6 @@ pub low_now : (s : ChipsState) → has_bit (lines_b s.ppi) 1 ≡ false → is_sp
 unfolding is_speaker_high
 low_now s low = ap (λ b. b && is_high s.pit.counter_2.out) low
 
--- and leave the speaker low
+-- chips that go on alone leave the speaker low
 pub low_alone : (s : ChipsState) (n : ℕ) → GoesOnAlone s → is_speaker_high (after_clocks s n) ≡ false
 low_alone s n alone = low_now (after_clocks s n) (ap (λ p. has_bit (lines_b p) 1) (ppi_of_clocks s n) ∙ alone.muted)

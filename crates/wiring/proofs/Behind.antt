@@ -1,4 +1,4 @@
--- What a timer that is some ticks behind has in common with the one that isn't.
+-- What a timer that lags by some ticks has in common with one that doesn't.
 use Rattle.std.proofs.Common.{◌≡◌, ℕ, zero, suc, ◌+◌, ◌-◌, ◌<◌, ◌≤◌, true, refl, sym, ap, ◌∙◌, subst, arith, nat_lt, Option, None, Some}
 use Rattle.std.proofs.lemmas.Bool.Decides.{nat_tests}
 use Rattle.board_types.proofs.Iterate.{iterate_zero, iterate_more, iterate_add}
@@ -17,7 +17,7 @@ is_less a b holds = grind (arith, nat_tests)
 is_less_test : (a b : ℕ) → a < b → nat_lt a b ≡ true
 is_less_test a b less = grind (arith, nat_tests)
 
--- a timer that isn't behind
+-- a timer that doesn't lag
 pub at_once : (p : PitState) → after_ticks p 0 ≡ p
 at_once p = iterate_zero after_tick p
 
@@ -44,7 +44,7 @@ pub out_2_stays : (p : PitState) (turn : Option ℕ) (k : ℕ) → IsBehind p.co
 out_2_stays p turn k behind =
     sym (ap (λ (q : PitState). q.counter_2.out) (each_counter k p) ∙ stays p.counter_2 turn k behind.first behind.before)
 
--- so it is for fewer ticks than it takes to turn
+-- a turn that doesn't come within some ticks doesn't come within fewer
 before_less : (turn : Option ℕ) (a b : ℕ) → a ≤ b → is_before b turn ≡ true → is_before a turn ≡ true
 before_less None a b least before = refl
 before_less (Some n) a b least before =
@@ -80,7 +80,7 @@ pub soon_later : (turn : Option ℕ) (k : ℕ) → IsSoon turn → IsSoon (later
 soon_later None k soon = soon
 soon_later (Some n) k soon = omega (arith, soon)
 
--- and turns as many ticks later as are left
+-- the output turns as many ticks later as are left
 turns_later : (c : CounterState) (turn : Option ℕ) (k : ℕ) → IsBehind c turn k → IsUntilTurn one.after_ticks out_of (one.after_ticks c k) (later_turn turn k)
 turns_later c None k behind = λ n.
     ap (λ (d : CounterState). d.out) (sym (iterate_add one.after_tick k n c)) ∙ behind.first (k + n) ∙ sym (behind.first k)

@@ -43,7 +43,7 @@ risen_by : (was_high : Bool) (risen : Levels) (n level : ℕ) → level ≢ n �
 risen_by true risen n level differ = refl
 risen_by false risen n level differ = get_or-set_other risen n level true false differ
 
--- those of another line stay
+-- the rises of other lines stay
 risen_other : (s : PicState) (n : ℕ) (line : Line) (level : ℕ) → level ≢ n → contains (after_line s n line).risen level ≡ contains s.risen level
 unfolding after_line
 risen_other s n Low level differ = refl

@@ -1,4 +1,4 @@
--- The clock of a tick, told from the ticks to it.
+-- The clock of a tick, worked out from the ticks to it.
 use Rattle.std.proofs.Common.{◌≡◌, ℕ, ◌+◌, ◌*◌, ◌/◌, ◌<◌, ◌≤◌, subst, arith}
 use Rattle.board_types.specs.Timed.{NeverTurns, TurnsFirst, IsSteady}
 use Rattle.pit8253.specs.Counter.{CounterState, after_ticks, out_of}

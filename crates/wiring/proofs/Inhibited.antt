@@ -18,7 +18,7 @@ use Rattle.wiring.proofs.Requests.{line_twice, lines_either}
 use Rattle.wiring.proofs.Settling.{above, below}
 use Rattle.wiring.proofs.Ticks.{settled_later}
 
--- the timer's input stays so
+-- the timer's input stays inhibited
 
 inhibited_next : (s : ChipsState) → IsTimerInhibited s → IsTimerInhibited (after_clock s)
 unfolding after_clock after_settling
@@ -45,7 +45,7 @@ line_1_stays s still keys =
     ∙ ap (λ (t : ChipsState). t.pic) still in
     ap (λ (p : PicState). after_line p 1 line) (sym settled) ∙ line_twice (after_line s.pic 0 out) 1 line ∙ settled
 
--- so in a clock the controller's lines follow OUT0 alone
+-- in a clock the controller's lines follow OUT0 alone; while that is inhibited, the request stays
 request_next : (s : ChipsState) → after_settling s ≡ s → KeysSettled s → IsTimerInhibited s → is_requested (after_clock s) ≡ is_requested s
 unfolding after_clock after_settling
 request_next s still keys is =

@@ -1,4 +1,4 @@
--- The keyboard's own settling empties the latch where line 7 of port B is 1.
+-- The keyboard's own settling empties the latch if line 7 of port B is 1.
 use Rattle.keyboard.specs.Parts.{sends, after_sending}
 use Rattle.std.proofs.Common.{◌≡◌, ℕ, Bool, true, false, if◌then◌else◌, refl, sym, ap, ◌∙◌}
 use Rattle.board_types.specs.Bits.{has_bit}
@@ -16,6 +16,6 @@ clears_nothing : (b : Bool) (s : KeyboardState) (lines : ℕ) → has_bit lines 
 clears_nothing true s lines high settled = sym (line_7_clears s lines high) ∙ settled
 clears_nothing false s lines low settled = refl
 
--- where the keyboard has settled, the latch's wire does nothing
+-- if the keyboard has settled, the latch's wire does nothing
 pub latch_settled : (s : ChipsState) → KeysSettled s → after_latch_wire s.keyboard s.ppi ≡ s.keyboard
 latch_settled s settled = clears_nothing (has_bit (lines_b s.ppi) 7) s.keyboard (lines_b s.ppi) refl settled

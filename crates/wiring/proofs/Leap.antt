@@ -44,7 +44,7 @@ settled_parts s still =
           ∙ ap (λ (t : ChipsState). t.pic) still;
     }
 
--- with another timer, whose gate 2 keeps its level and whose OUT0 is as it was, they are settled as well
+-- settled wires stay settled with another timer, whose gate 2 keeps its level and whose OUT0 is as it was
 parts_settled : (s : ChipsState) (p : PitState) (clock : ℕ) (m : MdaState) → Settled s → after_gate_wire p s.ppi ≡ p → p.counter_0.out ≡ s.pit.counter_0.out → after_settling (record s { clock = clock; pit = p; mda = m }) ≡ record s { clock = clock; pit = p; mda = m }
 unfolding after_settling
 parts_settled s p clock m parts gate same =
@@ -68,7 +68,7 @@ no_leap s =
     ∙ sym (with_parts s (s.clock + 0) (pit.after_ticks s.pit (ticks_between s.clock (s.clock + 0))) (mda.after_clocks s.mda 0) (omega arith)
     (ap (λ k. pit.after_ticks s.pit k) none ∙ iterate_zero pit.after_tick s.pit) (iterate_zero mda.after_clock s.mda))
 
--- a clock behind such clocks: they are leapt over with it, and then the wires settle
+-- one more clock after clocks that were leapt over: it is leapt over with them, and then the wires settle
 leap_then_settle : (n : ℕ) (s : ChipsState) → after_clocks s n ≡ leapt s n → after_clocks s (n + 1) ≡ after_settling (leapt s (n + 1))
 unfolding after_clock
 leap_then_settle n s leap =
@@ -102,7 +102,7 @@ clocks_leap (suc n) s still steady =
     ∙ ap (λ k. after_settling (leapt s k)) more
     ∙ parts_settled s (pit.after_ticks s.pit next) (s.clock + suc n) (mda.after_clocks s.mda (suc n)) parts gate same
 
--- clocks up to a turn of OUT0: behind the last alone the wires settle
+-- clocks up to a turn of OUT0: the wires settle only after the last
 pub clocks_to_turn : (n : ℕ) (s : ChipsState) → 1 ≤ n → after_settling s ≡ s → IsStill s (n - 1) → after_clocks s n ≡ after_settling (leapt s n)
 clocks_to_turn n s some still steady =
     let whole : n - 1 + 1 ≡ n = omega (arith, some) in
@@ -119,7 +119,7 @@ wires_behind s clock p m c parts gate =
     ap (λ k. record t { keyboard = k; pit = wired; pic = after_request_wires c wired k }) parts.latch
     ∙ ap (λ q. record t { pit = q; pic = after_request_wires c q s.keyboard }) gate
 
--- a clock behind clocks that were leapt over
+-- a clock after clocks that were leapt over
 settle_later : (n : ℕ) (s : ChipsState) → after_settling s ≡ s → contains s.pic.risen 0 ≡ true → after_clock (after_settling (leapt s n)) ≡ after_settling (leapt s (n + 1))
 unfolding after_clock
 settle_later n s still risen =
@@ -153,13 +153,13 @@ risen_more (suc n) s still risen =
     ∙ ap after_clock (ap (λ k. after_clocks s k) more ∙ risen_more n s still risen ∙ ap (λ k. after_settling (leapt s k)) (sym more))
     ∙ settle_later (suc n) s still risen
 
--- clocks behind which alone the wires settle
+-- clocks of which the wires settle only after the last
 pub risen_clocks : (n : ℕ) (s : ChipsState) → 1 ≤ n → after_settling s ≡ s → contains s.pic.risen 0 ≡ true → after_clocks s n ≡ after_settling (leapt s n)
 risen_clocks n s some still risen =
     let whole : n - 1 + 1 ≡ n = omega (arith, some) in
     ap (λ k. after_clocks s k) (sym whole) ∙ risen_more (n - 1) s still risen ∙ ap (λ k. after_settling (leapt s k)) whole
 
--- with a controller whose lines are as they were, settled wires are settled as well
+-- settled wires stay settled with a controller whose lines are as they were
 pub same_lines_settled : (s : ChipsState) (p : PicState) → length s.pic.high ≡ 8 → after_settling s ≡ s → p.high ≡ s.pic.high → after_settling (record s { pic = p }) ≡ record s { pic = p }
 same_lines_settled s p eight still same =
     let parts : Settled s = settled_parts s still in
@@ -184,7 +184,7 @@ settled_leap n s still steady =
     parts_settled s (pit.after_ticks s.pit ticks) (s.clock + n) (mda.after_clocks s.mda n) parts
     (gate_stays ticks s.pit (port_b_line s.ppi 0) parts.gate) same
 
--- the same told of the timer and the adapter alone
+-- settled wires stay settled while only the timer and the adapter go on and OUT0 stays
 pub settled_still : (s : ChipsState) (p : PitState) (clock ticks : ℕ) (m : MdaState) → after_settling s ≡ s → p ≡ pit.after_ticks s.pit ticks → IsSteady one.after_ticks out_of s.pit.counter_0 ticks
     → after_settling (record s { clock = clock; pit = p; mda = m }) ≡ record s { clock = clock; pit = p; mda = m }
 settled_still s p clock ticks m still is steady =

@@ -73,7 +73,7 @@ both_lines_twice s n m a b differ back =
     ∙ line_twice (after_line (after_line s m b) m b) n a
     ∙ ap (λ t. after_line t n a) (line_twice s m b)
 
--- once a level has risen, its line leaves nothing behind but whether it is high
+-- once a level has risen, its line leaves no trace but whether it is high
 
 risen_stays : (was_high : Bool) (level : ℕ) (risen : Levels) → contains risen level ≡ true → risen_by was_high level risen ≡ risen
 risen_stays true level risen is_in = refl
@@ -91,7 +91,7 @@ line_again s level a b is_in =
     ∙ ap (λ high. record s { high = high }) (set-set s.high level (is_high a) (is_high b))
     ∙ sym (line_of_risen s level b is_in)
 
--- so it is with another line that keeps its level
+-- once a level has risen, its line leaves no trace either if another line takes one level before and after
 pub risen_line : (s : PicState) (n m : ℕ) (a b k : Line) → n ≢ m → m ≢ n → contains s.risen n ≡ true
     → after_line (after_line (after_line (after_line s n a) m k) n b) m k ≡ after_line (after_line s n b) m k
 risen_line s n m a b k differ back is_in =

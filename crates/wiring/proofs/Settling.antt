@@ -80,7 +80,7 @@ keys_settle_once s =
     ∙ keys_again s.keyboard (lines_b s.ppi)
     ∙ sym (latch_again s.keyboard s.ppi)
 
--- where the keyboard and the wires have settled, nothing changes
+-- if the keyboard and the wires have settled, nothing changes
 pub keys_stay : (s : ChipsState) → keys.after_settling s.keyboard (lines_b s.ppi) ≡ s.keyboard → after_settling s ≡ s → s ≡ after_key_settling s
 unfolding after_key_settling
 keys_stay s keyboard still = sym (ap (λ k. after_settling (record s { keyboard = k })) keyboard ∙ still)

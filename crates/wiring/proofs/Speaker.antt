@@ -70,7 +70,7 @@ more_written s writes n w sound within is =
     ∙ sym (sound_of_output (after_port_writes after_output s (take n writes)) last.0 last.1)
     ∙ ap sound_of (sym (fold_more (λ x v. after_output x v.0 v.1) s writes n w within))
 
--- and of it the parallel port's part
+-- the parallel port after one write more
 pub more_written_ppi : (s : ChipsState) (writes : List (ℕ × ℕ)) (n : ℕ) (w : ℕ × ℕ) → n < length writes → (sound_after_write (sound_of (after_port_writes after_output s (take n writes))) (port_at (get_or writes n w).0) (get_or writes n w).1).ppi ≡ (after_port_writes after_output s (take (n + 1) writes)).ppi
 more_written_ppi s writes n w within =
     ap (λ (sound : Sound). sound.ppi) (more_written s writes n w (sound_of (after_port_writes after_output s (take n writes))) within refl)
@@ -82,7 +82,7 @@ level_told s writes =
     ∙ ap is_sound_high (sym (next_sound (after_port_writes after_output s writes)))
     ∙ sym (high_sound (after_key_settling (after_clock (after_port_writes after_output s writes))))
 
--- where port B holds it low, it is low whatever the timer does
+-- if port B holds the speaker low, it is low whatever the timer does
 pub stays_low : (s : ChipsState) (writes : List (ℕ × ℕ)) → has_bit (lines_b (after_port_writes after_output s writes).ppi) 1 ≡ false → is_speaker_high_after s writes ≡ false
 stays_low s writes low =
     let next : Sound = sound_after_clock (sound_of (after_port_writes after_output s writes)) (s.clock + 1) in
@@ -115,7 +115,7 @@ ppi_of_clocks s (suc n) =
     ap (λ (t : ChipsState). t.ppi) (ap (λ k. after_clocks s k) more ∙ iterate_more after_clock n s)
     ∙ ppi_of_clock (after_clocks s n) ∙ ppi_of_clocks s n
 
--- and so it is at any later clock
+-- if port B holds the speaker low, it is low at any later clock
 pub stays_muted : (s : ChipsState) (writes : List (ℕ × ℕ)) (clocks : ℕ) → has_bit (lines_b (after_port_writes after_output s writes).ppi) 1 ≡ false → is_speaker_high_after (after_clocks s clocks) writes ≡ false
 stays_muted s writes clocks low =
     stays_low (after_clocks s clocks) writes

@@ -36,7 +36,7 @@ none_of : (b : Bool) → (b && false) ≡ false
 none_of true = refl
 none_of false = refl
 
--- under a low gate OUT stays high in modes 2 and 3, also where a count is loaded
+-- under a low gate OUT stays high in modes 2 and 3, even if a count is loaded
 tick_out : (c : CounterState) (mode : Mode) (gate : Line) → out_at_gate mode gate c.out ≡ c.out → (let x : CounterState = one.after_tick (record c { mode = mode; gate = gate }) in out_at_gate mode gate x.out ≡ x.out)
 unfolding one.after_tick
 tick_out c TerminalCount gate still = refl
@@ -69,7 +69,7 @@ gate_then_tick c line still =
     ap (one.after_gate (one.after_tick c)) level
     ∙ tick_still c (ap (λ l. out_at_gate c.mode l c.out) (sym level) ∙ out)
 
--- so does the timer by its gate 2
+-- a timer whose gate 2 has taken its level ticks to one whose gate 2 has
 pub line_then_tick : (p : PitState) (line : Line) → pit.after_gate p 2 line ≡ p → pit.after_gate (pit.after_tick p) 2 line ≡ pit.after_tick p
 unfolding pit.after_gate pit.after_tick
 line_then_tick p line still =
@@ -100,7 +100,7 @@ settled_later (suc n) s still =
     ∙ ap after_settling (iterate_more after_clock n s) ∙ settled_next (after_clocks s n)
     ∙ sym (iterate_more after_clock n s) ∙ ap (after_clocks s) (sym more)
 
--- one tick more where 4 divides the number of the clock
+-- one tick more if the number of the clock is divisible by 4
 pub more_ticks : (b : Bool) (p : PitState) (k : ℕ) → (if b then pit.after_tick (pit.after_ticks p k) else pit.after_ticks p k) ≡ pit.after_ticks p (k + (if b then 1 else 0))
 more_ticks true p k = sym (iterate_more pit.after_tick k p)
 more_ticks false p k = let none : k ≡ k + 0 = omega arith in ap (pit.after_ticks p) none

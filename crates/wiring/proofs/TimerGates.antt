@@ -45,7 +45,7 @@ due_setup c SquareWave = refl
 due_setup c SoftwareStrobe = refl
 due_setup c HardwareStrobe = refl
 
--- a tick leaves both
+-- a tick leaves a counter's mode and its gate
 pub tick_setup : (c : CounterState) → setup (one.after_tick c) ≡ setup c
 unfolding one.after_tick
 tick_setup c = choose_setup c.load_due (setup c) _ _ (due_setup c c.mode) (count_setup c c.mode)
@@ -83,7 +83,7 @@ read_gate : (c : CounterState) → (one.after_read c).gate ≡ c.gate
 unfolding one.after_read
 read_gate c = choose (is_some c.status) c.gate _ _ refl (by_read_gate c c.access)
 
--- a read-back leaves it
+-- a read-back leaves a counter's gate
 counted_gate : (b : Bool) (c : CounterState) → (if b then after_latch c else c).gate ≡ c.gate
 unfolding after_latch
 counted_gate true c = refl
@@ -113,13 +113,13 @@ one_of : (b : Bool) (p q r : PitState) → SameGates p r → SameGates q r → S
 one_of true p q r first second = first
 one_of false p q r first second = second
 
--- the timer where the counter that these pick changes by a rule
+-- the timer, of which the counter that these conditions pick changes by a rule
 abbrev pub changed_at : Bool → Bool → Bool → (CounterState → CounterState) → PitState → PitState
 changed_at zeroth first second rule p =
     let c : CounterState = rule (if zeroth then p.counter_0 else (if first then p.counter_1 else p.counter_2)) in
     if zeroth then record p { counter_0 = c } else (if first then record p { counter_1 = c } else (if second then record p { counter_2 = c } else p))
 
--- it changes by a rule that leaves its gate
+-- a timer of which one counter changes by a rule that leaves its gate keeps gates 0 and 1
 changed_by : (zeroth first second : Bool) (rule : CounterState → CounterState) (p : PitState) → ((c : CounterState) → (rule c).gate ≡ c.gate) → SameGates (changed_at zeroth first second rule p) p
 changed_by true first second rule p keeps = record { gate_0 = keeps p.counter_0; gate_1 = refl }
 changed_by false true second rule p keeps = record { gate_0 = refl; gate_1 = keeps p.counter_1 }

@@ -15,7 +15,7 @@ use Rattle.pit8253.specs.Counter.{CounterState, is_8254, is_loaded, after_due_lo
 abbrev pub unread : CounterState → CounterState
 unread c = record c { latch = None; status = None; high_next = false }
 
--- a rule by which what is left depends on what was left alone
+-- a rule whose result, apart from what reads change, depends only on the rest
 abbrev pub IsUnread : (CounterState → CounterState) → Type 0
 IsUnread rule = (c : CounterState) → unread (rule c) ≡ unread (rule (unread c))
 
@@ -86,7 +86,7 @@ pub read_leaves : (c : CounterState) → unread (after_read c) ≡ unread c
 unfolding after_read
 read_leaves c = read_branch (is_some c.status) c _ _ refl (by_read c c.access)
 
--- a read-back leaves it too
+-- a read-back leaves the rest, too
 counted_leaves : (b : Bool) (c : CounterState) → unread (if b then after_latch c else c) ≡ unread c
 unfolding after_latch
 counted_leaves true c = refl
@@ -107,6 +107,6 @@ back_leaves word c =
 pub back_where_leaves : (c : CounterState) (bit word : ℕ) → unread (if bit == 1 then after_read_back c word else c) ≡ unread c
 back_where_leaves c bit word = read_branch (bit == 1) c _ _ (back_leaves word c) refl
 
--- where two counters differ only in what reads change, a rule leaves them so
+-- if two counters differ only in what reads change, a rule leaves them so
 pub same_rest : (rule : CounterState → CounterState) → IsUnread rule → (c d : CounterState) → unread c ≡ unread d → unread (rule c) ≡ unread (rule d)
 same_rest rule is_unread c d same = is_unread c ∙ ap (λ (x : CounterState). unread (rule x)) same ∙ sym (is_unread d)

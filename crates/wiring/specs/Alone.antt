@@ -13,6 +13,6 @@ pub record GoesOnAlone (s : ChipsState) : Type 0 where
   pub muted : has_bit (lines_b s.ppi) 1 ≡ false
   pub keys : keyboard.after_settling s.keyboard (lines_b s.ppi) ≡ s.keyboard
 
--- IR0, which is OUT0, requests nothing whatever the timer does
+-- IR0, which OUT0 drives, is inhibited: it requests nothing whatever the timer does
 abbrev pub IsTimerInhibited : ChipsState → Type 0
 IsTimerInhibited s = is_inhibited s.pic 0 ≡ true

@@ -17,7 +17,7 @@ use Rattle.wiring.specs.Chips.{ChipsState}
 use Rattle.wiring.specs.Ports.{byte_at, with_byte, is_writable, port_at, after_port_read, after_port_write, after_input, after_output, chips_bus}
 use Rattle.wiring.specs.Wires.{after_settling}
 
--- which addresses take bytes stays
+-- a write doesn't change which addresses take bytes
 kept_writable : (memory : MemoryMap) (address byte other : ℕ)
     → map.is_writable (map.with_byte memory address byte) other ≡ map.is_writable memory other
 unfolding map.is_writable map.with_byte
@@ -45,7 +45,7 @@ writable_stays : (s : ChipsState) (address byte other : ℕ)
 unfolding with_byte is_writable mda.with_text_byte
 writable_stays s address byte other = grind (arith, common_steps, kept_writable s.memory address byte other)
 
--- two states with the same bytes
+-- two states have the same bytes in memory and in text memory
 pub record SameBytes (s t : ChipsState) : Type 0 where
   pub memory : s.memory ≡ t.memory
   pub text : s.mda.bytes ≡ t.mda.bytes

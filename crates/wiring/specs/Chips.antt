@@ -27,7 +27,7 @@ pub record ChipsState : Type 0 where
   pub keyboard : KeyboardState
   pub mda : MdaState
 
--- power-on, with an image's bytes in memory, the two switch blocks and a timer of the kind
+-- power-on, with an image's bytes in memory, the two switch blocks and a timer of this kind
 unfoldable pub power_on : List (ℕ × ℕ) → ℕ → ℕ → ℕ → TimerKind → ChipsState
 power_on image ram_size sw1 sw2 kind = record {
   clock = 0;

@@ -15,15 +15,15 @@ use Rattle.wiring.specs.Chips.{ChipsState}
 abbrev pub port_b_line : PpiState → ℕ → Line
 port_b_line ppi k = from_bool (has_bit (lines_b ppi) k)
 
--- the latch is emptied while line 7 of port B is 1
+-- the keyboard after its latch follows line 7 of port B: while that is 1, the latch is emptied
 abbrev pub after_latch_wire : KeyboardState → PpiState → KeyboardState
 after_latch_wire keyboard ppi = if has_bit (lines_b ppi) 7 then after_clearing keyboard else keyboard
 
--- gate 2 is line 0 of port B
+-- the timer after gate 2 follows line 0 of port B
 abbrev pub after_gate_wire : PitState → PpiState → PitState
 after_gate_wire pit ppi = after_gate pit 2 (port_b_line ppi 0)
 
--- IR0 is OUT0, and IR1 is high while the latch is full
+-- the controller after IR0 follows OUT0, and IR1 the keyboard's latch: it is high while the latch is full
 abbrev pub after_request_wires : PicState → PitState → KeyboardState → PicState
 after_request_wires pic pit keyboard =
     after_line (after_line pic 0 pit.counter_0.out) 1 (from_bool (is_some keyboard.latch))

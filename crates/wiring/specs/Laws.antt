@@ -17,7 +17,7 @@ use Rattle.wiring.specs.Wires.{after_settling, after_clock, after_clocks, after_
 use Rattle.wiring.specs.EachWire.{port_b_line}
 use Rattle.wiring.specs.Speaker.{is_speaker_high, is_speaker_high_after}
 
--- to settle again changes nothing
+-- settling again changes nothing
 abbrev pub SettlesOnce : Type 0
 SettlesOnce = (s : ChipsState) → after_settling (after_settling s) ≡ after_settling s
 
@@ -25,7 +25,7 @@ SettlesOnce = (s : ChipsState) → after_settling (after_settling s) ≡ after_s
 abbrev pub KeysSettled : ChipsState → Type 0
 KeysSettled s = keys.after_settling s.keyboard (lines_b s.ppi) ≡ s.keyboard
 
--- so it has once it settles, and the wires after it
+-- after the keyboard settles, and then the wires, the keyboard has settled to the lines of port B
 abbrev pub KeysSettleOnce : Type 0
 KeysSettleOnce = (s : ChipsState) → KeysSettled (after_key_settling s)
 
@@ -61,7 +61,7 @@ abbrev pub SettlingChangesAlone : Type 0
 SettlingChangesAlone =
     (s : ChipsState) → length s.pic.high ≡ 8 → length s.pic.risen ≡ 8 → SettlingChanges s (after_settling s)
 
--- while the wires have settled, n clocks tick the counters once for each number that 4 divides
+-- while the wires have settled, n clocks tick the counters once for each clock whose number is divisible by 4
 abbrev pub ClocksTick : Type 0
 ClocksTick =
     (s : ChipsState) (n : ℕ) → after_settling s ≡ s
@@ -74,7 +74,7 @@ pub record FixedWires (s : ChipsState) : Type 0 where
   pub gate_1 : s.pit.counter_1.gate ≡ High
   pub low : (level : ℕ) → 2 ≤ level → level < 8 → contains s.pic.high level ≡ false
 
--- they are so at power-on, and stay so
+-- the fixed wires have their levels at power-on, and keep them
 pub record WiresStay : Type 0 where
   pub first : (image : List (ℕ × ℕ)) (ram_size sw1 sw2 : ℕ) (kind : TimerKind) → FixedWires (power_on image ram_size sw1 sw2 kind)
   pub byte : (s : ChipsState) (address byte : ℕ) → FixedWires s → FixedWires (with_byte s address byte)
@@ -85,15 +85,16 @@ pub record WiresStay : Type 0 where
   pub keys : (s : ChipsState) → FixedWires s → FixedWires (after_key_settling s)
   pub request : (s : ChipsState) → FixedWires s → FixedWires (after_acknowledge s)
 
--- what the speaker's next level can depend on is the same: the clock, the parallel port, and of counter 2 all but what
--- its reads change, the latches of the count and of the status and the byte that is next
+-- two states agree in all that the speaker's next level can depend on: the clock, the parallel port, and of counter 2
+-- all but what its reads change, the latches of the count and of the status and the byte that is next
 pub record SoundsAlike (s t : ChipsState) : Type 0 where
   pub clock : s.clock ≡ t.clock
   pub ppi : s.ppi ≡ t.ppi
   pub counter_2 : record s.pit.counter_2 { latch = None; status = None; high_next = false }
       ≡ record t.pit.counter_2 { latch = None; status = None; high_next = false }
 
--- the speaker's next level depends on these and on the port writes alone
+-- the speaker's next level depends only on the parts in which `SoundsAlike` has two states agree, and on the port
+-- writes
 abbrev pub DependsOnWrites : Type 0
 DependsOnWrites =
     (s t : ChipsState) (writes : List (ℕ × ℕ)) → SoundsAlike s t
@@ -107,19 +108,20 @@ NoKeyTouches =
     (after_key_settling (after_arrivals (after_clock (after_port_writes after_output s writes)) codes))
     ≡ is_speaker_high_after s writes
 
--- nor does an interrupt that the processor takes
+-- an interrupt that the processor takes doesn't touch the speaker's next level
 abbrev pub NoEntryTouches : Type 0
 NoEntryTouches =
     (s : ChipsState) (writes : List (ℕ × ℕ))
     → is_speaker_high_after (after_acknowledge s) writes ≡ is_speaker_high_after s writes
 
--- nor, where the wires have settled, a read of any port
+-- if the wires have settled, a read of any port doesn't touch the speaker's next level
 abbrev pub NoReadTouches : Type 0
 NoReadTouches =
     (s : ChipsState) (writes : List (ℕ × ℕ)) (port : ℕ) → after_settling s ≡ s
     → is_speaker_high_after (after_input s port) writes ≡ is_speaker_high_after s writes
 
--- a byte reads back where it can be written, elsewhere nothing changes, and a write leaves every other byte as it is
+-- a byte that is written reads back if its address takes bytes, and changes nothing if it doesn't, and a write leaves
+-- every other byte as it is
 abbrev pub WriteChangesOneByte : Type 0
 WriteChangesOneByte =
     (s : ChipsState) (address byte : ℕ) →

@@ -14,7 +14,7 @@ use Rattle.wiring.specs.Wires.{after_settling}
 abbrev pub IsStill : ChipsState → ℕ → Type 0
 IsStill s n = IsSteady counter.after_ticks out_of s.pit.counter_0 (ticks_between s.clock (s.clock + n))
 
--- n such clocks at once
+-- the chips after n clocks at once in which nothing happens but that the beam moves and the counters tick
 abbrev pub leapt : ChipsState → ℕ → ChipsState
 leapt s n = record s {
   clock = s.clock + n;
@@ -22,6 +22,6 @@ leapt s n = record s {
   mda = mda.after_clocks s.mda n;
 }
 
--- where it is known that the wires have settled, they have
+-- if it is known that the wires have settled, they have
 abbrev pub IsTold : Bool → ChipsState → Type 0
 IsTold known s = known ≡ true → after_settling s ≡ s

@@ -1,5 +1,5 @@
 -- The addresses and the ports of the chips (IBM PC Technical Reference, "System Memory Map" and "I/O Address Map").
--- That FFh is read and a write is lost where nothing answers is this board's choice.
+-- That FFh is read and a write is lost if nothing answers is this board's choice.
 -- To be believed: the headline rests on it.
 use Rattle.std.specs.Prelude.{ℕ, ◌-◌, ◌==◌, Bool, true, false, ◌&&◌, ◌||◌, if◌then◌else◌, nat_le, nat_lt, length}
 use Rattle.bus.specs.Bus.{BusMeaning}
@@ -43,7 +43,7 @@ port_at n =
     else if (n == 0x3B4) || (n == 0x3B5) || (n == 0x3B8) || (n == 0x3BA) then Adapter n
     else Nothing
 
--- the byte that a read gives
+-- the byte that a read of a chip's port gives
 abbrev pub port_byte : ChipsState → Port → ℕ
 port_byte s (Controller a0) = pic.byte_at s.pic a0
 port_byte s (Timer n) = pit.byte_at s.pit n
@@ -51,13 +51,13 @@ port_byte s (Parallel n) = ppi.byte_at s.ppi n (record { latch = s.keyboard.latc
 port_byte s (Adapter n) = mda.byte_at s.mda n
 port_byte s Nothing = 0xFF
 
--- what the read changes
+-- the chips after a read of a chip's port, before the wires settle
 abbrev pub after_port_read : ChipsState → Port → ChipsState
 after_port_read s (Controller a0) = record s { pic = pic.after_read s.pic }
 after_port_read s (Timer n) = record s { pit = pit.after_read s.pit n }
 after_port_read s _ = s
 
--- what a write changes
+-- the chips after a write to a chip's port, before the wires settle
 abbrev pub after_port_write : ChipsState → Port → ℕ → ChipsState
 after_port_write s (Controller a0) byte = record s { pic = pic.after_write s.pic a0 byte }
 after_port_write s (Timer n) byte = record s { pit = pit.after_write s.pit n byte }
@@ -65,11 +65,11 @@ after_port_write s (Parallel n) byte = record s { ppi = ppi.after_write s.ppi n 
 after_port_write s (Adapter n) byte = record s { mda = mda.after_write s.mda n byte }
 after_port_write s Nothing byte = s
 
--- the byte that a port gives
+-- the byte that the port with this number gives
 unfoldable pub input : ChipsState → ℕ → ℕ
 input s port = port_byte s (port_at port)
 
--- after each port access the wires settle (this board's choice)
+-- the chips after a port is read, and after one is written: the wires settle after each access (this board's choice)
 unfoldable pub after_input : ChipsState → ℕ → ChipsState
 after_input s port = after_settling (after_port_read s (port_at port))
 

@@ -1,4 +1,4 @@
--- The timer and the parallel port alone: what the wires between them, a clock and a port write make of them.
+-- The timer and the parallel port alone: how the wires between them, a clock and a port write change them.
 -- For proofs alone: no public contract rests on it.
 use Rattle.std.specs.Prelude.{ℕ, ◌<◌, ◌&&◌, Bool}
 use Rattle.board_types.specs.Bits.{has_bit}
@@ -13,7 +13,7 @@ use Rattle.wiring.specs.Chips.{ChipsState}
 use Rattle.wiring.specs.Wires.{pit_after_clock}
 use Rattle.wiring.specs.EachWire.{after_gate_wire}
 
--- a chip's own port is one of its four
+-- a port of the timer or of the parallel port is one of its four
 abbrev pub HasNumber : Port → Type 0
 HasNumber (Controller a0) = Unit {0}
 HasNumber (Timer n) = n < 4
@@ -27,7 +27,7 @@ sound_of s = record { pit = s.pit; ppi = s.ppi }
 abbrev pub sound_after_settling : Sound → Sound
 sound_after_settling s = record s { pit = after_gate_wire s.pit s.ppi }
 
--- the clock of this number is reached
+-- timer and parallel port after the clock of this number is reached
 abbrev pub sound_after_clock : Sound → ℕ → Sound
 sound_after_clock s clock = sound_after_settling (record s { pit = pit_after_clock s.pit clock })
 

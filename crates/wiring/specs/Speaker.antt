@@ -9,11 +9,11 @@ use Rattle.wiring.specs.Chips.{ChipsState}
 use Rattle.wiring.specs.Ports.{after_output}
 use Rattle.wiring.specs.Wires.{after_clock, after_key_settling}
 
--- whether it is high
+-- whether the speaker is high
 unfoldable pub is_speaker_high : ChipsState → Bool
 is_speaker_high s = has_bit (lines_b s.ppi) 1 && is_high s.pit.counter_2.out
 
--- whether it is high at the next clock, after these port writes
+-- whether the speaker is high at the next clock, after these port writes
 unfoldable pub is_speaker_high_after : ChipsState → List (ℕ × ℕ) → Bool
 is_speaker_high_after s writes =
     is_speaker_high (after_key_settling (after_clock (after_port_writes after_output s writes)))

@@ -1,6 +1,6 @@
--- The wires between the chips, and a clock of theirs (IBM PC Technical Reference, "System Board": IR0 is OUT0, IR1
--- the full keyboard latch, the other request lines are low; gates 0 and 1 are high and gate 2 is port B bit 0; port
--- B bit 7 clears the latch). When they settle is this board's choice.
+-- The wires between the chips, and what a clock changes (IBM PC Technical Reference, "System Board": IR0 is OUT0, IR1
+-- the full keyboard latch, the other request lines are low; gates 0 and 1 are high and gate 2 is port B bit 0; port B
+-- bit 7 clears the latch). When they settle is this board's choice.
 -- To be believed: the headline rests on it.
 use Rattle.std.specs.Prelude.{ℕ, ◌+◌, ◌%◌, ◌==◌, if◌then◌else◌, List, fold, is_some}
 use Rattle.board_types.specs.Bits.{has_bit}
@@ -15,8 +15,8 @@ use Rattle.keyboard.specs.Keyboard.{KeyboardState, after_clearing}
 use Rattle.mda_text.specs.Mda as mda
 use Rattle.wiring.specs.Chips.{ChipsState}
 
--- the wires settle: the latch is emptied while line 7 of port B is 1, then gate 2 is line 0 of port B, then IR0 is OUT0,
--- and IR1 is high while the latch is full
+-- the wires settle: the latch is emptied while line 7 of port B is 1, then gate 2 is line 0 of port B, then IR0 is
+-- OUT0, and IR1 is high while the latch is full
 unfoldable pub after_settling : ChipsState → ChipsState
 after_settling s =
     let keyboard : KeyboardState = if has_bit (lines_b s.ppi) 7 then after_clearing s.keyboard else s.keyboard in
@@ -24,7 +24,7 @@ after_settling s =
     let timed : PicState = after_line s.pic 0 pit.counter_0.out in
     record s { keyboard = keyboard; pit = pit; pic = after_line timed 1 (from_bool (is_some keyboard.latch)) }
 
--- the counters tick where 4 divides the number of the clock that is reached; which of four clocks it is, is this
+-- the counters tick if the number of the clock that is reached is divisible by 4; which of four clocks that is, is this
 -- board's choice
 abbrev pub pit_after_clock : PitState → ℕ → PitState
 pit_after_clock pit clock = if clock % 4 == 0 then after_tick pit else pit
@@ -43,7 +43,7 @@ after_clocks s n = iterate after_clock n s
 unfoldable pub after_arrival : ChipsState → ℕ → ChipsState
 after_arrival s code = record s { keyboard = keys.after_arrival s.keyboard code }
 
--- codes reach it, one after another
+-- codes reach the keyboard, one after another
 abbrev pub after_arrivals : ChipsState → List ℕ → ChipsState
 after_arrivals s codes = fold after_arrival s codes
 
@@ -51,6 +51,6 @@ after_arrivals s codes = fold after_arrival s codes
 unfoldable pub after_key_settling : ChipsState → ChipsState
 after_key_settling s = after_settling (record s { keyboard = keys.after_settling s.keyboard (lines_b s.ppi) })
 
--- the processor acknowledges a request; where no level may be taken nothing changes
+-- the processor acknowledges a request; if no level may be taken, nothing changes
 unfoldable pub after_acknowledge : ChipsState → ChipsState
 after_acknowledge s = record s { pic = pic.after_acknowledge s.pic }

@@ -52,7 +52,7 @@ pub fn no_entry_touches()
     ensures { NoEntryTouches }
 {}
 
-/// Where the wires have settled, no read of a port touches the speaker's next level.
+/// If the wires have settled, no read of a port touches the speaker's next level.
 pub fn no_read_touches()
     ensures { NoReadTouches }
 {}

@@ -1,4 +1,4 @@
-//! The timer and the parallel port, on which alone the speaker depends.
+//! The timer and the parallel port: the speaker depends on these alone.
 ghost use Rattle.std.specs.Prelude.{◌≡◌};
 ghost use Rattle.wiring.specs.Wires.{pit_after_clock};
 ghost use Rattle.wiring.specs.declared.sound.Sound.{Sound};
@@ -18,7 +18,7 @@ pub struct Sound {
 }
 
 impl Sound {
-    /// Gate 2 follows port B bit 0.
+    /// Gives gate 2 the level of port B bit 0.
     pub(crate) fn settle(&mut self)
         ensures { self.new ≡ sound_after_settling self.old }
     {
@@ -26,7 +26,7 @@ impl Sound {
         self.pit.set_gate(2, line);
     }
 
-    /// The clock `clock` is reached: the counters tick where 4 divides its number.
+    /// Lets the clock `clock` be reached: the counters tick if its number is divisible by 4.
     #[tactic(auto, using(crate::proofs::Speaker::one_tick))]
     pub(crate) fn tick(&mut self, clock: u64)
         ensures { self.new ≡ record self.old { pit = pit_after_clock self.old.pit clock } }
@@ -36,7 +36,7 @@ impl Sound {
         }
     }
 
-    /// Writes `value` to `port`, where that is the timer's or the parallel port's.
+    /// Writes `value` to `port`, if that is the timer's or the parallel port's.
     pub(crate) fn write(&mut self, port: Port, value: u8)
         requires { HasNumber port }
         ensures { self.new ≡ sound_after_write self.old port value }
@@ -56,7 +56,7 @@ impl Sound {
     }
 }
 
-/// Writes `value` to `port`, where that is the parallel port's.
+/// Writes `value` to `port`, if that is the parallel port's.
 pub(crate) fn write_parallel(ppi: &mut Ppi, port: Port, value: u8)
     requires { HasNumber port }
     ensures { (sound : Sound) → sound.ppi ≡ ppi.old → ppi.new ≡ (sound_after_write sound port value).ppi }

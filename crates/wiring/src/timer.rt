@@ -1,5 +1,4 @@
-//! The timer, which may lag behind: its ticks are counted and made where something asks for more than the levels of its
-//! outputs.
+//! A timer that may lag: its ticks are counted, and made when something asks for more than the levels of its outputs.
 ghost use Rattle.std.specs.Prelude.{ℕ, true, false, ◌≡◌, ◌<◌, ◌≤◌, IfSome, IsTrue};
 ghost use Rattle.board_types.specs.Timed.{IsSteady, IsUntilTurn};
 ghost use Rattle.board_types.specs.declared.line.Line.{Line};
@@ -13,16 +12,16 @@ use board_types::line::Line;
 use pit8253::pit::Pit;
 use std::marker::Model;
 
-/// The timer as it is now, whose counters may stand some ticks before.
+/// The timer as it is now; its counters may lag by some ticks.
 #[derive(Drop)]
 pub(crate) struct Timer {
-    /// The timer as it was.
+    /// The timer as it was before the ticks that are only counted.
     pit: Pit,
-    /// How many ticks it is behind: OUT0 and OUT2 haven't turned in them.
+    /// How many ticks it lags: OUT0 and OUT2 haven't turned in them.
     behind: u64,
-    /// After how many ticks from there OUT0 turns.
+    /// After how many ticks, counted from `pit`, OUT0 turns.
     turn_0: Option<u64>,
-    /// After how many ticks from there OUT2 turns.
+    /// After how many ticks, counted from `pit`, OUT2 turns.
     turn_2: Option<u64>,
 }
 
@@ -38,14 +37,14 @@ impl Model for Timer {
 }
 
 impl Timer {
-    /// A timer of the kind at power-on.
+    /// A timer of this kind at power-on.
     pub(crate) fn new(kind: TimerKind) -> Timer
         ensures { result ≡ power_on kind }
     {
         Timer::standing(Pit::with(kind))
     }
 
-    /// A timer that isn't behind.
+    /// A timer that doesn't lag.
     #[tactic(auto, using(crate::proofs::Behind::at_once, crate::proofs::Behind::not_behind))]
     pub(crate) fn standing(pit: Pit) -> Timer
         ensures { result ≡ pit }
@@ -69,7 +68,7 @@ impl Timer {
         pit
     }
 
-    /// Ticks so often. They are only counted as long as neither OUT0 nor OUT2 turns.
+    /// Ticks `ticks` times. The ticks are only counted as long as neither OUT0 nor OUT2 turns.
     #[inline(always)]
     pub(crate) fn advance(&mut self, ticks: u64)
         ensures { self.new ≡ after_ticks self.old ticks }
@@ -79,7 +78,7 @@ impl Timer {
         }
     }
 
-    /// Counts so many ticks, if neither OUT0 nor OUT2 turns in them; whether they were counted.
+    /// Counts `ticks` more ticks, if neither OUT0 nor OUT2 turns in them. Answers whether it did.
     #[inline(always)]
     #[tactic(auto, using(crate::proofs::Behind::later, crate::proofs::Behind::still_behind))]
     pub(crate) fn count(&mut self, ticks: u64) -> bool
@@ -98,7 +97,7 @@ impl Timer {
         false
     }
 
-    /// Makes its ticks, and so many more. Mostly it is OUT0 that turns, and then it stays known when OUT2 does.
+    /// Makes the counted ticks, and `ticks` more. Mostly OUT0 turns, and then it stays known when OUT2 does.
     #[inline(never)]
     #[tactic(auto, using(crate::proofs::Behind::later, crate::proofs::Behind::at_once))]
     fn tick(&mut self, ticks: u64)
@@ -117,7 +116,7 @@ impl Timer {
         };
     }
 
-    /// Makes its ticks, and then so many more: together they may be too many to count.
+    /// Makes the counted ticks, and then `ticks` more: together they may be too many to count.
     #[inline(never)]
     #[tactic(auto, using(crate::proofs::Behind::later))]
     fn tick_apart(&mut self, ticks: u64)
@@ -144,21 +143,21 @@ impl Timer {
         self.pit.out(2)
     }
 
-    /// After how many ticks, from 1 on, OUT0 turns; `None` where it never does.
+    /// After how many ticks, from 1 on, OUT0 turns; `None` if it never does.
     pub(crate) fn until_turn_0(&self) -> Option<u64>
         ensures { IsUntilTurn counter.after_ticks out_of self.now.counter_0 result }
     {
         later_turn(self.turn_0, self.behind)
     }
 
-    /// After how many ticks, from 1 on, OUT2 turns; `None` where it never does.
+    /// After how many ticks, from 1 on, OUT2 turns; `None` if it never does.
     pub(crate) fn until_turn_2(&self) -> Option<u64>
         ensures { IsUntilTurn counter.after_ticks out_of self.now.counter_2 result }
     {
         later_turn(self.turn_2, self.behind)
     }
 
-    /// After how many ticks, from 1 on, OUT0 or OUT2 turns; `None` where neither ever does.
+    /// After how many ticks, from 1 on, OUT0 or OUT2 turns; `None` if neither ever does.
     pub(crate) fn until_turn(&self) -> Option<u64>
         ensures out_0 { (ticks : ℕ) → is_before ticks result ≡ true
             → IsSteady counter.after_ticks out_of self.now.counter_0 ticks }
@@ -192,7 +191,7 @@ impl Timer {
         *self = Timer::standing(pit);
     }
 
-    /// Gate 2 takes the level `line`. Where it has that level already nothing changes, and the timer stays behind.
+    /// Gate 2 takes the level `line`. If it has that level already, nothing changes, and the timer goes on lagging.
     #[tactic(auto, using(crate::proofs::Behind::gate_stays))]
     pub(crate) fn set_gate_2(&mut self, line: Line)
         ensures { self.new ≡ after_gate self.old 2 line }
@@ -202,7 +201,7 @@ impl Timer {
         }
     }
 
-    /// Makes its ticks, and then gate 2 takes the level `line`.
+    /// Makes the counted ticks, and then gate 2 takes the level `line`.
     #[inline(never)]
     fn turn_gate_2(&mut self, line: Line)
         ensures { self.new ≡ after_gate self.old 2 line }
@@ -237,7 +236,7 @@ fn is_before(ticks: u64, turn: Option<u64>) -> bool
     }
 }
 
-/// The ticks to a turn, `behind` ticks later and before it.
+/// How many ticks are left to a turn after `behind` ticks, which come before it.
 #[inline(always)]
 fn later_turn(turn: Option<u64>, behind: u64) -> Option<u64>
     requires { IsTrue (is_before behind turn) }
