@@ -219,7 +219,7 @@ length_of f v =
     let b = field_length (displacement_field f.place) v.displacement 0 in
     let c = field_length (field_part f.row) v.number v.segment in cc)
 
--- the search may begin behind rows that don't have the opcode
+-- the search may begin after rows that don't have the opcode
 not_so : (b : Bool) → not b ≡ true → b ≡ false
 not_so true e = absurd (cc)
 not_so false e = refl

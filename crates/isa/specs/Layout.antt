@@ -26,7 +26,7 @@ kind_code CodeSegment = code_parts.Segment
 kind_code CodeSegmentNotCs = code_parts.SegmentNotCs
 kind_code _ = code_parts.Fixed
 
--- into reg
+-- what an operand puts into reg
 abbrev pub kind_reg : Kind → Option RegPart
 kind_reg Reg8 = Some reg_parts.Register
 kind_reg Reg16 = Some reg_parts.Register
@@ -35,7 +35,7 @@ kind_reg SegmentKind = Some reg_parts.Segment
 kind_reg SegmentNotCsKind = Some reg_parts.SegmentNotCs
 kind_reg _ = None
 
--- into the field at the end
+-- what an operand puts into the field at the end
 abbrev pub kind_field : Kind → Field
 kind_field Imm8 = Byte
 kind_field Signed8 = Byte
@@ -47,7 +47,7 @@ kind_field At16 = Word
 kind_field FarKind = Far
 kind_field _ = Absent
 
--- the first operand's part, or where it has none there the second's
+-- the first operand's part, or the second's if the first has none there
 abbrev pub first_code : CodePart → CodePart → CodePart
 first_code code_parts.Fixed other = other
 first_code part _ = part
@@ -66,7 +66,7 @@ code_part r = first_code (kind_code r.first) (kind_code r.second)
 abbrev pub field_part : Row → Field
 field_part r = first_field (kind_field r.first) (kind_field r.second)
 
--- a row's digit stands in reg
+-- what stands in reg: a row's digit, or what an operand puts there
 abbrev pub reg_part : Row → Option RegPart
 reg_part r = first_reg (option_map reg_parts.Digit r.digit) (first_reg (kind_reg r.first) (kind_reg r.second))
 
@@ -78,7 +78,7 @@ places _ _ = place_parts.Any
 abbrev pub place_part : Row → PlacePart
 place_part r = places r.first r.second
 
--- the second byte: the addressing byte where something stands in reg, or the 0Ah of AAM and AAD
+-- the second byte: the addressing byte if something stands in reg, or the 0Ah of AAM and AAD
 abbrev pub second_with : Option RegPart → PlacePart → Kind → Second
 second_with (Some reg) place _ = seconds.Addressing reg place
 second_with None _ Ten = seconds.Exactly 0x0A

@@ -13,14 +13,14 @@ use Rattle.isa.specs.declared.row.Row.{Row}
 use Rattle.isa.specs.Table.{rows}
 use Rattle.isa.specs.Layout.{code_part, second_part}
 
--- a segment register but CS
+-- whether a number names a segment register, and one other than CS
 abbrev pub is_segment : ℕ → Bool
 is_segment n = nat_lt n 4
 
 abbrev pub is_segment_not_cs : ℕ → Bool
 is_segment_not_cs n = nat_lt n 4 && not (n == 1)
 
--- the byte is this opcode, with something in it beside
+-- whether a byte is this opcode, alone or with what an operand puts into it
 abbrev pub is_code : CodePart → ℕ → ℕ → Bool
 is_code code_parts.Fixed opcode byte = byte == opcode
 is_code code_parts.Register opcode byte = nat_le opcode byte && nat_lt byte (opcode + 8)
@@ -35,7 +35,7 @@ is_reg reg_parts.Register reg = true
 is_reg reg_parts.Segment reg = is_segment reg
 is_reg reg_parts.SegmentNotCs reg = is_segment_not_cs reg
 
--- mod 3 names a register
+-- whether mod may have this number; 3 names a register
 abbrev pub is_named : PlacePart → ℕ → Bool
 is_named place_parts.Any mode = true
 is_named place_parts.Memory mode = nat_lt mode 3
@@ -45,10 +45,10 @@ is_second seconds.Absent byte = true
 is_second (seconds.Exactly wanted) byte = byte == wanted
 is_second (seconds.Addressing part named) byte = is_reg part (byte / 8 % 8) && is_named named (byte / 64)
 
--- the opcode, and the byte after it, are the row's
+-- whether the opcode, and the byte after it, are the row's
 abbrev pub begins : Row → ℕ → ℕ → Bool
 begins r opcode next = is_code (code_part r) r.opcode opcode && is_second (second_part r) next
 
--- the row that an opcode, with the byte after it, begins
+-- the row that an opcode, with the byte after it, begins, if there is one
 unfoldable pub row_at : ℕ → ℕ → Option Row
 row_at opcode next = find (λ r. begins r opcode next) rows

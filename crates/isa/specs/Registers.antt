@@ -34,7 +34,7 @@ segment_register_number Cs = 1
 segment_register_number Ss = 2
 segment_register_number Ds = 3
 
--- the register with a number; above the last one's number the last
+-- the register with a number; for a number above the last one's, the last register
 abbrev pub byte_register_of : ℕ → ByteRegister
 byte_register_of n =
     cond (n == 0) Al (cond (n == 1) Cl (cond (n == 2) Dl (cond (n == 3) Bl

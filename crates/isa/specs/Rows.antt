@@ -1,5 +1,5 @@
--- What the code that writes an instruction and that finds a row rests on: digits fit reg, and so many rows are passed
--- over.
+-- What is needed to write an instruction and to find a row: each digit fits reg, and the rows before the first that has
+-- an opcode are passed over.
 -- For proofs alone: no public contract rests on it.
 use Rattle.std.specs.Prelude.{ℕ, ◌<◌, Bool, not, ◌&&◌, nat_le, length, take}
 use Rattle.std.specs.List.{list_all}
@@ -11,15 +11,15 @@ use Rattle.isa.specs.Table.{rows}
 use Rattle.isa.specs.Layout.{code_part}
 use Rattle.isa.specs.Parts.{is_code}
 
--- a digit is one that reg can hold
+-- a digit, if there is one, is one that reg can hold
 abbrev pub HasDigit : Second → Type 0
 HasDigit (seconds.Addressing (reg_parts.Digit digit) _) = digit < 8
 HasDigit _ = Unit {0}
 
--- a row has the opcode
+-- whether a row has the opcode
 abbrev pub has_opcode : ℕ → Row → Bool
 has_opcode opcode r = is_code (code_part r) r.opcode opcode
 
--- so many rows come before the first that has it
+-- whether none of the first `count` rows has the opcode
 abbrev pub is_before : ℕ → ℕ → Bool
 is_before opcode count = nat_le count (length rows) && list_all (λ r. not (has_opcode opcode r)) (take count rows)

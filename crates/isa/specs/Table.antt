@@ -1,7 +1,7 @@
--- The encoding table, line by line (8086 Family User's Manual, "Machine Instruction Encoding and Decoding", and for
--- the clocks "Instruction Set Reference Data"; the clocks are this board's own where the manual's depend on the bus).
--- `row OPERATION OPCODE OPERAND OPERAND CLOCKS`, and with a digit in reg `row/ OPERATION OPCODE DIGIT ..`. Where two
--- rows can hold one instruction, the assembler takes the first.
+-- The encoding table, line by line (8086 Family User's Manual, "Machine Instruction Encoding and Decoding", and for the
+-- clocks "Instruction Set Reference Data"; the clocks are this board's own if the manual's depend on the bus). `row
+-- OPERATION OPCODE OPERAND OPERAND CLOCKS`, and with a digit in reg `row/ OPERATION OPCODE DIGIT ..`. If two rows can
+-- hold one instruction, the assembler takes the first.
 -- To be believed: the headline rests on it.
 use Rattle.std.specs.Prelude.{ℕ, ◌+◌, ◌*◌, List, [], ◌∷◌, ◌++◌, Some, None}
 use Rattle.isa.specs.declared.operation.Operation.{Operation}
@@ -39,11 +39,11 @@ row operation opcode first second clocks = record {
 abbrev pub row/ : Operation → ℕ → ℕ → Kind → Kind → Clocks → Row
 row/ operation opcode digit first second clocks = record (row operation opcode first second clocks) { digit = Some digit }
 
--- the families, each with its numbers
+-- the families of operations, each operation with its number
 abbrev pub arithmetics : (ArithmeticType → ℕ → Row) → List Row
 arithmetics f = f Add 0 ∷ f Or 1 ∷ f Adc 2 ∷ f Sbb 3 ∷ f And 4 ∷ f Sub 5 ∷ f Xor 6 ∷ f Cmp 7 ∷ []
 
--- those that extend an immediate byte by its sign
+-- the arithmetic operations that extend an immediate byte by its sign
 abbrev pub signed : (ArithmeticType → ℕ → Row) → List Row
 signed f = f Add 0 ∷ f Adc 2 ∷ f Sbb 3 ∷ f Sub 5 ∷ f Cmp 7 ∷ []
 
@@ -56,7 +56,7 @@ conditions f =
     ∷ f Above 7 ∷ f Sign 8 ∷ f NotSign 9 ∷ f Parity 10 ∷ f NotParity 11 ∷ f Less 12 ∷ f NotLess 13
     ∷ f LessOrZero 14 ∷ f Greater 15 ∷ []
 
--- CMP writes nothing back
+-- the clocks with an immediate operand; CMP writes nothing back
 abbrev pub with_immediate : ArithmeticType → Clocks
 with_immediate Cmp = Place 4 10
 with_immediate _ = Place 4 17

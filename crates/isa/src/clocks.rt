@@ -9,7 +9,7 @@ use crate::row::Clocks;
 use crate::words::word_clocks;
 use board_types::choice::ClockTable;
 
-/// The clocks that a step of `instr` takes which found `outcome`, by a table.
+/// The clocks that a step of `instr` with this outcome takes, by either table.
 #[tactic(auto, unfolding(crate::specs::Words::clocks_in))]
 pub fn cost(instr: &Instr, outcome: &Outcome, table: ClockTable) -> Cost
     ensures value { result.0 ≡ clocks_in table instr.now outcome.now }
@@ -18,7 +18,7 @@ pub fn cost(instr: &Instr, outcome: &Outcome, table: ClockTable) -> Cost
     Cost(step_clocks(instr, outcome) + word_clocks(table, instr.data_words(outcome)))
 }
 
-/// The same by the first table.
+/// The clocks that a step of `instr` with this outcome takes, by the first table.
 #[tactic(auto, unfolding(crate::specs::Clocks::clocks_of))]
 pub fn step_clocks(instr: &Instr, outcome: &Outcome) -> u16
     ensures value { result ≡ clocks_of instr.now outcome.now }
@@ -38,14 +38,14 @@ pub fn step_clocks(instr: &Instr, outcome: &Outcome) -> u16
 }
 
 impl Instr {
-    /// Whether it is a string instruction under a repeat prefix.
+    /// Whether the instruction is a string instruction under a repeat prefix.
     pub fn is_repeated(&self) -> bool
         ensures { result ≡ is_repeated self.now }
     {
         self.form.row.clocks.can_repeat() && self.repeat().is_some()
     }
 
-    /// Whether its clocks go by CL.
+    /// Whether the instruction's clocks depend on CL.
     pub fn is_counted(&self) -> bool
         ensures { result ≡ is_counted self.now }
     {
@@ -61,7 +61,7 @@ impl Clocks {
     }
 }
 
-/// What the first step takes more.
+/// The clocks that the first step takes besides.
 fn first_clocks(instr: &Instr) -> u16
     ensures value { result ≡ first_clocks instr.now }
     ensures bound { result ≤ 23 }
@@ -95,7 +95,7 @@ fn place_clocks(place: Place, register: u8, memory: u8) -> u16
     }
 }
 
-/// What an address in memory takes more.
+/// The clocks that an address in memory takes besides.
 fn address_clocks(place: Place) -> u16
     ensures value { result ≡ address_clocks place }
     ensures bound { result ≤ 11 }

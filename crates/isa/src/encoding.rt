@@ -9,9 +9,9 @@ use crate::form::{Form, Place, Values};
 use crate::layout::{CodePart, Field, RegPart, Second};
 use arrayvec::ArrayVec;
 
-/// The bytes of the instruction of this form with these numbers in its fields, without its prefixes.
-/// The caller sees to it that the form is one of the table's, its row with what the row's parts take, and that each
-/// number fits its field and is 0 where the form has no such field.
+/// The bytes of the instruction of this form with these numbers in its fields, without its prefixes. The caller sees to
+/// it that the form is one of the table's, its row with what the row's parts take, and that each number fits its field
+/// and is 0 if the form has no such field.
 #[tactic(auto, unfolding(crate::specs::Encoding::encoding))]
 pub fn encode(form: &Form, values: Values) -> ArrayVec<u8, 14>
     requires form { IsForm form.now }
@@ -40,7 +40,7 @@ fn opcode_byte(form: Form) -> u8
 }
 
 impl CodePart {
-    /// What is added to the row's opcode.
+    /// What the opcode holds beside the row's opcode, as a number that is added to it.
     fn number(self, code: u8) -> u8
         requires { FitsCode self code }
         ensures { result ≡ code_number self code }
@@ -54,7 +54,7 @@ impl CodePart {
 }
 
 impl RegPart {
-    /// What stands in reg.
+    /// The number in reg.
     fn number(self, reg: u8) -> u8
         ensures { result ≡ reg_number self reg }
     {

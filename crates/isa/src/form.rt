@@ -33,7 +33,7 @@ pub enum Base {
 }
 
 impl Base {
-    /// The number in r/m.
+    /// The number of the base in r/m.
     pub fn number(self) -> u8
         ensures { result ≡ base_number self }
     {
@@ -68,7 +68,7 @@ pub enum Place {
 }
 
 impl Place {
-    /// mod, 0 to 3.
+    /// The number in mod, 0 to 3.
     pub fn mode(self) -> u8
         ensures { result ≡ mod_of self }
     {
@@ -80,7 +80,7 @@ impl Place {
         }
     }
 
-    /// r/m, 0 to 7.
+    /// The number in r/m, 0 to 7.
     pub fn rm(self) -> u8
         ensures { result ≡ rm_of self }
     {
@@ -112,7 +112,7 @@ pub struct Form {
     /// What the opcode holds beside the row's number: the number of a register or of a segment register, or an ESC's
     /// number by 8.
     pub code: u8,
-    /// What reg holds, where it isn't the row's digit: a register's number, or the low three bits of an ESC's number.
+    /// What reg holds, unless it is the row's digit: a register's number, or the low three bits of an ESC's number.
     pub reg: u8,
     pub place: Place,
 }
@@ -137,7 +137,7 @@ pub struct Values {
     pub displacement: u16,
     /// An immediate number, a relative target or an offset; a byte isn't extended by its sign yet.
     pub number: u16,
-    /// Of a far jump or call the segment.
+    /// The segment of a far jump or call.
     pub segment: u16,
 }
 
@@ -159,7 +159,7 @@ pub enum Prefix {
 }
 
 impl Prefix {
-    /// Its byte.
+    /// The prefix's byte.
     pub fn byte(self) -> u8
         ensures { result ≡ prefix_byte self }
     {
@@ -184,7 +184,7 @@ pub struct Instr {
 }
 
 impl Instr {
-    /// The same instruction once more; it takes no memory.
+    /// A copy of the instruction; it takes no memory.
     pub fn copied(&self) -> Instr
         ensures { result ≡ self.now }
     {
@@ -205,7 +205,7 @@ impl Instr {
         self.prefixes.len() as u8 + self.form.length()
     }
 
-    /// The segment register that its last override names.
+    /// The segment register that the instruction's last override names, if it has one.
     pub fn chosen_segment(&self) -> Option<SegmentRegister>
         ensures { result ≡ chosen_segment self.now.prefixes.items }
     {
@@ -218,7 +218,7 @@ impl Instr {
             })
     }
 
-    /// Its last repeat prefix.
+    /// The instruction's last repeat prefix, if it has one.
     pub fn repeat(&self) -> Option<Repeat>
         ensures { result ≡ repeat_of self.now.prefixes.items }
     {

@@ -13,7 +13,7 @@ pub enum CodePart {
     Register,
     /// A segment register in bits 4 and 3.
     Segment,
-    /// The same, but not CS.
+    /// A segment register in bits 4 and 3, but not CS.
     SegmentNotCs,
 }
 
@@ -99,7 +99,7 @@ impl Row {
         }
     }
 
-    /// What reg holds, where the row has an addressing byte.
+    /// What reg holds, if the row has an addressing byte.
     fn reg_part(self) -> Option<RegPart>
         ensures { result ≡ reg_part self }
     {
@@ -147,7 +147,7 @@ impl Row {
 }
 
 impl Second {
-    /// How many bytes it has.
+    /// How many bytes a row's second byte takes, 0 or 1.
     pub fn size(self) -> u8
         ensures value { result ≡ second_size self }
         ensures bound { result ≤ 1 }
@@ -160,7 +160,7 @@ impl Second {
 }
 
 impl Field {
-    /// How many bytes it has.
+    /// How many bytes the field has.
     pub fn size(self) -> u8
         ensures value { result ≡ field_size self }
         ensures bound { result ≤ 4 }

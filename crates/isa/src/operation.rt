@@ -82,7 +82,7 @@ pub enum JumpCondition {
     Greater,
 }
 
-/// The jumps that ask CX.
+/// The jumps that depend on CX.
 #[derive(Clone, Copy)]
 pub enum Looping {
     Loopne,

@@ -4,12 +4,12 @@
 #[derive(Clone, Copy)]
 pub struct Cost(pub u16);
 
-/// What a step found that its cost may depend on.
+/// What a step found, as far as its cost may depend on it.
 #[derive(Clone, Copy)]
 pub struct Outcome {
     /// The jump was taken.
     pub taken: bool,
-    /// CL, where it is a shift's count.
+    /// CL, if it is a shift's count.
     pub cl: u8,
     /// The step is the instruction's first.
     pub first_step: bool,

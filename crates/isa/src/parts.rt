@@ -24,14 +24,14 @@ static FIRST: [u8; 256] = [
     217, 117,
 ];
 
-/// How many rows stand before the first that the opcode begins.
+/// How many rows come before the first that the opcode begins.
 fn rows_before(opcode: u8) -> usize
     ensures { IsTrue (is_before opcode result) }
 {
     usize::from(FIRST[usize::from(opcode)])
 }
 
-/// The row of the table that an opcode begins, with the byte after it; no two do. `None` where no row fits.
+/// The row of the table that an opcode begins, with the byte after it; no two rows fit. `None` if no row does.
 #[tactic(auto, unfolding(crate::specs::Parts::row_at))]
 pub fn row_at(opcode: u8, next: u8) -> Option<Row>
     ensures { result ≡ row_at opcode next }

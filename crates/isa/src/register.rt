@@ -16,7 +16,7 @@ pub enum ByteRegister {
 }
 
 impl ByteRegister {
-    /// The register with this number; of a greater number than the last register's the last.
+    /// The register with this number, or the last one if the number is greater than its number.
     pub fn numbered(number: u8) -> ByteRegister
         ensures value { result ≡ byte_register_of number }
         ensures again { number < 8 → byte_register_number result ≡ number }
@@ -64,7 +64,7 @@ pub enum WordRegister {
 }
 
 impl WordRegister {
-    /// The register with this number; of a greater number than the last register's the last.
+    /// The register with this number, or the last one if the number is greater than its number.
     pub fn numbered(number: u8) -> WordRegister
         ensures value { result ≡ word_register_of number }
         ensures again { number < 8 → word_register_number result ≡ number }
@@ -108,7 +108,7 @@ pub enum SegmentRegister {
 }
 
 impl SegmentRegister {
-    /// The register with this number; of a greater number than the last register's the last.
+    /// The register with this number, or the last one if the number is greater than its number.
     pub fn numbered(number: u8) -> SegmentRegister
         ensures value { result ≡ segment_register_of number }
         ensures again { number < 4 → segment_register_number result ≡ number }

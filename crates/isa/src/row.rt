@@ -42,7 +42,7 @@ pub enum Kind {
     Imm16,
     /// An immediate byte, extended to a word by its sign.
     Signed8,
-    /// A jump's target, told from the next instruction's offset on, in a byte or a word.
+    /// A jump's target, counted from the next instruction's offset on, in a byte or a word.
     Rel8,
     Rel16,
     /// A byte or a word in memory at an immediate offset.
@@ -52,18 +52,18 @@ pub enum Kind {
     Far,
 }
 
-/// How the clocks of a row are told. `e` is what the address of an operand in memory costs.
+/// How many clocks a row takes. `e` is what the address of an operand in memory costs.
 #[derive(Clone, Copy)]
 pub enum Clocks {
-    /// Always as many.
+    /// Always this number.
     Always(u8),
     /// The first for a register, the second and `e` for memory.
     Place(u8, u8),
-    /// As many and `e`; the operand is in memory.
+    /// This number and `e`; the operand is in memory.
     Memory(u8),
     /// As `Place`, and 4 more for each shift that CL counts.
     Counted(u8, u8),
-    /// The first where the jump or interrupt is taken, else the second.
+    /// The first if the jump or interrupt is taken, else the second.
     Taken(u8, u8),
     /// The first once, the second for each step under a repeat prefix.
     Repeated(u8, u8),
@@ -88,7 +88,7 @@ impl Row {
         self.operation
     }
 
-    /// The opcode, without what it may hold beside.
+    /// The opcode, without what else its byte may hold.
     pub fn opcode(self) -> u8
         ensures { result ≡ opcode_of self }
     {

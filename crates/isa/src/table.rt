@@ -8,7 +8,7 @@ use crate::operation::{
 };
 use crate::row::{Clocks, Kind, Row};
 
-/// A row: its operation, its opcode, and the digit in reg where it has one; its operands; its clocks.
+/// A row: its operation, its opcode, and the digit in reg if it has one; its operands; its clocks.
 macro_rules! row {
     (JumpCondition::$op:ident $opcode:literal, $first:ident $second:ident, $($clocks:tt)+) => {
         row!(@ Operation::Jump(JumpCondition::$op), $opcode, None, $first, $second, $($clocks)+)

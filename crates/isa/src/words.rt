@@ -11,7 +11,7 @@ use board_types::choice::ClockTable;
 /// The words that an entry into an interrupt pushes and reads.
 const ENTRY_WORDS: u16 = 5;
 
-/// What a table adds to a step's clocks for so many words.
+/// The clocks that a table adds to a step for this number of words, at most 10.
 pub fn word_clocks(table: ClockTable, words: u16) -> u16
     requires { words ≤ 10 }
     ensures value { result ≡ word_clocks table words }
@@ -24,7 +24,7 @@ pub fn word_clocks(table: ClockTable, words: u16) -> u16
 }
 
 impl Instr {
-    /// The words of a step that found `outcome`.
+    /// The words of a step with this outcome.
     #[tactic(auto, unfolding(crate::specs::Words::data_words))]
     pub fn data_words(&self, outcome: &Outcome) -> u16
         ensures value { result ≡ data_words self.now outcome.now }
@@ -36,7 +36,7 @@ impl Instr {
         self.whole_words(outcome.taken) + if outcome.fault { ENTRY_WORDS } else { 0 }
     }
 
-    /// The words of the instruction that is made whole, or of an iteration of its repeat.
+    /// The words of a step that completes the instruction, or of an iteration of its repeat.
     #[tactic(auto, unfolding(crate::specs::Words::whole_words))]
     pub fn whole_words(&self, taken: bool) -> u16
         ensures value { result ≡ whole_words self.now taken }
@@ -59,7 +59,7 @@ fn word_at_place(place: Place) -> u16
     }
 }
 
-/// Whether an operand is a word in memory: 1 or 0.
+/// How many words in memory an operand is, 0 or 1.
 fn word_at(kind: Kind, place: Place) -> u16
     ensures value { result ≡ word_at kind place }
     ensures bound { result ≤ 1 }
