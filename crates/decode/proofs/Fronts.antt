@@ -66,7 +66,7 @@ stands_again front bytes i size n within same stands = record {
       ∙ stands.spelled;
 }
 
--- and no other one does
+-- an instruction that stands in the bytes is the only one that does
 the_one : (bytes : List ℕ) (i : Instr) (size : ℕ) → StandsIn bytes i size → IsDecoded bytes (Found i size)
 the_one bytes i size stands = record {
   stands = stands;
@@ -105,7 +105,7 @@ found_again front bytes r d same row found is =
     let again = short_stands front bytes d (omega (arith, size, some)) (omega (arith, size, few)) same is in
     record { value = short_from bytes d (omega (arith, size, some)) again; exact = again }
 
--- where no row fits, none fits the same bytes either
+-- if no row fits, none fits the same bytes either
 same_byte : (front bytes : List ℕ) (k : ℕ) → k < 6 → take 6 front ≡ take 6 bytes → slice_index front k ≡ slice_index bytes k
 same_byte front bytes k within same =
     sym (get_or-take 6 front k 0 within) ∙ ap (λ xs. slice_index xs k) same ∙ get_or-take 6 bytes k 0 within

@@ -1,4 +1,4 @@
--- What `find` gives where one element alone passes the test, and pieces of lists.
+-- What `find` gives if only one element passes the test, and pieces of lists.
 use Rattle.std.proofs.Common.{◌≡◌, ℕ, zero, suc, ◌<◌, Bool, true, false, List, [], ◌∷◌, length, find, Some, Contains, get_or, refl, ap, subst, arith, cond}
 
 later : {X : Type 0} (y : X) (ys : List X) (z : X) → Contains ys z → Contains (y ∷ ys) z

@@ -37,7 +37,7 @@ prefix_from byte p e =
     (one_of byte 0xF2 (Repeat Repne) p _ refl
     (one_of byte 0xF3 (Repeat Rep) p None refl (λ none. absurd (cc)))))))) e
 
--- prefixes that stand at the front are read, where the byte behind them is none
+-- prefixes that stand at the front are read, if the byte after them is none
 pub read_all : (n : ℕ) (ps : List Prefix) (c : ℕ) (cs : List ℕ) → length ps ≤ n → prefix_of c ≡ None → prefixes_at n (map prefix_byte ps ++ (c ∷ cs)) ≡ ps
 read_all zero [] c cs few none = refl
 read_all (suc n) [] c cs few none = ap (λ o. and_then o (prefixes_at n cs)) none
@@ -46,7 +46,7 @@ read_all (suc n) (p ∷ ps) c cs few none =
     ap (λ o. and_then o (prefixes_at n (map prefix_byte ps ++ (c ∷ cs)))) (prefix_again p)
     ∙ ap (λ rest. p ∷ rest) (read_all n ps c cs (omega (arith, few)) none)
 
--- those that are read stand at the front, and are no more than were asked for
+-- the prefixes that are read stand at the front, and are no more than were asked for
 pub stand_at : (n : ℕ) (bytes : List ℕ) → map prefix_byte (prefixes_at n bytes) ++ drop (length (prefixes_at n bytes)) bytes ≡ bytes
 stand_at zero bytes = refl
 stand_at (suc n) [] = refl

@@ -5,7 +5,7 @@ use Rattle.isa.specs.declared.form.Instr.{Instr}
 use Rattle.isa.specs.Encoding.{spelling, IsInstr}
 use Rattle.decode.specs.Decoding.{longest_instruction, decoded_from, IsDecoded}
 
--- `decoded_from` is the one instruction that stands in the bytes, and none where none does
+-- `decoded_from` is the one instruction that stands in the bytes, and none if none does
 abbrev pub DecodingIsExact : Type 0
 DecodingIsExact =
     (bytes : List ℕ) → longest_instruction ≤ length bytes → All (λ b. b < 256) bytes

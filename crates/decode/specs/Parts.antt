@@ -6,7 +6,7 @@ use Rattle.isa.specs.declared.form.Prefix.{Prefix}
 use Rattle.isa.specs.declared.form.Instr.{Instr}
 use Rattle.decode.specs.Decoding.{values_at}
 
--- a form at these bytes, after prefixes
+-- the instruction of a form at these bytes, after prefixes
 abbrev pub instr_of : List Prefix → Form → List ℕ → Instr
 instr_of prefixes f bytes = record {
   prefixes = record { items = prefixes };

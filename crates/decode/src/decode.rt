@@ -18,8 +18,8 @@ use isa::row::Row;
 /// address.
 const LONGEST: usize = 15;
 
-/// The instruction whose bytes stand at CS:IP, after at most seven prefixes, or `NoRow` where no row of the encoding
-/// table fits. Offsets wrap at 65,536 and addresses at 2^20.
+/// The instruction whose bytes stand at CS:IP, after at most seven prefixes, or `NoRow` if no row of the encoding table
+/// fits. Offsets wrap at 65,536 and addresses at 2^20.
 pub fn decode<B: Bytes>(bytes: &B, cs: u16, ip: u16) -> Decoded
     ensures value { result ≡ decoded_from (code_at (B.byte_at bytes.now) cs ip) }
     ensures exact { IsDecoded (code_at (B.byte_at bytes.now) cs ip) result }
@@ -41,8 +41,8 @@ fn decode_whole<B: Bytes>(bytes: &B, cs: u16, ip: u16) -> Decoded
     decode_code(&code_at(bytes, cs, ip))
 }
 
-/// As many bytes from CS:IP on as an instruction without prefixes has at most, and zeros behind them. Most
-/// instructions have no prefix, and each byte that isn't read saves time.
+/// As many bytes from CS:IP on as an instruction without prefixes has at most, and zeros after them. Most instructions
+/// have no prefix, and each byte that isn't read saves time.
 fn front_at<B: Bytes>(bytes: &B, cs: u16, ip: u16) -> [u8; LONGEST]
     ensures { take 6 result ≡ take 6 (code_at (B.byte_at bytes.now) cs ip) }
 {
@@ -85,7 +85,7 @@ fn code_byte<B: Bytes>(bytes: &B, cs: u16, ip: u16, index: u16) -> u8
     bytes.byte(physical(cs, ip.wrapping_add(index)))
 }
 
-/// The instruction at the front of `code`, where no prefix stands.
+/// The instruction at the front of `code`, which begins with no prefix.
 fn decode_bare(code: &[u8; LONGEST]) -> Decoded
     requires { prefix_of (slice_index code.now 0) ≡ None }
     ensures value { result ≡ decoded_behind [] code.now }
@@ -126,7 +126,7 @@ fn prefixes_at(code: &[u8; LONGEST]) -> ArrayVec<Prefix, 7>
     prefixes
 }
 
-/// The instruction at the front of `code`, which stands behind these prefixes.
+/// The instruction at the front of `code`, which comes after these prefixes.
 #[tactic(auto, unfolding(crate::specs::Decoding::decoded_behind))]
 fn decode_behind(prefixes: ArrayVec<Prefix, 7>, code: &[u8]) -> Decoded
     requires { 8 ≤ length code.now }
@@ -138,7 +138,7 @@ fn decode_behind(prefixes: ArrayVec<Prefix, 7>, code: &[u8]) -> Decoded
     }
 }
 
-/// The row's instruction at the front of `code`, which stands behind these prefixes.
+/// The row's instruction at the front of `code`, which comes after these prefixes.
 #[tactic(auto, unfolding(isa::specs::Encoding::form_length))]
 fn decode_row(prefixes: ArrayVec<Prefix, 7>, row: Row, code: &[u8]) -> Decoded
     requires { 8 ≤ length code.now }

@@ -34,7 +34,7 @@ pub(crate) fn code_of(part: CodePart, opcode: u8, byte: u8) -> u8
     }
 }
 
-/// What reg holds, where it isn't the row's digit.
+/// What reg holds, unless it is the row's digit.
 fn reg_of(part: RegPart, byte: u8) -> u8
     ensures { result ≡ reg_of part byte }
 {
@@ -89,7 +89,7 @@ pub(crate) fn place_at(second: Second, byte: u8) -> Place
     }
 }
 
-/// The number in a field at the front of `bytes`; of a far address the offset.
+/// The number in a field at the front of `bytes`, or the offset in one of a far address.
 pub(crate) fn number_at(field: Field, bytes: &[u8]) -> u16
     requires { field_size field ≤ length bytes.now }
     ensures { result ≡ number_at field bytes.now }
