@@ -18,7 +18,7 @@ pub record Alike {S T : Type 0} (bus : BusMeaning S) (other : BusMeaning T) (R :
   pub byte : (s : S) (t : T) (address : ℕ) → R s t → other.byte_at t address ≡ bus.byte_at s address
   pub write : (s : S) (t : T) (address byte : ℕ) → R s t → R (bus.after_write s address byte) (other.after_write t address byte)
 
--- the same registers, over states that are related
+-- two machines have the same registers, and states that are related
 pub record Same {S T : Type 0} (R : S → T → Type 0) (m : Machine S) (n : Machine T) : Type 0 where
   pub registers : n.registers ≡ m.registers
   pub bus : R m.bus n.bus

@@ -12,7 +12,7 @@ pub record TakesWord {S : Type 0} (bus : BusMeaning S) (s : S) (segment offset :
   pub low : bus.is_writable s (physical segment offset) ≡ true
   pub high : bus.is_writable s (physical segment (offset_after offset 1)) ≡ true
 
--- memory reads as bytes
+-- memory holds bytes: each address reads as a number below 256
 abbrev pub HoldsBytes : {S : Type 0} → BusMeaning S → S → Type 0
 HoldsBytes bus s = (address : ℕ) → bus.byte_at s address < 256
 

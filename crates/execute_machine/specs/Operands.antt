@@ -8,7 +8,7 @@ use Rattle.execute_machine.specs.declared.last_operation.LastOperation.{LastOper
 use Rattle.execute_machine.specs.declared.width.Width.{Width}
 use Rattle.execute_machine.specs.Widths.{size_of}
 
--- an operation's result
+-- the result of an operation
 abbrev pub value_by : LastKind → Width → ℕ → ℕ → ℕ → ℕ
 value_by Settled width a b value = value
 value_by Sum width a b value = sum_of width a b 0
@@ -17,7 +17,7 @@ value_by Logic width a b value = value
 value_by Increment width a b value = sum_of width a b 0
 value_by Decrement width a b value = difference_of width a b 0
 
--- the operands are numbers of the width, and the result is theirs
+-- the operands are numbers of the width, and the value is the operation's result
 pub record IsOperation (last : LastOperation) : Type 0 where
   pub first : last.first < size_of last.width
   pub second : last.second < size_of last.width

@@ -4,12 +4,12 @@ use Rattle.std.specs.Prelude.{ℕ, Bool, nat_le}
 use Rattle.execute_machine.specs.declared.width.Width.{Width}
 use Rattle.execute_machine.specs.declared.width.Width.TheVariants.{Byte, Word}
 
--- how many values it has
+-- how many values a width has
 abbrev pub size_of : Width → ℕ
 size_of Byte = 256
 size_of Word = 65536
 
--- half of them: from there on a value is negative as a signed one
+-- half of a width's values: from there on a value is negative as a signed one
 abbrev pub half_size : Width → ℕ
 half_size Byte = 128
 half_size Word = 32768

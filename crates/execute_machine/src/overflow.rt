@@ -1,4 +1,4 @@
-//! Whether a sum or a difference overflows as a signed one.
+//! Whether a sum or a difference overflows as a signed number.
 ghost use Rattle.std.specs.Prelude.{◌≡◌, ◌<◌, pos, ◌+ℤ◌, ◌-ℤ◌};
 ghost use Rattle.std.specs.Int.{from_bool};
 ghost use Rattle.execute_machine.specs.Sums.{difference_of, is_outside, signed_of, sum_of};
@@ -6,7 +6,7 @@ ghost use Rattle.execute_machine.specs.Widths.{size_of};
 
 use crate::width::Width;
 
-/// Two numbers of one sign, and a sum of the other.
+/// Whether a sum overflows: both numbers have one sign, and the sum has the other.
 pub fn sum_overflows(width: Width, a: u16, b: u16, carry: bool, sum: u16) -> bool
     requires first { a < size_of width }
     requires second { b < size_of width }
@@ -16,7 +16,7 @@ pub fn sum_overflows(width: Width, a: u16, b: u16, carry: bool, sum: u16) -> boo
     width.is_negative(a) == width.is_negative(b) && width.is_negative(sum) != width.is_negative(a)
 }
 
-/// Two numbers of different signs, and a difference whose sign isn't the first one's.
+/// Whether a difference overflows: the numbers have different signs, and the difference doesn't have the first one's.
 pub fn difference_overflows(width: Width, a: u16, b: u16, borrow: bool, difference: u16) -> bool
     requires first { a < size_of width }
     requires second { b < size_of width }

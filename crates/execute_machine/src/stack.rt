@@ -26,7 +26,7 @@ pub fn top<B: Bus>(bus: &B, registers: &Registers) -> u16
     bus.read_word(registers.ss(), registers.sp())
 }
 
-/// Takes so many bytes off the stack.
+/// Takes `bytes` bytes off the stack.
 #[tactic(auto, unfolding(crate::specs::Stack::after_pop))]
 pub fn drop_bytes<B: Bus>(bus: &B, registers: &mut Registers, bytes: u16)
     ensures { machine registers.new (B.state bus.now) ≡ after_pop (machine registers.old (B.state bus.now)) bytes }

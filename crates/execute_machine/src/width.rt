@@ -10,7 +10,7 @@ pub enum Width {
 }
 
 impl Width {
-    /// How many values it has: 256 or 65,536.
+    /// How many values a width has: 256 or 65,536.
     pub fn size(self) -> u32
         ensures { result ≡ size_of self }
     {
@@ -20,7 +20,7 @@ impl Width {
         }
     }
 
-    /// Half of them: from there on a value is negative as a signed one.
+    /// Half of a width's values: from there on a value is negative as a signed one.
     pub fn half_size(self) -> u16
         ensures { result ≡ half_size self }
     {
