@@ -58,7 +58,7 @@ das_subtracts r x y borrow p q b h = record {
   carry = difference_borrows x y borrow (al_of r) _ p q b h.al (carry_of_difference _ _ _ _ h);
 }
 
--- AAA, where the sum of the digits is 10 or more, and where it isn't
+-- AAA, if the sum of the digits is 10 or more, and if it isn't
 digit_adjusts : (a b carry al : ℕ) (auxiliary : Bool) → a % 16 < 10 → b % 16 < 10 → carry < 2 → al ≡ (a + b + carry) % 256 → auxiliary ≡ nat_le 16 (a % 16 + b % 16 + carry) → (nat_lt 9 (al % 16) || auxiliary) ≡ nat_le 10 (a % 16 + b % 16 + carry)
 digit_adjusts a b carry al auxiliary p q c is low = grind (arith, nat_tests)
 
@@ -88,7 +88,7 @@ aaa_adds r a b carry big p q c h =
     subst (λ carries. LeavesDigit (after_adjust r Aaa) ((ah_of r + (a % 16 + b % 16 + carry) / 10) % 256) ((a % 16 + b % 16 + carry) % 10) carries) e
     (aaa_leaves r (a % 16 + b % 16 + carry) (adjusts_low r.flags (al_of r)) big (omega arith) (low_digit_of_sum a b carry (al_of r) h.al) e)
 
--- AAS, where the difference of the digits is below 0, and where it isn't
+-- AAS, if the difference of the digits is below 0, and if it isn't
 digit_borrows : (a b borrow al : ℕ) (auxiliary : Bool) → a < 256 → b < 256 → a % 16 < 10 → b % 16 < 10 → borrow < 2 → al ≡ (a + 256 - (b + borrow)) % 256 → auxiliary ≡ nat_lt (a % 16) (b % 16 + borrow) → (nat_lt 9 (al % 16) || auxiliary) ≡ nat_lt (a % 16) (b % 16 + borrow)
 digit_borrows a b borrow al auxiliary m n p q c is low = grind (arith, nat_tests)
 

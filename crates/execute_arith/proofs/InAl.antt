@@ -16,7 +16,7 @@ use Rattle.execute_machine.specs.Sums.{difference_of, sum_of, with_difference, w
 use Rattle.execute_arith.specs.Meaning.{after_arithmetic, al_of, keeps_result, result_of, with_flags, with_flags_of}
 use Rattle.execute_arith.specs.Laws.{HasDifference, HasSum, SumsStandInAl}
 
--- the same at two locations
+-- an arithmetic operation on operands at two locations
 abbrev after_at : {S : Type 0} → BusMeaning S → Machine S → Arithmetic → OperandLocation → OperandLocation → Machine S
 after_at bus m op to from =
     let width = width_at to in

@@ -1,4 +1,4 @@
--- What flags tell of the order of two numbers; what extends a sign and inverts bits.
+-- What flags say of the order of two numbers; what extends a sign and inverts bits.
 use Rattle.std.proofs.Common.{w8, w16, ◌≡◌, ℕ, ◌%◌, ◌-◌, ◌<◌, ◌==◌, not, arith}
 use Rattle.std.proofs.lemmas.Bool.Decides.{nat_tests}
 use Rattle.std.proofs.lemmas.Int.{ints}

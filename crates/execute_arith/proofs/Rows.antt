@@ -1,5 +1,5 @@
--- The definitions on worked values: single shifts and rotates of an operand, with CF before, worked out by hand from the
--- manual ("Shift Instructions", "Rotate Instructions").
+-- The definitions on worked values: single shifts and rotates of an operand, with CF before, worked out by hand from
+-- the manual ("Shift Instructions", "Rotate Instructions").
 use Rattle.std.proofs.Common.{◌≡◌, true, false, refl}
 use Rattle.std.specs.Prelude.{⊤}
 use Rattle.board_types.specs.Iterate.{iterate}
@@ -15,7 +15,7 @@ unfoldable on_shifts : ⊤
 unfolding iterate after_single after_left after_right after_right_rotation after_shifts with_shifted
 on_shifts = tt
 
--- "ROL": the top bit enters at the bottom and is CF; OF tells whether the new top bit differs from CF
+-- "ROL": the top bit enters at the bottom and is CF; OF says whether the new top bit differs from CF
 rol_81 : after_single Rol Byte (record { value = 0x81; carry = false; overflow = false })
     ≡ record { value = 0x03; carry = true; overflow = true }
 unfolding on_shifts
@@ -36,7 +36,7 @@ rol_8000 : after_single Rol Word (record { value = 0x8000; carry = false; overfl
 unfolding on_shifts
 rol_8000 = refl
 
--- "ROR": the bottom bit enters at the top and is CF; OF tells whether the two top bits differ
+-- "ROR": the bottom bit enters at the top and is CF; OF says whether the two top bits differ
 ror_81 : after_single Ror Byte (record { value = 0x81; carry = false; overflow = true })
     ≡ record { value = 0xC0; carry = true; overflow = false }
 unfolding on_shifts
@@ -181,7 +181,7 @@ ror_by_4_carry : (after_shifts Ror Byte (record { value = 0x1E; carry = false; o
 unfolding on_shifts
 ror_by_4_carry = refl
 
--- shifts tell of their result in ZF, SF and PF, and rotates leave these
+-- shifts show their result in ZF, SF and PF, and rotates leave these
 shl_tells : (f : FlagState) → (with_shifted (record f { zero = false }) Shl Byte 1 (record { value = 0; carry = true; overflow = true })).zero ≡ true
 unfolding on_shifts
 shl_tells f = refl

@@ -2,7 +2,7 @@
 use Rattle.std.proofs.Common.{◌≡◌, ℕ, zero, suc, refl, ap, ◌∙◌}
 use Rattle.board_types.specs.Iterate.{iterate}
 
--- where a fact holds, a step keeps it and is seen as another step
+-- if a fact holds, a step keeps it and is seen as another step
 pub record Simulates {A B : Type 0} (f : A → A) (g : B → B) (view : A → B) (Holds : A → Type 0) : Type 0 where
   pub seen : (a : A) → Holds a → view (f a) ≡ g (view a)
   pub kept : (a : A) → Holds a → Holds (f a)
@@ -24,7 +24,7 @@ unfolding iterate
 first_step f zero a = refl
 first_step f (suc n) a = ap f (first_step f n a)
 
--- where g undoes f, n steps of g undo n steps of f
+-- if g undoes f, n steps of g undo n steps of f
 pub run_undone : {A : Type 0} (f g : A → A) (Holds : A → Type 0) → Simulates f f (λ a. a) Holds → ((a : A) → Holds a → g (f a) ≡ a) → (n : ℕ) (a : A) → Holds a → iterate g n (iterate f n a) ≡ a
 unfolding iterate
 run_undone f g Holds s undo zero a h = refl

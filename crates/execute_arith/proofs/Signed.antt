@@ -70,7 +70,7 @@ with_sign_fits Byte false n fits = omega arith
 with_sign_fits Word true n fits = grind (arith, nat_tests)
 with_sign_fits Word false n fits = omega arith
 
--- what an IDIV may answer: none, where no pair fits, or such a pair
+-- what an IDIV may answer: none if no pair fits, or else a pair that fits
 record IsSignedPair (width : Width) (dividend divisor : ℕ) (d : Division) : Type 0 where
   pair : SignedDivision width dividend divisor (signed (half_size width) d.quotient) (signed (half_size width) d.remainder)
   fits : d.quotient < size_of width

@@ -42,7 +42,7 @@ signed_with half false n fits = grind (arith, nat_tests, ints)
 pub magnitude_fits : (half n : ℕ) → n < 2 * half → magnitude half n ≤ half
 magnitude_fits half n fits = grind (arith, nat_tests)
 
--- where what is left is smaller than the product, or the product is 0, and has the sum's sign, magnitudes add up
+-- if what is left is smaller than the product, or the product is 0, and has the sum's sign, magnitudes add up
 Apart : ℤ → ℤ → Type 0
 Apart p r = (nat_abs p ≡ 0) ⊎ (nat_abs r < nat_abs p)
 
@@ -82,7 +82,7 @@ magnitudes_divide half n d q r v = record {
   fits = v.fits;
 }
 
--- and signs put upon a division make one of signed numbers
+-- a division with signs put upon it is one of signed numbers
 same_sign : (s : Bool) (n d q r : ℕ) → n ≡ d * q + r → (number s r ≡ pos 0) ⊎ (int_lt (number s r) (pos 0) ≡ int_lt (number s n) (pos 0))
 same_sign true n d q zero e = inl refl
 same_sign false n d q zero e = inl refl

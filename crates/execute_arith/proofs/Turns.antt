@@ -6,7 +6,7 @@ use Rattle.std.proofs.lemmas.Bool.Decides.{nat_tests}
 use Rattle.board_types.specs.Iterate.{iterate}
 use Rattle.execute_arith.proofs.Runs.{Simulates, run_undone}
 
--- one place to the left, where h is half of the numbers: the top bit comes in at the bottom
+-- one place to the left, h being half of the numbers: the top bit comes in at the bottom
 abbrev pub turn : ℕ → ℕ → ℕ
 turn h w = if nat_le h w then 2 * (w - h) + 1 else 2 * w
 
@@ -14,7 +14,7 @@ turn h w = if nat_le h w then 2 * (w - h) + 1 else 2 * w
 abbrev pub turn_back : ℕ → ℕ → ℕ
 turn_back h w = if w % 2 == 1 then w / 2 + h else w / 2
 
--- w is x after so many places that p is 2 to their number, and r 2 to the number of those that are left
+-- w is x turned by some places; p is 2 to the number of these, and r 2 to the number of those that are left
 record IsTurned (p r x w : ℕ) : Type 0 where
   high : ℕ
   low : ℕ

@@ -38,7 +38,7 @@ unfolding with_division
 remainder_reads r Byte d fits = omega arith
 remainder_reads r Word d fits = refl
 
--- what a division may answer: none, where no pair fits, or such a pair
+-- what a division may answer: none if no pair fits, or else a pair that fits
 abbrev pub Judged : ℕ → ℕ → ℕ → Option Division → Type 0
 Judged size dividend divisor None = (quotient remainder : ℕ) → Divides size dividend divisor quotient remainder → ⊥
 Judged size dividend divisor (Some d) = Divides size dividend divisor d.quotient d.remainder

@@ -21,19 +21,20 @@ use Rattle.execute_machine.specs.Widths.{size_of}
 use Rattle.execute_machine.specs.Sums.{difference_of, signed_of, sum_of, with_difference, with_sum}
 use Rattle.execute_arith.specs.Meaning.{after_arithmetic, ah_of, al_of, unary_result_of, after_adjust}
 
--- what flags tell of two numbers of a width: whether the first lies below the second, as unsigned and as signed ones
+-- what flags say of two numbers of a width: whether they are equal, and whether the first is below the second, as
+-- unsigned and as signed numbers
 pub record TellsOrder (f : FlagState) (width : Width) (a b : ℕ) : Type 0 where
   pub below : IsTrue f.carry ↔ (a < b)
   pub equal : IsTrue f.zero ↔ (a ≡ b)
   pub less : (¬ (f.sign ≡ f.overflow)) ↔ (signed_of width a <ℤ signed_of width b)
 
--- a comparison's flags tell the order
+-- after a comparison the flags say the order of its numbers
 abbrev pub ComparisonTells : Type 0
 ComparisonTells =
     (f : FlagState) (width : Width) (a b : ℕ) → a < size_of width → b < size_of width
     → TellsOrder (with_difference f width a b 0) width a b
 
--- so do a CMP's, of its operands
+-- after a CMP the flags say the order of its operands
 abbrev pub CmpTells : {S : Type 0} → BusMeaning S → Type 0
 CmpTells {S} bus =
     (m : Machine S) (i : Instr)
@@ -49,7 +50,7 @@ pub record HasSum (r : Registers) (a b carry : ℕ) : Type 0 where
   pub al : al_of r ≡ sum_of Byte a b carry
   pub flags : r.flags ≡ with_sum before Byte a b carry
 
--- the same of a difference
+-- AL and the flags are what the difference of two bytes left
 pub record HasDifference (r : Registers) (a b borrow : ℕ) : Type 0 where
   pub before : FlagState
   pub al : al_of r ≡ difference_of Byte a b borrow
@@ -72,7 +73,7 @@ SumsStandInAl {S} bus =
 abbrev pub packed : ℕ → ℕ
 packed n = 16 * (n / 10) + n % 10
 
--- AL holds this number as packed digits, and CF tells of a carry
+-- AL holds this number as packed digits, and CF says whether it carries
 pub record LeavesPacked (r : Registers) (n : ℕ) (carries : Bool) : Type 0 where
   pub digits : al_of r ≡ packed n
   pub carry : r.flags.carry ≡ carries
@@ -89,7 +90,7 @@ DasSubtracts =
     (r : Registers) (x y borrow : ℕ) → x < 100 → y < 100 → borrow < 2 → HasDifference r (packed x) (packed y) borrow
     → LeavesPacked (after_adjust r Das) ((x + 100 - (y + borrow)) % 100) (nat_lt x (y + borrow))
 
--- AL holds this digit and AH this byte, and CF tells of a carry
+-- AL holds this digit and AH this byte, and CF says whether it carries
 pub record LeavesDigit (r : Registers) (high digit : ℕ) (carries : Bool) : Type 0 where
   pub high_byte : ah_of r ≡ high
   pub low_byte : al_of r ≡ digit
@@ -121,11 +122,11 @@ pub record HoldsDigits (r : Registers) (n : ℕ) : Type 0 where
 abbrev pub AamParts : Type 0
 AamParts = (r : Registers) → al_of r < 100 → HoldsDigits (after_adjust r Aam) (al_of r)
 
--- AAD makes a number of its digits
+-- AAD makes a number of its two digits
 abbrev pub AadJoins : Type 0
 AadJoins = (r : Registers) (n : ℕ) → HoldsDigits r n → (after_adjust r Aad).ax ≡ n
 
--- and of what AAM parted, whatever AL was
+-- AAD makes of the digits that AAM leaves what AL was, whatever it was
 abbrev pub AadUndoesAam : Type 0
 AadUndoesAam = (r : Registers) → (after_adjust (after_adjust r Aam) Aad).ax ≡ al_of r
 
@@ -141,7 +142,7 @@ SignsExtend =
     (r : Registers) → r.ax < 65536
     → (signed_of Word (after_adjust r Cbw).ax ≡ signed_of Byte (al_of r)) × (signed_pair (after_adjust r Cwd) ≡ signed_of Word r.ax)
 
--- how many bits it has
+-- how many bits a width has
 abbrev pub bits_of : Width → ℕ
 bits_of Byte = 8
 bits_of Word = 16

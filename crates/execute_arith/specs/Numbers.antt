@@ -28,7 +28,7 @@ with_sign half minus size = if minus then (if size == 0 then 0 else 2 * half - s
 abbrev pub sign_extension : Width → ℕ → ℕ
 sign_extension width low = if is_negative width low then size_of width - 1 else 0
 
--- a product is wide where its high half isn't 0
+-- the product of unsigned numbers; it is wide if its high half isn't 0
 unfoldable pub unsigned_product : Width → ℕ → ℕ → FullProduct
 unsigned_product width a b = record { value = a * b; is_wide = not (a * b / size_of width == 0) }
 
@@ -37,20 +37,20 @@ signed_value width a b =
     let half = half_size width in
     with_sign (double_half width) (differ (is_minus half a) (is_minus half b)) (magnitude half a * magnitude half b)
 
--- .. and a signed one where its high half isn't the sign extension of the low half
+-- the product of signed numbers; it is wide if its high half isn't the sign extension of the low half
 unfoldable pub signed_product : Width → ℕ → ℕ → FullProduct
 signed_product width a b =
     let value = signed_value width a b in
     record { value = value; is_wide = not (value / size_of width == sign_extension width (value % size_of width)) }
 
--- none where the divisor is 0 or the quotient doesn't fit
+-- the division of unsigned numbers; none if the divisor is 0 or the quotient doesn't fit
 unfoldable pub unsigned_division : Width → ℕ → ℕ → Option Division
 unsigned_division width dividend divisor =
     if divisor == 0 then None
     else if nat_le (size_of width) (dividend / divisor) then None
     else Some (record { quotient = dividend / divisor; remainder = dividend % divisor })
 
--- the quotient is rounded toward 0, and the remainder has the dividend's sign
+-- the division of signed numbers: the quotient is rounded toward 0, and the remainder has the dividend's sign
 unfoldable pub signed_result : Width → ℕ → ℕ → ℕ → ℕ → Division
 signed_result width dividend divisor quotient remainder =
     let half = half_size width in
@@ -60,8 +60,8 @@ signed_result width dividend divisor quotient remainder =
       remainder = with_sign half minus remainder;
     }
 
--- The least number of a width counts as not fitting: no quotient has the magnitude of half of the values (this board's
--- choice).
+-- The division of signed numbers, or none. The least number of a width counts as not fitting: no quotient has the
+-- magnitude of half of the values (this board's choice).
 unfoldable pub signed_division : Width → ℕ → ℕ → Option Division
 signed_division width dividend divisor =
     let above = magnitude (double_half width) dividend in

@@ -36,14 +36,14 @@ MulMultiplies {S} bus = (m : Machine S) (i : Instr) →
     dividend_of (after_product bus m Mul i).registers (operand_width m i)
     ≡ accumulator m.registers (operand_width m i) * operand_of bus m i
 
--- IMUL leaves that of the signed numbers
+-- IMUL leaves the product of the signed numbers in AX or DX:AX
 abbrev pub ImulMultiplies : {S : Type 0} → BusMeaning S → Type 0
 ImulMultiplies {S} bus = (m : Machine S) (i : Instr) → HoldsWords m.registers →
     signed (double_half (operand_width m i)) (dividend_of (after_product bus m Imul i).registers (operand_width m i))
     ≡ signed (half_size (operand_width m i)) (accumulator m.registers (operand_width m i))
     *ℤ signed (half_size (operand_width m i)) (operand_of bus m i)
 
--- AH or DX
+-- the remainder that a division leaves in AH or DX
 abbrev pub remainder_of : Registers → Width → ℕ
 remainder_of r Byte = r.ax / 256
 remainder_of r Word = r.dx
@@ -54,7 +54,7 @@ pub record Divides (size dividend divisor quotient remainder : ℕ) : Type 0 whe
   pub below : remainder < divisor
   pub fits : quotient < size
 
--- DIV leaves them, and has a fault exactly where there are none
+-- DIV leaves the quotient and the remainder, and has a fault exactly if there are none
 pub record DivDivides {S : Type 0} (bus : BusMeaning S) : Type 0 where
   pub divides : (m : Machine S) (i : Instr) → has_fault bus m Div i ≡ false
       → let after = (after_product bus m Div i).registers in
@@ -67,8 +67,8 @@ pub record DivDivides {S : Type 0} (bus : BusMeaning S) : Type 0 where
   pub enters : (m : Machine S) (i : Instr) → has_fault bus m Div i ≡ true
       → after_product bus m Div i ≡ after_entry bus m 0
 
--- The same of signed numbers: the remainder is 0 or has the dividend's sign, and the quotient's magnitude is below half
--- of the values, so that the least number counts as not fitting (this board's choice).
+-- A quotient and a remainder of signed numbers: the remainder is 0 or has the dividend's sign, and the quotient's
+-- magnitude is below half of the values, so that the least number counts as not fitting (this board's choice).
 pub record DividesSigned (half : ℕ) (dividend divisor quotient remainder : ℤ) : Type 0 where
   pub sum : dividend ≡ divisor *ℤ quotient +ℤ remainder
   pub below : nat_abs remainder < nat_abs divisor

@@ -27,7 +27,7 @@ abbrev pub ShrDivides : Type 0
 ShrDivides =
     (width : Width) (s : Shifted) (n : ℕ) → (after_shifts Shr width s n).value ≡ s.value / 2 ^ n
 
--- the quotient that is rounded toward minus infinity: what it leaves isn't negative and is below the divisor
+-- the quotient that is rounded toward minus infinity: the rest isn't negative and is below the divisor
 pub record IsFloor (dividend : ℤ) (divisor : ℕ) (quotient : ℤ) : Type 0 where
   pub rest : ℕ
   pub below : rest < divisor
@@ -46,7 +46,7 @@ pub record RotatesTurnRound : Type 0 where
   pub ror : (width : Width) (s : Shifted) → s.value < size_of width
       → (after_shifts Ror width s (bits_of width)).value ≡ s.value
 
--- the operand and CF are as they were
+-- the operand and CF are the same before and after
 pub record SameWithCarry (before after : Shifted) : Type 0 where
   pub value : after.value ≡ before.value
   pub carry : after.carry ≡ before.carry

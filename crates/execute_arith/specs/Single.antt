@@ -22,8 +22,8 @@ is_odd value = value % 2 == 1
 abbrev pub right_value : Width → ℕ → Bool → ℕ
 right_value width value entering = value / 2 + flag_bit entering (half_size width)
 
--- one place to the left: CF is the top bit, which leaves, and a bit enters at the bottom; OF tells whether the new top bit
--- differs from CF
+-- one place to the left: CF is the top bit, which leaves, and a bit enters at the bottom; OF says whether the new top
+-- bit differs from CF
 unfoldable pub after_left : Width → Shifted → Bool → Shifted
 after_left width s entering =
     let value = 2 * s.value % size_of width + flag_bit entering 1 in
@@ -34,7 +34,7 @@ unfoldable pub after_right : Width → Shifted → Bool → Bool → Shifted
 after_right width s entering overflow =
     record { value = right_value width s.value entering; carry = is_odd s.value; overflow = overflow }
 
--- a rotation to the right: OF tells whether the two new top bits differ
+-- a rotation to the right: OF says whether the two new top bits differ
 unfoldable pub after_right_rotation : Width → Shifted → Bool → Shifted
 after_right_rotation width s entering =
     let value = right_value width s.value entering in

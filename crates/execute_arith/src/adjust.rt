@@ -28,14 +28,14 @@ pub fn perform_adjust(registers: &mut Registers, operation: Adjust)
     }
 }
 
-/// The low digit of AL is above 9, or AF is set.
+/// Whether the low digit of AL is above 9, or AF is set.
 fn adjusts_low(flags: Flags, al: u16) -> bool
     ensures { result ≡ adjusts_low (flag_state flags) al }
 {
     al % 16 > 9 || flags.auxiliary_carry
 }
 
-/// AL is above 99h, or CF is set.
+/// Whether AL is above 99h, or CF is set.
 fn adjusts_high(flags: Flags, al: u16) -> bool
     ensures { result ≡ adjusts_high (flag_state flags) al }
 {
@@ -52,7 +52,7 @@ fn decimal_change(flags: Flags, al: u16) -> u16
     low + high
 }
 
-/// Puts a packed number into AL. AF and CF tell which of its digits were adjusted.
+/// Puts a packed number into AL. AF and CF say which of its digits were adjusted.
 fn set_packed(registers: &mut Registers, al: u16)
     requires { al < 256 }
     ensures { registers.new ≡ with_packed registers.old al }
@@ -85,7 +85,7 @@ fn das(registers: &mut Registers)
     set_packed(registers, (al + 256 - change) % 256);
 }
 
-/// Puts a digit into AL and a byte into AH. AF and CF tell whether the digit was adjusted.
+/// Puts a digit into AL and a byte into AH. AF and CF say whether the digit was adjusted.
 fn set_unpacked(registers: &mut Registers, ah: u16, digit: u16, adjusted: bool)
     requires high { ah < 256 }
     requires low { digit < 16 }

@@ -35,7 +35,7 @@ pub fn perform_arithmetic<B: Bus>(
     }
 }
 
-/// What the operation makes of both operands, the first of which stands at `to`, and of the flags. The flags are set.
+/// What the operation makes of both operands, the first of which stands at `to`. The flags are set.
 #[inline(always)]
 fn combine<B: Bus>(
     bus: &B,
@@ -62,7 +62,7 @@ fn combine<B: Bus>(
     calculate(&mut registers.flags, operation, width, a, b)
 }
 
-/// What the operation makes of two numbers of this width and of the flags.
+/// What the operation makes of two numbers of this width. The flags are set.
 #[inline(always)]
 #[tactic(auto, unfolding(crate::specs::Meaning::result_of, crate::specs::Meaning::with_flags_of))]
 pub fn calculate(
@@ -94,7 +94,7 @@ pub fn calculate(
     }
 }
 
-/// The flags of a result of logic.
+/// A result of logic, of which the flags are set.
 fn logical(flags: &mut FlagRegister, width: Width, value: u16) -> u16
     ensures value { result ≡ value }
     ensures flags { flags.new ≡ with_logic (forgetting flags.old) width value }
@@ -103,7 +103,7 @@ fn logical(flags: &mut FlagRegister, width: Width, value: u16) -> u16
     value
 }
 
-/// CMP and TEST keep no result.
+/// Whether an operation keeps its result: CMP and TEST don't.
 pub fn keeps_result(operation: Arithmetic) -> bool
     ensures { result ≡ keeps_result operation }
 {

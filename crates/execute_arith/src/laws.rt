@@ -5,18 +5,18 @@ ghost use Rattle.execute_arith.specs.ProductLaws.{DivDivides, IdivDivides, ImulM
 
 use bus::Bus;
 
-/// After a comparison, CF tells whether the first number lies below the second as an unsigned one, ZF whether they are
-/// the same, and SF differs from OF exactly where the first lies below the second as a signed one.
+/// After a comparison, CF says whether the first number is below the second as an unsigned one, ZF whether they are
+/// equal, and SF differs from OF exactly if the first is below the second as a signed one.
 pub fn comparison_tells()
     ensures { ComparisonTells }
 {}
 
-/// After a CMP, the flags tell so of its operands.
+/// After a CMP, the flags say the order of its operands, as after a comparison of two numbers.
 pub fn cmp_tells<B: Bus>()
     ensures { CmpTells B.meaning }
 {}
 
-/// ADD, ADC, SUB and SBB whose first operand is AL leave there and in the flags a sum or a difference.
+/// ADD, ADC, SUB and SBB whose first operand is AL leave a sum or a difference in AL and in the flags.
 pub fn sums_stand_in_al<B: Bus>()
     ensures { SumsStandInAl B.meaning }
 {}
@@ -98,19 +98,19 @@ pub fn mul_multiplies<B: Bus>()
     ensures { MulMultiplies B.meaning }
 {}
 
-/// IMUL leaves the product of the signed numbers there.
+/// IMUL leaves the product of the signed numbers in AX or DX:AX.
 pub fn imul_multiplies<B: Bus>()
     ensures { ImulMultiplies B.meaning }
 {}
 
-/// DIV leaves the quotient and the remainder of the unsigned numbers, whose sum with the divisor's multiple is the
-/// dividend; it has a fault, and enters interrupt 0, exactly where there is no such pair that fits.
+/// DIV leaves a quotient and a remainder of unsigned numbers: the dividend is the divisor times the quotient, and the
+/// remainder. It has a fault, and enters interrupt 0, exactly if no such pair fits.
 pub fn div_divides<B: Bus>()
     ensures { DivDivides B.meaning }
 {}
 
-/// IDIV does so with signed numbers: the remainder is 0 or has the dividend's sign, and the least number doesn't count
-/// as a quotient that fits.
+/// IDIV leaves a quotient and a remainder of signed numbers, and has a fault exactly if no such pair fits: the
+/// remainder is 0 or has the dividend's sign, and the least number doesn't count as a quotient that fits.
 pub fn idiv_divides<B: Bus>()
     ensures { IdivDivides B.meaning }
 {}

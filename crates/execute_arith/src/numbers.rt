@@ -5,7 +5,7 @@ ghost use Rattle.execute_arith.specs.Numbers.{double_half, is_minus, magnitude, 
 
 use execute_machine::width::Width;
 
-/// A product of twice the width, and whether it is wider than its low half tells.
+/// A product of twice the width, and whether it takes more than its low half.
 #[derive(Clone, Copy)]
 pub struct FullProduct {
     pub value: u32,
@@ -116,7 +116,7 @@ fn sign_extension(width: Width, low: u32) -> u32
     }
 }
 
-/// Divides unsigned numbers: none where the divisor is 0 or the quotient doesn't fit the width.
+/// Divides unsigned numbers: none if the divisor is 0 or the quotient doesn't fit the width.
 #[tactic(auto, unfolding(crate::specs::Numbers::unsigned_division))]
 pub fn divide_unsigned(width: Width, dividend: u32, divisor: u16) -> Option<Division>
     requires { divisor < size_of width }
@@ -134,7 +134,7 @@ pub fn divide_unsigned(width: Width, dividend: u32, divisor: u16) -> Option<Divi
     })
 }
 
-/// Divides signed numbers, toward 0: none where the divisor is 0 or the quotient doesn't fit.
+/// Divides signed numbers, toward 0: none if the divisor is 0 or the quotient doesn't fit.
 #[tactic(auto, unfolding(crate::specs::Numbers::signed_division))]
 pub fn divide_signed(width: Width, dividend: u32, divisor: u16) -> Option<Division>
     requires dividend { dividend < 2 * double_half width }

@@ -81,7 +81,7 @@ fn set_division(registers: &mut Registers, width: Width, division: Division)
     }
 }
 
-/// Takes the quotient and the remainder, if there are any; answers whether there are.
+/// Puts the quotient and the remainder into the registers, if there are any. Answers whether there are.
 fn take_division(registers: &mut Registers, width: Width, division: Option<Division>) -> bool
     requires quotient { IfSome division (λ d. d.quotient < size_of width) }
     requires remainder { IfSome division (λ d. d.remainder < size_of width) }
@@ -97,8 +97,8 @@ fn take_division(registers: &mut Registers, width: Width, division: Option<Divis
     }
 }
 
-/// Multiplies or divides AL, AX or DX:AX by an operand. A division without a quotient that fits does nothing, and the answer
-/// is whether it isn't one.
+/// Multiplies or divides AL, AX or DX:AX by an operand. A division without a quotient that fits does nothing. Answers
+/// whether it was none of these.
 #[tactic(auto, unfolding(crate::specs::Calculated::calculated))]
 pub fn calculate_product(
     registers: &mut Registers,
@@ -126,7 +126,8 @@ pub fn calculate_product(
     }
 }
 
-/// A division without a quotient enters interrupt 0; answers whether it is one.
+/// Multiplies or divides by an operand; a division without a quotient enters interrupt 0. Answers whether that
+/// happened.
 fn perform_operation<B: Bus>(
     bus: &mut B,
     registers: &mut Registers,
@@ -147,7 +148,7 @@ fn perform_operation<B: Bus>(
 }
 
 /// Multiplies or divides AL, AX or DX:AX by the first operand. A division without a quotient that fits enters interrupt
-/// 0 and changes nothing else, and the answer is whether that happened.
+/// 0 and changes nothing else. Answers whether that happened.
 #[inline(never)]
 #[tactic(auto, unfolding(crate::specs::Products::after_product, crate::specs::Products::has_fault))]
 pub fn perform_product<B: Bus>(

@@ -19,7 +19,7 @@ fn tells_result(operation: Shift) -> bool
     matches!(operation, Shift::Shl | Shift::Shr | Shift::Sar)
 }
 
-/// The flags after single shifts that left this.
+/// Sets the flags after single shifts that left `after`.
 fn tell(flags: &mut FlagRegister, operation: Shift, width: Width, after: Shifted)
     ensures { flags.new ≡ with_told flags.old operation width after }
 {
@@ -38,7 +38,7 @@ fn tell(flags: &mut FlagRegister, operation: Shift, width: Width, after: Shifted
     });
 }
 
-/// The flags after so many single shifts that left this; none are set where there are none.
+/// Sets the flags after `count` single shifts that left `after`; a count of 0 sets none.
 #[tactic(auto, unfolding(crate::specs::Shifts::with_shifted))]
 fn set_shifted(flags: &mut FlagRegister, operation: Shift, width: Width, count: u16, after: Shifted)
     ensures { flags.new ≡ with_shifted flags.old operation width count after }
@@ -70,8 +70,8 @@ pub fn perform_shift<B: Bus>(
     put(bus, registers, place, value);
 }
 
-/// What so many single shifts make of a number of this width and of the flags. It is in line, so that an operation which is
-/// known costs no choice.
+/// What `count` single shifts make of a number of this width. The flags are set. It is inlined, so that an operation
+/// that is known costs no choice.
 #[inline(always)]
 pub fn calculate_shift(
     flags: &mut FlagRegister,
@@ -89,7 +89,7 @@ pub fn calculate_shift(
     after.value
 }
 
-/// What so many single shifts leave. CF and OF, which have to be worked out, are asked for a rotate alone.
+/// What `count` single shifts leave. CF and OF, which have to be computed, are asked for in a rotate alone.
 #[inline(always)]
 #[tactic(auto, using(crate::proofs::Places::last_left, crate::proofs::Places::last_right, crate::proofs::Places::last_signed))]
 fn shifted(flags: &FlagRegister, operation: Shift, width: Width, a: u16, count: u16) -> Shifted
@@ -97,7 +97,7 @@ fn shifted(flags: &FlagRegister, operation: Shift, width: Width, a: u16, count: 
     ensures { result ≡ after_shifts operation width (shifted_operand flags.now a) count }
 {
     if count != 0 {
-        // all places but the last in one go, for no bit of these is told
+        // all places but the last at once, since no bit that leaves there shows in the flags
         let before = count - 1;
         match operation {
             Shift::Shl => {

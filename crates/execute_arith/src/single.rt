@@ -44,7 +44,7 @@ fn right_value(width: Width, value: u16, entering: bool) -> u16
     }
 }
 
-/// To the left; the bit that enters at the bottom.
+/// One place to the left; `entering` is the bit that enters at the bottom.
 #[tactic(auto, unfolding(crate::specs::Single::after_left))]
 fn left(width: Width, operand: Shifted, entering: bool) -> Shifted
     requires { operand.value < size_of width }
@@ -60,7 +60,7 @@ fn left(width: Width, operand: Shifted, entering: bool) -> Shifted
     }
 }
 
-/// To the right; the bit that enters at the top.
+/// One place to the right; `entering` is the bit that enters at the top.
 #[tactic(auto, unfolding(crate::specs::Single::after_right))]
 fn right(width: Width, operand: Shifted, entering: bool, overflow: bool) -> Shifted
     requires { operand.value < size_of width }
@@ -85,7 +85,7 @@ fn right_rotation(width: Width, operand: Shifted, entering: bool) -> Shifted
     right(width, operand, entering, overflow)
 }
 
-/// One place.
+/// One shift or rotate by one place.
 #[inline(always)]
 #[tactic(auto, unfolding(crate::specs::Single::after_single))]
 pub(crate) fn single(operation: Shift, width: Width, operand: Shifted) -> Shifted
@@ -106,7 +106,7 @@ pub(crate) fn single(operation: Shift, width: Width, operand: Shifted) -> Shifte
 }
 
 impl Shifted {
-    /// An operand of a shift that asks neither CF nor OF.
+    /// An operand of a shift that reads neither CF nor OF.
     pub(crate) fn alone(value: u16) -> Shifted
         ensures { result ≡ alone value }
     {
@@ -118,7 +118,7 @@ impl Shifted {
     }
 }
 
-/// What shifts of a value to the left by so many places leave of it.
+/// What a shift to the left by `places` places leaves of a value.
 #[tactic(auto, using(crate::proofs::Places::none_left))]
 pub(crate) fn left_by(width: Width, value: u16, places: u16) -> u16
     requires { value < size_of width }
@@ -131,7 +131,7 @@ pub(crate) fn left_by(width: Width, value: u16, places: u16) -> u16
     ((u32::from(value) << places) % width.size()) as u16
 }
 
-/// And to the right, if zeros enter.
+/// What a shift to the right by `places` places leaves of a value, if zeros enter.
 #[tactic(auto, using(crate::proofs::Places::none_right))]
 pub(crate) fn right_by(value: u16, places: u16) -> u16
     ensures value { result ≡ value / 2 ^ places }
@@ -143,7 +143,7 @@ pub(crate) fn right_by(value: u16, places: u16) -> u16
     value >> places
 }
 
-/// And to the right, if what enters is the top bit.
+/// What a shift to the right by `places` places leaves of a value, if its top bit enters.
 pub(crate) fn signed_right_by(width: Width, value: u16, places: u16) -> u16
     requires { value < size_of width }
     ensures value { result ≡ signed_right width value places }
@@ -157,7 +157,7 @@ pub(crate) fn signed_right_by(width: Width, value: u16, places: u16) -> u16
     }
 }
 
-/// So many places, one after the other.
+/// Shifts or rotates by `count` places, one after the other.
 #[tactic(auto, unfolding(crate::specs::Shifts::after_shifts), using(board_types::proofs::Iterate::iterate_steps))]
 pub(crate) fn rotate_by(operation: Shift, width: Width, operand: Shifted, count: u16) -> Shifted
     requires { operand.value < size_of width }

@@ -32,7 +32,7 @@ pub fn perform_unary<B: Bus>(
     put(bus, registers, to, result);
 }
 
-/// What the operation makes of a number of this width and of the flags.
+/// What the operation makes of a number of this width. The flags are set.
 #[tactic(auto, unfolding(crate::specs::Meaning::unary_result_of, crate::specs::Meaning::with_unary_flags_of))]
 pub fn calculate_unary(flags: &mut FlagRegister, operation: Unary, width: Width, a: u16) -> u16
     requires { a < size_of width }
