@@ -26,7 +26,7 @@ word_held {S} bus p n bytes k offset keeps within low high =
     in
     ap (λ b. b + 256 * byte n.bus (next offset)) at_low ∙ ap (λ b. byte p.bus offset + 256 * b) at_high
 
--- the same, where the return reads it
+-- a word on the stack that a subroutine found is there when the return reads it
 word_found : {S : Type 0} (bus : BusMeaning S) (p n : Machine S) (bytes k offset there : ℕ) → KeepsStack bus p n bytes → k + 1 < bytes → offset ≡ offset_after p.registers.sp k → next offset ≡ offset_after p.registers.sp (k + 1) → there ≡ offset → word_at bus n.bus n.registers.ss there ≡ word_at bus p.bus p.registers.ss offset
 word_found bus p n bytes k offset there keeps within low high is =
     ap (λ ss. word_at bus n.bus ss there) keeps.ss

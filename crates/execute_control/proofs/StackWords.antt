@@ -37,14 +37,14 @@ word_reads_back bus is s segment offset word small low high =
     ∙ is.written s (physical segment offset) (word % 256) low)
     (is.written s1 (physical segment (next offset)) (word / 256) (is.fixed s _ _ _ ∙ high))
 
--- a byte elsewhere stays where a word is written
+-- a byte elsewhere stays when a word is written
 byte_stays : {S : Type 0} (bus : BusMeaning S) → IsBus bus → (s : S) (segment offset word other : ℕ) → offset < 65536 → other < 65536 → other ≢ offset → other ≢ next offset → bus.byte_at (with_word_at bus s segment offset word) (physical segment other) ≡ bus.byte_at s (physical segment other)
 unfolding with_word_at
 byte_stays bus is s segment offset word other small small_other ne_low ne_high =
     is.others _ _ _ _ (apart segment other (next offset) small_other (omega arith) ne_high)
     ∙ is.others s _ _ _ (apart segment other offset small_other small ne_low)
 
--- and so does a word
+-- a word elsewhere stays when a word is written
 pub word_stays : {S : Type 0} (bus : BusMeaning S) → IsBus bus → (s : S) (segment offset word other : ℕ) → offset < 65536 → other < 65536 → other ≢ offset → other ≢ next offset → next other ≢ offset → next other ≢ next offset → word_at bus (with_word_at bus s segment offset word) segment other ≡ word_at bus s segment other
 unfolding word_at
 word_stays bus is s segment offset word other small small_other a b c d =

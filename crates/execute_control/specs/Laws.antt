@@ -35,7 +35,7 @@ contrary NotLess = Less
 contrary LessOrZero = Greater
 contrary Greater = LessOrZero
 
--- of each pair exactly one condition holds
+-- exactly one condition of each pair holds
 abbrev pub ConditionsAreContrary : Type 0
 ConditionsAreContrary = (c : JumpCondition) (f : FlagState) → holds (contrary c) f ≡ not (holds c f)
 
@@ -47,8 +47,8 @@ loop_rounds cx = if cx == 0 then 65536 else cx
 abbrev pub after_round : (Registers → Registers) → Instr → Registers → Registers
 after_round body i r = after_looping (body r) Loop i
 
--- Take whatever a loop repeats, if it leaves CX as it is. The LOOP of each round jumps, but that of the last of CX
--- rounds doesn't, and then CX is 0.
+-- In a loop whose body leaves CX as it is, the LOOP of each of CX rounds jumps, except the last one, after which CX is
+-- 0.
 pub record LoopRuns (body : Registers → Registers) (i : Instr) (r : Registers) : Type 0 where
   pub jumps : (k : ℕ) → k < loop_rounds r.cx
       → is_loop_taken (body (iterate (after_round body i) k r)) Loop ≡ nat_lt (k + 1) (loop_rounds r.cx)
@@ -59,16 +59,16 @@ LoopRunsCxTimes =
     (body : Registers → Registers) → ((r : Registers) → (body r).cx ≡ r.cx) → (i : Instr) (r : Registers)
     → r.cx < 65536 → LoopRuns body i r
 
--- the address of the byte so far above the top of the stack
+-- the address of the byte `more` bytes above the top of the stack
 abbrev pub stack_address : Registers → ℕ → ℕ
 stack_address r more = physical r.ss (offset_after r.sp more)
 
--- the next so many bytes that are pushed find addresses that take them
+-- the next `bytes` bytes that are pushed go to addresses that take them
 abbrev pub TakesPushes : {S : Type 0} → BusMeaning S → Machine S → ℕ → Type 0
 TakesPushes bus m bytes = (k : ℕ) → k < bytes → bus.is_writable m.bus (stack_address m.registers (65535 - k)) ≡ true
 
--- a subroutine or a handler, which finds the machine `before` and leaves it as `after` where it returns: SS and SP are
--- again what they were, and so are so many bytes on top of the stack
+-- a subroutine or a handler, which finds the machine `before` and leaves it as `after` when it returns: SS and SP are
+-- again what they were, and so are `bytes` bytes on top of the stack
 pub record KeepsStack {S : Type 0} (bus : BusMeaning S) (before after : Machine S) (bytes : ℕ) : Type 0 where
   pub ss : after.registers.ss ≡ before.registers.ss
   pub sp : after.registers.sp ≡ before.registers.sp
@@ -88,7 +88,8 @@ CallReturns {S} bus =
       sp = offset_after m.registers.sp (control_operand bus n return);
     }) n.bus
 
--- the same of a far call, with CS
+-- a return from a far call: CS and IP are those of the instruction after the CALL, and SP is what it was before the
+-- CALL and as much more as the return says; all else is as the subroutine left it
 abbrev pub FarCallReturns : {S : Type 0} → BusMeaning S → Type 0
 FarCallReturns {S} bus =
     (m n : Machine S) (call return : Instr) → m.registers.sp < 65536 → TakesPushes bus m 4

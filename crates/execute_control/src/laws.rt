@@ -14,19 +14,20 @@ pub fn loop_runs_cx_times()
     ensures { LoopRunsCxTimes }
 {}
 
-/// A near call returns to the next instruction, with SP as before and as much more as the return says, where the
-/// stack takes bytes and the subroutine leaves its return address alone.
+/// A near call returns to the next instruction, with SP as before and as much more as the return says, if the stack
+/// takes bytes and the subroutine leaves its return address alone.
 pub fn call_returns<B: Bus>()
     ensures { CallReturns B.meaning }
 {}
 
-/// So does a far call, with CS.
+/// A far call returns to the next instruction in its segment, with SP as before and as much more as the return says, if
+/// the stack takes bytes and the subroutine leaves its return address alone.
 pub fn far_call_returns<B: Bus>()
     ensures { FarCallReturns B.meaning }
 {}
 
-/// IRET gives back the flags, CS, IP and SP that an interrupt found, where the stack takes bytes and the handler leaves
-/// those six alone.
+/// IRET gives back the flags, CS, IP and SP that an interrupt found, if the stack takes bytes and the handler leaves
+/// the six bytes that were pushed alone.
 pub fn interrupt_returns<B: Bus>()
     ensures { InterruptReturns B.meaning }
 {}
