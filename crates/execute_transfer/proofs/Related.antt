@@ -34,12 +34,13 @@ abbrev pub transfer_inputs : Registers → Transfer → Instr → List ℕ
 transfer_inputs r In i = inputs_of r i
 transfer_inputs r _ i = []
 
--- and OUT alone writes to them
+-- OUT alone writes to ports
 abbrev pub transfer_outputs : Registers → Transfer → Instr → List (ℕ × ℕ)
 transfer_outputs r Out i = outputs_of r i
 transfer_outputs r _ i = []
 
--- some ports give the same in states that are related, which stay so when these ports are read, and when some are written
+-- some ports give the same in states that are related, which stay so when these ports are read, and when some are
+-- written
 pub record PortsAlike {S T : Type 0} (bus : BusMeaning S) (other : BusMeaning T) (reads writes : ℕ → Bool) (R : S → T → Type 0) : Type 0 where
   pub input : (s : S) (t : T) (port : ℕ) → reads port ≡ true → R s t → other.input t port ≡ bus.input s port
   pub read : (s : S) (t : T) (port : ℕ) → reads port ≡ true → R s t → R (bus.after_input s port) (other.after_input t port)

@@ -87,7 +87,7 @@ place_without_sp r sp i kinds.At8 = ap (λ s. ByteAt s i.values.number) (segment
 place_without_sp r sp i kinds.At16 = ap (λ s. WordAt s i.values.number) (segment_without_sp r sp (unwrap_or (chosen_segment i.prefixes.items) Ds))
 place_without_sp r sp i _ = refl
 
--- what is pushed stands on top, and to take it off raises SP to where it stood
+-- what is pushed stands on top, and taking it off raises SP to what it was
 
 lowered_fits : (sp : ℕ) → offset_after sp 65534 < 65536
 lowered_fits sp = omega arith

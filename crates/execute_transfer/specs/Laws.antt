@@ -18,8 +18,8 @@ use Rattle.execute_machine.specs.Memory.{HoldsBytes, HoldsWords, TakesWord}
 use Rattle.execute_machine.specs.Stack.{top_word}
 use Rattle.execute_transfer.specs.Meaning.{after_transfer, first_place, pushed_operand, second_place}
 
--- Where the stack takes bytes, a POP after a PUSH puts what was pushed at its own operand, and SP and all other
--- registers stand as before the PUSH.
+-- If the stack takes bytes, a POP after a PUSH puts what was pushed at its own operand, and SP and all other registers
+-- are as before the PUSH.
 abbrev pub PopGivesBack : {S : Type 0} → BusMeaning S → Type 0
 PopGivesBack {S} bus =
     (m : Machine S) (i j : Instr) → m.registers.sp < 65536
@@ -29,7 +29,7 @@ PopGivesBack {S} bus =
     ≡ with_value_at bus (machine m.registers pushed.bus) (first_place m.registers j)
     (pushed_operand bus m (first_place m.registers i))
 
--- where the stack takes bytes, PUSH SP stores SP as it lowered it
+-- if the stack takes bytes, PUSH SP stores SP as it lowered it
 abbrev pub PushSpStoresTheLowered : {S : Type 0} → BusMeaning S → Type 0
 PushSpStoresTheLowered {S} bus =
     (m : Machine S) (i : Instr) → first_place m.registers i ≡ Word Sp
@@ -57,7 +57,7 @@ IsMemoryAndRegister bus s (ByteAt segment offset) (Byte _) = bus.is_writable s (
 IsMemoryAndRegister bus s (WordAt segment offset) (Word _) = (offset < 65536) × TakesWord bus s segment offset
 IsMemoryAndRegister bus s _ _ = ⊥
 
--- the same registers, and the same byte at each address
+-- the registers are the same before and after, and so is the byte at each address
 pub record IsAsBefore {S : Type 0} (bus : BusMeaning S) (before after : Machine S) : Type 0 where
   pub registers : after.registers ≡ before.registers
   pub bytes : (address : ℕ) → bus.byte_at after.bus address ≡ bus.byte_at before.bus address
@@ -82,7 +82,8 @@ half_of b word = if nat_lt (byte_register_number b) 4 then word % 256 else word 
 abbrev pub with_half : ByteRegister → ℕ → ℕ → ℕ
 with_half b word byte = if nat_lt (byte_register_number b) 4 then word / 256 * 256 + byte else 256 * byte + word % 256
 
--- a byte register is that half of its word register, and to write it leaves the other half and all other registers
+-- a byte register is that half of its word register, and writing it leaves the other half and all other registers as
+-- they are
 pub record ByteRegistersAreHalves : Type 0 where
   pub read : (r : Registers) (b : ByteRegister) → byte_register r b ≡ half_of b (word_register r (holder b))
   pub write : (r : Registers) (b : ByteRegister) (byte : ℕ)

@@ -32,7 +32,7 @@ pub(crate) fn perform_popf<B: Bus>(bus: &B, registers: &mut Registers)
     registers.flags.set(popped_flags(word));
 }
 
-/// These flags, with CF, PF, AF, ZF and SF from others.
+/// The flags `flags` with CF, PF, AF, ZF and SF of `low`.
 fn with_low_flags(flags: Flags, low: Flags) -> Flags
     ensures { flag_state result ≡ with_low_flags (flag_state flags) (flag_state low) }
 {

@@ -37,7 +37,7 @@ pub(crate) fn offset_of(location: OperandLocation) -> u16
     }
 }
 
-/// Whether it is SP.
+/// Whether a location is SP.
 pub(crate) fn is_sp(location: OperandLocation) -> bool
     ensures { result ≡ is_sp location }
 {

@@ -20,7 +20,7 @@ fn port_of(kind: Kind, dx: u16, number: u16) -> u16
     }
 }
 
-/// Whether an IN or OUT has two bytes.
+/// Whether an IN or OUT is one of AX, which has two bytes.
 fn is_ax(kind: Kind) -> bool
     ensures { result ≡ is_ax kind }
 {
