@@ -1,4 +1,4 @@
--- The law of MOVS: what so many iterations leave.
+-- The law of MOVS: what n iterations leave.
 -- Laws: claims above the definitions, each proved as the contract of a function.
 use Rattle.std.specs.Prelude.{ℕ, ◌≡◌, ◌≢◌, ◌+◌, ◌*◌, ◌-◌, ◌%◌, Bool, true, false}
 use Rattle.board_types.specs.Address.{physical, offset_after}
@@ -19,8 +19,8 @@ use Rattle.execute_strings.specs.Meaning.{after_iteration, element_at, element_s
 abbrev pub after_copies : {S : Type 0} → BusMeaning S → Machine S → Width → Instr → ℕ → Machine S
 after_copies bus m width i n = iterate (λ t. after_iteration bus t (movs_of width) i) n m
 
--- where element n of a string stands, the first one being element 0: so many bytes above the first where DF is 0, and
--- else so many below it; offsets wrap at 65,536
+-- the offset of element n of a string, the first one being element 0: n times its size above the first if DF is 0, and
+-- else below it; offsets wrap at 65,536
 abbrev pub element_offset : Bool → ℕ → ℕ → ℕ → ℕ
 element_offset false first size n = (first + size * n) % 65536
 element_offset true first size n = (first + 65536 * n - size * n) % 65536
@@ -46,9 +46,9 @@ IsOutside address (WordAt segment offset) =
     (address ≢ physical segment offset) × (address ≢ physical segment (offset_after offset 1))
 IsOutside address _ = Unit {0}
 
--- MOVS copies element after element, up or down. Iteration n puts element n of the source, as memory stands after the
--- n iterations before, at element n of the destination where that takes bytes, and changes no other byte. After n
--- iterations SI and DI stand at element n, CX is lower by n, modulo 65,536, and all other registers are as before.
+-- MOVS copies element after element, up or down. Iteration n puts element n of the source, as memory stands after the n
+-- iterations before, at element n of the destination if that takes bytes, and changes no other byte. After n iterations
+-- SI and DI stand at element n, CX is lower by n, modulo 65,536, and all other registers are as before.
 pub record CopiesInOrder {S : Type 0} (bus : BusMeaning S) : Type 0 where
   pub element : (m : Machine S) (width : Width) (i : Instr) (n : ℕ) → HoldsWords m.registers → HoldsBytes bus m.bus
       → TakesElement bus m.bus (destination_element m.registers width n)

@@ -4,7 +4,7 @@ ghost use Rattle.execute_strings.specs.Laws.{CopiesInOrder};
 use bus::Bus;
 
 /// MOVS copies element after element, up or down: each iteration puts the source's next element, as memory stands then,
-/// at the destination's next where that takes bytes, and changes no other byte. After n iterations SI and DI stand at
+/// at the destination's next if that takes bytes, and changes no other byte. After n iterations SI and DI stand at
 /// element n, CX is lower by n, all modulo 65,536, and the other registers are as before.
 pub fn copies_in_order<B: Bus>()
     ensures { CopiesInOrder B.meaning }
