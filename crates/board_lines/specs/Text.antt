@@ -28,7 +28,7 @@ segment_line r =
     ++ (codes " IP=" ++ (hex_word r.ip ++ (codes " FL=" ++ (hex_word (flags_word r.flags)
     ++ codes "\n")))))))))))
 
--- the two register lines
+-- the two lines of registers
 unfoldable pub register_lines : Regs → List ℕ
 register_lines r = general_line r ++ segment_line r
 

@@ -91,7 +91,7 @@ fn change_line(alloc: Global, change: SpeakerChange) -> Result<String, AllocErro
     format!(in alloc; "{clock} {level}\n")
 }
 
-/// The lines of changes of the speaker's level, behind a text.
+/// The lines of changes of the speaker's level, added to a text.
 pub fn push_changes(
     alloc: Global,
     text: &mut String,
