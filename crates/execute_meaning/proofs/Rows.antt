@@ -91,7 +91,7 @@ halted_for_good : (r : Registers) → boundary_of (cpu r false Halted shadows.No
 unfolding boundary_of
 halted_for_good r = refl
 
--- a jammed one does nothing at all
+-- a jammed processor does nothing at all
 jammed : (r : Registers) → boundary_of (cpu r true Jammed shadows.Nothing true None) true ≡ boundaries.Nothing
 unfolding boundary_of
 jammed r = refl
@@ -136,7 +136,7 @@ not_due p r = refl
 ip_goes_on : (p : CpuState) (r : Registers) → (after_fetch (record p { registers = record r { ip = 0xFFFF } }) 2).registers.ip ≡ 1
 ip_goes_on p r = refl
 
--- an entry by request leaves it due, and its own entry doesn't
+-- an entry by request leaves a due single step due, and the single step's own entry doesn't
 due_behind_a_request : still_due true Request ≡ true
 due_behind_a_request = refl
 
@@ -175,7 +175,7 @@ none_in_progress : {S : Type 0} (bus : BusMeaning S) (table : ClockTable) (p : C
 unfolding after_repeat
 none_in_progress bus table p r s op i = refl
 
--- a repeat ends where CX is 0, and of a comparison under REPE where ZF is 0, under REPNE where it is 1
+-- a repeat ends if CX is 0, and one of a comparison also under REPE if ZF is 0, under REPNE if it is 1
 ends_with_cx : (r : Registers) (op : Strings) (i : Instr) → goes_on (record r { cx = 0 }) op i ≡ false
 unfolding goes_on
 ends_with_cx r op i = refl

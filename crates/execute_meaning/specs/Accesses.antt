@@ -1,5 +1,5 @@
--- What a step writes to memory, counted on any bus, beside the words of data by which its clocks are told; and that these
--- words are those that it reads and those that it writes (8086 Family User's Manual, "Instruction Set").
+-- What a step writes to memory, counted on any bus, and the words of data, on which its clocks depend: they are those
+-- that it reads and those that it writes (8086 Family User's Manual, "Instruction Set").
 -- Laws: claims above the definitions, each proved as the contract of a function.
 use Rattle.std.specs.Prelude.{ℕ, ◌≡◌, ◌+◌, ◌*◌, ◌==◌, Bool, true, false, cond, ◌&&◌, if◌then◌else◌, Some}
 use Rattle.board_types.specs.declared.choice.ClockTable.{ClockTable}
@@ -28,18 +28,18 @@ use Rattle.execute_meaning.specs.Boundaries.{after_enter}
 use Rattle.execute_meaning.specs.Cpu.{CpuState}
 use Rattle.execute_meaning.specs.Meaning.{outcome_of, iteration_outcome, after_fetch, after_step, after_again}
 
--- a byte by mod and r/m, by whether these name memory
+-- how many bytes in memory mod and r/m name: one, or none if they name a register
 abbrev pub byte_at_place : Place → ℕ
 byte_at_place (Register _) = 0
 byte_at_place _ = 1
 
--- an operand that is a byte in memory is one
+-- how many bytes in memory an operand is, one or none
 abbrev pub byte_at : Kind → Place → ℕ
 byte_at Rm8 place = byte_at_place place
 byte_at At8 place = 1
 byte_at _ place = 0
 
--- of the operands of an operation, a and b being how many words, or bytes, each is in memory: those that it reads
+-- how many of its operands' words, or bytes, in memory an operation reads, if the first has a of them and the second b
 abbrev pub operands_read : Operation → ℕ → ℕ → ℕ
 operands_read (Arithmetic _) a b = a + b
 operands_read (Shift _) a b = a
@@ -52,7 +52,7 @@ operands_read (Control Jmp) a b = a
 operands_read (Control Call) a b = a
 operands_read _ a b = 0
 
--- and those that it writes
+-- how many of its operands' words, or bytes, in memory an operation writes, if the first has a of them and the second b
 abbrev pub operands_written : Operation → ℕ → ℕ → ℕ
 operands_written (Arithmetic Cmp) a b = 0
 operands_written (Arithmetic Test) a b = 0
@@ -64,7 +64,7 @@ operands_written (Transfer Xchg) a b = a + b
 operands_written (Transfer Pop) a b = a
 operands_written _ a b = 0
 
--- the words that it reads besides: from the stack, of a far pointer, and of a vector
+-- the words that an operation reads besides its operands: from the stack, of a far pointer, and of a vector
 abbrev pub words_fetched : Operation → Kind → Bool → ℕ
 words_fetched (Transfer Les) kind taken = 2
 words_fetched (Transfer Lds) kind taken = 2
@@ -80,7 +80,7 @@ words_fetched (Control Int) kind taken = 2
 words_fetched (Control Into) kind taken = cond taken 2 0
 words_fetched _ kind taken = 0
 
--- the words that it pushes
+-- the words that an operation pushes
 abbrev pub words_pushed : Operation → Bool → ℕ
 words_pushed (Transfer Push) taken = 1
 words_pushed (Transfer Pushf) taken = 1
@@ -91,7 +91,7 @@ words_pushed (Control Int) taken = 3
 words_pushed (Control Into) taken = cond taken 3 0
 words_pushed _ taken = 0
 
--- the elements of a string instruction: words that it reads, words that it writes, and bytes that it writes
+-- the words that an element of a string instruction reads, the words that it writes, and the bytes that it writes
 abbrev pub elements_read : Operation → ℕ
 elements_read (Strings Movsw) = 1
 elements_read (Strings Cmpsw) = 2
@@ -109,7 +109,7 @@ byte_elements_written (Strings Movsb) = 1
 byte_elements_written (Strings Stosb) = 1
 byte_elements_written _ = 0
 
--- the words and bytes of an instruction that is made whole, or of an iteration of its repeat
+-- the words and bytes of an instruction that one step completes, or of an iteration of its repeat
 abbrev pub whole_words_read : Operation → Instr → Bool → ℕ
 whole_words_read op i taken =
     operands_read op (word_at (first_of i.form.row) i.form.place) (word_at (second_of i.form.row) i.form.place)
@@ -125,8 +125,8 @@ whole_bytes_written op i =
     operands_written op (byte_at (first_of i.form.row) i.form.place) (byte_at (second_of i.form.row) i.form.place)
     + byte_elements_written op
 
--- Those of a step that found this. A repeat with CX 0 has none; a division without a quotient pushes three words more, and
--- reads a vector of two.
+-- The words and bytes of a step with this outcome. A repeat with CX 0 has none; a division without a quotient pushes
+-- three words more, and reads a vector of two.
 unfoldable pub read_words : Instr → Outcome → ℕ
 read_words i o =
     cond (is_repeated i && o.cx_zero) 0 (whole_words_read (operation_of i.form.row) i o.taken + cond o.fault 2 0)
@@ -142,13 +142,13 @@ written_bytes i o = cond (is_repeated i && o.cx_zero) 0 (whole_bytes_written (op
 abbrev pub WordsAreReadOrWritten : Type 0
 WordsAreReadOrWritten = (i : Instr) (o : Outcome) → data_words i o ≡ read_words i o + written_words i o
 
--- a count that each memory write raises by 1, and that ports leave
+-- a count that each memory write raises by 1, and that port accesses leave as it is
 pub record CountsWrites {S : Type 0} (bus : BusMeaning S) (count : S → ℕ) : Type 0 where
   pub write : (s : S) (address byte : ℕ) → count (bus.after_write s address byte) ≡ count s + 1
   pub input : (s : S) (port : ℕ) → count (bus.after_input s port) ≡ count s
   pub output : (s : S) (port byte : ℕ) → count (bus.after_output s port byte) ≡ count s
 
--- what a step of an instruction finds, IP being the next one's already
+-- the outcome of a step of an instruction; IP is the next one's already
 abbrev pub outcome_in : {S : Type 0} → BusMeaning S → CpuState → S → Operation → Instr → Outcome
 outcome_in bus p s (Strings op) i =
     if is_repeated i then iteration_outcome true (p.registers.cx == 0)
@@ -158,12 +158,12 @@ outcome_in bus p s op i = outcome_of bus (machine p.registers s) op i
 abbrev pub found_by : {S : Type 0} → BusMeaning S → CpuState → S → Instr → ℕ → Outcome
 found_by bus p s i size = outcome_in bus (after_fetch p size) s (operation_of i.form.row) i
 
--- how many bytes are written where a step finds this
+-- how many bytes a step with this outcome writes
 abbrev pub bytes_of_writes : Instr → Outcome → ℕ
 bytes_of_writes i o = 2 * written_words i o + written_bytes i o
 
--- What a step, the next iteration of a repeat and an entry find tells their clocks, and how many bytes they write, be it to
--- addresses that take none.
+-- The outcome of a step, of the next iteration of a repeat and of an entry decides their clocks, and how many bytes
+-- they write, even to addresses that take none.
 pub record WritesAreTold {S : Type 0} (bus : BusMeaning S) (count : S → ℕ) : Type 0 where
   pub step : (table : ClockTable) (p : CpuState) (s : S) (i : Instr) (size : ℕ) → IsInstr i
       → ((after_step bus table p s (Found i size)).clocks ≡ clocks_in table i (found_by bus p s i size))
@@ -175,6 +175,6 @@ pub record WritesAreTold {S : Type 0} (bus : BusMeaning S) (count : S → ℕ) :
   pub enter : (table : ClockTable) (p : CpuState) (s : S) (kind : ℕ) (cause : Cause)
       → count (after_enter bus table p s kind cause).bus ≡ count s + 6
 
--- so it is on any bus, of any such count
+-- on any bus, any count of memory writes goes up as outcomes say
 abbrev pub WritesAreCounted : {S : Type 0} → BusMeaning S → Type 0
 WritesAreCounted {S} bus = (count : S → ℕ) → CountsWrites bus count → WritesAreTold bus count

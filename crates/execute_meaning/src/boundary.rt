@@ -8,15 +8,15 @@ use isa::words::word_clocks;
 /// The cases of a free boundary.
 #[derive(Clone, Copy, Debug, PartialEq, Eq)]
 pub enum Boundary {
-    /// It takes the interrupt that is requested.
+    /// The processor takes the interrupt that is requested.
     Request,
-    /// It takes the single step.
+    /// The processor takes the single step.
     SingleStep,
-    /// It does nothing.
+    /// The processor does nothing.
     Nothing,
-    /// It goes on with the repeat in progress.
+    /// The processor goes on with the repeat in progress.
     Iteration,
-    /// It begins a new instruction.
+    /// The processor begins a new instruction.
     Instruction,
 }
 
@@ -28,7 +28,7 @@ pub enum Cause {
 }
 
 impl Cause {
-    /// Whether a single step that is due stays so.
+    /// Whether a single step that is due is still due after the entry.
     pub fn leaves_due(self, due: bool) -> bool
         ensures { result ≡ still_due due self }
     {

@@ -7,14 +7,14 @@ ghost use Rattle.execute_meaning.specs.Boundaries.{lets_requests, lets_single_st
 pub enum Shadow {
     /// None.
     Nothing,
-    /// Those by request, after STI.
+    /// Interrupts by request, after STI.
     Requests,
-    /// Those by request and the single step, after MOV or POP to a segment register.
+    /// Interrupts by request and the single step, after MOV or POP to a segment register.
     Interrupts,
 }
 
 impl Shadow {
-    /// Whether it lets requests come.
+    /// Whether the shadow lets requests come.
     pub fn lets_requests(self) -> bool
         ensures { result ≡ lets_requests self }
     {
@@ -24,7 +24,7 @@ impl Shadow {
         }
     }
 
-    /// Whether it lets the single step come.
+    /// Whether the shadow lets the single step come.
     pub fn lets_single_steps(self) -> bool
         ensures { result ≡ lets_single_steps self }
     {
