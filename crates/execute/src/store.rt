@@ -1,4 +1,4 @@
-//! What a step writes to memory, as contracts tell it.
+//! What a step writes to memory, as contracts see it.
 
 /// A byte or a word that is written at a segment and an offset.
 #[derive(Clone, Copy)]
