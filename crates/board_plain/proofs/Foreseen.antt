@@ -75,7 +75,7 @@ accesses_settle = record {
   output = λ s port byte still. settles_once _;
 }
 
--- where the wires have settled, port writes alone change what the level depends on
+-- if the wires have settled, only port writes change what the level depends on
 
 sounding_by : (b : Bool) (rest s t u : ChipsState) → sounding rest t ≡ sounding rest s → sounding rest u ≡ sounding rest s → sounding rest (if b then t else u) ≡ sounding rest s
 sounding_by true rest s t u first second = first
@@ -92,7 +92,7 @@ writes_alone rest = record {
   output = λ s port byte still. same_sounding rest _ _ (alike_after_output s (sounding rest s) port byte (sounds_from rest s));
 }
 
--- these writes, made on that part alone or on all
+-- port writes leave that part alike, whether they are made on it alone or on all
 writes_sound : (rest s t : ChipsState) (writes : List (ℕ × ℕ)) → SoundsAlike t s → SoundsAlike (after_port_writes (λ u port byte. sounding rest (after_output u port byte)) t writes) (after_port_writes after_output s writes)
 writes_sound rest s t [] alike = alike
 writes_sound rest s t (w ∷ writes) alike =

@@ -10,7 +10,7 @@ use Rattle.board_plain.specs.Plain.{Plain, after_clock, after_clocks, clock_of}
 use Rattle.board_plain.specs.Stops.{holding, run_length, IsStopOf, NoStop, StopsAt}
 use Rattle.board_plain.proofs.Runs.{runs_join}
 
--- what holds so many clocks after a piece
+-- what holds some clocks after a piece
 held_later : (stops : List Condition) (a j : ℕ) (s p : Plain) (here : Option ℕ) → p ≡ after_clocks s a → holding stops (after_clocks p j) ≡ here → holding stops (after_clocks s (a + j)) ≡ here
 held_later stops a j s p here is holds = ap (holding stops) (iterate_add after_clock a j s ∙ ap (λ q. after_clocks q j) (sym is)) ∙ holds
 
@@ -41,7 +41,7 @@ pub searches_join : SearchesJoin
 searches_join stops a b s t None ran none is = no_stop_add stops a b s.plain t.plain ran.plain none is
 searches_join stops a b s t (Some stop) ran none is = stop_later stops a b s t stop ran none is
 
--- its clocks are those of both
+-- a search in two pieces has the clocks of both
 pub lengths_join : (stops : List Condition) (a b : ℕ) (s t u : BoardState) (stopped : Option Stop) → Ran a s t → IsStopOf stops b t.plain stopped → Ran (run_length b t.plain stopped) t u → Ran (run_length (a + b) s.plain stopped) s u
 lengths_join stops a b s t u None first is second = runs_join a b s t u first second
 lengths_join stops a b s t u (Some stop) first is second =
@@ -49,7 +49,7 @@ lengths_join stops a b s t u (Some stop) first is second =
     let gone = first.clock in
     subst (λ n. Ran n s u) (omega (arith, clock, gone)) (runs_join a (stop.clock - clock_of t.plain) s t u first second)
 
--- so is one whose second piece finds no memory
+-- a run of two pieces stops early if the second piece finds no memory
 pub early_join : (a b : ℕ) (s t u : BoardState) → Ran a s t → StoppedEarly b t u → StoppedEarly (a + b) s u
 early_join a b s t u first early =
     let before = early.before_end in record {

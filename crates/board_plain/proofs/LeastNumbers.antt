@@ -1,4 +1,4 @@
--- The number that is told is that of the first condition that holds.
+-- The number that `holding` gives is that of the first condition that holds.
 use Rattle.std.proofs.Common.{◌≡◌, ℕ, ◌+◌, Bool, true, false, List, [], ◌∷◌, ◌++◌, length, All, Option, Some, None, cond, refl, ap, arith}
 use Rattle.std.specs.Prelude.{MatchOption}
 use Rattle.std.specs.List.{position_from}

@@ -18,7 +18,7 @@ use Rattle.board_plain.specs.declared.act.Act.TheVariants.{Nothing, Request, Sin
 use Rattle.board_plain.specs.Laws.{IsRequested, IsTakenWithin, MayTakeRequest, NoRequestWithoutIf, RequestIsTaken, RequestStays, StayingRequestIsTaken, TakesRequest}
 use Rattle.board_plain.specs.Plain.{Plain, act_at, after_clocks, is_free, next_act}
 
--- the cases of a boundary behind a request aren't one
+-- the cases of a boundary other than a request
 other_by : (due halted repeats : Bool) → (if due then boundaries.SingleStep else (if halted then boundaries.Nothing else (if repeats then boundaries.Iteration else boundaries.Instruction))) ≢ boundaries.Request
 other_by true halted repeats is = cc
 other_by false true repeats is = cc
@@ -142,7 +142,7 @@ request_by (Instruction decoded) is = absurd (cc)
 no_request_by : (a : Act) → is_request a ≡ false → a ≢ Request
 no_request_by a none is = let never : true ≡ false = sym (ap is_request is) ∙ none in cc
 
--- where none was taken before, none could be
+-- if no request was taken before, none could be
 taken_first : (s : Plain) (n passed : ℕ) → RequestStays s n → passed ≤ n → TakesRequest (after_clocks s passed) → ((i : ℕ) → i < passed → ¬ (TakesRequest (after_clocks s i))) → IsTakenWithin s n
 taken_first s n passed stays within taken none = record {
   passed = passed;

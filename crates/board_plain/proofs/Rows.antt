@@ -1,5 +1,5 @@
--- The definition of work on a board worked out by hand: CLI and HLT at FFFF:0000 are two steps, begun in the clocks 0 and
--- 2, and nothing else is done in the first five clocks.
+-- The definition of work on a board worked out by hand: CLI and HLT at FFFF:0000 are two steps, begun in the clocks 0
+-- and 2, and nothing else is done in the first five clocks.
 use Rattle.execute_machine.specs.Flags.{popped_flags}
 use Rattle.std.proofs.Common.{◌≡◌, ℕ, suc, ◌+◌, ◌-◌, ◌<◌, List, [], ◌∷◌, map, refl, ap, ◌∙◌, arith}
 use Rattle.std.specs.Prelude.{⊤}
@@ -103,7 +103,7 @@ at_3 = after_acting at_2 (Instruction hlt)
 at_4 : Plain
 at_4 = after_acting at_3 Nothing
 
--- its bytes
+-- the bytes of the two instructions
 has_both : (0xFFFF0 < address_count) × (0xFFFF1 < address_count)
 unfolding address_count
 has_both = (omega arith, omega arith)
@@ -116,7 +116,7 @@ hlt_byte : byte_at at_2.chips 0xFFFF1 ≡ 0xF4
 unfolding on_clocks byte_at at_0 at_1 at_2 cli
 hlt_byte = on_at_power_on image 65536 0xFFFF1 has_both.1
 
--- the bytes behind the one at FFFF:IP
+-- the bytes after the one at FFFF:IP
 behind : ChipsState → ℕ → List ℕ
 behind chips ip = map (λ k. byte_at chips (physical 0xFFFF (offset_after ip k))) (range_with_len 1 14)
 

@@ -14,10 +14,10 @@ pub record BoardState : Type 0 where
   pub changes : List SpeakerChange
   pub room : ℕ
   pub trail : List TrailEntry
-  -- how often time went on since power-on: by a clock, by a leap, or by a clock with a leap behind it
+  -- the turns made since power-on: each is a clock, a leap, or a clock with a leap after it
   pub turns : ℕ
 
--- n clocks have gone by, with the changes that they bring and what they add to the trail; no more room has gone than
+-- n clocks have gone by, with the changes that they bring and what they add to the trail; no more room was used than
 -- changes have come
 pub record Ran (n : ℕ) (old new : BoardState) : Type 0 where
   pub plain : new.plain ≡ after_clocks old.plain n
@@ -26,7 +26,7 @@ pub record Ran (n : ℕ) (old new : BoardState) : Type 0 where
   pub trail : new.trail ≡ last 32 (old.trail ++ trail_in old.plain n)
   pub room : old.room + length old.changes ≤ new.room + length new.changes
 
--- a run of n clocks that found no memory: it stands at the clock before a change that there was no room for
+-- a run of n clocks that found no memory: it stands at the clock before a change for which there was no room
 pub record StoppedEarly (n : ℕ) (old new : BoardState) : Type 0 where
   pub passed : ℕ
   pub before_end : passed < n

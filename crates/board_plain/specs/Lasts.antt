@@ -5,7 +5,7 @@ use Rattle.board_plain.specs.declared.stop.Condition.{Condition}
 use Rattle.board_plain.specs.Plain.{Plain, after_clocks, clock_of}
 use Rattle.board_plain.specs.Stops.{holding}
 
--- none holds at any of the first n clocks, the start being the first
+-- no condition holds at any of the first n clocks, of which the start is the first
 abbrev pub NoneHeld : List Condition → ℕ → Plain → Type 0
 NoneHeld stops n s = (j : ℕ) → j < n → holding stops (after_clocks s j) ≡ None
 

@@ -28,7 +28,7 @@ use Rattle.board_plain.specs.Stops.{holding, holds, IsStopOf, NoStop}
 use Rattle.board_plain.specs.Plain.{Plain, after_clock, after_clocks, board_after, clock_of, next_act, speaker_level}
 use Rattle.board_plain.specs.Work.{edges_next, jams_of, steps_next, work_next}
 
--- the port writes of what the processor does: an instruction alone writes to ports
+-- the port writes of an act: only an instruction writes to ports
 abbrev pub writes_of : CpuState → Act → List (ℕ × ℕ)
 writes_of cpu (Instruction decoded) = port_writes_of cpu decoded
 writes_of cpu _ = []
@@ -40,20 +40,20 @@ pub record WiresHold (s : ChipsState) : Type 0 where
   pub keys : KeysSettled s
   pub fixed : FixedWires s
 
--- so they are at every clock of every board
+-- the wires hold at every clock of every board
 abbrev pub WiresAlwaysHold : Type 0
 WiresAlwaysHold =
     (image : List (ℕ × ℕ)) (config : Config) (keys : List StampedKey) (n : ℕ)
     → WiresHold (board_after image config keys n).chips
 
--- where they hold, the speaker's level at the next clock is known from the port writes that the processor is about to
+-- if the wires hold, the speaker's level at the next clock is known from the port writes that the processor is about to
 -- make
 abbrev pub LevelIsForeseen : Type 0
 LevelIsForeseen =
     (s : Plain) → WiresHold s.chips
     → speaker_level (after_clock s) ≡ from_bool (is_speaker_high_after s.chips (writes_of s.cpu (next_act s)))
 
--- at every clock of a board that can be had, each address of RAM and of text memory takes bytes
+-- at every clock of a board with a valid size of RAM, each address of RAM and of text memory takes bytes
 abbrev pub MemoryTakesBytes : Type 0
 MemoryTakesBytes =
     (image : List (ℕ × ℕ)) (config : Config) (keys : List StampedKey) (n address : ℕ) → IsRamSize config.ram_kb
@@ -75,7 +75,7 @@ pub record MayTakeRequest (s : Plain) : Type 0 where
   pub enabled : s.cpu.registers.flags.interrupt_enable ≡ true
   pub nothing_kept_off : s.cpu.shadow ≡ shadows.Nothing
 
--- it takes one exactly where one stands and it may
+-- the processor takes a request exactly if there is one and it may take one
 abbrev pub RequestIsTaken : Type 0
 RequestIsTaken = (s : Plain) → TakesRequest s ↔ (IsRequested s × MayTakeRequest s)
 
@@ -129,17 +129,17 @@ pub record GoOnAlone (s : ChipsState) (n : ℕ) (t : ChipsState) : Type 0 where
   pub ppi : t.ppi ≡ s.ppi
   pub keyboard : t.keyboard ≡ s.keyboard
 
--- n clocks later the chips alone have gone on
+-- in n clocks nothing changes but the chips, which go on alone
 abbrev pub ChipsAloneGoOn : Plain → ℕ → Type 0
 ChipsAloneGoOn s n =
     (after_clocks s n ≡ record s { chips = wires.after_clocks s.chips n })
     × GoOnAlone s.chips n (wires.after_clocks s.chips n)
 
--- so it is while a halt lasts
+-- while a halt lasts, only the chips go on
 abbrev pub HaltIsQuiet : Type 0
 HaltIsQuiet = (s : Plain) (n : ℕ) → HaltLasts s n → ChipsAloneGoOn s n
 
--- and after a jam, whatever is requested, while no key comes
+-- after a jam only the chips go on, whatever is requested, while no key comes
 abbrev pub JamIsQuiet : Type 0
 JamIsQuiet =
     (s : Plain) (n : ℕ) → WiresHold s.chips → s.cpu.state ≡ Jammed → s.busy ≡ 0 → NoKeyComes s n → ChipsAloneGoOn s n
@@ -150,7 +150,7 @@ pub record HasOneEnd (stops : List Condition) (n : ℕ) (s : Plain) : Type 0 whe
   pub is_end : IsStopOf stops n s end
   pub alone : (other : Option Stop) → IsStopOf stops n s other → other ≡ end
 
--- so has every run
+-- every run of n clocks has one end
 abbrev pub RunsHaveOneEnd : Type 0
 RunsHaveOneEnd = (stops : List Condition) (n : ℕ) (s : Plain) → HasOneEnd stops n s
 
@@ -164,27 +164,27 @@ pub record IsFirstHolding (stops : List Condition) (s : Plain) (number : ℕ) : 
   pub none_before : All (λ condition. holds condition s ≡ false) before
   pub holds : holds first s ≡ true
 
--- the number that is told is that of the first condition that holds, and none is told only where none holds
+-- the number that `holding` gives is that of the first condition that holds, and it gives none only if none holds
 abbrev pub LeastNumberIsTold : Type 0
 LeastNumberIsTold =
     (stops : List Condition) (s : Plain)
     → MatchOption (holding stops s) (All (λ condition. holds condition s ≡ false) stops) (IsFirstHolding stops s)
 
--- a run and the next one are one run of both their clocks, with the lists of the whole
+-- a run and the next one make one run of the clocks of both, with the lists of the whole
 abbrev pub RunsJoin : Type 0
 RunsJoin = (a b : ℕ) (s t u : BoardState) → Ran a s t → Ran b t u → Ran (a + b) s u
 
--- a search that finds nothing and the next one are one search of both their clocks
+-- a search that finds nothing and the next one make one search of the clocks of both
 abbrev pub SearchesJoin : Type 0
 SearchesJoin =
     (stops : List Condition) (a b : ℕ) (s t : BoardState) (stopped : Option Stop) → Ran a s t → NoStop stops a s.plain
     → IsStopOf stops b t.plain stopped → IsStopOf stops (a + b) s.plain stopped
 
--- a clock adds at most one step, and where it adds one, nothing jams in it
+-- a clock adds at most one step, and if it adds one, nothing jams in it
 abbrev pub AtMostOneStep : Type 0
 AtMostOneStep = (s : Plain) → steps_next s + jams_of (next_act s) ≤ 1
 
--- and at most two edges
+-- a clock brings at most two edges
 abbrev pub AtMostTwoEdges : Type 0
 AtMostTwoEdges = (s : Plain) → edges_next s ≤ 2
 
@@ -195,6 +195,6 @@ pub record IsIdle (s : Plain) : Type 0 where
   pub out_2 : (after_clock s).chips.pit.counter_2.out ≡ s.chips.pit.counter_2.out
   pub no_key : All (λ k. k.stamp ≢ clock_of s + 1) s.keys
 
--- a clock has no work exactly where nothing acts, turns or comes
+-- a clock has no work exactly if nothing acts, turns or comes
 abbrev pub IdleHasNoWork : Type 0
 IdleHasNoWork = (s : Plain) → (work_next s ≡ 0) ↔ IsIdle s

@@ -1,4 +1,4 @@
--- The plain board: what stands at a clock, what one clock makes of it, and what it makes of n clocks.
+-- The plain board: what it holds at a clock, what one clock makes of it, and what n clocks make of it.
 -- To be believed: the headline rests on it.
 use Rattle.std.specs.Prelude.{ℕ, ◌+◌, ◌-◌, ◌*◌, ◌==◌, Bool, if◌then◌else◌, List, [], ◌∷◌, map, filter}
 use Rattle.std.specs.Bool.{beq}
@@ -35,16 +35,16 @@ pub record Plain : Type 0 where
   -- the clocks that the processor's last step or entry still takes
   pub busy : ℕ
   pub chips : ChipsState
-  -- every key code with its clock; those whose clock is reached have arrived
+  -- every key code with its clock; codes whose clock is reached have arrived
   pub keys : List StampedKey
-  -- by which table the processor's clocks count
+  -- the table by which the processor's clocks count
   pub clocks : ClockTable
 
 -- the clock that the board stands at
 unfoldable pub clock_of : Plain → ℕ
 clock_of s = s.chips.clock
 
--- the processor is free where the clocks of its last step or entry are over
+-- the processor is free once the clocks of its last step or entry are over
 abbrev pub is_free : Plain → Bool
 is_free s = s.busy == 0
 
@@ -74,13 +74,13 @@ after_act table cpu busy chips (Instruction decoded) = after_step chips_bus tabl
 abbrev pub codes_at : List StampedKey → ℕ → List ℕ
 codes_at keys clock = map (λ (k : StampedKey). k.code) (filter (λ (k : StampedKey). k.stamp == clock) keys)
 
--- the chips' part: the clock goes by and the wires settle, the keys of the clock that is reached arrive, and the
--- keyboard and the wires settle
+-- the chips' part of a clock: the clock goes by and the wires settle, the keys of the clock that is reached arrive, and
+-- the keyboard and the wires settle
 unfoldable pub chips_after_clock : ChipsState → List StampedKey → ChipsState
 chips_after_clock s keys = after_key_settling (after_arrivals (wires.after_clock s) (codes_at keys (s.clock + 1)))
 
--- one processor clock: the processor's part, a clock less that it is busy, and the chips' part (the order is this
--- board's choice)
+-- one processor clock: the processor's part, after which it is busy for a clock less, and the chips' part (the order is
+-- this board's choice)
 unfoldable pub after_clock : Plain → Plain
 after_clock s =
     let acted : StepResult ChipsState = after_act s.clocks s.cpu s.busy s.chips (next_act s) in
@@ -122,7 +122,7 @@ byte_of s address = byte_at s.chips address
 unfoldable pub screen_of : Plain → List ℕ
 screen_of s = screen_text s.chips.mda
 
--- key codes that met a full queue
+-- how many key codes met a full queue
 unfoldable pub lost_codes : Plain → ℕ
 lost_codes s = s.chips.keyboard.lost
 

@@ -1,5 +1,5 @@
--- The processor at power-on (8086 Family User's Manual, "Processor Reset and Initialization"; that the general registers are
--- 0 is this board's choice).
+-- The processor at power-on (8086 Family User's Manual, "Processor Reset and Initialization"; that the general
+-- registers are 0 is this board's choice).
 -- To be believed: the headline rests on it.
 use Rattle.std.specs.Prelude.{false, None}
 use Rattle.board_types.specs.declared.state.State.TheVariants.{Running}
@@ -8,7 +8,7 @@ use Rattle.execute_machine.specs.Flags.{popped_flags}
 use Rattle.execute_meaning.specs.declared.shadow.Shadow.TheVariants.{Nothing}
 use Rattle.execute_meaning.specs.Cpu.{CpuState}
 
--- all flags are 0
+-- the registers at power-on; all flags are 0
 abbrev pub reset_registers : Registers
 reset_registers = record {
   ax = 0;
@@ -27,6 +27,6 @@ reset_registers = record {
   flags = popped_flags 0;
 }
 
--- the processor runs, and nothing is due
+-- the processor at power-on runs, and nothing is due
 abbrev pub reset_cpu : CpuState
 reset_cpu = record { registers = reset_registers; state = Running; shadow = Nothing; step_due = false; repeat = None }

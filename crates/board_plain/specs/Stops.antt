@@ -10,7 +10,7 @@ use Rattle.board_plain.specs.declared.stop.Stop.{Stop}
 use Rattle.board_plain.specs.Board.{BoardState}
 use Rattle.board_plain.specs.Plain.{Plain, after_clocks, byte_of, changes_in, clock_of, is_free, speaker_level, state_of}
 
--- a byte that is asked for has an address
+-- if a condition asks for a byte, its address is below 2^20
 abbrev pub HasAddress : Condition → Type 0
 HasAddress Free = Unit {0}
 HasAddress (At cs ip) = Unit {0}
@@ -18,8 +18,8 @@ HasAddress (Byte address value) = address < 2 ^ 20
 HasAddress Sound = Unit {0}
 HasAddress Halted = Unit {0}
 
--- Whether a condition holds: the processor is free, a halted or jammed one too where its clocks are over; it is free at
--- this CS:IP; the byte at an address is this one; the speaker is high; the processor is halted.
+-- Whether a condition holds: the processor is free, as a halted or jammed one is once its clocks are over; it is free
+-- at this CS:IP; the byte at an address is this one; the speaker is high; the processor is halted.
 unfoldable pub holds : Condition → Plain → Bool
 holds Free s = is_free s
 holds (At cs ip) s = is_free s && (s.cpu.registers.cs == cs) && (s.cpu.registers.ip == ip)
@@ -31,7 +31,7 @@ holds Halted s = is_halted (state_of s)
 unfoldable pub holding : List Condition → Plain → Option ℕ
 holding stops s = position_from (λ condition. holds condition s) 1 stops
 
--- none holds at any of the n clocks after the start
+-- no condition holds at any of the n clocks after the start
 abbrev pub NoStop : List Condition → ℕ → Plain → Type 0
 NoStop stops n s = (j : ℕ) → 1 ≤ j → j ≤ n → holding stops (after_clocks s j) ≡ None
 
@@ -50,7 +50,7 @@ abbrev pub IsStopOf : List Condition → ℕ → Plain → Option Stop → Type 
 IsStopOf stops n s None = NoStop stops n s
 IsStopOf stops n s (Some stop) = StopsAt stops n s stop
 
--- how many clocks such a run makes: those up to its stop, or all
+-- how many clocks a run makes: those up to its stop, or all n
 abbrev pub run_length : ℕ → Plain → Option Stop → ℕ
 run_length n s None = n
 run_length n s (Some stop) = stop.clock - clock_of s

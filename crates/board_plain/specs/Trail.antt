@@ -17,11 +17,11 @@ use Rattle.board_plain.specs.declared.trail.TrailEvent.{TrailEvent}
 use Rattle.board_plain.specs.declared.trail.TrailEvent.TheVariants.{Instruction, Entry}
 use Rattle.board_plain.specs.Plain.{Plain, after_clock, clock_of, next_act}
 
--- so many bytes from CS:IP on; offsets wrap at 65,536
+-- `size` bytes from CS:IP on; offsets wrap at 65,536
 abbrev pub code_bytes : ChipsState → ℕ → ℕ → ℕ → List ℕ
 code_bytes chips cs ip size = map (λ k. byte_at chips (physical cs (offset_after ip k))) (range_with_len 0 size)
 
--- the start of what stands at CS:IP: an instruction, with its bytes; what is none jams, and begins nothing
+-- the event that what stands at CS:IP begins: an instruction, with its bytes; anything else jams, and begins nothing
 abbrev pub start_of : CpuState → ChipsState → Decoded → Option TrailEvent
 start_of cpu chips NoRow = None
 start_of cpu chips (Found instr size) =
@@ -45,10 +45,10 @@ entry_at s (Some event) =
 unfoldable pub trail_next : Plain → List TrailEntry
 trail_next s = entry_at s (event_of s.cpu s.chips (next_act s))
 
--- what n clocks add to it
+-- what n clocks add to the trail
 abbrev pub trail_in : Plain → ℕ → List TrailEntry
 trail_in s n = gathered after_clock trail_next n s
 
--- the last n of a list, or all where it has no more
+-- the last n items of a list, or all if it has no more
 unfoldable pub last : {A : Type 0} → ℕ → List A → List A
 last n xs = drop (length xs - n) xs

@@ -1,4 +1,4 @@
--- What a board has to do in some clocks: what its turns are held against.
+-- The work that a board has in some clocks, against which its turns are held.
 -- To be believed by callers of this crate: the headline does not rest on it.
 use Rattle.std.specs.Prelude.{ℕ, ◌+◌, if◌then◌else◌, length}
 use Rattle.std.specs.Bool.{beq}
@@ -10,7 +10,7 @@ use Rattle.board_plain.specs.declared.act.Act.{Act}
 use Rattle.board_plain.specs.declared.act.Act.TheVariants.{Nothing, Request, SingleStep, Iteration, Instruction}
 use Rattle.board_plain.specs.Plain.{Plain, after_clock, clock_of, codes_at, next_act}
 
--- a step of an instruction or of a repeat, and an entry; to jam is neither
+-- how many steps an act makes: a step of an instruction or of a repeat, or an entry; a jam is none
 abbrev pub steps_of : Act → ℕ
 steps_of Nothing = 0
 steps_of Request = 1
@@ -19,12 +19,12 @@ steps_of Iteration = 1
 steps_of (Instruction (Found instr size)) = 1
 steps_of (Instruction NoRow) = 0
 
--- to jam
+-- 1 for an act that jams, and else 0
 abbrev pub jams_of : Act → ℕ
 jams_of (Instruction NoRow) = 1
 jams_of _ = 0
 
--- a level that a clock changes
+-- 1 for a level that a clock changes, and else 0
 abbrev pub edges_of : Line → Line → ℕ
 edges_of before after = if beq (is_high before) (is_high after) then 0 else 1
 
@@ -34,19 +34,19 @@ edges_next s =
     edges_of s.chips.pit.counter_0.out (after_clock s).chips.pit.counter_0.out
     + edges_of s.chips.pit.counter_2.out (after_clock s).chips.pit.counter_2.out
 
--- the keys that come at its end
+-- how many keys come at the end of the next clock
 unfoldable pub keys_next : Plain → ℕ
 keys_next s = length (codes_at s.keys (clock_of s + 1))
 
--- the steps, iterations and entries of the next clock
+-- how many steps, iterations and entries the next clock has
 unfoldable pub steps_next : Plain → ℕ
 steps_next s = steps_of (next_act s)
 
--- its work: these, a jam, the changes of OUT0 and OUT2, and the keys
+-- the work of the next clock: its steps, a jam, the changes of OUT0 and OUT2, and the keys
 unfoldable pub work_next : Plain → ℕ
 work_next s = steps_next s + jams_of (next_act s) + edges_next s + keys_next s
 
--- those of n clocks
+-- the steps and the work of n clocks
 abbrev pub steps_in : Plain → ℕ → ℕ
 steps_in s n = total after_clock steps_next n s
 

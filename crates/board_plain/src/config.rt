@@ -13,6 +13,6 @@ pub struct Config {
     pub sw2: u8,
     /// Which chip the timer is.
     pub timer: TimerKind,
-    /// By which table the processor's clocks count.
+    /// The table by which the processor's clocks count.
     pub clocks: ClockTable,
 }

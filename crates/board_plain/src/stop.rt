@@ -6,10 +6,10 @@ use board_types::clock::Clock;
 /// What a run may stop at, at any clock, also in the midst of an instruction.
 #[derive(Clone, Copy, Debug, PartialEq, Eq, Default)]
 pub enum Condition {
-    /// The processor is free: the clocks of its last step or entry are over, also where it is halted or jammed.
+    /// The processor is free: the clocks of its last step or entry are over, even if it is halted or jammed.
     #[default]
     Free,
-    /// It is free at this CS:IP, whether or not an interrupt is taken there.
+    /// The processor is free at this CS:IP, whether or not an interrupt is taken there.
     At(u16, u16),
     /// The byte at this physical address, below 100000h, is this one.
     Byte(u32, u8),

@@ -7,7 +7,7 @@ use isa::form::Instr;
 /// How many entries the trail keeps.
 pub const TRAIL_LENGTH: usize = 32;
 
-/// An event, with the clock and CS:IP at which it began; of an entry they are the ones that it pushes.
+/// An event, with the clock and the CS:IP at which it began; an entry pushes that CS:IP.
 #[derive(Drop)]
 pub struct TrailEntry {
     pub clock: Clock,
