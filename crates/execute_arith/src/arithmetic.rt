@@ -94,7 +94,7 @@ pub fn calculate(
     }
 }
 
-/// A result of logic, of which the flags are set.
+/// Sets the flags of a result of logic, and answers the result.
 fn logical(flags: &mut FlagRegister, width: Width, value: u16) -> u16
     ensures value { result ≡ value }
     ensures flags { flags.new ≡ with_logic (forgetting flags.old) width value }

@@ -103,8 +103,8 @@ pub fn imul_multiplies<B: Bus>()
     ensures { ImulMultiplies B.meaning }
 {}
 
-/// DIV leaves a quotient and a remainder of unsigned numbers: the dividend is the divisor times the quotient, and the
-/// remainder. It has a fault, and enters interrupt 0, exactly if no such pair fits.
+/// DIV leaves a quotient and a remainder of unsigned numbers: the divisor times the quotient, plus the remainder, is
+/// the dividend. It has a fault, and enters interrupt 0, exactly if no such pair fits.
 pub fn div_divides<B: Bus>()
     ensures { DivDivides B.meaning }
 {}

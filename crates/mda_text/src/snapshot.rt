@@ -26,7 +26,7 @@ pub struct Snapshot {
 }
 
 impl Mda {
-    /// Takes what text memory, start and video enable are now, when the characters that are kept are those that they
+    /// Takes a snapshot of text memory, start and video enable. The characters that are kept must be those that they
     /// show.
     pub(crate) fn take_snapshot(&mut self)
         requires { self.old.kept ≡ characters self.old }

@@ -87,7 +87,7 @@ pub fn poll_takes()
 {}
 
 /// A level requests nothing, whatever its line does, if it is masked, or blocks and is in service, or comes after one
-/// that does; every other level may be taken once its line has fallen and risen.
+/// that does in the order; every other level may be taken once its line has fallen and risen.
 #[tactic(auto, using(crate::proofs::Inhibited::inhibited_request_nothing))]
 pub fn inhibited_request_nothing()
     ensures { InhibitedRequestNothing }

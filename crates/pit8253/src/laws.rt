@@ -92,8 +92,8 @@ pub fn counts_in_decimal()
     ensures { CountsInDecimal }
 {}
 
-/// With the gate low the count stands still in modes 0, 2, 3 and 4, unless a load is due. In mode 0 the first byte of
-/// two stops it, too.
+/// With the gate low and no load due, a counter in mode 0, 2 or 3 stays as it is, and in mode 4 its count does. In mode
+/// 0 the first byte of two stops the count, too.
 #[tactic(auto, using(crate::proofs::Waits::gate_stops, crate::proofs::Waits::gate_stops_strobe, crate::proofs::Waits::first_byte_stops))]
 pub fn counting_stops()
     ensures gate { GateStops }
