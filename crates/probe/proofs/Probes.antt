@@ -190,10 +190,7 @@ goes_short n end old new stops (Memory (Some clock)) within at short =
       early = record {
         passed = short.passed;
         before_end = omega (arith, gone, before, at);
-        plain = short.ran.plain;
-        clock = short.ran.clock;
-        changes = short.ran.changes;
-        trail = short.ran.trail;
+        ran = short.ran;
         changes_next = short.changes_next;
         full = short.full;
       };
