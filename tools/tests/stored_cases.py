@@ -10,6 +10,7 @@ import tempfile
 from dataclasses import dataclass
 from typing import Callable
 
+from parts.cases import cases_of
 from toolbox import program
 from toolbox.crates import TOP
 
@@ -147,17 +148,11 @@ def is_of_the_assembler(case: str) -> bool:
     return not re.match(r'(hex|run|read): ', text) and wanted.split()[0] not in ('alone', 'same')
 
 
-def lines_of(crate: str) -> list[str]:
-    """The cases of a crate, a line each."""
-    with open(f'{TOP}/crates/{crate}/stdin', encoding='utf-8', newline='\n') as file:
-        return [each for each in file.read().split('\n') if each and not each.startswith('#')]
-
-
 def judged(crate: str, is_taken: Callable[[str], bool], amiss: Callable[[str], str | None]) -> Count:
     """Judges a crate's cases, and prints those that aren't so."""
-    lines = lines_of(crate)
-    taken = [each for each in lines if is_taken(each)]
-    count = Count(left=len(lines) - len(taken))
+    cases = cases_of(crate)
+    taken = [each for each in cases if is_taken(each)]
+    count = Count(left=len(cases) - len(taken))
     with futures.ThreadPoolExecutor(LANES) as pool:
         for case, why in zip(taken, pool.map(amiss, taken)):
             count.passed += why is None
@@ -170,7 +165,7 @@ def judged(crate: str, is_taken: Callable[[str], bool], amiss: Callable[[str], s
 def others() -> int:
     """How many cases other crates have."""
     names = sorted(each for each in os.listdir(f'{TOP}/crates') if each.endswith('_cases') and each not in ('program_cases', 'source_cases'))
-    return sum(len(lines_of(each)) for each in names if os.path.isfile(f'{TOP}/crates/{each}/stdin'))
+    return sum(len(cases_of(each)) for each in names if os.path.isfile(f'{TOP}/crates/{each}/stdin'))
 
 
 def run() -> tuple[int, int]:

@@ -7,6 +7,7 @@ import shutil
 import subprocess
 import unittest
 
+from parts.cases import cases_in
 from tests import stored_cases
 from tests.support import TOP, ToolCase
 from toolbox import program
@@ -87,6 +88,11 @@ class Cases(ToolCase):
             ('read: 1 2 3 => 1 1', False),
         ):
             self.assertEqual(stored_cases.is_of_the_assembler(case), is_taken, case)
+
+    def test_broken_lines(self) -> None:
+        """As in the test of the crate `cases`."""
+        lines = '# a head \\\nso\ns\\\n  o\n\nnot \\\n# \\\n\t so\n  \n so\n'
+        self.assertEqual(cases_in(lines), ['so', 'so', 'not # so', ' so'])
 
     def test_spelling(self) -> None:
         self.assertEqual(stored_cases.spelled('a|\\41\\_03b\\FF'), b'a\nA   b\xff')

@@ -1,16 +1,21 @@
 //! The frame of a program of cases: it reads cases of outside values from standard input, one a line, has them judged,
 //! and prints the first that differ, each with the number of its line, and then how many cases there were and how many
 //! of them differ. A blank line and a line that begins with `#` are no cases.
+//!
+//! A long line may be broken, as in a string of Rust's: one that ends with `\` goes on in the next, after that one's
+//! blanks. So a case with its program and its report stands in one place, where it can be read without another file.
 #![tactic(auto)]
 
 ghost use Rattle.std.specs.Prelude.{◌≡◌};
 ghost use Rattle.cases.specs.declared.Judged.TheVariants.{Case};
 
+mod case;
 mod tally;
 #[cfg(test)]
 mod tests;
 
 use anyhow::Result;
+use case::Case;
 use std::alloc::Global;
 use std::io;
 use std::io::{BufRead, BufReader, Write};
@@ -63,18 +68,23 @@ where
     requires { J.IsAlwaysCallable judge }
 {
     let mut tally = Tally::new();
+    let mut case = Case::new(alloc);
     for (i, line) in cases.lines(alloc).enumerate() {
         let line = line?;
-        if line.trim().is_empty() || line.starts_with('#') {
+        if !case.is_whole_with(i + 1, &line)? {
             continue;
         }
-        let answer = judge(alloc, &line).map(A::into);
+        let answer = judge(alloc, &case.text).map(A::into);
+        case.text.clear();
         tally = tally.with(&answer);
         if let Err(difference) = answer
             && tally.differing <= SHOWN
         {
-            writeln!(out, "line {}: {difference:#}", i + 1)?;
+            writeln!(out, "line {}: {difference:#}", case.number)?;
         }
+    }
+    if !case.text.is_empty() {
+        writeln!(out, "line {}: goes on in no line", case.number)?;
     }
     writeln!(out, "{} cases, {} differ", tally.cases, tally.differing)
 }

@@ -29,6 +29,19 @@ fn prints_cases_that_differ(rt: HostRuntime) -> Result<(), Fail> {
 }
 
 #[test]
+fn joins_broken_lines(rt: HostRuntime) -> Result<(), Fail> {
+    let alloc = rt.alloc();
+    let mut out = Vec::new(alloc);
+    let cases = "# a head \\\nso\ns\\\n  o\nnot \\\n# \\\n\t so\nnot so\nso \\\n";
+    judge_from(alloc, Cursor::new(cases.as_bytes()), &mut out, judge)?;
+    assert_eq!(rt;
+        out.as_slice(),
+        b"line 5: not # so\nline 8: not so\nline 9: goes on in no line\n4 cases, 2 differ\n".as_slice()
+    );
+    Ok(())
+}
+
+#[test]
 fn counts_cases_that_are_not_printed(rt: HostRuntime) -> Result<(), Fail> {
     let alloc = rt.alloc();
     let mut out = Vec::new(alloc);

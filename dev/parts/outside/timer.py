@@ -8,14 +8,12 @@ import tempfile
 from collections.abc import Iterator
 from typing import NamedTuple
 
-from zebludor import TOP
-
+from parts.cases import cases_of
 from parts.outside import mame
 from parts.outside.both import RESET
 from parts.outside.counter import ALL, CAUSES, Cause, Counter
 from toolbox.command import Sorry, read_text
 
-CASES = f'{TOP}/crates/chip_cases/stdin'
 FARTHEST, LONGEST = 3000, 70_000  # ticks ahead of a state, and of a case's own; longer ones are left out
 SECONDS = 280  # of MAME's time
 IDLE = 'SEGMENT M AT 0F600h\ngo: CLI\n HLT\nENDS\n' + RESET
@@ -80,7 +78,7 @@ class Difference(NamedTuple):
 
 
 def case_of(line: str) -> Case:
-    """A line of chip_cases."""
+    """A case of chip_cases."""
     first, now, *later = line.partition(':')[2].split('|')
     operations = tuple((operation[0], int(operation[1:] or '0', 10 if operation[0] in 'TG' else 16)) for operation in first.split())
     states = [(0, *now.split()[:2]), *((int(state.split()[0]), *state.split()[1:3]) for state in later)]
@@ -99,7 +97,8 @@ def is_fit(case: Case) -> bool:
 
 def cases(seed: int, count: int) -> list[Case]:
     """The causes' witnesses, and so many others by a seed; all, where there are no more."""
-    found = [case for case in map(case_of, (line for line in read_text(CASES).splitlines() if line.startswith('counter:'))) if is_fit(case)]
+    counters = (text for text in cases_of('chip_cases') if text.startswith('counter:'))
+    found = [case for case in map(case_of, counters) if is_fit(case)]
     shown = {cause.witness for cause in CAUSES}
     others = [case for case in found if case.text not in shown]
     return [case for case in found if case.text in shown] + random.Random(f'timer {seed}').sample(others, min(count, len(others)))
