@@ -1,7 +1,9 @@
-"""What a reader meets first of the crates: the headings of crates.txt, and README's table, which follows them."""
+"""What a reader meets first of the crates: the headings of crates.txt, README's table, and the lines of cases."""
 from __future__ import annotations
 
 import fnmatch
+import glob
+import os
 import re
 import unittest
 
@@ -9,6 +11,7 @@ from tests.support import TOP
 from toolbox.crates import Crates
 
 HEADINGS = 8
+LONGEST = 400  # of a line of cases, in characters
 
 
 def read(path: str) -> str:
@@ -29,7 +32,8 @@ def rows() -> dict[str, list[str]]:
     """The names in README's table by the heading of their row. A name may stand for several, as `execute_*`."""
     _, _, page = read('README.md').partition('\n## The crates\n')
     table, _, _ = page.partition('\n## ')
-    return {heading: re.findall('`(.*?)`', names) for heading, names in re.findall(r'^\|([^|:]+): (.*?)\|', table, re.M)}
+    found = re.findall(r'^\|([^|:]+): (.*?)\|', table, re.M)
+    return {heading: re.findall('`(.*?)`', names) for heading, names in found}
 
 
 class List(unittest.TestCase):
@@ -41,10 +45,10 @@ class List(unittest.TestCase):
         self.assertEqual([crate for crates in groups().values() for crate in crates], [*Crates().named])
 
     def test_a_crate_comes_after_those_it_stands_on(self) -> None:
-        crates = Crates()
+        named = Crates().named
         before = set[str]()
-        for crate, named in crates.named.items():
-            self.assertEqual([library for library in named if library in crates.named and library not in before], [], crate)
+        for crate, libraries in named.items():
+            self.assertLessEqual(named.keys() & libraries, before, crate)
             before.add(crate)
 
     def test_the_table_follows(self) -> None:
@@ -52,8 +56,21 @@ class List(unittest.TestCase):
         self.assertEqual([*rows()], [*groups()])
         for heading, crates in groups().items():
             names = rows()[heading]
-            self.assertEqual([crate for crate in crates if not any(fnmatch.fnmatch(crate, name) for name in names)], [], heading)
-            self.assertEqual([name for name in names if not fnmatch.filter(crates, name)], [], heading)
+            found = {name: fnmatch.filter(crates, name) for name in names}
+            self.assertEqual({crate for each in found.values() for crate in each}, {*crates}, heading)
+            self.assertEqual([name for name in names if not found[name]], [], heading)
+
+
+class Cases(unittest.TestCase):
+    """The input of the programs of cases."""
+
+    def test_no_line_is_long(self) -> None:
+        """A longer one is broken by a backslash at its end, after which it goes on in the next (crates/cases)."""
+        paths = sorted(glob.glob(f'{TOP}/crates/*_cases/stdin'))
+        self.assertEqual(len(paths), len([crate for crate in Crates().named if crate.endswith('_cases')]))
+        for path in paths:
+            lines = read(os.path.relpath(path, TOP)).split('\n')
+            self.assertEqual([number for number, line in enumerate(lines, 1) if len(line) > LONGEST][:10], [], path)
 
 
 if __name__ == '__main__':
