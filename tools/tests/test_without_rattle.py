@@ -105,7 +105,7 @@ class Whole(ToolCase):
         super().setUp()
         self.top = f'{self.room}/top'
         ignored = shutil.ignore_patterns('tests', '__pycache__')
-        for folder in ('tools', 'python', '.ci'):
+        for folder in ('tools', 'python', '.ci', 'dev/parts'):
             shutil.copytree(f'{TOP}/{folder}', f'{self.top}/{folder}', ignore=ignored)
         os.makedirs(f'{self.top}/tools/tests')
         for name in ('__init__', 'stored_cases', 'support'):
