@@ -29,10 +29,10 @@ STEPS = (
     ),
     (
         ARM,
-        '        Deed::DecB => unary(parts, bus, slot, Dec, Byte, table),\n',
-        '        Deed::NotMW => unary_in_memory(parts, *slot, slot.cost(table), bus, Not, WordInMemory, guard),\n',
+        '        change ByteInMemory: IncMB Inc, DecMB Dec;\n',
+        '        change WordInMemory: NotMW Not;\n',
     ),
-    (STILL, '        | Deed::IncMW\n', '        | Deed::NotMW\n'),
+    (STILL, '        StoreW | StoreB | IncMW | DecMW | IncMB | DecMB => false,\n', '        NotMW => false,\n'),
 )
 
 

@@ -8,3 +8,4 @@ pub mod Compared
 pub mod Delay
 pub mod Countdown
 pub mod Shaded
+pub mod Effects

@@ -5,5 +5,6 @@ pub mod BySlot
 pub mod SlotOperands
 pub mod Made
 pub mod Ready
+pub mod Effects
 pub mod Compared
 pub mod Still

@@ -4,6 +4,7 @@
 pub mod by_slot;
 pub mod course;
 pub mod cpu;
+mod effect;
 mod jumps_by_slot;
 pub mod laws;
 pub mod made;
