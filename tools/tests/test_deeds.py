@@ -24,8 +24,8 @@ STEPS = (
     ),
     (
         CHOICE,
-        '        (Unary::Inc, SlotOperand::WordInMemory, SlotOperand::Untold) => Some(Deed::IncMW),\n',
-        '        (Unary::Not, SlotOperand::WordInMemory, SlotOperand::Untold) => Some(Deed::NotMW),\n',
+        '        Unary WordInMemory Untold: Inc IncMW, Dec DecMW;\n',
+        '        Unary WordInMemory Untold: Not NotMW;\n',
     ),
     (
         ARM,

@@ -1,12 +1,12 @@
 //! The board: it runs for a number of clocks, and is read.
-ghost use Rattle.std.specs.Prelude.{ℕ, IsTrue, None, true, All, map, IfSome, ◌-◌, slice_get, ◌≡◌, ◌+◌, ◌*◌, ◌<◌, ◌≤◌, ◌^◌, [], ◌∷◌, ◌++◌, length, OnErr, OnOk, IfOk, IsOk, ◌↔◌};
+ghost use Rattle.std.specs.Prelude.{IsTrue, None, true, All, map, IfSome, ◌-◌, slice_get, ◌≡◌, ◌+◌, ◌*◌, ◌<◌, ◌≤◌, ◌^◌, [], ◌∷◌, ◌++◌, length, OnErr, OnOk, IfOk, IsOk, ◌↔◌};
 ghost use Rattle.std.specs.Option.{option_to_list};
 ghost use Rattle.std.specs.Result.{IfErr, IsErrOf};
 ghost use Rattle.std.specs.String.{string_bytes};
 ghost use Rattle.memory.specs.Map.{IsRamSize, FitsRam};
 ghost use Rattle.board_plain.specs.declared.act.Act.TheVariants as acts;
 ghost use Rattle.board_plain.specs.declared.fault.BoardFault.TheVariants.{Memory};
-ghost use Rattle.board_plain.specs.Board.{Ran, StoppedEarly, board_fault_name, board_fault_number};
+ghost use Rattle.board_plain.specs.Board.{Ran, StoppedEarly};
 ghost use Rattle.board.specs.Alone.{PassesOver, WiresStay, WiresStayThen};
 ghost use Rattle.board.specs.HeldBack.{IsHeldBack};
 ghost use Rattle.board.specs.KeptAgain.{IsExact};
