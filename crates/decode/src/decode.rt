@@ -56,7 +56,7 @@ fn front_at<B: Bytes>(bytes: &B, cs: u16, ip: u16) -> [u8; LONGEST]
     code
 }
 
-/// The bytes from CS:IP on.
+/// As many bytes from CS:IP on as the longest instruction has.
 fn code_at<B: Bytes>(bytes: &B, cs: u16, ip: u16) -> [u8; LONGEST]
     ensures { result ≡ code_at (B.byte_at bytes.now) cs ip }
 {

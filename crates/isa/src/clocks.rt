@@ -61,7 +61,7 @@ impl Clocks {
     }
 }
 
-/// The clocks that the first step takes besides.
+/// The clocks that the first step of an instruction takes besides: it reads the prefixes and sets up a repeat.
 fn first_clocks(instr: &Instr) -> u16
     ensures value { result ≡ first_clocks instr.now }
     ensures bound { result ≤ 23 }
@@ -95,7 +95,7 @@ fn place_clocks(place: Place, register: u8, memory: u8) -> u16
     }
 }
 
-/// The clocks that an address in memory takes besides.
+/// The clocks that working out an operand's address in memory takes besides.
 fn address_clocks(place: Place) -> u16
     ensures value { result ≡ address_clocks place }
     ensures bound { result ≤ 11 }
