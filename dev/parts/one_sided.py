@@ -25,7 +25,7 @@ MET: dict[str, tuple[str, tuple[str, ...]]] = {
             rf'{PREMISES}\S+ < (?:\w+ \+ )?result → .*',
             r'\(to : ℕ\) → to ≤ result → IsSteady .*',
             rf'{PREMISES}AreQuietSteps \(?[^()]*\)? result(?:\.turns)? .*',
-            r'IsKnownQuiet result .*',
+            r'IsBoardQuietAhead result .*',
             r'.* \(\(.*\) \* result\) .*|.* \* result\)|.* \* result ≤ .*',
             r'All .* \(take result .*\)',
         ),

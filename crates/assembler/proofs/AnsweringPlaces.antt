@@ -10,13 +10,13 @@ use Rattle.std.proofs.lemmas.Grind.{flat_map-append}
 use Rattle.std.proofs.lemmas.List.Elements.{All-contains, Contains-append_left, Contains-append_right}
 use Rattle.std.proofs.lemmas.Map.Views.{Contains-keys_from_lookup}
 use Rattle.board_types.specs.Image.{IsImage, IsLoadable, image_byte}
-use Rattle.assembler.specs.declared.row.Content.{Content}
+use Rattle.assembler.specs.declared.kept_line.Content.{Content}
 use Rattle.assembler_meaning.specs.declared.symbol.Location.{Location}
 use Rattle.assembler_meaning.specs.Values.{Names}
-use Rattle.assembler.specs.Placement.{content_of, bytes_by, bytes_from, address_behind, addresses_from, placed_at, placed_by, placed_by_all, lacks_name, has_wrong_number, is_past_end, is_loadable, is_placed, fault_at, late_fault, row_fault}
-use Rattle.assembler.specs.Rows.{Row, AreRows, IsCleanRow, names_of}
+use Rattle.assembler.specs.Placement.{content_of, bytes_by, bytes_from, address_after, addresses_from, placed_at, placed_by, placed_by_all, lacks_name, has_wrong_number, is_past_end, is_loadable, is_placed, fault_at, late_fault, located_fault}
+use Rattle.assembler.specs.LocatedLines.{LocatedLine, AreLocatedLines, IsCleanLine, names_of}
 use Rattle.assembler.specs.Gives.{ArePlaced, Fits, FitsAt}
-use Rattle.assembler.proofs.RowLength.{keeps_size}
+use Rattle.assembler.proofs.LineLength.{keeps_size}
 
 -- addresses that are apart: none of the later ones is one of the earlier ones
 abbrev pub NoneIn : List ℕ → List ℕ → Type 0
@@ -31,14 +31,14 @@ none_in_more x xs [] apart none = tt
 none_in_more x xs (y ∷ ys) apart none =
     (or_from (x == y) (list_any (λ (a : ℕ). a == y) xs) apart.0 none.0, none_in_more x xs ys apart.1 none.1)
 
-all_behind : (x : ℕ) (xs ys : List ℕ) → AllByRecursion (λ (y : ℕ). (x == y) ≡ false) (xs ++ ys) → AllByRecursion (λ (y : ℕ). (x == y) ≡ false) ys
-all_behind x [] ys apart = apart
-all_behind x (y ∷ xs) ys apart = all_behind x xs ys apart.1
+all_after : (x : ℕ) (xs ys : List ℕ) → AllByRecursion (λ (y : ℕ). (x == y) ≡ false) (xs ++ ys) → AllByRecursion (λ (y : ℕ). (x == y) ≡ false) ys
+all_after x [] ys apart = apart
+all_after x (y ∷ xs) ys apart = all_after x xs ys apart.1
 
 none_before : (xs ys : List ℕ) → IsDistinct (λ (a b : ℕ). a == b) (xs ++ ys) → NoneIn xs ys
 unfolding IsDistinct
 none_before [] ys apart = none_in_nothing ys
-none_before (x ∷ xs) ys apart = none_in_more x xs ys (all_behind x xs ys apart.0) (none_before xs ys apart.1)
+none_before (x ∷ xs) ys apart = none_in_more x xs ys (all_after x xs ys apart.0) (none_before xs ys apart.1)
 
 none_in_front : (xs ys zs : List ℕ) → NoneIn xs (ys ++ zs) → NoneIn xs ys
 none_in_front xs [] zs none = tt
@@ -60,7 +60,7 @@ none_taken placed (y ∷ ys) none = or_from (is_placed placed y) (list_any (is_p
 -- the addresses of bytes
 addresses_are : (location : Location) (n : ℕ) (bytes : List ℕ) → keys_of (bytes_from location n bytes) ≡ addresses_from location n (length bytes)
 addresses_are location n [] = refl
-addresses_are location n (b ∷ bs) = ap (λ (ks : List ℕ). address_behind location n ∷ ks) (addresses_are location (n + 1) bs)
+addresses_are location n (b ∷ bs) = ap (λ (ks : List ℕ). address_after location n ∷ ks) (addresses_are location (n + 1) bs)
 
 -- the image can be loaded at its addresses
 lt_yes : (a b : ℕ) → a < b → nat_lt a b ≡ true
@@ -99,29 +99,29 @@ all_loadable (entry ∷ placed) each =
     (all_loadable placed (λ address byte there. each address byte (Contains-append_right (entry ∷ []) placed (address, byte) there)))
 
 -- what a list of rows places is what the rows before one place, what that row places, and what the rows after it place
-pub placed_parts : (names : Names) (front : List Row) (row : Row) (back : List Row)
-    → placed_by_all names (front ++ row ∷ back) ≡ placed_by_all names front ++ (placed_by names row ++ placed_by_all names back)
-placed_parts names front row back = flat_map-append (placed_by names) front (row ∷ back)
+pub placed_parts : (names : Names) (front : List LocatedLine) (located : LocatedLine) (back : List LocatedLine)
+    → placed_by_all names (front ++ located ∷ back) ≡ placed_by_all names front ++ (placed_by names located ++ placed_by_all names back)
+placed_parts names front located back = flat_map-append (placed_by names) front (located ∷ back)
 
-pub fits_there : (names : Names) (front : List Row) (row : Row) (back : List Row) → AllByRecursion (Fits names) (front ++ row ∷ back) → Fits names row
-fits_there names [] row back fits = fits.0
-fits_there names (first ∷ front) row back fits = fits_there names front row back fits.1
+pub fits_there : (names : Names) (front : List LocatedLine) (located : LocatedLine) (back : List LocatedLine) → AllByRecursion (Fits names) (front ++ located ∷ back) → Fits names located
+fits_there names [] located back fits = fits.0
+fits_there names (first ∷ front) located back fits = fits_there names front located back fits.1
 
 -- a row that the texts make is clean after the rows before it
-pub record CleanThere (before : List Row) (row : Row) : Type 0 where
+pub record CleanThere (before : List LocatedLine) (located : LocatedLine) : Type 0 where
   pub text : List ℕ
-  pub clean : IsCleanRow before text row
+  pub clean : IsCleanLine before text located
 
-pub clean_there : (before : List Row) (texts : List (List ℕ)) (front : List Row) (row : Row) (back : List Row) → AreRows before texts (front ++ row ∷ back) → CleanThere (before ++ front) row
-clean_there before [] [] row back are = absurd are
-clean_there before (text ∷ texts) [] row back are = record {
+pub clean_there : (before : List LocatedLine) (texts : List (List ℕ)) (front : List LocatedLine) (located : LocatedLine) (back : List LocatedLine) → AreLocatedLines before texts (front ++ located ∷ back) → CleanThere (before ++ front) located
+clean_there before [] [] located back are = absurd are
+clean_there before (text ∷ texts) [] located back are = record {
   text = text;
-  clean = subst (λ (rs : List Row). IsCleanRow rs text row) (sym (append-nil before)) are.0;
+  clean = subst (λ (rs : List LocatedLine). IsCleanLine rs text located) (sym (append-nil before)) are.0;
 }
-clean_there before [] (first ∷ front) row back are = absurd are
-clean_there before (text ∷ texts) (first ∷ front) row back are =
-    subst (λ (rs : List Row). CleanThere rs row) (append_assoc before (first ∷ []) front)
-    (clean_there (before ++ first ∷ []) texts front row back are.1)
+clean_there before [] (first ∷ front) located back are = absurd are
+clean_there before (text ∷ texts) (first ∷ front) located back are =
+    subst (λ (rs : List LocatedLine). CleanThere rs located) (append_assoc before (first ∷ []) front)
+    (clean_there (before ++ first ∷ []) texts front located back are.1)
 
 no_fault_at : (names : Names) (is_taken : ℕ → Bool) (has_label : Bool) (location : Location) (size : ℕ) (content : Option Content)
     → lacks_name names location content ≡ false → has_wrong_number names location size content ≡ false → is_past_end location size has_label ≡ false
@@ -130,51 +130,51 @@ no_fault_at : (names : Names) (is_taken : ℕ → Bool) (has_label : Bool) (loca
 no_fault_at names is_taken has_label location size content known fits within free loadable = rw (known, fits, within, free, loadable) refl
 
 -- how a row's bytes stand in an image
-pub record StandsIn (names : Names) (front : List Row) (row : Row) (location : Location) : Type 0 where
-  pub length_is : length (bytes_by names location row.size (content_of row.line.statement row.form)) ≡ row.size
-  pub free : list_any (is_placed (placed_by_all names front)) (addresses_from location 0 row.size) ≡ false
-  pub loadable : list_all is_loadable (addresses_from location 0 row.size) ≡ true
+pub record StandsIn (names : Names) (front : List LocatedLine) (located : LocatedLine) (location : Location) : Type 0 where
+  pub length_is : length (bytes_by names location located.size (content_of located.line.statement located.form)) ≡ located.size
+  pub free : list_any (is_placed (placed_by_all names front)) (addresses_from location 0 located.size) ≡ false
+  pub loadable : list_all is_loadable (addresses_from location 0 located.size) ≡ true
 
-pub placed_there : (names : Names) (row : Row) (location : Location) → row.location ≡ Some location → placed_by names row ≡ bytes_from location 0 (bytes_by names location row.size (content_of row.line.statement row.form))
+pub placed_there : (names : Names) (located : LocatedLine) (location : Location) → located.location ≡ Some location → placed_by names located ≡ bytes_from location 0 (bytes_by names location located.size (content_of located.line.statement located.form))
 unfolding placed_by
-placed_there names row location at = ap (λ (o : Option Location). placed_at names o row.size (content_of row.line.statement row.form)) at
+placed_there names located location at = ap (λ (o : Option Location). placed_at names o located.size (content_of located.line.statement located.form)) at
 
-names_split : (front : List Row) (row : Row) (back : List Row) → names_of (front ++ row ∷ back) ≡ names_of front ++ names_of (row ∷ back)
-names_split front row back = flat_map-append (λ (r : Row). r.names) front (row ∷ back)
+names_split : (front : List LocatedLine) (located : LocatedLine) (back : List LocatedLine) → names_of (front ++ located ∷ back) ≡ names_of front ++ names_of (located ∷ back)
+names_split front located back = flat_map-append (λ (r : LocatedLine). r.names) front (located ∷ back)
 
 -- a clean row has as many bytes as its size says
-pub row_length : (front : List Row) (row : Row) (back : List Row) (text : List ℕ) (location : Location)
-    → IsCleanRow front text row → FitsAt (names_of (front ++ row ∷ back)) row location
-    → length (bytes_by (names_of (front ++ row ∷ back)) location row.size (content_of row.line.statement row.form)) ≡ row.size
-row_length front row back text location clean fits =
-    keeps_size (names_of front) (names_of (row ∷ back)) (names_of (front ++ row ∷ back)) row.location location row.line row.form row.size
-    clean.clean clean.is_row.size (names_split front row back) fits.known fits.fits
+pub line_length : (front : List LocatedLine) (located : LocatedLine) (back : List LocatedLine) (text : List ℕ) (location : Location)
+    → IsCleanLine front text located → FitsAt (names_of (front ++ located ∷ back)) located location
+    → length (bytes_by (names_of (front ++ located ∷ back)) location located.size (content_of located.line.statement located.form)) ≡ located.size
+line_length front located back text location clean fits =
+    keeps_size (names_of front) (names_of (located ∷ back)) (names_of (front ++ located ∷ back)) located.location location located.line located.form located.size
+    clean.clean clean.is_located_line.size (names_split front located back) fits.known fits.fits
 
-stands_in : (names : Names) (front : List Row) (row : Row) (back : List Row) (location : Location) (image : List (ℕ × ℕ)) → row.location ≡ Some location
-    → length (bytes_by names location row.size (content_of row.line.statement row.form)) ≡ row.size
-    → IsDistinct (λ (a b : ℕ). a == b) (keys_of (placed_by_all names (front ++ row ∷ back))) → IsImage image
-    → ((address byte : ℕ) → Contains (placed_by_all names (front ++ row ∷ back)) (address, byte) → image_byte image address ≡ Some byte)
-    → StandsIn names front row location
-stands_in names front row back location image at long once is_image holds =
+stands_in : (names : Names) (front : List LocatedLine) (located : LocatedLine) (back : List LocatedLine) (location : Location) (image : List (ℕ × ℕ)) → located.location ≡ Some location
+    → length (bytes_by names location located.size (content_of located.line.statement located.form)) ≡ located.size
+    → IsDistinct (λ (a b : ℕ). a == b) (keys_of (placed_by_all names (front ++ located ∷ back))) → IsImage image
+    → ((address byte : ℕ) → Contains (placed_by_all names (front ++ located ∷ back)) (address, byte) → image_byte image address ≡ Some byte)
+    → StandsIn names front located location
+stands_in names front located back location image at long once is_image holds =
     let before : List (ℕ × ℕ) = placed_by_all names front in
-    let own : List (ℕ × ℕ) = placed_by names row in
-    let behind : List (ℕ × ℕ) = placed_by_all names back in
-    let parts : placed_by_all names (front ++ row ∷ back) ≡ before ++ (own ++ behind) = placed_parts names front row back in
-    let keys : keys_of (placed_by_all names (front ++ row ∷ back)) ≡ keys_of before ++ (keys_of own ++ keys_of behind) =
-    ap (λ (es : List (ℕ × ℕ)). keys_of es) parts ∙ (keys_append before (own ++ behind) ∙ ap (λ (ks : List ℕ). keys_of before ++ ks) (keys_append own behind)) in
-    let addresses : keys_of own ≡ addresses_from location 0 row.size =
-    ap (λ (es : List (ℕ × ℕ)). keys_of es) (placed_there names row location at)
-    ∙ (addresses_are location 0 (bytes_by names location row.size (content_of row.line.statement row.form)) ∙ ap (addresses_from location 0) long) in
+    let own : List (ℕ × ℕ) = placed_by names located in
+    let following : List (ℕ × ℕ) = placed_by_all names back in
+    let parts : placed_by_all names (front ++ located ∷ back) ≡ before ++ (own ++ following) = placed_parts names front located back in
+    let keys : keys_of (placed_by_all names (front ++ located ∷ back)) ≡ keys_of before ++ (keys_of own ++ keys_of following) =
+    ap (λ (es : List (ℕ × ℕ)). keys_of es) parts ∙ (keys_append before (own ++ following) ∙ ap (λ (ks : List ℕ). keys_of before ++ ks) (keys_append own following)) in
+    let addresses : keys_of own ≡ addresses_from location 0 located.size =
+    ap (λ (es : List (ℕ × ℕ)). keys_of es) (placed_there names located location at)
+    ∙ (addresses_are location 0 (bytes_by names location located.size (content_of located.line.statement located.form)) ∙ ap (addresses_from location 0) long) in
     let apart : NoneIn (keys_of before) (keys_of own) =
-    none_in_front (keys_of before) (keys_of own) (keys_of behind)
-    (none_before (keys_of before) (keys_of own ++ keys_of behind) (subst (IsDistinct (λ (a b : ℕ). a == b)) keys once)) in
+    none_in_front (keys_of before) (keys_of own) (keys_of following)
+    (none_before (keys_of before) (keys_of own ++ keys_of following) (subst (IsDistinct (λ (a b : ℕ). a == b)) keys once)) in
     record {
       length_is = long;
       free = ap (list_any (is_placed before)) (sym addresses) ∙ none_taken before (keys_of own) apart;
       loadable = ap (list_all is_loadable) (sym addresses)
           ∙ all_loadable own (λ address byte there. loadable_in image address byte is_image (holds address byte
           (subst (λ (es : List (ℕ × ℕ)). Contains es (address, byte)) (sym parts)
-          (Contains-append_right before (own ++ behind) (address, byte) (Contains-append_left own behind (address, byte) there)))));
+          (Contains-append_right before (own ++ following) (address, byte) (Contains-append_left own following (address, byte) there)))));
     }
 
 no_late : (names : Names) (is_taken : ℕ → Bool) (has_label : Bool) (location : Option Location) (size : ℕ) (content : Option Content)
@@ -184,17 +184,17 @@ no_late names is_taken has_label None size content each = refl
 no_late names is_taken has_label (Some place) size content each = each place refl
 
 -- rows that place an image have no fault
-pub no_row_fault : (texts : List (List ℕ)) (front : List Row) (row : Row) (back : List Row) (image : List (ℕ × ℕ)) → AreRows [] texts (front ++ row ∷ back)
-    → ArePlaced (front ++ row ∷ back) image → row_fault (names_of (front ++ row ∷ back)) front row ≡ None
-no_row_fault texts front row back image are placed =
-    let names : Names = names_of (front ++ row ∷ back) in
-    let there : CleanThere front row = clean_there [] texts front row back are in
-    let each : (place : Location) → row.location ≡ Some place
-    → fault_at names (is_placed (placed_by_all names front)) (is_some row.line.label) place row.size (content_of row.line.statement row.form) ≡ None = λ place at.
-    let fits : FitsAt names row place = fits_there names front row back placed.fit place at in
-    let stands : StandsIn names front row place =
-    stands_in names front row back place image at (row_length front row back there.text place there.clean fits) placed.once placed.is_image
+pub no_located_fault : (texts : List (List ℕ)) (front : List LocatedLine) (located : LocatedLine) (back : List LocatedLine) (image : List (ℕ × ℕ)) → AreLocatedLines [] texts (front ++ located ∷ back)
+    → ArePlaced (front ++ located ∷ back) image → located_fault (names_of (front ++ located ∷ back)) front located ≡ None
+no_located_fault texts front located back image are placed =
+    let names : Names = names_of (front ++ located ∷ back) in
+    let there : CleanThere front located = clean_there [] texts front located back are in
+    let each : (place : Location) → located.location ≡ Some place
+    → fault_at names (is_placed (placed_by_all names front)) (is_some located.line.label) place located.size (content_of located.line.statement located.form) ≡ None = λ place at.
+    let fits : FitsAt names located place = fits_there names front located back placed.fit place at in
+    let stands : StandsIn names front located place =
+    stands_in names front located back place image at (line_length front located back there.text place there.clean fits) placed.once placed.is_image
     (λ address byte contained. (placed.bytes address byte).1 contained) in
-    no_fault_at names (is_placed (placed_by_all names front)) (is_some row.line.label) place row.size (content_of row.line.statement row.form)
+    no_fault_at names (is_placed (placed_by_all names front)) (is_some located.line.label) place located.size (content_of located.line.statement located.form)
     fits.known fits.fits fits.within stands.free stands.loadable in
-    no_late names (is_placed (placed_by_all names front)) (is_some row.line.label) row.location row.size (content_of row.line.statement row.form) each
+    no_late names (is_placed (placed_by_all names front)) (is_some located.line.label) located.location located.size (content_of located.line.statement located.form) each

@@ -1,13 +1,13 @@
 pub mod ReadingNames
-pub mod ReadingRows
+pub mod ReadingLines
 pub mod ReadingLoop
 pub mod ReadingWeights
 pub mod ReadingFaults
-pub mod RowLength
+pub mod LineLength
 pub mod PlacingImage
 pub mod PlacingAddresses
-pub mod PlacingRows
-pub mod AnsweringRows
+pub mod PlacingLines
+pub mod AnsweringLines
 pub mod AnsweringImage
 pub mod AnsweringPlaces
 pub mod AnsweringFaults

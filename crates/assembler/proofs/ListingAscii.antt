@@ -26,29 +26,29 @@ use Rattle.assembler_syntax.specs.declared.statement.Line.{Line}
 use Rattle.assembler_syntax.specs.declared.statement.Statement.{Statement}
 use Rattle.assembler_syntax.specs.declared.statement.Statement.TheVariants as statements
 use Rattle.assembler_lexeme.specs.declared.token.Token.{Token}
-use Rattle.assembler_lexeme.specs.declared.token.Token.TheVariants.{One, Number, Named, Word, Mark}
-use Rattle.assembler_lexeme.specs.declared.token.Mark.{Mark as MarkType}
-use Rattle.assembler_lexeme.specs.declared.token.Mark.TheVariants.{Colon}
+use Rattle.assembler_lexeme.specs.declared.token.Token.TheVariants.{One, Number, Named, Word, Punctuator}
+use Rattle.assembler_lexeme.specs.declared.token.Punctuator.{Punctuator as PunctuatorType}
+use Rattle.assembler_lexeme.specs.declared.token.Punctuator.TheVariants.{Colon}
 use Rattle.assembler_lexeme.specs.Lexemes.{is_blank, is_character, is_digit, is_letter, is_word_byte, lexemes, lexemes_from}
 use Rattle.board_types.specs.TextLines.{begins_with, onto_first, text_lines}
 use Rattle.assembler_lexeme.specs.Numbers.{number_of, last_byte}
 use Rattle.assembler_lexeme.specs.Faults.{◌>>=◌, wanted, all_of}
-use Rattle.assembler_lexeme.specs.Tokens.{between_quotes, mark_of, mark_token, name_of, number_token, quoted_token, text_token, token_of, tokens_of, word_token}
+use Rattle.assembler_lexeme.specs.Tokens.{between_quotes, punctuator_of, punctuator_token, name_of, number_token, quoted_token, text_token, token_of, tokens_of, word_token}
 use Rattle.assembler_syntax.specs.ExpressionSteps.{constant_of}
 use Rattle.assembler_syntax.specs.OperandSteps.{operands_of}
 use Rattle.assembler_syntax.specs.ItemSteps.{items_of}
 use Rattle.assembler_syntax.specs.PartSteps.{is_colon}
-use Rattle.assembler_syntax.specs.StatementSteps.{data_of, directive_of, ends_of, equ_of, instruction_of, is_at, is_directive, is_equ, keyword_statement, led_statement, onto_prefixes, org_of, prefixed_statement, prefixes_of, segment_by, segment_of, segment_token, statement_behind, statement_of, word_statement}
+use Rattle.assembler_syntax.specs.StatementSteps.{data_of, directive_of, ends_of, equ_of, instruction_of, is_at, is_directive, is_equ, keyword_statement, led_statement, onto_prefixes, org_of, prefixed_statement, prefixes_of, segment_by, segment_of, segment_token, statement_after, statement_of, word_statement}
 use Rattle.assembler_syntax.specs.LineSteps.{labelled, line_of, read_line as read_in_steps, with_label}
 use Rattle.assembler_syntax.specs.Lines.{read_line}
 use Rattle.assembler_syntax.proofs.Alike.{text_alike}
 use Rattle.assembler_meaning.specs.declared.symbol.Location.{Location}
 use Rattle.assembler_meaning.specs.declared.symbol.Symbol.{Symbol}
-use Rattle.assembler.specs.declared.row.KeptRow.{KeptRow}
+use Rattle.assembler.specs.declared.kept_line.KeptLine.{KeptLine}
 use Rattle.assembler_meaning.specs.Values.{Names, constant_of as constant_in, symbol_value}
-use Rattle.assembler.specs.Kept.{Reads}
+use Rattle.assembler.specs.KeptLines.{Reads}
 use Rattle.assembler.specs.Listing.{letters_of, symbol_at}
-use Rattle.assembler.specs.Rows.{AreRows, Row, constant_definition, label_definition, names_of, statement_definition, statement_name}
+use Rattle.assembler.specs.LocatedLines.{AreLocatedLines, LocatedLine, constant_definition, label_definition, names_of, statement_definition, statement_name}
 use Rattle.assembler.proofs.ListingTexts.{character_below}
 
 nil_ascii : IsAscii []
@@ -145,21 +145,21 @@ unfolding quoted_token
 quoted_ascii lexeme =
     either_way AsciiIfSome (nat_le 3 (length lexeme) && last_byte lexeme == 39) (Some (text_token (between_quotes lexeme))) None (text_ascii (between_quotes lexeme)) tt
 
-some_mark : (o : Option MarkType) → AsciiIfSome (option_map Mark o)
-some_mark None = tt
-some_mark (Some m) = tt
+some_punctuator : (o : Option PunctuatorType) → AsciiIfSome (option_map Punctuator o)
+some_punctuator None = tt
+some_punctuator (Some m) = tt
 
-mark_ascii : (lexeme : List ℕ) → AsciiIfSome (mark_token lexeme)
-mark_ascii [] = tt
-mark_ascii (b ∷ []) = some_mark (mark_of b)
-mark_ascii (b ∷ c ∷ lexeme) = tt
+punctuator_ascii : (lexeme : List ℕ) → AsciiIfSome (punctuator_token lexeme)
+punctuator_ascii [] = tt
+punctuator_ascii (b ∷ []) = some_punctuator (punctuator_of b)
+punctuator_ascii (b ∷ c ∷ lexeme) = tt
 
 token_ascii : (lexeme : List ℕ) → IsAscii lexeme → AsciiIfSome (token_of lexeme)
 unfolding token_of
 token_ascii lexeme ascii =
     either_way AsciiIfSome (begins_with is_letter lexeme) (word_token lexeme) _ (word_ascii lexeme ascii)
     (either_way AsciiIfSome (begins_with is_digit lexeme) (number_token lexeme) _ (number_ascii lexeme)
-    (either_way AsciiIfSome (begins_with (λ b. b == 39) lexeme) (quoted_token lexeme) (mark_token lexeme) (quoted_ascii lexeme) (mark_ascii lexeme)))
+    (either_way AsciiIfSome (begins_with (λ b. b == 39) lexeme) (quoted_token lexeme) (punctuator_token lexeme) (quoted_ascii lexeme) (punctuator_ascii lexeme)))
 
 abbrev AllAscii : List Token → Type 0
 AllAscii ts = AllByRecursion IsAsciiToken ts
@@ -267,23 +267,23 @@ led_ascii : (ps : List PrefixType) (t : Token) (ts : List Token) → AllAscii ts
 led_ascii ps (Word meaning) ts all = word_statement_ascii ps meaning ts all
 led_ascii ps t ts all = tt
 
-behind_ascii : (ps : List PrefixType) (ts : List Token) → AllAscii ts → AsciiStatement (statement_behind ps ts)
-unfolding statement_behind
-behind_ascii ps [] all = tt
-behind_ascii ps (t ∷ ts) all = led_ascii ps t ts all.1
+after_ascii : (ps : List PrefixType) (ts : List Token) → AllAscii ts → AsciiStatement (statement_after ps ts)
+unfolding statement_after
+after_ascii ps [] all = tt
+after_ascii ps (t ∷ ts) all = led_ascii ps t ts all.1
 
-abbrev AsciiBehind : (List PrefixType × List Token) → Type 0
-AsciiBehind split = AllAscii split.1
+abbrev AsciiAfter : (List PrefixType × List Token) → Type 0
+AsciiAfter split = AllAscii split.1
 
-prefixes_ascii : (ts : List Token) → AllAscii ts → AsciiBehind (prefixes_of ts)
+prefixes_ascii : (ts : List Token) → AllAscii ts → AsciiAfter (prefixes_of ts)
 prefixes_ascii (Word (Prefix p) ∷ ts) all = prefixes_ascii ts all.1
 prefixes_ascii (Word (Register (registers.Segment s)) ∷ t ∷ ts) all =
-    either_way AsciiBehind (is_colon t) (onto_prefixes _ (prefixes_of ts)) ([], segment_token s ∷ t ∷ ts) (prefixes_ascii ts all.1.1) all
+    either_way AsciiAfter (is_colon t) (onto_prefixes _ (prefixes_of ts)) ([], segment_token s ∷ t ∷ ts) (prefixes_ascii ts all.1.1) all
 prefixes_ascii ts all = all
 
 prefixed_ascii : (ts : List Token) → AllAscii ts → AsciiStatement (prefixed_statement ts)
 unfolding prefixed_statement
-prefixed_ascii ts all = behind_ascii ((prefixes_of ts).0) ((prefixes_of ts).1) (prefixes_ascii ts all)
+prefixed_ascii ts all = after_ascii ((prefixes_of ts).0) ((prefixes_of ts).1) (prefixes_ascii ts all)
 
 statement_ascii : (ts : List Token) → AllAscii ts → AsciiStatement (statement_of ts)
 unfolding statement_of
@@ -309,7 +309,7 @@ with_label_ascii : (label : Option Name) (ts : List Token) → AsciiName label �
 with_label_ascii label ts ascii all = label_with label (statement_of ts) ascii (statement_ascii ts all)
 
 labelled_ascii : (t u : Token) (ts : List Token) → AllAscii (t ∷ u ∷ ts) → AsciiRead (labelled t u ts)
-labelled_ascii (Named label) (Mark Colon) ts all = with_label_ascii (Some label) ts all.0 all.1.1
+labelled_ascii (Named label) (Punctuator Colon) ts all = with_label_ascii (Some label) ts all.0 all.1.1
 labelled_ascii t u ts all = with_label_ascii None (t ∷ u ∷ ts) tt all
 
 line_ascii : (ts : List Token) → AllAscii ts → AsciiRead (line_of ts)
@@ -357,17 +357,17 @@ statement_names known (statements.Segment name n) ascii = constant_names name (c
 statement_names known (statements.Equ name n) ascii = constant_names name (constant_in known n) ascii
 statement_names known s ascii = tt
 
-pub names_ascii : (before : List Row) (texts : List (List ℕ)) (rows : List Row) → AreRows before texts rows → AsciiNames (names_of rows)
+pub names_ascii : (before : List LocatedLine) (texts : List (List ℕ)) (located_lines : List LocatedLine) → AreLocatedLines before texts located_lines → AsciiNames (names_of located_lines)
 names_ascii before [] [] are = tt
-names_ascii before [] (row ∷ rows) are = absurd are
+names_ascii before [] (located ∷ located_lines) are = absurd are
 names_ascii before (text ∷ texts) [] are = absurd are
-names_ascii before (text ∷ texts) (row ∷ rows) are =
-    let line : AsciiLine row.line = read_ascii text row.line are.0.is_row.reads in
-    both_ascii row.names (names_of rows)
-    (subst AsciiNames (sym are.0.is_row.names)
-    (both_ascii (label_definition _ row.line.label) (statement_definition (names_of before) row.line.statement)
-    (label_names _ row.line.label line.label) (statement_names (names_of before) row.line.statement line.statement)))
-    (names_ascii (before ++ row ∷ []) texts rows are.1)
+names_ascii before (text ∷ texts) (located ∷ located_lines) are =
+    let line : AsciiLine located.line = read_ascii text located.line are.0.is_located_line.reads in
+    both_ascii located.names (names_of located_lines)
+    (subst AsciiNames (sym are.0.is_located_line.names)
+    (both_ascii (label_definition _ located.line.label) (statement_definition (names_of before) located.line.statement)
+    (label_names _ located.line.label line.label) (statement_names (names_of before) located.line.statement line.statement)))
+    (names_ascii (before ++ located ∷ []) texts located_lines are.1)
 
 take_ascii : (n : ℕ) (xs : List ℕ) → IsAscii xs → IsAscii (take n xs)
 take_ascii zero xs ascii = nil_ascii
@@ -394,7 +394,7 @@ no_symbol names i is = ap (λ (o : Option (Name × Symbol)). option_map (λ (ent
 pub own_symbol : (names : Names) (i : ℕ) (name : Name) (symbol : Symbol) → Some (name, symbol) ≡ slice_get names i → Some (letters_of name, symbol_value symbol) ≡ symbol_at names i
 own_symbol names i name symbol is = ap (λ (o : Option (Name × Symbol)). option_map (λ (entry : Name × Symbol). (letters_of entry.0, symbol_value entry.1)) o) is
 
-pub own_letters : (source : List ℕ) (names : Names) (kepts : List KeptRow) (i : ℕ) (name : Name) (symbol : Symbol) → Reads source names kepts → Some (name, symbol) ≡ slice_get names i
+pub own_letters : (source : List ℕ) (names : Names) (kepts : List KeptLine) (i : ℕ) (name : Name) (symbol : Symbol) → Reads source names kepts → Some (name, symbol) ≡ slice_get names i
     → IsAscii (letters_of name)
 own_letters source names kepts i name symbol reads is =
-    letters_ascii names i (name, symbol) (subst AsciiNames (sym reads.names_are) (names_ascii [] (text_lines source) reads.rows reads.are_rows)) (sym is)
+    letters_ascii names i (name, symbol) (subst AsciiNames (sym reads.names_are) (names_ascii [] (text_lines source) reads.located_lines reads.are_located_lines)) (sym is)

@@ -11,82 +11,82 @@ use Rattle.std.proofs.lemmas.Grind.{flat_map-append}
 use Rattle.std.proofs.lemmas.List.Elements.{Contains-append_left, Contains-append_right}
 use Rattle.board_types.specs.Image.{image_byte}
 use Rattle.board_types.specs.TextLines.{text_lines}
-use Rattle.assembler.specs.declared.row.KeptRow.{KeptRow}
+use Rattle.assembler.specs.declared.kept_line.KeptLine.{KeptLine}
 use Rattle.assembler_meaning.specs.declared.symbol.Location.{Location}
 use Rattle.assembler_meaning.specs.Values.{Names}
 use Rattle.assembler.specs.Gives.{ArePlaced, Fits, Gives}
-use Rattle.assembler.specs.Kept.{AreKept, EndsBy, Keeps, Reads}
+use Rattle.assembler.specs.KeptLines.{AreKept, EndsBy, Keeps, Reads}
 use Rattle.board_types.specs.Digits.{hex_byte_text, hex_word}
-use Rattle.assembler.specs.Listing.{bytes_part, first_bytes, line_at, listed, more_mark, place_part, row_bytes, spaces}
-use Rattle.assembler.specs.Placement.{address_behind, bytes_by, bytes_from, content_of, is_past_end, placed_by, placed_by_all}
-use Rattle.assembler.specs.Rows.{AreRows, IsCleanRow, Row, names_of}
+use Rattle.assembler.specs.Listing.{bytes_part, first_bytes, line_at, listed, more_punctuator, place_part, line_bytes, spaces}
+use Rattle.assembler.specs.Placement.{address_after, bytes_by, bytes_from, content_of, is_past_end, placed_by, placed_by_all}
+use Rattle.assembler.specs.LocatedLines.{AreLocatedLines, IsCleanLine, LocatedLine, names_of}
 use Rattle.assembler.specs.Shown.{said_by, shown_at, shown_byte, shown_count, shown_digits, shown_line, shown_place, shown_location, location_by_size}
-use Rattle.assembler.proofs.AnsweringRows.{one_rows}
-use Rattle.assembler.proofs.AnsweringPlaces.{fits_there, placed_there, placed_parts, row_length}
+use Rattle.assembler.proofs.AnsweringLines.{one_lines}
+use Rattle.assembler.proofs.AnsweringPlaces.{fits_there, placed_there, placed_parts, line_length}
 use Rattle.assembler.proofs.ListingTexts.{ascii_of, characters_of}
 
 -- a line of the source, with what is kept of it
-pub record LineThere (source : List ℕ) (texts : List (List ℕ)) (before rows : List Row) (kept : KeptRow) (i : ℕ) : Type 0 where
+pub record LineThere (source : List ℕ) (texts : List (List ℕ)) (before located_lines : List LocatedLine) (kept : KeptLine) (i : ℕ) : Type 0 where
   pub text : List ℕ
-  pub row : Row
-  pub front : List Row
-  pub back : List Row
-  pub keeps : Keeps source text kept row
-  pub split : rows ≡ front ++ row ∷ back
-  pub clean : IsCleanRow (before ++ front) text row
-  pub line : (names : Names) → line_at names texts rows i ≡ Some (listed names text row)
+  pub located : LocatedLine
+  pub front : List LocatedLine
+  pub back : List LocatedLine
+  pub keeps : Keeps source text kept located
+  pub split : located_lines ≡ front ++ located ∷ back
+  pub clean : IsCleanLine (before ++ front) text located
+  pub line : (names : Names) → line_at names texts located_lines i ≡ Some (listed names text located)
 
-none_some : (kept : KeptRow) → None ≡ Some kept → ⊥
+none_some : (kept : KeptLine) → None ≡ Some kept → ⊥
 none_some kept is = cc
 
-some_none : (kept : KeptRow) → Some kept ≡ None → ⊥
+some_none : (kept : KeptLine) → Some kept ≡ None → ⊥
 some_none kept is = cc
 
-some_same : (a b : KeptRow) → Some a ≡ Some b → a ≡ b
+some_same : (a b : KeptLine) → Some a ≡ Some b → a ≡ b
 some_same a b is = cc
 
-line_behind : (source text : List ℕ) (texts : List (List ℕ)) (before : List Row) (row : Row) (rows : List Row) (kept : KeptRow) (i : ℕ) → IsCleanRow before text row
-    → LineThere source texts (before ++ row ∷ []) rows kept i → LineThere source (text ∷ texts) before (row ∷ rows) kept (suc i)
-line_behind source text texts before row rows kept i clean there = record {
+line_after : (source text : List ℕ) (texts : List (List ℕ)) (before : List LocatedLine) (located : LocatedLine) (located_lines : List LocatedLine) (kept : KeptLine) (i : ℕ) → IsCleanLine before text located
+    → LineThere source texts (before ++ located ∷ []) located_lines kept i → LineThere source (text ∷ texts) before (located ∷ located_lines) kept (suc i)
+line_after source text texts before located located_lines kept i clean there = record {
   text = there.text;
-  row = there.row;
-  front = row ∷ there.front;
+  located = there.located;
+  front = located ∷ there.front;
   back = there.back;
   keeps = there.keeps;
-  split = ap (λ (rs : List Row). row ∷ rs) there.split;
-  clean = subst (λ (rs : List Row). IsCleanRow rs there.text there.row) (append_assoc before (row ∷ []) there.front) there.clean;
+  split = ap (λ (rs : List LocatedLine). located ∷ rs) there.split;
+  clean = subst (λ (rs : List LocatedLine). IsCleanLine rs there.text there.located) (append_assoc before (located ∷ []) there.front) there.clean;
   line = there.line;
 }
 
-pub line_there : (source : List ℕ) (before : List Row) (texts : List (List ℕ)) (kepts : List KeptRow) (rows : List Row) (i : ℕ) (kept : KeptRow)
-    → AreKept source texts kepts rows → AreRows before texts rows → slice_get kepts i ≡ Some kept → LineThere source texts before rows kept i
+pub line_there : (source : List ℕ) (before : List LocatedLine) (texts : List (List ℕ)) (kepts : List KeptLine) (located_lines : List LocatedLine) (i : ℕ) (kept : KeptLine)
+    → AreKept source texts kepts located_lines → AreLocatedLines before texts located_lines → slice_get kepts i ≡ Some kept → LineThere source texts before located_lines kept i
 line_there source before [] [] [] i kept keeps are is = absurd (none_some kept is)
-line_there source before [] [] (row ∷ rows) i kept keeps are is = absurd keeps
-line_there source before [] (k ∷ ks) rows i kept keeps are is = absurd keeps
-line_there source before (text ∷ texts) [] rows i kept keeps are is = absurd keeps
+line_there source before [] [] (located ∷ located_lines) i kept keeps are is = absurd keeps
+line_there source before [] (k ∷ ks) located_lines i kept keeps are is = absurd keeps
+line_there source before (text ∷ texts) [] located_lines i kept keeps are is = absurd keeps
 line_there source before (text ∷ texts) (k ∷ ks) [] i kept keeps are is = absurd keeps
-line_there source before (text ∷ texts) (k ∷ ks) (row ∷ rows) zero kept keeps are is = record {
+line_there source before (text ∷ texts) (k ∷ ks) (located ∷ located_lines) zero kept keeps are is = record {
   text = text;
-  row = row;
+  located = located;
   front = [];
-  back = rows;
-  keeps = subst (λ (x : KeptRow). Keeps source text x row) (some_same k kept is) keeps.0;
+  back = located_lines;
+  keeps = subst (λ (x : KeptLine). Keeps source text x located) (some_same k kept is) keeps.0;
   split = refl;
-  clean = subst (λ (rs : List Row). IsCleanRow rs text row) (sym (append-nil before)) are.0;
+  clean = subst (λ (rs : List LocatedLine). IsCleanLine rs text located) (sym (append-nil before)) are.0;
   line = λ names. refl;
 }
-line_there source before (text ∷ texts) (k ∷ ks) (row ∷ rows) (suc i) kept keeps are is =
-    line_behind source text texts before row rows kept i are.0 (line_there source (before ++ row ∷ []) texts ks rows i kept keeps.1 are.1 is)
+line_there source before (text ∷ texts) (k ∷ ks) (located ∷ located_lines) (suc i) kept keeps are is =
+    line_after source text texts before located located_lines kept i are.0 (line_there source (before ++ located ∷ []) texts ks located_lines i kept keeps.1 are.1 is)
 
-pub no_line : (source : List ℕ) (names : Names) (texts : List (List ℕ)) (kepts : List KeptRow) (rows : List Row) (i : ℕ)
-    → AreKept source texts kepts rows → slice_get kepts i ≡ None → line_at names texts rows i ≡ None
+pub no_line : (source : List ℕ) (names : Names) (texts : List (List ℕ)) (kepts : List KeptLine) (located_lines : List LocatedLine) (i : ℕ)
+    → AreKept source texts kepts located_lines → slice_get kepts i ≡ None → line_at names texts located_lines i ≡ None
 no_line source names [] [] [] i keeps is = refl
-no_line source names [] [] (row ∷ rows) i keeps is = absurd keeps
-no_line source names [] (k ∷ ks) rows i keeps is = absurd keeps
-no_line source names (text ∷ texts) [] rows i keeps is = absurd keeps
+no_line source names [] [] (located ∷ located_lines) i keeps is = absurd keeps
+no_line source names [] (k ∷ ks) located_lines i keeps is = absurd keeps
+no_line source names (text ∷ texts) [] located_lines i keeps is = absurd keeps
 no_line source names (text ∷ texts) (k ∷ ks) [] i keeps is = absurd keeps
-no_line source names (text ∷ texts) (k ∷ ks) (row ∷ rows) zero keeps is = absurd (some_none k is)
-no_line source names (text ∷ texts) (k ∷ ks) (row ∷ rows) (suc i) keeps is = no_line source names texts ks rows i keeps.1 is
+no_line source names (text ∷ texts) (k ∷ ks) (located ∷ located_lines) zero keeps is = absurd (some_none k is)
+no_line source names (text ∷ texts) (k ∷ ks) (located ∷ located_lines) (suc i) keeps is = no_line source names texts ks located_lines i keeps.1 is
 
 moved : (n k : ℕ) → (n + 1) + k ≡ n + suc k
 moved n k = omega arith
@@ -95,12 +95,12 @@ nothing_more : (n : ℕ) → n + 0 ≡ n
 nothing_more n = omega arith
 
 -- the image's bytes at a row's addresses are the row's
-byte_there : (location : Location) (n : ℕ) (bytes : List ℕ) (k : ℕ) → k < length bytes → Contains (bytes_from location n bytes) (address_behind location (n + k), get_or bytes k 0)
+byte_there : (location : Location) (n : ℕ) (bytes : List ℕ) (k : ℕ) → k < length bytes → Contains (bytes_from location n bytes) (address_after location (n + k), get_or bytes k 0)
 byte_there location n [] k within = absurd (omega arith)
-byte_there location n (b ∷ bs) zero within = (0, omega arith, ap (λ (m : ℕ). (address_behind location m, b)) (sym (nothing_more n)))
+byte_there location n (b ∷ bs) zero within = (0, omega arith, ap (λ (m : ℕ). (address_after location m, b)) (sym (nothing_more n)))
 byte_there location n (b ∷ bs) (suc k) within =
-    Contains-append_right ((address_behind location n, b) ∷ []) (bytes_from location (n + 1) bs) (address_behind location (n + suc k), get_or bs k 0)
-    (subst (λ (m : ℕ). Contains (bytes_from location (n + 1) bs) (address_behind location m, get_or bs k 0)) (moved n k) (byte_there location (n + 1) bs k (omega arith)))
+    Contains-append_right ((address_after location n, b) ∷ []) (bytes_from location (n + 1) bs) (address_after location (n + suc k), get_or bs k 0)
+    (subst (λ (m : ℕ). Contains (bytes_from location (n + 1) bs) (address_after location m, get_or bs k 0)) (moved n k) (byte_there location (n + 1) bs k (omega arith)))
 
 none_before : (k : ℕ) → 0 + k ≡ k
 none_before k = omega arith
@@ -113,21 +113,21 @@ never_false is = cc
 
 -- the image has these bytes from a location on
 abbrev pub Holds : List (ℕ × ℕ) → Location → List ℕ → Type 0
-Holds image location bytes = (k : ℕ) → k < length bytes → image_byte image (address_behind location k) ≡ Some (get_or bytes k 0)
+Holds image location bytes = (k : ℕ) → k < length bytes → image_byte image (address_after location k) ≡ Some (get_or bytes k 0)
 
-holds_own : (names : Names) (front : List Row) (row : Row) (back : List Row) (image : List (ℕ × ℕ)) (location : Location) → row.location ≡ Some location
-    → ((address byte : ℕ) → Contains (placed_by_all names (front ++ row ∷ back)) (address, byte) → image_byte image address ≡ Some byte)
-    → Holds image location (bytes_by names location row.size (content_of row.line.statement row.form))
-holds_own names front row back image location at holds k within =
-    let bytes : List ℕ = bytes_by names location row.size (content_of row.line.statement row.form) in
-    let here : Contains (bytes_from location 0 bytes) (address_behind location k, get_or bytes k 0) =
-    subst (λ (m : ℕ). Contains (bytes_from location 0 bytes) (address_behind location m, get_or bytes k 0)) (none_before k) (byte_there location 0 bytes k within) in
-    let own : Contains (placed_by names row) (address_behind location k, get_or bytes k 0) =
-    subst (λ (es : List (ℕ × ℕ)). Contains es (address_behind location k, get_or bytes k 0)) (sym (placed_there names row location at)) here in
-    holds (address_behind location k) (get_or bytes k 0)
-    (subst (λ (es : List (ℕ × ℕ)). Contains es (address_behind location k, get_or bytes k 0)) (sym (placed_parts names front row back))
-    (Contains-append_right (placed_by_all names front) (placed_by names row ++ placed_by_all names back) (address_behind location k, get_or bytes k 0)
-    (Contains-append_left (placed_by names row) (placed_by_all names back) (address_behind location k, get_or bytes k 0) own)))
+holds_own : (names : Names) (front : List LocatedLine) (located : LocatedLine) (back : List LocatedLine) (image : List (ℕ × ℕ)) (location : Location) → located.location ≡ Some location
+    → ((address byte : ℕ) → Contains (placed_by_all names (front ++ located ∷ back)) (address, byte) → image_byte image address ≡ Some byte)
+    → Holds image location (bytes_by names location located.size (content_of located.line.statement located.form))
+holds_own names front located back image location at holds k within =
+    let bytes : List ℕ = bytes_by names location located.size (content_of located.line.statement located.form) in
+    let here : Contains (bytes_from location 0 bytes) (address_after location k, get_or bytes k 0) =
+    subst (λ (m : ℕ). Contains (bytes_from location 0 bytes) (address_after location m, get_or bytes k 0)) (none_before k) (byte_there location 0 bytes k within) in
+    let own : Contains (placed_by names located) (address_after location k, get_or bytes k 0) =
+    subst (λ (es : List (ℕ × ℕ)). Contains es (address_after location k, get_or bytes k 0)) (sym (placed_there names located location at)) here in
+    holds (address_after location k) (get_or bytes k 0)
+    (subst (λ (es : List (ℕ × ℕ)). Contains es (address_after location k, get_or bytes k 0)) (sym (placed_parts names front located back))
+    (Contains-append_right (placed_by_all names front) (placed_by names located ++ placed_by_all names back) (address_after location k, get_or bytes k 0)
+    (Contains-append_left (placed_by names located) (placed_by_all names back) (address_after location k, get_or bytes k 0) own)))
 
 digits_are : (image : List (ℕ × ℕ)) (location : Location) (bytes : List ℕ) (k : ℕ) → Holds image location bytes → k ≤ length bytes → shown_digits image location k ≡ flat_map hex_byte_text (take k bytes)
 digits_are image location bytes zero holds within = refl
@@ -165,12 +165,12 @@ filled_up size = elim (cases_lt 8 size) [
 place_is : (image : List (ℕ × ℕ)) (location : Location) (bytes : List ℕ) → Holds image location bytes → shown_place image location (length bytes) ≡ bytes_part location bytes
 unfolding shown_place bytes_part
 place_is image location bytes holds =
-    let mark : List ℕ = more_mark bytes ∷ 32 ∷ [] in
+    let punctuator : List ℕ = more_punctuator bytes ∷ 32 ∷ [] in
     let digits : shown_digits image location (shown_count (length bytes)) ≡ flat_map hex_byte_text (take 8 bytes) =
     digits_are image location bytes (shown_count (length bytes)) holds (count_within (length bytes)) ∙ ap (λ (bs : List ℕ). flat_map hex_byte_text bs) (first_eight bytes) in
-    let whole : shown_digits image location (shown_count (length bytes)) ++ (spaces (2 * (8 - shown_count (length bytes))) ++ mark) ≡ first_bytes bytes ++ mark =
-    ap₂ (λ (xs : List ℕ) (n : ℕ). xs ++ (spaces n ++ mark)) digits (filled_up (length bytes))
-    ∙ sym (append_assoc (flat_map hex_byte_text (take 8 bytes)) (spaces (16 - 2 * length bytes)) mark) in
+    let whole : shown_digits image location (shown_count (length bytes)) ++ (spaces (2 * (8 - shown_count (length bytes))) ++ punctuator) ≡ first_bytes bytes ++ punctuator =
+    ap₂ (λ (xs : List ℕ) (n : ℕ). xs ++ (spaces n ++ punctuator)) digits (filled_up (length bytes))
+    ∙ sym (append_assoc (flat_map hex_byte_text (take 8 bytes)) (spaces (16 - 2 * length bytes)) punctuator) in
     ap (λ (xs : List ℕ). hex_word location.segment ++ (58 ∷ hex_word location.offset ++ (32 ∷ xs))) whole
 
 part_is : (image : List (ℕ × ℕ)) (location : Location) (bytes : List ℕ) → Holds image location bytes
@@ -183,43 +183,43 @@ nowhere image zero = refl
 nowhere image (suc n) = refl
 
 -- a row with a location has as many bytes as its size says, and the image holds them
-abbrev Stands : Names → List (ℕ × ℕ) → Row → Type 0
-Stands names image row =
-    (location : Location) → row.location ≡ Some location
-    → (length (bytes_by names location row.size (content_of row.line.statement row.form)) ≡ row.size)
-    × Holds image location (bytes_by names location row.size (content_of row.line.statement row.form))
+abbrev Stands : Names → List (ℕ × ℕ) → LocatedLine → Type 0
+Stands names image located =
+    (location : Location) → located.location ≡ Some location
+    → (length (bytes_by names location located.size (content_of located.line.statement located.form)) ≡ located.size)
+    × Holds image location (bytes_by names location located.size (content_of located.line.statement located.form))
 
-row_part_is : (names : Names) (image : List (ℕ × ℕ)) (row : Row) (location : Option Location) → row.location ≡ location → Stands names image row
-    → shown_at image (location_by_size location row.size) row.size ≡ place_part location (row_bytes names row location)
-row_part_is names image row None at stands = nowhere image row.size
-row_part_is names image row (Some location) at stands =
-    let bytes : List ℕ = bytes_by names location row.size (content_of row.line.statement row.form) in
+line_part_is : (names : Names) (image : List (ℕ × ℕ)) (located : LocatedLine) (location : Option Location) → located.location ≡ location → Stands names image located
+    → shown_at image (location_by_size location located.size) located.size ≡ place_part location (line_bytes names located location)
+line_part_is names image located None at stands = nowhere image located.size
+line_part_is names image located (Some location) at stands =
+    let bytes : List ℕ = bytes_by names location located.size (content_of located.line.statement located.form) in
     let there = stands location at in
     ap (λ (n : ℕ). shown_at image (location_by_size (Some location) n) n) (sym there.0) ∙ part_is image location bytes there.1
 
-stands_there : (texts : List (List ℕ)) (front : List Row) (row : Row) (back : List Row) (text : List ℕ) (image : List (ℕ × ℕ)) → IsCleanRow front text row
-    → ArePlaced (front ++ row ∷ back) image → Stands (names_of (front ++ row ∷ back)) image row
-stands_there texts front row back text image clean placed location at =
-    let names : Names = names_of (front ++ row ∷ back) in (
-      row_length front row back text location clean (fits_there names front row back placed.fit location at),
-      holds_own names front row back image location at (λ address byte there. (placed.bytes address byte).1 there),
+stands_there : (texts : List (List ℕ)) (front : List LocatedLine) (located : LocatedLine) (back : List LocatedLine) (text : List ℕ) (image : List (ℕ × ℕ)) → IsCleanLine front text located
+    → ArePlaced (front ++ located ∷ back) image → Stands (names_of (front ++ located ∷ back)) image located
+stands_there texts front located back text image clean placed location at =
+    let names : Names = names_of (front ++ located ∷ back) in (
+      line_length front located back text location clean (fits_there names front located back placed.fit location at),
+      holds_own names front located back image location at (λ address byte there. (placed.bytes address byte).1 there),
     )
 
 -- the listing's line of a kept row
-pub line_is : (source : List ℕ) (texts : List (List ℕ)) (rows : List Row) (kept : KeptRow) (i : ℕ) (image : List (ℕ × ℕ)) → LineThere source texts [] rows kept i → ArePlaced rows image
-    → Some (shown_line source image kept) ≡ line_at (names_of rows) texts rows i
-line_is source texts rows kept i image there placed =
-    let stands : Stands (names_of rows) image there.row =
-    subst (λ (rs : List Row). Stands (names_of rs) image there.row) (sym there.split)
-    (stands_there texts there.front there.row there.back there.text image there.clean (subst (λ (rs : List Row). ArePlaced rs image) there.split placed)) in
-    let part : shown_at image (shown_location kept) kept.size ≡ place_part there.row.location (row_bytes (names_of rows) there.row there.row.location) =
+pub line_is : (source : List ℕ) (texts : List (List ℕ)) (located_lines : List LocatedLine) (kept : KeptLine) (i : ℕ) (image : List (ℕ × ℕ)) → LineThere source texts [] located_lines kept i → ArePlaced located_lines image
+    → Some (shown_line source image kept) ≡ line_at (names_of located_lines) texts located_lines i
+line_is source texts located_lines kept i image there placed =
+    let stands : Stands (names_of located_lines) image there.located =
+    subst (λ (rs : List LocatedLine). Stands (names_of rs) image there.located) (sym there.split)
+    (stands_there texts there.front there.located there.back there.text image there.clean (subst (λ (rs : List LocatedLine). ArePlaced rs image) there.split placed)) in
+    let part : shown_at image (shown_location kept) kept.size ≡ place_part there.located.location (line_bytes (names_of located_lines) there.located there.located.location) =
     ap₂ (λ (o : Option Location) (n : ℕ). shown_at image (location_by_size o n) n) there.keeps.location there.keeps.size
-    ∙ row_part_is (names_of rows) image there.row there.row.location refl stands in
-    ap₂ (λ (xs ys : List ℕ). Some (xs ++ ys)) part there.keeps.text ∙ sym (there.line (names_of rows))
+    ∙ line_part_is (names_of located_lines) image there.located there.located.location refl stands in
+    ap₂ (λ (xs ys : List ℕ). Some (xs ++ ys)) part there.keeps.text ∙ sym (there.line (names_of located_lines))
 
-pub line_ascii : (source : List ℕ) (texts : List (List ℕ)) (rows : List Row) (kept : KeptRow) (i : ℕ) → LineThere source texts [] rows kept i → IsAscii (said_by source kept)
-line_ascii source texts rows kept i there =
-    subst IsAscii (sym there.keeps.text) (ascii_of there.text (characters_of there.text there.row.line there.clean.is_row.reads))
+pub line_ascii : (source : List ℕ) (texts : List (List ℕ)) (located_lines : List LocatedLine) (kept : KeptLine) (i : ℕ) → LineThere source texts [] located_lines kept i → IsAscii (said_by source kept)
+line_ascii source texts located_lines kept i there =
+    subst IsAscii (sym there.keeps.text) (ascii_of there.text (characters_of there.text there.located.line there.clean.is_located_line.reads))
 
 past_end : (location : Location) (n : ℕ) (has_label : Bool) → is_past_end location (suc n) has_label ≡ false → location.offset + suc n ≤ 65536
 past_end location n has_label is = elim (cases_lt 65536 (location.offset + suc n)) [
@@ -232,41 +232,41 @@ ends_by location zero has_label within = tt
 ends_by None (suc n) has_label within = tt
 ends_by (Some place) (suc n) has_label within = past_end place n has_label (within place refl)
 
-pub line_ends : (source : List ℕ) (texts : List (List ℕ)) (rows : List Row) (kept : KeptRow) (i : ℕ) (image : List (ℕ × ℕ)) → LineThere source texts [] rows kept i → ArePlaced rows image
+pub line_ends : (source : List ℕ) (texts : List (List ℕ)) (located_lines : List LocatedLine) (kept : KeptLine) (i : ℕ) (image : List (ℕ × ℕ)) → LineThere source texts [] located_lines kept i → ArePlaced located_lines image
     → EndsBy 65536 (shown_location kept) kept.size
-line_ends source texts rows kept i image there placed =
-    let fit : Fits (names_of rows) there.row =
-    fits_there (names_of rows) there.front there.row there.back (subst (AllByRecursion (Fits (names_of rows))) there.split placed.fit) in
-    let own : EndsBy 65536 (location_by_size there.row.location there.row.size) there.row.size =
-    ends_by there.row.location there.row.size (is_some there.row.line.label) (λ place at. (fit place at).within) in
+line_ends source texts located_lines kept i image there placed =
+    let fit : Fits (names_of located_lines) there.located =
+    fits_there (names_of located_lines) there.front there.located there.back (subst (AllByRecursion (Fits (names_of located_lines))) there.split placed.fit) in
+    let own : EndsBy 65536 (location_by_size there.located.location there.located.size) there.located.size =
+    ends_by there.located.location there.located.size (is_some there.located.line.label) (λ place at. (fit place at).within) in
     let Ends : Option Location → ℕ → Type 0 = λ o n. EndsBy 65536 (location_by_size o n) n in
-    subst (λ (n : ℕ). Ends kept.location n) (sym there.keeps.size) (subst (λ (o : Option Location). Ends o there.row.size) (sym there.keeps.location) own)
+    subst (λ (n : ℕ). Ends kept.location n) (sym there.keeps.size) (subst (λ (o : Option Location). Ends o there.located.size) (sym there.keeps.location) own)
 
 -- what a listing keeps
-module _ (source : List ℕ) (names : Names) (kepts : List KeptRow) (image : List (ℕ × ℕ)) (reads : Reads source names kepts) (gives : Gives source image) (i : ℕ) where
-  own_placed : ArePlaced reads.rows image
-  own_placed = subst (λ (rs : List Row). ArePlaced rs image) (one_rows [] (text_lines source) gives.rows reads.rows gives.are_rows reads.are_rows) gives.placed
+module _ (source : List ℕ) (names : Names) (kepts : List KeptLine) (image : List (ℕ × ℕ)) (reads : Reads source names kepts) (gives : Gives source image) (i : ℕ) where
+  own_placed : ArePlaced reads.located_lines image
+  own_placed = subst (λ (rs : List LocatedLine). ArePlaced rs image) (one_lines [] (text_lines source) gives.located_lines reads.located_lines gives.are_located_lines reads.are_located_lines) gives.placed
 
-  pub own_there : (kept : KeptRow) → slice_get kepts i ≡ Some kept → LineThere source (text_lines source) [] reads.rows kept i
-  own_there kept is = line_there source [] (text_lines source) kepts reads.rows i kept reads.are_kept reads.are_rows is
+  pub own_there : (kept : KeptLine) → slice_get kepts i ≡ Some kept → LineThere source (text_lines source) [] reads.located_lines kept i
+  own_there kept is = line_there source [] (text_lines source) kepts reads.located_lines i kept reads.are_kept reads.are_located_lines is
 
-  pub own_inside : (kept : KeptRow) → slice_get kepts i ≡ Some kept → kept.start + kept.length ≤ length source
+  pub own_inside : (kept : KeptLine) → slice_get kepts i ≡ Some kept → kept.start + kept.length ≤ length source
   own_inside kept is = (own_there kept is).keeps.inside
 
-  pub own_ascii : (kept : KeptRow) → slice_get kepts i ≡ Some kept → IsAscii (said_by source kept)
-  own_ascii kept is = line_ascii source (text_lines source) reads.rows kept i (own_there kept is)
+  pub own_ascii : (kept : KeptLine) → slice_get kepts i ≡ Some kept → IsAscii (said_by source kept)
+  own_ascii kept is = line_ascii source (text_lines source) reads.located_lines kept i (own_there kept is)
 
-  pub own_ends : (kept : KeptRow) → slice_get kepts i ≡ Some kept → EndsBy 65536 (shown_location kept) kept.size
-  own_ends kept is = line_ends source (text_lines source) reads.rows kept i image (own_there kept is) own_placed
+  pub own_ends : (kept : KeptLine) → slice_get kepts i ≡ Some kept → EndsBy 65536 (shown_location kept) kept.size
+  own_ends kept is = line_ends source (text_lines source) reads.located_lines kept i image (own_there kept is) own_placed
 
-  one_line : (rows : List Row) → AreRows [] (text_lines source) rows → line_at (names_of reads.rows) (text_lines source) reads.rows i ≡ line_at names (text_lines source) rows i
-  one_line rows are =
-      ap₂ (λ (ns : Names) (rs : List Row). line_at ns (text_lines source) rs i) (sym reads.names_are)
-      (one_rows [] (text_lines source) reads.rows rows reads.are_rows are)
+  one_line : (located_lines : List LocatedLine) → AreLocatedLines [] (text_lines source) located_lines → line_at (names_of reads.located_lines) (text_lines source) reads.located_lines i ≡ line_at names (text_lines source) located_lines i
+  one_line located_lines are =
+      ap₂ (λ (ns : Names) (rs : List LocatedLine). line_at ns (text_lines source) rs i) (sym reads.names_are)
+      (one_lines [] (text_lines source) reads.located_lines located_lines reads.are_located_lines are)
 
-  pub own_line : (kept : KeptRow) → slice_get kepts i ≡ Some kept → (rows : List Row) → AreRows [] (text_lines source) rows
-      → Some (shown_line source image kept) ≡ line_at names (text_lines source) rows i
-  own_line kept is rows are = line_is source (text_lines source) reads.rows kept i image (own_there kept is) own_placed ∙ one_line rows are
+  pub own_line : (kept : KeptLine) → slice_get kepts i ≡ Some kept → (located_lines : List LocatedLine) → AreLocatedLines [] (text_lines source) located_lines
+      → Some (shown_line source image kept) ≡ line_at names (text_lines source) located_lines i
+  own_line kept is located_lines are = line_is source (text_lines source) reads.located_lines kept i image (own_there kept is) own_placed ∙ one_line located_lines are
 
-  pub no_own_line : slice_get kepts i ≡ None → (rows : List Row) → AreRows [] (text_lines source) rows → None ≡ line_at names (text_lines source) rows i
-  no_own_line is rows are = sym (no_line source (names_of reads.rows) (text_lines source) kepts reads.rows i reads.are_kept is) ∙ one_line rows are
+  pub no_own_line : slice_get kepts i ≡ None → (located_lines : List LocatedLine) → AreLocatedLines [] (text_lines source) located_lines → None ≡ line_at names (text_lines source) located_lines i
+  no_own_line is located_lines are = sym (no_line source (names_of reads.located_lines) (text_lines source) kepts reads.located_lines i reads.are_kept is) ∙ one_line located_lines are

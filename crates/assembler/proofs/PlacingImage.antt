@@ -16,7 +16,7 @@ use Rattle.board_types.specs.Image.{IsImage, IsLoadable, image_byte}
 use Rattle.board_types.proofs.ImageBytes.{byte_put, sorted_put}
 use Rattle.board_types.proofs.Images.{image_put}
 use Rattle.assembler_meaning.specs.declared.symbol.Location.{Location}
-use Rattle.assembler.specs.Placement.{address_behind, bytes_from, is_placed}
+use Rattle.assembler.specs.Placement.{address_after, bytes_from, is_placed}
 use Rattle.assembler.specs.SecondPass.{has_byte, with_entries}
 
 -- an image with one more byte is an image
@@ -89,7 +89,7 @@ bytes_are placed distinct address byte =
 pub next_byte : (bytes : List ℕ) (i : ℕ) → i < length bytes → drop i bytes ≡ get_or bytes i 0 ∷ drop (i + 1) bytes
 next_byte bytes i within = let one : i + 1 ≡ suc i = omega arith in rw one (drop-cons bytes i 0 within)
 
-pub put_next : (image new whole : List (ℕ × ℕ)) (location : Location) (bytes : List ℕ) (at i address : ℕ) → i < length bytes → address ≡ address_behind location at
+pub put_next : (image new whole : List (ℕ × ℕ)) (location : Location) (bytes : List ℕ) (at i address : ℕ) → i < length bytes → address ≡ address_after location at
     → new ≡ insert_entry nat_cmp image address (get_or bytes i 0) → with_entries image (bytes_from location at (drop i bytes)) ≡ whole
     → with_entries new (bytes_from location (at + 1) (drop (i + 1) bytes)) ≡ whole
 put_next image new whole location bytes at i address within is put held =

@@ -9,20 +9,20 @@ use Rattle.assembler_syntax.specs.declared.statement.Statement.TheVariants.{Empt
 use Rattle.assembler_syntax.specs.Lines.{read_line}
 use Rattle.assembler.specs.declared.fault.SourceFault.{SourceFault}
 use Rattle.assembler.specs.declared.fault.SourceFault.TheVariants.{BadLine, UnknownName, BadForm, TwiceDefined, NoSegment}
-use Rattle.assembler.specs.declared.row.KeptRow.{KeptRow}
-use Rattle.assembler.specs.declared.row.Content.{Content}
+use Rattle.assembler.specs.declared.kept_line.KeptLine.{KeptLine}
+use Rattle.assembler.specs.declared.kept_line.Content.{Content}
 use Rattle.assembler.specs.declared.early.Before.{Before}
 use Rattle.assembler_meaning.specs.declared.symbol.Location.{Location}
 use Rattle.assembler_meaning.specs.Values.{Names, AreSmall, term_limit}
-use Rattle.assembler.specs.Rows.{IsFormOf, IsRow, defines_again, early_fault, has_unknown_constant, has_wrong_constant, label_definition, lacks_form, opens_within, size_of, stands_outside, statement_definition}
+use Rattle.assembler.specs.LocatedLines.{IsFormOf, IsLocatedLine, defines_again, early_fault, has_unknown_constant, has_wrong_constant, label_definition, lacks_form, opens_within, size_of, stands_outside, statement_definition}
 use Rattle.assembler.specs.Placement.{content_of}
 use Rattle.assembler.specs.FirstFault.{IsTextFault, fault_of_line}
 use Rattle.assembler_meaning.specs.declared.symbol.Symbol.{Symbol}
 use Rattle.assembler_lexeme.specs.declared.name.Name.{Name}
 use Rattle.assembler.specs.Gives.{source_limit}
 use Rattle.assembler.proofs.ReadingWeights.{within_more}
-use Rattle.assembler.specs.FirstPass.{AddsRow, KeepsRow, definition_names, offset_of, row_of, size_limit}
-use Rattle.assembler.specs.Kept.{EndsBy, IsContent, IsSteady, content_in}
+use Rattle.assembler.specs.FirstPass.{AddsLine, KeepsLine, definition_names, offset_of, located_of, size_limit}
+use Rattle.assembler.specs.KeptLines.{EndsBy, IsContent, IsSteady, content_in}
 use Rattle.assembler_syntax.specs.Weights.{IsWithin, are_terms_within, statement_weight}
 use Rattle.assembler.proofs.ReadingNames.{or_false, small_append, small_label, small_statement}
 
@@ -44,25 +44,25 @@ chain_none false false false false false none = record { first = refl; second = 
 
 pub record IsClean (names : Names) (line : Line) : Type 0 where
   pub constants : has_wrong_constant names line.statement ≡ false
-  pub fresh : defines_again names line ≡ false
+  pub undefined : defines_again names line ≡ false
 
 pub is_clean : (names : Names) (location : Option Location) (line : Line) (form : Option Form) → early_fault names location line form ≡ None → IsClean names line
 unfolding early_fault
 is_clean names location line form none =
     let all = chain_none (opens_within location line.statement || has_wrong_constant names line.statement) (has_unknown_constant names line.statement) (lacks_form line.statement form) (defines_again names line) (stands_outside location line) none in
-    record { constants = (or_false (opens_within location line.statement) (has_wrong_constant names line.statement) all.first).1; fresh = all.fourth }
+    record { constants = (or_false (opens_within location line.statement) (has_wrong_constant names line.statement) all.first).1; undefined = all.fourth }
 
 -- the row of a line
-pub is_row : (names : Names) (location : Option Location) (text : List ℕ) (line : Line) (form : Option Form) → read_line text ≡ Ok line → IsFormOf names line.statement form
-    → IsRow names location text (row_of names location line form)
-is_row names location text line form reads chosen = record { reads = reads; form = chosen; size = refl; location = refl; next = refl; names = refl }
+pub is_located_line : (names : Names) (location : Option Location) (text : List ℕ) (line : Line) (form : Option Form) → read_line text ≡ Ok line → IsFormOf names line.statement form
+    → IsLocatedLine names location text (located_of names location line form)
+is_located_line names location text line form reads chosen = record { reads = reads; form = chosen; size = refl; location = refl; next = refl; names = refl }
 
 pub read_fault : (names : Names) (location : Option Location) (text : List ℕ) (found : SyntaxFault) → read_line text ≡ Err found → IsTextFault names location text (fault_of_line found)
 read_fault names location text found reads = inl (found, reads, refl)
 
-pub row_fault : (names : Names) (location : Option Location) (text : List ℕ) (line : Line) (form : Option Form) (fault : SourceFault) → read_line text ≡ Ok line → IsFormOf names line.statement form
+pub located_fault : (names : Names) (location : Option Location) (text : List ℕ) (line : Line) (form : Option Form) (fault : SourceFault) → read_line text ≡ Ok line → IsFormOf names line.statement form
     → early_fault names location line form ≡ Some fault → IsTextFault names location text fault
-row_fault names location text line form fault reads chosen found = inr (row_of names location line form, is_row names location text line form reads chosen, found)
+located_fault names location text line form fault reads chosen found = inr (located_of names location line form, is_located_line names location text line form reads chosen, found)
 
 ends_by : (limit : ℕ) (location : Option Location) (size : ℕ) → offset_of location + size ≤ limit → EndsBy limit location size
 ends_by limit None size near = tt
@@ -81,7 +81,7 @@ is_content (Instruction i) (Some f) short shape = (short, shape)
 lighter : (size weight n : ℕ) → size ≤ size_limit weight → weight ≤ n → size ≤ size_limit n
 lighter size weight n bound light = omega arith
 
-steady : (kept : KeptRow) (location : Option Location) (size : ℕ) (statement : Statement) (form : Option Form) → kept.location ≡ location → kept.size ≡ size → content_in kept ≡ content_of statement form
+steady : (kept : KeptLine) (location : Option Location) (size : ℕ) (statement : Statement) (form : Option Form) → kept.location ≡ location → kept.size ≡ size → content_in kept ≡ content_of statement form
     → offset_of location + size ≤ 2 ^ 40 → are_terms_within term_limit statement ≡ true → IfSome form IsForm → IsSteady kept
 steady kept location size statement form is sized holds near short shape = record {
   ends = subst (λ (o : Option Location). EndsBy (2 ^ 40) o kept.size) (sym is) (ends_by (2 ^ 40) location kept.size (rw sized near));
@@ -98,16 +98,16 @@ longer : (a b size n : ℕ) → size ≤ size_limit n → b ≤ a + size + 65535
 longer a b size n bound grows = omega arith
 
 -- what the state and the kept row are after a line without a fault
-pub adds_row : (old new : Before) (start length : ℕ) (line : Line) (form : Option Form) (kept : KeptRow)
+pub adds_line : (old new : Before) (start length : ℕ) (line : Line) (form : Option Form) (kept : KeptLine)
     → AreSmall old.symbols.entries → offset_of old.location + size_limit length ≤ 2 ^ 40 → are_terms_within term_limit line.statement ≡ true → statement_weight line.statement ≤ length
     → IfSome form IsForm → IsClean old.symbols.entries line
     → size_of old.symbols.entries line.statement form ≤ size_limit (statement_weight line.statement)
     → offset_of new.location ≤ offset_of old.location + size_of old.symbols.entries line.statement form + 65535
-    → new.location ≡ (row_of old.symbols.entries old.location line form).next
+    → new.location ≡ (located_of old.symbols.entries old.location line form).next
     → new.symbols.entries ≡ (old.symbols.entries ++ label_definition old.location line.label) ++ statement_definition old.symbols.entries line.statement
-    → KeepsRow start length kept (row_of old.symbols.entries old.location line form)
-    → AddsRow old new start length (row_of old.symbols.entries old.location line form) kept
-adds_row old new start length line form kept small room short light shape clean bound grows next names keeps =
+    → KeepsLine start length kept (located_of old.symbols.entries old.location line form)
+    → AddsLine old new start length (located_of old.symbols.entries old.location line form) kept
+adds_line old new start length line form kept small room short light shape clean bound grows next names keeps =
     let size = lighter (size_of old.symbols.entries line.statement form) (statement_weight line.statement) length bound light in
     record {
       location = next;

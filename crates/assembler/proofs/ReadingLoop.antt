@@ -5,18 +5,18 @@ use Rattle.board_types.specs.TextLines.{text_lines}
 use Rattle.assembler.specs.declared.fault.AsmFault.{AsmFault}
 use Rattle.assembler.specs.declared.fault.AsmFault.TheVariants.{SourceTooLong, InLine, Memory}
 use Rattle.assembler.specs.declared.fault.SourceFault.{SourceFault}
-use Rattle.assembler.specs.declared.row.KeptRow.{KeptRow}
+use Rattle.assembler.specs.declared.kept_line.KeptLine.{KeptLine}
 use Rattle.assembler.specs.declared.early.Before.{Before}
 use Rattle.assembler_meaning.specs.declared.symbol.Location.{Location}
 use Rattle.assembler_meaning.specs.Values.{AreSmall, Names}
-use Rattle.assembler.specs.Rows.{Row, AreRows, IsCleanRow, IsRow, early_fault, names_of, location_behind}
+use Rattle.assembler.specs.LocatedLines.{LocatedLine, AreLocatedLines, IsCleanLine, IsLocatedLine, early_fault, names_of, location_following}
 use Rattle.assembler.specs.FirstFault.{IsFirst, IsTextFault}
-use Rattle.assembler.specs.FirstPass.{HasRead, KeepsRow, KeepsText, StopsAt, offset_of, size_limit}
+use Rattle.assembler.specs.FirstPass.{HasRead, KeepsLine, KeepsText, StopsAt, offset_of, size_limit}
 use Rattle.assembler.specs.Gives.{source_limit}
 use Rattle.std.specs.List.{AllByRecursion}
-use Rattle.assembler.specs.Kept.{AreKept, IsSteady, Keeps, Reads}
+use Rattle.assembler.specs.KeptLines.{AreKept, IsSteady, Keeps, Reads}
 use Rattle.assembler.proofs.ReadingNames.{small_none}
-use Rattle.assembler.proofs.ReadingRows.{all_push, kept_push, names_push, no_more, rows_push, location_push}
+use Rattle.assembler.proofs.ReadingLines.{all_push, kept_push, names_push, no_more, lines_push, location_push}
 
 -- a line of the rest, and what follows it
 pub record IsLine (rest text after : List ℕ) : Type 0 where
@@ -51,9 +51,9 @@ text_stands source passed rest text after start is line starts =
     ap (λ (n : ℕ). take (length text) (drop n source)) starts ∙ ap (λ (s : List ℕ). take (length text) s) (drop_passed source passed rest is ∙ line.parts.1)
     ∙ take-append_seam text (line.parts.0 ++ after)
 
-keeps_it : (source text : List ℕ) (start : ℕ) (kept : KeptRow) (row : Row) → start + length text ≤ length source → take (length text) (drop start source) ≡ text
-    → KeepsRow start (length text) kept row → Keeps source text kept row
-keeps_it source text start kept row inside stands keeps = record {
+keeps_it : (source text : List ℕ) (start : ℕ) (kept : KeptLine) (located : LocatedLine) → start + length text ≤ length source → take (length text) (drop start source) ≡ text
+    → KeepsLine start (length text) kept located → Keeps source text kept located
+keeps_it source text start kept located inside stands keeps = record {
   inside = omega (arith, keeps.starts, keeps.ends);
   text = ap (λ (n : ℕ). take n (drop kept.start source)) keeps.ends ∙ ap (λ (n : ℕ). take (length text) (drop n source)) keeps.starts ∙ stands;
   label = keeps.label;
@@ -63,67 +63,67 @@ keeps_it source text start kept row inside stands keeps = record {
 }
 
 -- a row that is clean in the light of a state is clean after the rows that left that state
-clean_in : (state : Before) (rows : List Row) (text : List ℕ) (row : Row) → state.symbols.entries ≡ names_of rows → state.location ≡ location_behind rows
-    → IsRow state.symbols.entries state.location text row → early_fault state.symbols.entries row.location row.line row.form ≡ None → IsCleanRow rows text row
-clean_in state rows text row names location is clean = record {
-  is_row = subst (λ (n : Names). IsRow n (location_behind rows) text row) names (subst (λ (o : Option Location). IsRow state.symbols.entries o text row) location is);
-  clean = subst (λ (n : Names). early_fault n row.location row.line row.form ≡ None) names clean;
+clean_in : (state : Before) (located_lines : List LocatedLine) (text : List ℕ) (located : LocatedLine) → state.symbols.entries ≡ names_of located_lines → state.location ≡ location_following located_lines
+    → IsLocatedLine state.symbols.entries state.location text located → early_fault state.symbols.entries located.location located.line located.form ≡ None → IsCleanLine located_lines text located
+clean_in state located_lines text located names location is clean = record {
+  is_located_line = subst (λ (n : Names). IsLocatedLine n (location_following located_lines) text located) names (subst (λ (o : Option Location). IsLocatedLine state.symbols.entries o text located) location is);
+  clean = subst (λ (n : Names). early_fault n located.location located.line located.form ≡ None) names clean;
 }
 
 room_left : (a b n p q : ℕ) → a ≤ 2 ^ 20 * p → b ≤ a + size_limit n + 65535 → n ≤ q → 0 < q → b ≤ 2 ^ 20 * (p + q)
 room_left a b n p q room grows fits some = omega arith
 
-pub reads_more : (source rest text after : List ℕ) (number start : ℕ) (old new : Before) (kept more : List KeptRow)
+pub reads_more : (source rest text after : List ℕ) (number start : ℕ) (old new : Before) (kept more : List KeptLine)
     → HasRead source rest number old kept → IsLine rest text after → start ≡ length source - length rest → KeepsText old new start text kept more
     → HasRead source after (number + 1) new more
 reads_more source rest text after number start old new kept more read line starts keeps =
     let at : start ≡ length read.passed = omega (arith, starts, ap length read.bytes, length-append read.passed rest) in
-    let row = keeps.adds.row in
+    let located = keeps.adds.located in
     let adds = keeps.adds.adds in
     let took = taken rest text after line in
     let size : length (read.passed ++ took) ≡ length read.passed + length took = length-append read.passed took in
     let some : 0 < length took = omega (arith, line.shorter, ap length (taken_is rest text after line), length-append took after) in
     record {
       front = read.front ++ text ∷ [];
-      rows = read.rows ++ row ∷ [];
+      located_lines = read.located_lines ++ located ∷ [];
       passed = read.passed ++ took;
       texts = read.texts ∙ ap (λ (ls : List (List ℕ)). read.front ++ ls) line.lines ∙ sym (append_assoc read.front (text ∷ []) (text_lines after));
       bytes = read.bytes ∙ ap (λ (r : List ℕ). read.passed ++ r) (taken_is rest text after line) ∙ sym (append_assoc read.passed took after);
-      are_rows = rows_push [] read.front read.rows text row read.are_rows (clean_in old read.rows text row read.names read.location keeps.adds.is_row keeps.adds.clean);
-      are_kept = subst (λ (ks : List KeptRow). AreKept source (read.front ++ text ∷ []) ks (read.rows ++ row ∷ [])) (sym keeps.kept_last)
-          (kept_push source read.front kept read.rows text keeps.kept row read.are_kept
-          (keeps_it source text start keeps.kept row (inside_source source read.passed rest text after start read.bytes line at) (text_stands source read.passed rest text after start read.bytes line at) adds.keeps));
-      names = adds.names ∙ ap (λ (ns : Names). ns ++ row.names) read.names ∙ sym (names_push read.rows row);
-      location = adds.location ∙ sym (location_push read.rows row);
+      are_located_lines = lines_push [] read.front read.located_lines text located read.are_located_lines (clean_in old read.located_lines text located read.names read.location keeps.adds.is_located_line keeps.adds.clean);
+      are_kept = subst (λ (ks : List KeptLine). AreKept source (read.front ++ text ∷ []) ks (read.located_lines ++ located ∷ [])) (sym keeps.kept_last)
+          (kept_push source read.front kept read.located_lines text keeps.kept located read.are_kept
+          (keeps_it source text start keeps.kept located (inside_source source read.passed rest text after start read.bytes line at) (text_stands source read.passed rest text after start read.bytes line at) adds.keeps));
+      names = adds.names ∙ ap (λ (ns : Names). ns ++ located.names) read.names ∙ sym (names_push read.located_lines located);
+      location = adds.location ∙ sym (location_push read.located_lines located);
       counted = omega (arith, read.counted, length-append read.front (text ∷ []));
       each_takes = omega (arith, read.each_takes, size, some);
       room = rw size (room_left (offset_of old.location) (offset_of new.location) (length text) (length read.passed) (length took) read.room adds.grows (taken_size rest text after line) some);
       small = adds.small;
-      steady = subst (λ (ks : List KeptRow). AllByRecursion IsSteady ks) (sym keeps.kept_last) (all_push IsSteady kept keeps.kept read.steady adds.steady);
+      steady = subst (λ (ks : List KeptLine). AllByRecursion IsSteady ks) (sym keeps.kept_last) (all_push IsSteady kept keeps.kept read.steady adds.steady);
     }
 
 -- if no line is left, the source is read
-pub reads_all : (source rest : List ℕ) (number : ℕ) (state : Before) (kept : List KeptRow) → HasRead source rest number state kept → text_lines rest ≡ [] → length source ≤ source_limit
+pub reads_all : (source rest : List ℕ) (number : ℕ) (state : Before) (kept : List KeptLine) → HasRead source rest number state kept → text_lines rest ≡ [] → length source ≤ source_limit
     → Reads source state.symbols.entries kept
 reads_all source rest number state kept read none within =
     let all : text_lines source ≡ read.front = read.texts ∙ ap (λ (ls : List (List ℕ)). read.front ++ ls) none ∙ no_more read.front in
     record {
       within = within;
-      rows = read.rows;
-      are_rows = subst (λ (ts : List (List ℕ)). AreRows [] ts read.rows) (sym all) read.are_rows;
-      are_kept = subst (λ (ts : List (List ℕ)). AreKept source ts kept read.rows) (sym all) read.are_kept;
+      located_lines = read.located_lines;
+      are_located_lines = subst (λ (ts : List (List ℕ)). AreLocatedLines [] ts read.located_lines) (sym all) read.are_located_lines;
+      are_kept = subst (λ (ts : List (List ℕ)). AreKept source ts kept read.located_lines) (sym all) read.are_kept;
       names_are = read.names;
       small = read.small;
       steady = read.steady;
     }
 
-fault_behind : (state : Before) (rows : List Row) (text : List ℕ) (fault : SourceFault) → state.symbols.entries ≡ names_of rows → state.location ≡ location_behind rows
-    → IsTextFault state.symbols.entries state.location text fault → IsTextFault (names_of rows) (location_behind rows) text fault
-fault_behind state rows text fault names location found =
-    subst (λ (n : Names). IsTextFault n (location_behind rows) text fault) names (subst (λ (o : Option Location). IsTextFault state.symbols.entries o text fault) location found)
+fault_after : (state : Before) (located_lines : List LocatedLine) (text : List ℕ) (fault : SourceFault) → state.symbols.entries ≡ names_of located_lines → state.location ≡ location_following located_lines
+    → IsTextFault state.symbols.entries state.location text fault → IsTextFault (names_of located_lines) (location_following located_lines) text fault
+fault_after state located_lines text fault names location found =
+    subst (λ (n : Names). IsTextFault n (location_following located_lines) text fault) names (subst (λ (o : Option Location). IsTextFault state.symbols.entries o text fault) location found)
 
 -- the fault of the next line is the source's first
-pub stops_first : (source rest text after : List ℕ) (number : ℕ) (state : Before) (kept : List KeptRow) (fault : AsmFault)
+pub stops_first : (source rest text after : List ℕ) (number : ℕ) (state : Before) (kept : List KeptLine) (fault : AsmFault)
     → HasRead source rest number state kept → IsLine rest text after → length source ≤ source_limit → StopsAt state text (number + 1) fault → IsFirst source fault
 stops_first source rest text after number state kept SourceTooLong read line within stops = absurd stops
 stops_first source rest text after number state kept Memory read line within stops = tt
@@ -135,27 +135,27 @@ stops_first source rest text after number state kept (InLine fault at) read line
     back = text_lines after;
     texts = read.texts ∙ ap (λ (ls : List (List ℕ)). read.front ++ ls) line.lines;
     counted = omega (arith, read.counted, stops.0);
-    rows = read.rows;
-    clean = read.are_rows;
-    found = fault_behind state read.rows text fault read.names read.location stops.1;
+    located_lines = read.located_lines;
+    clean = read.are_located_lines;
+    found = fault_after state read.located_lines text fault read.names read.location stops.1;
   }),
 )
 
 -- nothing is read yet
-pub starts : (source : List ℕ) (state : Before) (kept : List KeptRow) → state.symbols.entries ≡ [] → state.location ≡ None → kept ≡ [] → HasRead source source 0 state kept
+pub starts : (source : List ℕ) (state : Before) (kept : List KeptLine) → state.symbols.entries ≡ [] → state.location ≡ None → kept ≡ [] → HasRead source source 0 state kept
 starts source state kept names location none = record {
   front = [];
-  rows = [];
+  located_lines = [];
   passed = [];
   texts = refl;
   bytes = refl;
-  are_rows = tt;
-  are_kept = subst (λ (ks : List KeptRow). AreKept source [] ks []) (sym none) tt;
+  are_located_lines = tt;
+  are_kept = subst (λ (ks : List KeptLine). AreKept source [] ks []) (sym none) tt;
   names = names;
   location = location;
   counted = refl;
   each_takes = omega arith;
   room = subst (λ (o : Option Location). offset_of o ≤ 0) (sym location) (omega arith);
   small = subst (λ (n : Names). AreSmall n) (sym names) small_none;
-  steady = subst (λ (ks : List KeptRow). AllByRecursion IsSteady ks) (sym none) tt;
+  steady = subst (λ (ks : List KeptLine). AllByRecursion IsSteady ks) (sym none) tt;
 }

@@ -13,7 +13,7 @@ use Rattle.assembler_meaning.specs.declared.symbol.Location.{Location}
 use Rattle.assembler_meaning.specs.declared.symbol.Symbol.{Symbol}
 use Rattle.assembler_meaning.specs.declared.symbol.Symbol.TheVariants.{Label, Constant}
 use Rattle.assembler_meaning.specs.Values.{Names, AreSmall, IsSmall, IsSmallNumber, constant_of, meaning, same_name, is_defined}
-use Rattle.assembler.specs.Rows.{constant_definition, defines_again, has_wrong_constant, is_same, label_definition, statement_definition, statement_name}
+use Rattle.assembler.specs.LocatedLines.{constant_definition, defines_again, has_wrong_constant, is_same, label_definition, statement_definition, statement_name}
 use Rattle.assembler_meaning.specs.Data.{is_other}
 use Rattle.assembler.specs.FirstPass.{IsNewDefinition, definition_names, offset_of}
 
@@ -36,10 +36,10 @@ passed_by true x a b c none go = cc
 passed_by false x a b c none go = go none
 
 -- a name that isn't defined is looked for in the names that follow
-meaning_behind : (names more : Names) (name : Name) → meaning names name ≡ None → meaning (names ++ more) name ≡ meaning more name
-meaning_behind [] more name none = refl
-meaning_behind (d ∷ names) more name none =
-    passed_by (same_name name d.0) d.1 (meaning names name) (meaning (names ++ more) name) (meaning more name) none (meaning_behind names more name)
+meaning_after : (names more : Names) (name : Name) → meaning names name ≡ None → meaning (names ++ more) name ≡ meaning more name
+meaning_after [] more name none = refl
+meaning_after (d ∷ names) more name none =
+    passed_by (same_name name d.0) d.1 (meaning names name) (meaning (names ++ more) name) (meaning more name) none (meaning_after names more name)
 
 found_by : (test : Bool) (x symbol : Symbol) (a b : Option Symbol) → ((if test then Some x else a) ≡ Some symbol → IsSmall symbol)
     → ((a ≡ Some symbol → IsSmall symbol) → b ≡ Some symbol → IsSmall symbol) → (if test then Some x else b) ≡ Some symbol → IsSmall symbol
@@ -97,15 +97,15 @@ small_statement names (Instruction i) right = small_none
 -- the label of a line that defines nothing again is new
 label_by : (names : Names) (location : Option Location) (label : Option Name) (d : Name × Symbol) → d ∷ [] ≡ label_definition location label
     → option_map_or (is_defined names) label false ≡ false → is_defined names d.0 ≡ false
-label_by names None None d is fresh = cc
-label_by names None (Some name) d is fresh = cc
-label_by names (Some location) None d is fresh = cc
-label_by names (Some location) (Some name) d is fresh = let same : d ≡ (name, Label location) = cc in ap (λ (e : Name × Symbol). is_defined names e.0) same ∙ fresh
+label_by names None None d is undefined = cc
+label_by names None (Some name) d is undefined = cc
+label_by names (Some location) None d is undefined = cc
+label_by names (Some location) (Some name) d is undefined = let same : d ≡ (name, Label location) = cc in ap (λ (e : Name × Symbol). is_defined names e.0) same ∙ undefined
 
 pub label_new : (names : Names) (location : Option Location) (line : Line) (d : Option (Name × Symbol)) → definition_names d ≡ label_definition location line.label
     → defines_again names line ≡ false → IsNewDefinition names d
-label_new names location line None is fresh = tt
-label_new names location line (Some d) is fresh = label_by names location line.label d is (or_false _ _ fresh).0
+label_new names location line None is undefined = tt
+label_new names location line (Some d) is undefined = label_by names location line.label d is (or_false _ _ undefined).0
 
 constant_by : (name : Name) (o : Option ℤ) (d : Name × Symbol) → d ∷ [] ≡ constant_definition name o → name ≡ d.0
 constant_by name None d is = cc
@@ -133,11 +133,11 @@ unlike_label (Some location) (Some label) name other = unlike_by (same_name name
 
 pub statement_new : (names : Names) (location : Option Location) (line : Line) (d : Option (Name × Symbol)) → definition_names d ≡ statement_definition names line.statement
     → defines_again names line ≡ false → IsNewDefinition (names ++ label_definition location line.label) d
-statement_new names location line None is fresh = tt
-statement_new names location line (Some d) is fresh =
+statement_new names location line None is undefined = tt
+statement_new names location line (Some d) is undefined =
     let named = name_by names line.statement d is in
-    let parts = or_false _ _ (or_false _ _ fresh).1 in
+    let parts = or_false _ _ (or_false _ _ undefined).1 in
     let absent : is_defined names d.0 ≡ false = ap (λ (o : Option Name). option_map_or (is_defined names) o false) (sym named) ∙ parts.0 in
     let other : is_same line.label (Some d.0) ≡ false = ap (λ (o : Option Name). is_same line.label o) (sym named) ∙ parts.1 in
-    ap (λ (o : Option Symbol). is_some o) (meaning_behind names (label_definition location line.label) d.0 (none_is (meaning names d.0) absent))
+    ap (λ (o : Option Symbol). is_some o) (meaning_after names (label_definition location line.label) d.0 (none_is (meaning names d.0) absent))
     ∙ unlike_label location line.label d.0 other

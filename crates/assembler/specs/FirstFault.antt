@@ -11,8 +11,8 @@ use Rattle.assembler.specs.declared.fault.AsmFault.{AsmFault}
 use Rattle.assembler.specs.declared.fault.AsmFault.TheVariants.{SourceTooLong, InLine, Memory}
 use Rattle.assembler_meaning.specs.declared.symbol.Location.{Location}
 use Rattle.assembler_meaning.specs.Values.{Names}
-use Rattle.assembler.specs.Rows.{Row, IsRow, AreRows, early_fault, names_of, location_behind}
-use Rattle.assembler.specs.Placement.{row_fault}
+use Rattle.assembler.specs.LocatedLines.{LocatedLine, IsLocatedLine, AreLocatedLines, early_fault, names_of, location_following}
+use Rattle.assembler.specs.Placement.{located_fault}
 use Rattle.assembler.specs.Gives.{source_limit}
 
 abbrev pub fault_of_line : SyntaxFault → SourceFault
@@ -25,12 +25,12 @@ abbrev pub IsReadFault : List ℕ → SourceFault → Type 0
 IsReadFault text fault = (found : SyntaxFault) × (read_line text ≡ Err found) × (fault ≡ fault_of_line found)
 
 -- the fault of a text's row, in the light of the lines before it
-abbrev pub IsRowFault : Names → Option Location → List ℕ → SourceFault → Type 0
-IsRowFault names location text fault =
-    (row : Row) × IsRow names location text row × (early_fault names row.location row.line row.form ≡ Some fault)
+abbrev pub IsLineFault : Names → Option Location → List ℕ → SourceFault → Type 0
+IsLineFault names location text fault =
+    (located : LocatedLine) × IsLocatedLine names location text located × (early_fault names located.location located.line located.form ≡ Some fault)
 
 abbrev pub IsTextFault : Names → Option Location → List ℕ → SourceFault → Type 0
-IsTextFault names location text fault = IsReadFault text fault ⊎ IsRowFault names location text fault
+IsTextFault names location text fault = IsReadFault text fault ⊎ IsLineFault names location text fault
 
 -- a fault that the first pass finds: the lines before the one with this number are clean, and it has the fault
 pub record IsEarlyFault (source : List ℕ) (fault : SourceFault) (number : ℕ) : Type 0 where
@@ -39,31 +39,31 @@ pub record IsEarlyFault (source : List ℕ) (fault : SourceFault) (number : ℕ)
   pub back : List (List ℕ)
   pub texts : text_lines source ≡ front ++ text ∷ back
   pub counted : length front + 1 ≡ number
-  pub rows : List Row
-  pub clean : AreRows [] front rows
-  pub found : IsTextFault (names_of rows) (location_behind rows) text fault
+  pub located_lines : List LocatedLine
+  pub clean : AreLocatedLines [] front located_lines
+  pub found : IsTextFault (names_of located_lines) (location_following located_lines) text fault
 
 -- no row has a fault in the light of those before it
-abbrev pub AreFaultless : Names → List Row → List Row → Type 0
+abbrev pub AreFaultless : Names → List LocatedLine → List LocatedLine → Type 0
 AreFaultless names before [] = Unit {0}
-AreFaultless names before (row ∷ rows) =
-    (row_fault names before row ≡ None) × AreFaultless names (before ++ row ∷ []) rows
+AreFaultless names before (located ∷ located_lines) =
+    (located_fault names before located ≡ None) × AreFaultless names (before ++ located ∷ []) located_lines
 
 -- the row with this number, from 1 on, has the fault, and the rows before it can be placed
-pub record HasLateFault (rows : List Row) (fault : SourceFault) (number : ℕ) : Type 0 where
-  pub front : List Row
-  pub row : Row
-  pub back : List Row
-  pub split : rows ≡ front ++ row ∷ back
+pub record HasLateFault (located_lines : List LocatedLine) (fault : SourceFault) (number : ℕ) : Type 0 where
+  pub front : List LocatedLine
+  pub located : LocatedLine
+  pub back : List LocatedLine
+  pub split : located_lines ≡ front ++ located ∷ back
   pub counted : length front + 1 ≡ number
-  pub placed : AreFaultless (names_of rows) [] front
-  pub found : row_fault (names_of rows) front row ≡ Some fault
+  pub placed : AreFaultless (names_of located_lines) [] front
+  pub found : located_fault (names_of located_lines) front located ≡ Some fault
 
 -- a fault that the second pass finds: all lines are clean, and the first of their rows that can't be placed has it
 pub record IsLateFault (source : List ℕ) (fault : SourceFault) (number : ℕ) : Type 0 where
-  pub rows : List Row
-  pub clean : AreRows [] (text_lines source) rows
-  pub found : HasLateFault rows fault number
+  pub located_lines : List LocatedLine
+  pub clean : AreLocatedLines [] (text_lines source) located_lines
+  pub found : HasLateFault located_lines fault number
 
 -- The fault that is answered for a source. One that is too long has that fault; otherwise the first fault of the first
 -- pass is answered, and if there is none, that of the second. Want of memory may come for any source.

@@ -10,15 +10,15 @@ use Rattle.assembler.specs.declared.fault.AsmFault.{AsmFault}
 use Rattle.assembler.specs.declared.fault.AsmFault.TheVariants.{SourceTooLong, InLine, Memory}
 use Rattle.assembler.specs.declared.fault.LineStop.{LineStop}
 use Rattle.assembler.specs.declared.fault.LineStop.TheVariants as stops
-use Rattle.assembler.specs.declared.row.KeptRow.{KeptRow}
+use Rattle.assembler.specs.declared.kept_line.KeptLine.{KeptLine}
 use Rattle.assembler.specs.declared.early.Before.{Before}
 use Rattle.assembler_meaning.specs.declared.symbol.Location.{Location}
 use Rattle.assembler_meaning.specs.declared.symbol.Symbol.{Symbol}
 use Rattle.assembler_meaning.specs.Values.{Names, AreSmall, is_defined}
-use Rattle.assembler.specs.Rows.{Row, IsRow, AreRows, early_fault, label_definition, names_of, size_of, location_after, location_behind, statement_definition}
+use Rattle.assembler.specs.LocatedLines.{LocatedLine, IsLocatedLine, AreLocatedLines, early_fault, label_definition, names_of, size_of, location_after, location_following, statement_definition}
 use Rattle.assembler.specs.Placement.{content_of}
 use Rattle.assembler.specs.FirstFault.{IsTextFault}
-use Rattle.assembler.specs.Kept.{AreKept, IsSteady, content_in}
+use Rattle.assembler.specs.KeptLines.{AreKept, IsSteady, content_in}
 
 -- how far into its segment the next byte goes
 abbrev pub offset_of : Option Location → ℕ
@@ -39,8 +39,8 @@ abbrev pub size_limit : ℕ → ℕ
 size_limit n = 2 ^ 18 * (n + 1)
 
 -- the row of a line with its form, in the light of the lines before it
-abbrev pub row_of : Names → Option Location → Line → Option Form → Row
-row_of names location line form = record {
+abbrev pub located_of : Names → Option Location → Line → Option Form → LocatedLine
+located_of names location line form = record {
   line = line;
   form = form;
   size = size_of names line.statement form;
@@ -50,33 +50,33 @@ row_of names location line form = record {
 }
 
 -- what is kept of a row, with the place of its text
-pub record KeepsRow (start length : ℕ) (kept : KeptRow) (row : Row) : Type 0 where
+pub record KeepsLine (start length : ℕ) (kept : KeptLine) (located : LocatedLine) : Type 0 where
   pub starts : kept.start ≡ start
   pub ends : kept.length ≡ length
-  pub label : kept.has_label ≡ is_some row.line.label
-  pub location : kept.location ≡ row.location
-  pub size : kept.size ≡ row.size
-  pub content : content_in kept ≡ content_of row.line.statement row.form
+  pub label : kept.has_label ≡ is_some located.line.label
+  pub location : kept.location ≡ located.location
+  pub size : kept.size ≡ located.size
+  pub content : content_in kept ≡ content_of located.line.statement located.form
 
 -- a row is added to the lines before it, and kept
-pub record AddsRow (old new : Before) (start length : ℕ) (row : Row) (kept : KeptRow) : Type 0 where
-  pub location : new.location ≡ row.next
-  pub names : new.symbols.entries ≡ old.symbols.entries ++ row.names
-  pub keeps : KeepsRow start length kept row
+pub record AddsLine (old new : Before) (start length : ℕ) (located : LocatedLine) (kept : KeptLine) : Type 0 where
+  pub location : new.location ≡ located.next
+  pub names : new.symbols.entries ≡ old.symbols.entries ++ located.names
+  pub keeps : KeepsLine start length kept located
   pub steady : IsSteady kept
   pub small : AreSmall new.symbols.entries
   pub grows : offset_of new.location ≤ offset_of old.location + size_limit length + 65535
 
 -- a text is read, and its row is added
-pub record AddsText (old new : Before) (start : ℕ) (text : List ℕ) (kept : KeptRow) : Type 0 where
-  pub row : Row
-  pub is_row : IsRow old.symbols.entries old.location text row
-  pub clean : early_fault old.symbols.entries row.location row.line row.form ≡ None
-  pub adds : AddsRow old new start (length text) row kept
+pub record AddsText (old new : Before) (start : ℕ) (text : List ℕ) (kept : KeptLine) : Type 0 where
+  pub located : LocatedLine
+  pub is_located_line : IsLocatedLine old.symbols.entries old.location text located
+  pub clean : early_fault old.symbols.entries located.location located.line located.form ≡ None
+  pub adds : AddsLine old new start (length text) located kept
 
 -- a text is read, and what is kept of its row is added to what is kept
-pub record KeepsText (old new : Before) (start : ℕ) (text : List ℕ) (before after : List KeptRow) : Type 0 where
-  pub kept : KeptRow
+pub record KeepsText (old new : Before) (start : ℕ) (text : List ℕ) (before after : List KeptLine) : Type 0 where
+  pub kept : KeptLine
   pub kept_last : after ≡ before ++ kept ∷ []
   pub adds : AddsText old new start text kept
 
@@ -91,16 +91,16 @@ StopsAt old text number SourceTooLong = ⊥
 StopsAt old text number Memory = Unit {0}
 
 -- the source's lines before this rest of it are read: they make these rows, which are kept
-pub record HasRead (source rest : List ℕ) (number : ℕ) (state : Before) (kept : List KeptRow) : Type 0 where
+pub record HasRead (source rest : List ℕ) (number : ℕ) (state : Before) (kept : List KeptLine) : Type 0 where
   pub front : List (List ℕ)
-  pub rows : List Row
+  pub located_lines : List LocatedLine
   pub passed : List ℕ
   pub texts : text_lines source ≡ front ++ text_lines rest
   pub bytes : source ≡ passed ++ rest
-  pub are_rows : AreRows [] front rows
-  pub are_kept : AreKept source front kept rows
-  pub names : state.symbols.entries ≡ names_of rows
-  pub location : state.location ≡ location_behind rows
+  pub are_located_lines : AreLocatedLines [] front located_lines
+  pub are_kept : AreKept source front kept located_lines
+  pub names : state.symbols.entries ≡ names_of located_lines
+  pub location : state.location ≡ location_following located_lines
   pub counted : number ≡ length front
   pub each_takes : number ≤ length passed
   pub room : offset_of state.location ≤ 2 ^ 20 * length passed

@@ -1,8 +1,8 @@
-pub mod Rows
+pub mod LocatedLines
 pub mod Placement
 pub mod Gives
 pub mod FirstFault
-pub mod Kept
+pub mod KeptLines
 pub mod Listing
 pub mod FirstPass
 pub mod SecondPass

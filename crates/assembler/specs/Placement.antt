@@ -13,13 +13,13 @@ use Rattle.assembler_form.specs.declared.fields.Numbers.{Numbers}
 use Rattle.assembler_form.specs.Fields.{values_of}
 use Rattle.assembler.specs.declared.fault.SourceFault.{SourceFault}
 use Rattle.assembler.specs.declared.fault.SourceFault.TheVariants.{Undefined, OutOfRange, OutOfSegment, Overlap, NotLoadable}
-use Rattle.assembler.specs.declared.row.Content.{Content}
-use Rattle.assembler.specs.declared.row.Content.TheVariants.{Data, Code}
+use Rattle.assembler.specs.declared.kept_line.Content.{Content}
+use Rattle.assembler.specs.declared.kept_line.Content.TheVariants.{Data, Code}
 use Rattle.assembler_meaning.specs.declared.symbol.Location.{Location}
 use Rattle.assembler_meaning.specs.Values.{Names}
 use Rattle.assembler_meaning.specs.Instructions.{numbers_of, code_bytes}
 use Rattle.assembler_meaning.specs.Data.{are_items_known, do_items_fit, data_bytes}
-use Rattle.assembler.specs.Rows.{Row}
+use Rattle.assembler.specs.LocatedLines.{LocatedLine}
 
 -- what a line places: data, or an instruction in its form
 abbrev pub content_of : Statement → Option Form → Option Content
@@ -42,24 +42,24 @@ bytes_by names location size (Some (Code f i)) = option_map_or (code_bytes f i) 
 bytes_by names location size None = []
 
 -- the address n bytes after a location
-abbrev pub address_behind : Location → ℕ → ℕ
-address_behind location n = physical location.segment (location.offset + n)
+abbrev pub address_after : Location → ℕ → ℕ
+address_after location n = physical location.segment (location.offset + n)
 
 -- these bytes at addresses that rise by one, from n bytes after a location on
 abbrev pub bytes_from : Location → ℕ → List ℕ → List (ℕ × ℕ)
 bytes_from location n [] = []
-bytes_from location n (b ∷ bs) = (address_behind location n, b) ∷ bytes_from location (n + 1) bs
+bytes_from location n (b ∷ bs) = (address_after location n, b) ∷ bytes_from location (n + 1) bs
 
 abbrev pub placed_at : Names → Option Location → ℕ → Option Content → List (ℕ × ℕ)
 placed_at names (Some location) size content = bytes_from location 0 (bytes_by names location size content)
 placed_at names None size content = []
 
 -- what a row places: addresses, each with its byte
-unfoldable pub placed_by : Names → Row → List (ℕ × ℕ)
-placed_by names row = placed_at names row.location row.size (content_of row.line.statement row.form)
+unfoldable pub placed_by : Names → LocatedLine → List (ℕ × ℕ)
+placed_by names located = placed_at names located.location located.size (content_of located.line.statement located.form)
 
-abbrev pub placed_by_all : Names → List Row → List (ℕ × ℕ)
-placed_by_all names rows = flat_map (placed_by names) rows
+abbrev pub placed_by_all : Names → List LocatedLine → List (ℕ × ℕ)
+placed_by_all names located_lines = flat_map (placed_by names) located_lines
 
 -- whether a name is used that no line defines, or that is no label though one is wanted
 abbrev pub lacks_name : Names → Location → Option Content → Bool
@@ -84,7 +84,7 @@ is_loadable address = nat_lt address 0xA0000 || (nat_le 0xF0000 address && nat_l
 -- the addresses of this many bytes, from n bytes after a location on
 abbrev pub addresses_from : Location → ℕ → ℕ → List ℕ
 addresses_from location n zero = []
-addresses_from location n (suc more) = address_behind location n ∷ addresses_from location (n + 1) more
+addresses_from location n (suc more) = address_after location n ∷ addresses_from location (n + 1) more
 
 -- The fault of what stands at a location, in the light of all names and of the addresses that are taken. If there are
 -- several, it is the one with the least number.
@@ -107,7 +107,7 @@ abbrev pub is_placed : List (ℕ × ℕ) → ℕ → Bool
 is_placed placed address = list_any (λ entry. entry.0 == address) placed
 
 -- the fault that a row has in the light of the rows before it
-abbrev pub row_fault : Names → List Row → Row → Option SourceFault
-row_fault names before row =
-    late_fault names (is_placed (placed_by_all names before)) (is_some row.line.label) row.location row.size
-    (content_of row.line.statement row.form)
+abbrev pub located_fault : Names → List LocatedLine → LocatedLine → Option SourceFault
+located_fault names before located =
+    late_fault names (is_placed (placed_by_all names before)) (is_some located.line.label) located.location located.size
+    (content_of located.line.statement located.form)

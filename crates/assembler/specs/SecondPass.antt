@@ -11,14 +11,14 @@ use Rattle.assembler.specs.declared.fault.SourceFault.{SourceFault}
 use Rattle.assembler.specs.declared.fault.SourceFault.TheVariants.{Undefined, OutOfRange, OutOfSegment, Overlap, NotLoadable}
 use Rattle.assembler.specs.declared.fault.AsmFault.{AsmFault}
 use Rattle.assembler.specs.declared.fault.AsmFault.TheVariants.{SourceTooLong, InLine, Memory}
-use Rattle.assembler.specs.declared.row.Content.{Content}
-use Rattle.assembler.specs.declared.row.KeptRow.{KeptRow}
+use Rattle.assembler.specs.declared.kept_line.Content.{Content}
+use Rattle.assembler.specs.declared.kept_line.KeptLine.{KeptLine}
 use Rattle.assembler_meaning.specs.declared.symbol.Location.{Location}
 use Rattle.assembler_meaning.specs.Values.{Names}
 use Rattle.assembler_meaning.specs.Data.{are_items_known, do_items_fit}
 use Rattle.assembler.specs.Placement.{addresses_from, bytes_by, content_of, has_wrong_number, is_loadable, is_past_end, lacks_name, late_fault, placed_at, is_placed}
-use Rattle.assembler.specs.Kept.{content_in}
-use Rattle.assembler.specs.Rows.{Row}
+use Rattle.assembler.specs.KeptLines.{content_in}
+use Rattle.assembler.specs.LocatedLines.{LocatedLine}
 
 -- whether the image has a byte at the address
 abbrev pub has_byte : List (ℕ × ℕ) → ℕ → Bool
@@ -29,14 +29,14 @@ abbrev pub with_entries : List (ℕ × ℕ) → List (ℕ × ℕ) → List (ℕ 
 with_entries image placed = fold (λ held entry. insert_entry nat_cmp held entry.0 entry.1) image placed
 
 -- what a kept row places: addresses, each with its byte
-abbrev pub entries_by : Names → KeptRow → List (ℕ × ℕ)
+abbrev pub entries_by : Names → KeptLine → List (ℕ × ℕ)
 entries_by names kept = placed_at names kept.location kept.size (content_in kept)
 
-abbrev pub entries_by_all : Names → List KeptRow → List (ℕ × ℕ)
-entries_by_all names rows = flat_map (entries_by names) rows
+abbrev pub entries_by_all : Names → List KeptLine → List (ℕ × ℕ)
+entries_by_all names located_lines = flat_map (entries_by names) located_lines
 
 -- the fault of a kept row, if these addresses are taken
-abbrev pub kept_fault : Names → (ℕ → Bool) → KeptRow → Option SourceFault
+abbrev pub kept_fault : Names → (ℕ → Bool) → KeptLine → Option SourceFault
 kept_fault names is_taken kept = late_fault names is_taken kept.has_label kept.location kept.size (content_in kept)
 
 -- the fault in the names and numbers of what stands at a location
@@ -67,7 +67,7 @@ abbrev pub HasSize : Names → Option Location → ℕ → Option Content → Ty
 HasSize names (Some location) size content = HasSizeAt names location size content
 HasSize names None size content = Unit {0}
 
-abbrev pub KeepsSize : Names → KeptRow → Type 0
+abbrev pub KeepsSize : Names → KeptLine → Type 0
 KeepsSize names kept = HasSize names kept.location kept.size (content_in kept)
 
 -- the pass stops at the line with this number, for this fault or for want of memory
@@ -77,7 +77,7 @@ StopsAt number found SourceTooLong = ⊥
 StopsAt number found Memory = Unit {0}
 
 -- no kept row has a fault in the light of those before it
-abbrev pub AreFaultlessKept : Names → List KeptRow → List KeptRow → Type 0
+abbrev pub AreFaultlessKept : Names → List KeptLine → List KeptLine → Type 0
 AreFaultlessKept names before [] = Unit {0}
 AreFaultlessKept names before (kept ∷ more) =
     (kept_fault names (is_placed (entries_by_all names before)) kept ≡ None)
@@ -93,17 +93,17 @@ pub record CanStand (names : Names) (is_taken : ℕ → Bool) (has_label : Bool)
   pub loadable : list_all is_loadable (addresses_from location 0 size) ≡ true
 
 -- what is kept of a row
-pub record IsKept (kept : KeptRow) (row : Row) : Type 0 where
-  pub label : kept.has_label ≡ is_some row.line.label
-  pub location : kept.location ≡ row.location
-  pub size : kept.size ≡ row.size
-  pub content : content_in kept ≡ content_of row.line.statement row.form
+pub record IsKept (kept : KeptLine) (located : LocatedLine) : Type 0 where
+  pub label : kept.has_label ≡ is_some located.line.label
+  pub location : kept.location ≡ located.location
+  pub size : kept.size ≡ located.size
+  pub content : content_in kept ≡ content_of located.line.statement located.form
 
-abbrev pub AreKeptRows : List KeptRow → List Row → Type 0
-AreKeptRows [] [] = Unit {0}
-AreKeptRows [] (row ∷ rows) = ⊥
-AreKeptRows (kept ∷ more) [] = ⊥
-AreKeptRows (kept ∷ more) (row ∷ rows) = IsKept kept row × AreKeptRows more rows
+abbrev pub AreKeptLines : List KeptLine → List LocatedLine → Type 0
+AreKeptLines [] [] = Unit {0}
+AreKeptLines [] (located ∷ located_lines) = ⊥
+AreKeptLines (kept ∷ more) [] = ⊥
+AreKeptLines (kept ∷ more) (located ∷ located_lines) = IsKept kept located × AreKeptLines more located_lines
 
-abbrev pub RowHasSize : Names → Row → Type 0
-RowHasSize names row = HasSize names row.location row.size (content_of row.line.statement row.form)
+abbrev pub LineHasSize : Names → LocatedLine → Type 0
+LineHasSize names located = HasSize names located.location located.size (content_of located.line.statement located.form)

@@ -3,15 +3,15 @@
 use Rattle.std.specs.Prelude.{ℕ, zero, suc, ◌-◌, ◌*◌, nat_lt, if◌then◌else◌, List, [], ◌∷◌, ◌++◌, take, drop, Option, None, Some}
 use Rattle.std.specs.Option.{unwrap_or}
 use Rattle.board_types.specs.Image.{image_byte}
-use Rattle.assembler.specs.declared.row.KeptRow.{KeptRow}
+use Rattle.assembler.specs.declared.kept_line.KeptLine.{KeptLine}
 use Rattle.assembler_meaning.specs.declared.symbol.Location.{Location}
-use Rattle.assembler.specs.Placement.{address_behind}
+use Rattle.assembler.specs.Placement.{address_after}
 use Rattle.board_types.specs.Digits.{hex_byte_text, hex_word}
 use Rattle.assembler.specs.Listing.{spaces}
 
 -- the byte that the image has n bytes after a location, or 0 if it has none
 abbrev pub shown_byte : List (ℕ × ℕ) → Location → ℕ → ℕ
-shown_byte image location n = unwrap_or (image_byte image (address_behind location n)) 0
+shown_byte image location n = unwrap_or (image_byte image (address_after location n)) 0
 
 -- the digits of the first n bytes from a location on
 abbrev pub shown_digits : List (ℕ × ℕ) → Location → ℕ → List ℕ
@@ -32,7 +32,7 @@ abbrev pub location_by_size : Option Location → ℕ → Option Location
 location_by_size location zero = None
 location_by_size location (suc n) = location
 
-abbrev pub shown_location : KeptRow → Option Location
+abbrev pub shown_location : KeptLine → Option Location
 shown_location kept = location_by_size kept.location kept.size
 
 abbrev pub shown_at : List (ℕ × ℕ) → Option Location → ℕ → List ℕ
@@ -40,9 +40,9 @@ shown_at image (Some location) size = shown_place image location size
 shown_at image None size = spaces 28
 
 -- a row's text in the source
-abbrev pub said_by : List ℕ → KeptRow → List ℕ
+abbrev pub said_by : List ℕ → KeptLine → List ℕ
 said_by source kept = take kept.length (drop kept.start source)
 
 -- the listing's line of a row
-abbrev pub shown_line : List ℕ → List (ℕ × ℕ) → KeptRow → List ℕ
+abbrev pub shown_line : List ℕ → List (ℕ × ℕ) → KeptLine → List ℕ
 shown_line source image kept = shown_at image (shown_location kept) kept.size ++ said_by source kept

@@ -4,11 +4,11 @@ ghost use Rattle.board_types.specs.TextLines.{text_lines};
 ghost use Rattle.assembler.specs.declared.fault.AsmFault.TheVariants.{Memory};
 ghost use Rattle.assembler.specs.FirstFault.{IsFirst};
 ghost use Rattle.assembler.specs.Gives.{Gives};
-ghost use Rattle.assembler.specs.Rows.{AreRows, Row, names_of};
+ghost use Rattle.assembler.specs.LocatedLines.{AreLocatedLines, LocatedLine, names_of};
 
 use crate::fault::AsmFault;
 use crate::listing::Listing;
-use crate::placing::place_rows;
+use crate::placing::place_all;
 use crate::reading::read_source;
 use std::alloc::Global;
 
@@ -20,8 +20,8 @@ const SOURCE_LIMIT: usize = 1_048_576;
 pub fn assemble(alloc: Global, source: &[u8]) -> Result<Listing, AsmFault>
     ensures source { IfOk result (λ listing. listing.source ≡ source.now) }
     ensures gives { IfOk result (λ listing. Gives source.now listing.image) }
-    ensures names { IfOk result (λ listing. (rows : List Row) → AreRows [] (text_lines source.now) rows
-        → listing.names ≡ names_of rows) }
+    ensures names { IfOk result (λ listing. (located_lines : List LocatedLine) → AreLocatedLines [] (text_lines source.now) located_lines
+        → listing.names ≡ names_of located_lines) }
     ensures fault { IfErr result (IsFirst source.now) }
 
     // If the source gives an image, the answer is that image, or want of memory.
@@ -32,6 +32,6 @@ pub fn assemble(alloc: Global, source: &[u8]) -> Result<Listing, AsmFault>
         return Err(AsmFault::SourceTooLong);
     }
     let reading = read_source(alloc, source)?;
-    let image = place_rows(alloc, &reading)?;
+    let image = place_all(alloc, &reading)?;
     Ok(Listing { reading, image })
 }

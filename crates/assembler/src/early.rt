@@ -4,7 +4,7 @@ ghost use Rattle.std.specs.Option.{option_map, option_map_or};
 ghost use Rattle.isa.specs.Encoding.{IsForm};
 ghost use Rattle.assembler_meaning.specs.Data.{natural, is_other};
 ghost use Rattle.assembler.specs.FirstPass.{offset_of, size_limit};
-ghost use Rattle.assembler.specs.Rows.{IsFormOf, defines_again, early_fault, has_unknown_constant, has_wrong_constant, is_same, lacks_form, opens_within, size_of, location_after, stands_outside, statement_name, wants_segment};
+ghost use Rattle.assembler.specs.LocatedLines.{IsFormOf, defines_again, early_fault, has_unknown_constant, has_wrong_constant, is_same, lacks_form, opens_within, size_of, location_after, stands_outside, statement_name, wants_segment};
 ghost use Rattle.assembler_meaning.specs.Values.{is_defined, AreSmall, IsShort, constant_of, term_limit};
 ghost use Rattle.assembler_syntax.specs.Weights.{are_terms_within, statement_weight};
 
@@ -37,7 +37,7 @@ pub(crate) struct Before {
 
 /// The fault of a line in the light of the lines before it, if it has one: of several the one with the least number.
 /// `form` is what the table gives the line's instruction.
-#[tactic(auto, unfolding(crate::specs::Rows::early_fault))]
+#[tactic(auto, unfolding(crate::specs::LocatedLines::early_fault))]
 pub(crate) fn early_fault(state: &Before, line: &Line, form: Option<Form>) -> Option<SourceFault>
     requires small { AreSmall state.now.symbols.entries }
     requires short { are_terms_within term_limit line.now.statement ≡ true }

@@ -5,7 +5,7 @@
 pub mod assembly;
 mod early;
 pub mod fault;
+mod kept_line;
 pub mod listing;
 mod placing;
 mod reading;
-mod row;

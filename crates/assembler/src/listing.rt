@@ -6,15 +6,15 @@ ghost use Rattle.std.specs.Str.{IsAscii};
 ghost use Rattle.std.specs.String.{string_bytes};
 ghost use Rattle.board_types.specs.TextLines.{text_lines};
 ghost use Rattle.assembler.specs.declared.fault.AsmFault.TheVariants.{Memory};
-ghost use Rattle.assembler.specs.Kept.{EndsBy};
+ghost use Rattle.assembler.specs.KeptLines.{EndsBy};
 ghost use Rattle.assembler.specs.Listing.{letters_of, line_at, spaces, symbol_at};
-ghost use Rattle.assembler.specs.Rows.{AreRows, Row};
+ghost use Rattle.assembler.specs.LocatedLines.{AreLocatedLines, LocatedLine};
 ghost use Rattle.assembler.specs.Shown.{said_by, shown_digits, shown_line, shown_place, shown_location};
 
 use crate::fault::AsmFault;
+use crate::kept_line::KeptLine;
 use crate::placing::address_at;
 use crate::reading::Reading;
-use crate::row::KeptRow;
 use assembler_lexeme::name::Name;
 use assembler_meaning::symbol::Location;
 use board_types::digits::{HexByte, HexWord};
@@ -34,7 +34,7 @@ pub struct Listing {
 
 impl Model for Listing {
     ghost use Rattle.assembler.specs.Gives.{Gives};
-    ghost use Rattle.assembler.specs.Kept.{Reads};
+    ghost use Rattle.assembler.specs.KeptLines.{Reads};
     ghost use Rattle.assembler.specs.Listing.{ListingState};
 
     ghost Value = { ListingState };
@@ -45,7 +45,7 @@ impl Model for Listing {
       image = l.image;
     } };
 
-    ghost invariant = { λ l. Reads l.reading.source.items l.reading.symbols.entries l.reading.rows.items
+    ghost invariant = { λ l. Reads l.reading.source.items l.reading.symbols.entries l.reading.located_lines.items
         × Gives l.reading.source.items l.image };
 }
 
@@ -67,15 +67,15 @@ impl Listing {
     /// The listing's line `i`, from 0 on: where the line's bytes stand, the first eight of them, a `+` if there are
     /// more, and the source's line. `None` past the last line.
     pub fn line(&self, alloc: Global, i: usize) -> Result<Option<String>, AsmFault>
-        ensures line { (rows : List Row) → AreRows [] (text_lines self.now.source) rows
+        ensures line { (located_lines : List LocatedLine) → AreLocatedLines [] (text_lines self.now.source) located_lines
             → IfOk result (λ text. option_map string_bytes text
-            ≡ line_at self.now.names (text_lines self.now.source) rows i) }
+            ≡ line_at self.now.names (text_lines self.now.source) located_lines i) }
         ensures fault { IfErr result (λ fault. fault ≡ Memory) }
     {
-        let Some(row) = self.reading.rows.as_slice().get(i) else {
+        let Some(located) = self.reading.located_lines.as_slice().get(i) else {
             return Ok(None);
         };
-        let text = line_text(alloc, self.reading.source.as_slice(), &self.image, row)?;
+        let text = line_text(alloc, self.reading.source.as_slice(), &self.image, located)?;
         Ok(Some(text))
     }
 
@@ -94,19 +94,19 @@ fn line_text(
     alloc: Global,
     source: &[u8],
     image: &Image,
-    row: &KeptRow,
+    located: &KeptLine,
 ) -> Result<String, AllocError>
-    requires inside { row.now.start + row.now.length ≤ length source.now }
-    requires ascii { IsAscii (said_by source.now row.now) }
-    requires ends { EndsBy 65536 (shown_location row.now) row.now.size }
-    ensures { IfOk result (λ text. string_bytes text ≡ shown_line source.now image.now row.now) }
+    requires inside { located.now.start + located.now.length ≤ length source.now }
+    requires ascii { IsAscii (said_by source.now located.now) }
+    requires ends { EndsBy 65536 (shown_location located.now) located.now.size }
+    ensures { IfOk result (λ text. string_bytes text ≡ shown_line source.now image.now located.now) }
 {
-    let mut text = match row.location {
-        Some(location) if row.size > 0 => place_text(alloc, image, location, row.size)?,
+    let mut text = match located.location {
+        Some(location) if located.size > 0 => place_text(alloc, image, location, located.size)?,
         _ => no_place_text(alloc)?,
     };
-    let behind = source.split_at(row.start as usize).1;
-    text.push_str(ascii_text(behind.split_at(row.length as usize).0))?;
+    let following = source.split_at(located.start as usize).1;
+    text.push_str(ascii_text(following.split_at(located.length as usize).0))?;
     Ok(text)
 }
 

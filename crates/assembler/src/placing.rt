@@ -3,18 +3,18 @@ ghost use Rattle.std.specs.Prelude.{◌≡◌, ◌≤◌, ◌<◌, ◌+◌, ◌^
 ghost use Rattle.std.specs.List.{list_all, list_any};
 ghost use Rattle.isa.specs.Encoding.{FitsForm};
 ghost use Rattle.board_types.specs.Image.{IsImage};
-ghost use Rattle.assembler.specs.declared.row.Content.TheVariants.{Code};
+ghost use Rattle.assembler.specs.declared.kept_line.Content.TheVariants.{Code};
 ghost use Rattle.assembler_syntax.specs.Weights.{is_item_within, is_operand_within};
 ghost use Rattle.assembler.specs.FirstFault.{IsFirst};
 ghost use Rattle.assembler.specs.Gives.{Gives};
-ghost use Rattle.assembler.specs.Kept.{IsContent, IsSteady, Reads};
-ghost use Rattle.assembler.specs.Placement.{address_behind, addresses_from, bytes_by, bytes_from, fields_of, is_loadable, is_past_end};
+ghost use Rattle.assembler.specs.KeptLines.{IsContent, IsSteady, Reads};
+ghost use Rattle.assembler.specs.Placement.{address_after, addresses_from, bytes_by, bytes_from, fields_of, is_loadable, is_past_end};
 ghost use Rattle.assembler.specs.SecondPass.{KeepsSize, StopsAt, content_fault, data_fault, entries_by, has_byte, kept_fault, placing_fault, with_entries};
 ghost use Rattle.assembler_meaning.specs.Values.{AreSmall, term_limit};
 
 use crate::fault::{AsmFault, SourceFault};
+use crate::kept_line::{Content, KeptLine};
 use crate::reading::Reading;
-use crate::row::{Content, KeptRow};
 use assembler_form::fields::values_of;
 use assembler_meaning::bytes::{data_bytes, instruction_bytes};
 use assembler_meaning::data::{are_items_known, do_items_fit};
@@ -30,58 +30,58 @@ use std::alloc::{AllocError, Global};
 const SEGMENT_SIZE: u64 = 65_536;
 
 /// The image that a source's lines make, or the fault of the first line that can't be placed.
-pub(crate) fn place_rows(alloc: Global, reading: &Reading) -> Result<Image, AsmFault>
-    requires reads { Reads reading.now.source.items reading.now.symbols.entries reading.now.rows.items }
+pub(crate) fn place_all(alloc: Global, reading: &Reading) -> Result<Image, AsmFault>
+    requires reads { Reads reading.now.source.items reading.now.symbols.entries reading.now.located_lines.items }
     ensures gives { IfOk result (Gives reading.now.source.items) }
     ensures fault { IfErr result (IsFirst reading.now.source.items) }
 {
     let mut image = Image::new(alloc);
     let mut number = 0;
-    for row in reading.rows.as_slice() {
+    for located in reading.located_lines.as_slice() {
         number += 1;
-        place_row(alloc, &mut image, &reading.symbols, row, number)?;
+        place_line(alloc, &mut image, &reading.symbols, located, number)?;
     }
     Ok(image)
 }
 
 /// Places the bytes of the line with this number, if it can be placed.
-fn place_row(
+fn place_line(
     alloc: Global,
     image: &mut Image,
     symbols: &Symbols,
-    row: &KeptRow,
+    located: &KeptLine,
     number: u32,
 ) -> Result<(), AsmFault>
     requires small { AreSmall symbols.now.entries }
-    requires steady { IsSteady row.now }
-    requires size { KeepsSize symbols.now.entries row.now }
+    requires steady { IsSteady located.now }
+    requires size { KeepsSize symbols.now.entries located.now }
     requires image { IsImage image.old }
-    ensures free { OnOk result (kept_fault symbols.now.entries (has_byte image.old) row.now ≡ None) }
-    ensures image { OnOk result (image.new ≡ with_entries image.old (entries_by symbols.now.entries row.now)) }
+    ensures free { OnOk result (kept_fault symbols.now.entries (has_byte image.old) located.now ≡ None) }
+    ensures image { OnOk result (image.new ≡ with_entries image.old (entries_by symbols.now.entries located.now)) }
     ensures is_image { OnOk result (IsImage image.new) }
-    ensures fault { IfErr result (StopsAt number (kept_fault symbols.now.entries (has_byte image.old) row.now)) }
+    ensures fault { IfErr result (StopsAt number (kept_fault symbols.now.entries (has_byte image.old) located.now)) }
 {
-    if let Some(fault) = late_fault(image, symbols, row) {
+    if let Some(fault) = late_fault(image, symbols, located) {
         return Err(AsmFault::InLine(fault, number));
     }
-    Ok(put_row(alloc, image, symbols, row)?)
+    Ok(put_line(alloc, image, symbols, located)?)
 }
 
 /// The fault of a line in the light of all names and of the bytes placed so far, if it has one: of several the one with
 /// the least number.
 #[tactic(auto, unfolding(crate::specs::Placement::late_fault))]
-fn late_fault(image: &Image, symbols: &Symbols, row: &KeptRow) -> Option<SourceFault>
+fn late_fault(image: &Image, symbols: &Symbols, located: &KeptLine) -> Option<SourceFault>
     requires small { AreSmall symbols.now.entries }
-    requires steady { IsSteady row.now }
-    ensures { result ≡ kept_fault symbols.now.entries (has_byte image.now) row.now }
+    requires steady { IsSteady located.now }
+    ensures { result ≡ kept_fault symbols.now.entries (has_byte image.now) located.now }
 {
-    let location = row.location?;
-    if let Some(content) = &row.content
-        && let Some(fault) = content_fault(symbols, location, row.size, &**content)
+    let location = located.location?;
+    if let Some(content) = &located.content
+        && let Some(fault) = content_fault(symbols, location, located.size, &**content)
     {
         return Some(fault);
     }
-    placing_fault(image, location, row.size, row.has_label)
+    placing_fault(image, location, located.size, located.has_label)
 }
 
 /// The fault in the names and numbers of what stands at the location.
@@ -216,33 +216,33 @@ fn can_load(location: Location, size: u64) -> bool
 /// The address of the byte that is `n` bytes after the location, within its segment.
 pub(crate) fn address_at(location: Location, n: u64) -> u32
     requires within { location.offset + n < 65536 }
-    ensures { result ≡ address_behind location n }
+    ensures { result ≡ address_after location n }
 {
     physical(location.segment, (location.offset + n) as u16)
 }
 
 /// Puts the bytes of a line that has no fault into the image.
-fn put_row(
+fn put_line(
     alloc: Global,
     image: &mut Image,
     symbols: &Symbols,
-    row: &KeptRow,
+    located: &KeptLine,
 ) -> Result<(), AllocError>
     requires small { AreSmall symbols.now.entries }
-    requires steady { IsSteady row.now }
-    requires size { KeepsSize symbols.now.entries row.now }
+    requires steady { IsSteady located.now }
+    requires size { KeepsSize symbols.now.entries located.now }
     requires image { IsImage image.old }
-    requires free { kept_fault symbols.now.entries (has_byte image.old) row.now ≡ None }
-    ensures image { OnOk result (image.new ≡ with_entries image.old (entries_by symbols.now.entries row.now)) }
+    requires free { kept_fault symbols.now.entries (has_byte image.old) located.now ≡ None }
+    ensures image { OnOk result (image.new ≡ with_entries image.old (entries_by symbols.now.entries located.now)) }
     ensures is_image { OnOk result (IsImage image.new) }
 {
-    let Some(location) = row.location else {
+    let Some(location) = located.location else {
         return Ok(());
     };
-    let Some(content) = &row.content else {
+    let Some(content) = &located.content else {
         return Ok(());
     };
-    let bytes = content_bytes(alloc, symbols, location, row.size, &**content)?;
+    let bytes = content_bytes(alloc, symbols, location, located.size, &**content)?;
     put_bytes(image, location, bytes.as_slice())
 }
 

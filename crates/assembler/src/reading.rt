@@ -4,17 +4,17 @@ ghost use Rattle.std.specs.Option.{option_map};
 ghost use Rattle.std.specs.Box.{box_value};
 ghost use Rattle.isa.specs.Encoding.{IsForm};
 ghost use Rattle.assembler.specs.FirstFault.{IsFirst};
-ghost use Rattle.assembler.specs.FirstPass.{AddsRow, AddsText, IsNewDefinition, KeepsText, StopsAt, StopsText, definition_names, offset_of, row_of, size_limit};
+ghost use Rattle.assembler.specs.FirstPass.{AddsLine, AddsText, IsNewDefinition, KeepsText, StopsAt, StopsText, definition_names, offset_of, located_of, size_limit};
 ghost use Rattle.assembler.specs.Gives.{source_limit};
-ghost use Rattle.assembler.specs.Kept.{Reads};
+ghost use Rattle.assembler.specs.KeptLines.{Reads};
 ghost use Rattle.assembler.specs.Placement.{content_of};
-ghost use Rattle.assembler.specs.Rows.{IsFormOf, early_fault, label_definition, statement_definition};
+ghost use Rattle.assembler.specs.LocatedLines.{IsFormOf, early_fault, label_definition, statement_definition};
 ghost use Rattle.assembler_meaning.specs.Values.{AreSmall, term_limit};
 ghost use Rattle.assembler_syntax.specs.Weights.{IsWithin, are_terms_within};
 
 use crate::early::{Before, early_fault, location_after, size_of, statement_form};
 use crate::fault::{AsmFault, LineStop, SourceFault};
-use crate::row::{Content, KeptRow};
+use crate::kept_line::{Content, KeptLine};
 use assembler_lexeme::fault::SyntaxError;
 use assembler_lexeme::name::Name;
 use assembler_meaning::constant::constant_of;
@@ -32,7 +32,7 @@ use std::boxed::Box;
 #[derive(Drop)]
 pub(crate) struct Reading {
     pub(crate) source: Vec<u8>,
-    pub(crate) rows: Vec<KeptRow>,
+    pub(crate) located_lines: Vec<KeptLine>,
     pub(crate) symbols: Symbols,
 }
 
@@ -40,13 +40,13 @@ pub(crate) struct Reading {
 pub(crate) fn read_source(alloc: Global, source: &[u8]) -> Result<Reading, AsmFault>
     requires within { length source.now ≤ source_limit }
     ensures source { IfOk result (λ reading. reading.source.items ≡ source.now) }
-    ensures reads { IfOk result (λ reading. Reads source.now reading.symbols.entries reading.rows.items) }
+    ensures reads { IfOk result (λ reading. Reads source.now reading.symbols.entries reading.located_lines.items) }
     ensures fault { IfErr result (IsFirst source.now) }
 {
     let Ok(copy) = Vec::from_slice(alloc, source) else {
         return Err(AsmFault::Memory);
     };
-    let mut rows = Vec::new(alloc);
+    let mut located_lines = Vec::new(alloc);
     let mut state = Before {
         location: None,
         symbols: IndexMap::with_hasher(alloc, SourceSeed::of(source)),
@@ -56,12 +56,12 @@ pub(crate) fn read_source(alloc: Global, source: &[u8]) -> Result<Reading, AsmFa
     while let Some((text, after)) = next_line(rest) {
         number += 1;
         let start = source.len() - rest.len();
-        add_text(alloc, &mut state, &mut rows, start, text, number)?;
+        add_text(alloc, &mut state, &mut located_lines, start, text, number)?;
         rest = after;
     }
     Ok(Reading {
         source: copy,
-        rows,
+        located_lines,
         symbols: state.symbols,
     })
 }
@@ -70,7 +70,7 @@ pub(crate) fn read_source(alloc: Global, source: &[u8]) -> Result<Reading, AsmFa
 fn add_text(
     alloc: Global,
     state: &mut Before,
-    rows: &mut Vec<KeptRow>,
+    located_lines: &mut Vec<KeptLine>,
     start: usize,
     text: &[u8],
     number: u32,
@@ -78,29 +78,29 @@ fn add_text(
     requires place { start + length text.now ≤ source_limit }
     requires small { AreSmall state.old.symbols.entries }
     requires room { offset_of state.old.location + size_limit (length text.now) ≤ 2 ^ 40 }
-    ensures ok { OnOk result (KeepsText state.old state.new start text.now rows.old.items rows.new.items) }
+    ensures ok { OnOk result (KeepsText state.old state.new start text.now located_lines.old.items located_lines.new.items) }
     ensures err { IfErr result (StopsAt state.old text.now number) }
 {
-    match read_row(alloc, state, start, text) {
-        Ok(row) => Ok(push_row(rows, row)?),
+    match read_located_line(alloc, state, start, text) {
+        Ok(located) => Ok(push_located(located_lines, located)?),
         Err(LineStop::Fault(fault)) => Err(AsmFault::InLine(fault, number)),
         Err(LineStop::Memory) => Err(AsmFault::Memory),
     }
 }
 
-fn push_row(rows: &mut Vec<KeptRow>, row: KeptRow) -> Result<(), AllocError>
-    ensures { OnOk result (rows.new.items ≡ rows.old.items ++ row ∷ []) }
+fn push_located(located_lines: &mut Vec<KeptLine>, located: KeptLine) -> Result<(), AllocError>
+    ensures { OnOk result (located_lines.new.items ≡ located_lines.old.items ++ located ∷ []) }
 {
-    Ok(rows.push(row)?)
+    Ok(located_lines.push(located)?)
 }
 
 /// The row of a line, whose names are added and after which the location moves on, or why it isn't taken.
-fn read_row(
+fn read_located_line(
     alloc: Global,
     state: &mut Before,
     start: usize,
     text: &[u8],
-) -> Result<KeptRow, LineStop>
+) -> Result<KeptLine, LineStop>
     requires place { start + length text.now ≤ source_limit }
     requires small { AreSmall state.old.symbols.entries }
     requires room { offset_of state.old.location + size_limit (length text.now) ≤ 2 ^ 40 }
@@ -117,7 +117,7 @@ fn read_row(
         return Err(LineStop::Fault(fault));
     }
     match add_line(alloc, state, start, text.len(), line, form) {
-        Ok(row) => Ok(row),
+        Ok(located) => Ok(located),
         Err(_) => Err(LineStop::Memory),
     }
 }
@@ -131,7 +131,7 @@ fn add_line(
     length: usize,
     line: Line,
     form: Option<Form>,
-) -> Result<KeptRow, AllocError>
+) -> Result<KeptLine, AllocError>
     requires place { start + length ≤ source_limit }
     requires small { AreSmall state.old.symbols.entries }
     requires room { offset_of state.old.location + size_limit length ≤ 2 ^ 40 }
@@ -139,8 +139,8 @@ fn add_line(
     requires chosen { IsFormOf state.old.symbols.entries line.statement form }
     requires form { IfSome form IsForm }
     requires clean { early_fault state.old.symbols.entries state.old.location line form ≡ None }
-    ensures { IfOk result (AddsRow state.old state.new start length
-        (row_of state.old.symbols.entries state.old.location line form)) }
+    ensures { IfOk result (AddsLine state.old state.new start length
+        (located_of state.old.symbols.entries state.old.location line form)) }
 {
     let location = state.location;
     let size = size_of(&state.symbols, &line.statement, form);
@@ -152,7 +152,7 @@ fn add_line(
     define(&mut state.symbols, constant)?;
     state.location = next;
     let content = kept(alloc, line.statement, form)?;
-    Ok(KeptRow {
+    Ok(KeptLine {
         start: start as u32,
         length: length as u32,
         has_label,

@@ -6,8 +6,8 @@ use Rattle.isa.specs.declared.row.Row.{Row}
 use Rattle.assembler_form.specs.declared.asked.Asked.{Asked}
 use Rattle.assembler_form.specs.Takes.{Takes}
 use Rattle.assembler_form.specs.Choice.{IsFirst, NoneTakes}
-use Rattle.assembler_form.specs.Laws.{OneForm}
-use Rattle.assembler_form.specs.Parts.{form_with}
+use Rattle.assembler_form.specs.FormLaws.{OneForm}
+use Rattle.assembler_form.specs.OperandBytes.{form_with}
 use Rattle.isa.specs.Table.{rows}
 use Rattle.std.proofs.lemmas.Bool.{cases_lt}
 use borrow.Author.Count.{below_more}

@@ -28,7 +28,7 @@ use Rattle.isa.specs.declared.row.Kind.TheVariants as kinds
 use Rattle.isa.specs.declared.row.Row.{Row}
 use Rattle.isa.specs.Table.{rows}
 use Rattle.isa.specs.Row.{first_of, second_of}
-use Rattle.isa.specs.Registers.{byte_register_number, segment_register_number, word_register_number}
+use Rattle.isa.specs.RegisterNumbers.{byte_register_number, segment_register_number, word_register_number}
 use Rattle.isa.specs.Layout.{first_code, first_reg, kind_code, kind_reg, reg_part, places, second_with}
 use Rattle.isa.specs.Encoding.{FitsCode, FitsPlace, FitsReg, FitsSecond, IsForm, IsMemory, IsPlace}
 use Rattle.isa.proofs.Rows.{each}
@@ -42,7 +42,7 @@ use Rattle.assembler_form.specs.Takes.{is_within, Takes}
 use Rattle.assembler_form.specs.Kinds.{is_of, is_segment_not_cs, is_segment_register, is_pointer, is_far_memory, is_word_memory}
 use Rattle.assembler_form.proofs.Alike.{in_steps}
 use Rattle.assembler_form.specs.Choice.{IsChosen, IsFirst}
-use Rattle.assembler_form.specs.Parts.{escape_number, first_place, form_with, in_opcode, in_place, in_reg, is_zero, place_at, place_of, place_with, place_without, register_number}
+use Rattle.assembler_form.specs.OperandBytes.{escape_number, first_place, form_with, in_opcode, in_place, in_reg, is_zero, place_at, place_of, place_with, place_without, register_number}
 
 -- registers' numbers
 byte_within : (r : ByteRegister) → byte_register_number r < 8

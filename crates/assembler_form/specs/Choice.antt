@@ -6,7 +6,7 @@ use Rattle.isa.specs.declared.form.Form.{Form}
 use Rattle.isa.specs.Table.{rows}
 use Rattle.assembler_form.specs.declared.asked.Asked.{Asked}
 use Rattle.assembler_form.specs.Takes.{Takes}
-use Rattle.assembler_form.specs.Parts.{form_with}
+use Rattle.assembler_form.specs.OperandBytes.{form_with}
 
 -- The row is the first of the list that takes what is asked: it stands at a place in the list, and no row before that
 -- place takes it.

@@ -1,7 +1,7 @@
 pub mod Asked
 pub mod Takes
 pub mod Kinds
-pub mod Parts
+pub mod OperandBytes
 pub mod Choice
 pub mod Fields
-pub mod Laws
+pub mod FormLaws

@@ -1,6 +1,6 @@
 //! What operands put into the parts of a row's bytes.
 ghost use Rattle.std.specs.Prelude.{◌≡◌, ◌<◌, ◌≤◌};
-ghost use Rattle.assembler_form.specs.Parts.{escape_number, form_with, in_opcode, in_place, in_reg, place_of, place_with, place_without, register_number};
+ghost use Rattle.assembler_form.specs.OperandBytes.{escape_number, form_with, in_opcode, in_place, in_reg, place_of, place_with, place_without, register_number};
 
 use crate::asked::Asked;
 use crate::operand::{KnownMemory, KnownOperand, Number};
@@ -11,7 +11,7 @@ use isa::row::{Kind, Row};
 
 impl Asked {
     /// The form of a row with its operands.
-    #[tactic(auto, unfolding(crate::specs::Parts::form_with))]
+    #[tactic(auto, unfolding(crate::specs::OperandBytes::form_with))]
     pub(crate) fn form_with(&self, row: Row) -> Form
         ensures { result ≡ form_with row self.now }
     {

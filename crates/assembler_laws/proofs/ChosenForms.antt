@@ -21,7 +21,7 @@ use Rattle.isa.specs.declared.form.Values.{Values}
 use Rattle.isa.specs.declared.row.Kind.{Kind}
 use Rattle.isa.specs.declared.row.Kind.TheVariants as kinds
 use Rattle.isa.specs.Row.{operation_of}
-use Rattle.isa.specs.Registers.{byte_register_number, byte_register_of, segment_register_number, segment_register_of, word_register_number, word_register_of}
+use Rattle.isa.specs.RegisterNumbers.{byte_register_number, byte_register_of, segment_register_number, segment_register_of, word_register_number, word_register_of}
 use Rattle.isa.specs.Encoding.{displacement_field, sign_extended}
 use Rattle.dialect.specs.declared.register.Register.TheVariants as registers
 use Rattle.dialect.specs.declared.size.Size.{Size}
@@ -35,7 +35,7 @@ use Rattle.assembler_form.specs.Asked.{is_far_size}
 use Rattle.assembler_form.specs.Kinds.{is_al, is_ax, is_byte_memory, is_byte_register, is_cl, is_direct, is_dx, is_far_memory, is_far_target, is_near, is_no_base, is_nothing, is_of, is_one, is_pointer, is_segment_not_cs, is_segment_register, is_short, is_word_memory, is_word_register}
 use Rattle.assembler_form.specs.Takes.{is_byte_size, is_constant_within, is_number, is_within, is_word_size}
 use Rattle.assembler_form.specs.Fields.{byte_of, displacement_in, modulo, number_in, segment_in, signed_byte_of, word_of}
-use Rattle.assembler_form.specs.Parts.{escape_number, place_at, place_of, place_without, register_number}
+use Rattle.assembler_form.specs.OperandBytes.{escape_number, place_at, place_of, place_without, register_number}
 use Rattle.assembler_laws.specs.SameMeaning.{a_number, a_register, asked_meant, count, size_of, byte_meant, far_away, in_memory, memory_meant, nothing, operand_meant, pointer_size, word_meant, AreOf, IsWord}
 
 -- ---- registers
@@ -151,11 +151,11 @@ large_sign w high low =
     let whole : (w + 65280) % 65536 ≡ w + 65280 = omega arith in
     rw not_small whole
 
-reach_below : (k : ℕ) → (nat_le k 127 && true) ≡ true → k ≤ 127
-reach_below k e = grind (arith, nat_tests)
+near_below : (k : ℕ) → (nat_le k 127 && true) ≡ true → k ≤ 127
+near_below k e = grind (arith, nat_tests)
 
-reach_above : (k : ℕ) → nat_le k 127 ≡ true → k ≤ 127
-reach_above k e = grind (arith, nat_tests)
+near_above : (k : ℕ) → nat_le k 127 ≡ true → k ≤ 127
+near_above k e = grind (arith, nat_tests)
 
 wraps : (x next k w : ℕ) → x < next → k ≡ next - suc x → k ≤ 127 → w ≡ 256 - 1 - k % 256 → x < 65536 → (next % 65536 + (w + 65280)) % 65536 ≡ x
 wraps x next k w less far near value small = omega (arith, less, far, near, value, small)
@@ -172,7 +172,7 @@ near_back x next w small e = by (difference x next)
         let fits = when_fits (is_within (negsuc 127) (pos 127) (negsuc k)) (modulo 256 (negsuc k)) w (subst (λ (z : ℤ). signed_byte_of z ≡ Some w) under.1 e) in
         let bound : (nat_le k 127 && true) ≡ true = fits.0 in
         let value : w ≡ 256 - 1 - k % 256 = fits.1 in
-        let near : k ≤ 127 = reach_below k bound in
+        let near : k ≤ 127 = near_below k bound in
         let sign : sign_extended w ≡ w + 65280 = large_sign w (omega (arith, value, near)) (omega (arith, value, near)) in
         let less : x < next = under.0 in
         let far : k ≡ next - suc x = refl in
@@ -182,7 +182,7 @@ near_back x next w small e = by (difference x next)
         let fits = when_fits (is_within (negsuc 127) (pos 127) (pos k)) (modulo 256 (pos k)) w (subst (λ (z : ℤ). signed_byte_of z ≡ Some w) over.1 e) in
         let bound : nat_le k 127 ≡ true = fits.0 in
         let value : w ≡ k % 256 = fits.1 in
-        let near : k ≤ 127 = reach_above k bound in
+        let near : k ≤ 127 = near_above k bound in
         let sign : sign_extended w ≡ w = small_sign w (omega (arith, value, near)) in
         let more : next ≤ x = over.0 in
         rw sign (adds x next k w more refl near value small)

@@ -18,7 +18,7 @@ use Rattle.assembler_form.specs.declared.operand.KnownOperand.{KnownOperand}
 use Rattle.assembler_form.specs.declared.asked.Asked.{Asked}
 use Rattle.assembler_form.specs.declared.fields.Numbers.{Numbers}
 use Rattle.assembler_form.specs.Fields.{displacement_in, field_kind, field_kind_of, number_in, segment_in, values_of}
-use Rattle.assembler_form.specs.Parts.{first_place, form_with, in_opcode, in_place, in_reg}
+use Rattle.assembler_form.specs.OperandBytes.{first_place, form_with, in_opcode, in_place, in_reg}
 use Rattle.assembler_form.specs.Kinds.{is_of}
 use Rattle.assembler_form.specs.Takes.{Takes}
 use Rattle.assembler_form.proofs.Alike.{in_steps}

@@ -22,7 +22,7 @@ use Rattle.assembler_meaning.specs.Instructions.{instruction_asked, instruction_
 use Rattle.assembler_meaning.specs.Values.{Names}
 use Rattle.assembler.specs.declared.fault.SourceFault.TheVariants.{BadLine, UnknownName, BadForm, TwiceDefined, NoSegment}
 use Rattle.assembler.specs.Placement.{fields_for}
-use Rattle.assembler.specs.Rows.{Row, AreRows, IsCleanRow, IsFormOf, early_fault, defines_again, has_unknown_constant, has_wrong_constant, lacks_form, names_of, opens_within, size_of, stands_outside, wants_segment}
+use Rattle.assembler.specs.LocatedLines.{LocatedLine, AreLocatedLines, IsCleanLine, IsFormOf, early_fault, defines_again, has_unknown_constant, has_wrong_constant, lacks_form, names_of, opens_within, size_of, stands_outside, wants_segment}
 
 -- ---- what holds of each row
 there_at : {X : Type 0} (P : X → Type 0) (xs : List X) (x : X) → AllByRecursion P xs → (k : ℕ) → k < length xs → get_or xs k x ≡ x → P x
@@ -43,19 +43,19 @@ placed_at f (first ∷ xs) x y there (suc k) within is = Contains-append_right (
 pub placed_there : {X Y : Type 0} (f : X → List Y) (xs : List X) (x : X) (y : Y) → Contains xs x → Contains (f x) y → Contains (flat_map f xs) y
 placed_there f xs x y within there = placed_at f xs x y there within.0 within.1 within.2
 
-pub record IsClean (row : Row) : Type 0 where
-  pub before : List Row
+pub record IsClean (row : LocatedLine) : Type 0 where
+  pub before : List LocatedLine
   pub text : List ℕ
-  pub clean : IsCleanRow before text row
+  pub clean : IsCleanLine before text row
 
-pub all_clean : (before : List Row) (texts : List (List ℕ)) (rows : List Row) → AreRows before texts rows → AllByRecursion IsClean rows
+pub all_clean : (before : List LocatedLine) (texts : List (List ℕ)) (rows : List LocatedLine) → AreLocatedLines before texts rows → AllByRecursion IsClean rows
 all_clean before [] [] are = tt
 all_clean before [] (row ∷ rows) are = absurd are
 all_clean before (text ∷ texts) [] are = absurd are
 all_clean before (text ∷ texts) (row ∷ rows) are =
     (record { before = before; text = text; clean = are.0 }, all_clean (before ++ row ∷ []) texts rows are.1)
 
-pub clean_there : (texts : List (List ℕ)) (rows : List Row) (row : Row) → AreRows [] texts rows → Contains rows row → IsClean row
+pub clean_there : (texts : List (List ℕ)) (rows : List LocatedLine) (row : LocatedLine) → AreLocatedLines [] texts rows → Contains rows row → IsClean row
 clean_there texts rows row are within = all_there IsClean rows row (all_clean [] texts rows are) within
 
 -- ---- an instruction without a fault has a form and a place
@@ -101,7 +101,7 @@ few_prefixes : (known : Names) (i : Written) (a : Asked) → instruction_asked k
 unfolding instruction_asked
 few_prefixes known i a is = few_by (nat_le (length (prefixes_of i)) 7) (length (prefixes_of i)) _ a refl is
 
-pub record HasPlace (row : Row) (i : Written) : Type 0 where
+pub record HasPlace (row : LocatedLine) (i : Written) : Type 0 where
   pub form : Form
   pub location : Location
   pub has_form : row.form ≡ Some form
@@ -110,14 +110,14 @@ pub record HasPlace (row : Row) (i : Written) : Type 0 where
   pub few : length (prefixes_of i) ≤ 7
   pub size : row.size ≡ instruction_size form i
 
-pub has_place : (row : Row) (i : Written) → row.line.statement ≡ Instruction i → IsClean row → HasPlace row i
+pub has_place : (row : LocatedLine) (i : Written) → row.line.statement ≡ Instruction i → IsClean row → HasPlace row i
 has_place row i is there =
-    let is_row = there.clean.is_row in
+    let is_located_line = there.clean.is_located_line in
     let known : Names = names_of there.before in
     let neither = has_neither known row.location row.line row.form there.clean.clean in
     let place = place_there row.location row.line i is neither.placed in
     let form = form_there row.form i (sym (ap (λ s. lacks_form s row.form) is) ∙ neither.formed) in
-    let formed : IsFormOf known (Instruction i) (Some form.0) = subst (IsFormOf known (Instruction i)) form.1 (subst (λ s. IsFormOf known s row.form) is is_row.form) in
+    let formed : IsFormOf known (Instruction i) (Some form.0) = subst (IsFormOf known (Instruction i)) form.1 (subst (λ s. IsFormOf known s row.form) is is_located_line.form) in
     let chosen = chosen_there (instruction_asked known i) form.0 formed in
     record {
       form = form.0;
@@ -126,7 +126,7 @@ has_place row i is there =
       has_place = place.1;
       is_form = form_of_first form.0 form.0.row chosen.0 table chosen.2.parts refl chosen.2.first;
       few = few_prefixes known i chosen.0 chosen.1;
-      size = is_row.size ∙ ap (λ s. size_of known s row.form) is ∙ ap (size_of known (Instruction i)) form.1;
+      size = is_located_line.size ∙ ap (λ s. size_of known s row.form) is ∙ ap (size_of known (Instruction i)) form.1;
     }
 
 -- ---- the numbers of an instruction fit its form's fields

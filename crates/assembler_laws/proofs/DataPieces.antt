@@ -14,7 +14,7 @@ use Rattle.assembler_syntax.specs.declared.statement.Piece.TheVariants.{Value, T
 use Rattle.assembler_syntax.specs.declared.statement.Item.{Item}
 use Rattle.assembler_meaning.specs.Data.{are_items_known, data_bytes, do_items_fit, does_piece_fit, is_piece_known, item_bytes, number_bytes, piece_bytes, piece_size, pieces_of, repeated, times_of, width_size}
 use Rattle.assembler_meaning.specs.Values.{Names, value_of}
-use Rattle.assembler_laws.specs.DataBytes.{item_size, StandsBehind}
+use Rattle.assembler_laws.specs.DataBytes.{item_size, StandsAfter}
 use Rattle.assembler_laws.proofs.DataNumbers.{number_size}
 
 -- ---- a part of some bytes, from a place on
@@ -137,7 +137,7 @@ pub record IsInOrder (names : Names) (here : ℕ) (width : DataWidth) (piece : P
   pub fits : does_piece_fit names here width piece ≡ true
 
 pub in_order : (names : Names) (here : ℕ) (width : DataWidth) (items : List Item) (piece : Piece) (start : ℕ) → are_items_known names here items ≡ true
-    → do_items_fit names here width items ≡ true → StandsBehind names width items piece start → IsInOrder names here width piece
+    → do_items_fit names here width items ≡ true → StandsAfter names width items piece start → IsInOrder names here width piece
 unfolding are_items_known do_items_fit
 in_order names here width items piece start known fits is =
     let item_known : is_item_known names here is.item ≡ true =
@@ -151,7 +151,7 @@ in_order names here width items piece start known fits is =
     }
 
 pub piece_there : (names : Names) (here : ℕ) (width : DataWidth) (items : List Item) (piece : Piece) (start : ℕ) → are_items_known names here items ≡ true
-    → StandsBehind names width items piece start → HasPart (data_bytes names here width items) start (piece_bytes names here width piece)
+    → StandsAfter names width items piece start → HasPart (data_bytes names here width items) start (piece_bytes names here width piece)
 unfolding are_items_known data_bytes
 piece_there names here width items piece start known is =
     let all : list_all (is_item_known names here) (is.before ++ is.item ∷ is.after) ≡ true =
@@ -170,11 +170,11 @@ piece_there names here width items piece start known is =
     (made_there (piece_bytes names here width) is.front piece is.back (sum_by (piece_size width) is.front)
     (pieces_count names here width is.front
     (front_all (is_piece_known names here) is.front piece is.back (sym (ap (list_all (is_piece_known names here)) is.pieces_are) ∙ item_known)))) in
-    let behind : HasPart (flat_map (item_bytes names here width) items)
+    let following : HasPart (flat_map (item_bytes names here width) items)
     (sum_by (item_size names width) is.before + (is.copy * length once + sum_by (piece_size width) is.front)) (piece_bytes names here width piece) =
     part_of_part (flat_map (item_bytes names here width) items) (item_bytes names here width is.item) (piece_bytes names here width piece)
     (sum_by (item_size names width) is.before) (is.copy * length once + sum_by (piece_size width) is.front) in_line
     (part_of_part (item_bytes names here width is.item) once (piece_bytes names here width piece) (is.copy * length once) (sum_by (piece_size width) is.front) in_item in_copy) in
     let at : sum_by (item_size names width) is.before + (is.copy * length once + sum_by (piece_size width) is.front) ≡ start =
     ap (λ (n : ℕ). sum_by (item_size names width) is.before + (is.copy * n + sum_by (piece_size width) is.front)) once_long ∙ sym is.counted in
-    subst (λ (n : ℕ). HasPart (flat_map (item_bytes names here width) items) n (piece_bytes names here width piece)) at behind
+    subst (λ (n : ℕ). HasPart (flat_map (item_bytes names here width) items) n (piece_bytes names here width piece)) at following

@@ -22,12 +22,12 @@ use Rattle.board_types.specs.TextLines.{text_lines}
 use Rattle.assembler_meaning.specs.declared.symbol.Location.{Location}
 use Rattle.assembler_meaning.specs.Data.{are_items_known, counts_of, data_bytes, do_items_fit, fits_width, is_other, is_unknown, is_wrong_count, item_counts, natural, number_bytes, piece_bytes, width_size}
 use Rattle.assembler_meaning.specs.Values.{Names, constant_of, value_of}
-use Rattle.assembler_meaning.proofs.LeavesLength.{constant_stays, keeps_behind, Keeps}
+use Rattle.assembler_meaning.proofs.LeavesLength.{constant_stays, keeps_after, Keeps}
 use Rattle.assembler.specs.Gives.{Fits, FitsAt}
-use Rattle.assembler.specs.Placement.{address_behind, bytes_by, bytes_from, content_of, has_wrong_number, lacks_name, placed_by}
-use Rattle.assembler.specs.Rows.{Row, AreRows, has_unknown_constant, has_wrong_constant, names_of, stands_outside, wants_segment}
-use Rattle.assembler.proofs.AnsweringPlaces.{clean_there, fits_there, placed_there as bytes_placed, row_length, CleanThere}
-use Rattle.assembler_laws.specs.DataBytes.{DataGoesLowByteFirst, HasCount, HasPiece, HasText, HasValue, PlacesData, StandsBehind, item_size}
+use Rattle.assembler.specs.Placement.{address_after, bytes_by, bytes_from, content_of, has_wrong_number, lacks_name, placed_by}
+use Rattle.assembler.specs.LocatedLines.{LocatedLine, AreLocatedLines, has_unknown_constant, has_wrong_constant, names_of, stands_outside, wants_segment}
+use Rattle.assembler.proofs.AnsweringPlaces.{clean_there, fits_there, placed_there as bytes_placed, line_length, CleanThere}
+use Rattle.assembler_laws.specs.DataBytes.{DataGoesLowByteFirst, HasCount, HasPiece, HasText, HasValue, PlacesData, StandsAfter, item_size}
 use Rattle.assembler_laws.proofs.CleanRows.{placed_there}
 use Rattle.assembler_laws.proofs.DataNumbers.{bytes_are, is_number, number_of, number_size}
 use Rattle.assembler_laws.proofs.DataPieces.{in_order, line_count, part_there, part_within, piece_there, there_none, HasPart, IsInOrder}
@@ -51,17 +51,17 @@ split_there xs x there = split_at xs x there.0 there.1 there.2
 
 -- ---- bytes at their addresses
 from_there : (location : Location) (n : ℕ) (bytes : List ℕ) (k m d : ℕ) → k < length bytes → m ≡ n + k
-    → Contains (bytes_from location n bytes) (address_behind location m, get_or bytes k d)
+    → Contains (bytes_from location n bytes) (address_after location m, get_or bytes k d)
 from_there location n [] k m d within at = absurd (omega (arith, within))
 from_there location n (b ∷ bs) zero m d within at =
-    let same : n ≡ m = omega (arith, at) in (0, omega arith, ap (λ (p : ℕ). (address_behind location p, b)) same)
+    let same : n ≡ m = omega (arith, at) in (0, omega arith, ap (λ (p : ℕ). (address_after location p, b)) same)
 from_there location n (b ∷ bs) (suc k) m d within at =
-    Contains-append_right ((address_behind location n, b) ∷ []) (bytes_from location (n + 1) bs) (address_behind location m, get_or bs k d)
+    Contains-append_right ((address_after location n, b) ∷ []) (bytes_from location (n + 1) bs) (address_after location m, get_or bs k d)
     (from_there location (n + 1) bs k m d (omega (arith, within)) (omega (arith, at)))
 
 -- the image has these bytes from a place on
 abbrev HasBytes : List (ℕ × ℕ) → Location → List ℕ → Type 0
-HasBytes image location bytes = (k d : ℕ) → k < length bytes → image_byte image (address_behind location k) ≡ Some (get_or bytes k d)
+HasBytes image location bytes = (k d : ℕ) → k < length bytes → image_byte image (address_after location k) ≡ Some (get_or bytes k d)
 
 has_part : (image : List (ℕ × ℕ)) (location : Location) (bytes part : List ℕ) (start : ℕ) → HasBytes image location bytes → HasPart bytes start part
     → HasText image location start part
@@ -131,9 +131,9 @@ numbers_size names width (terms ∷ values) =
     let first : item_size names width (number_item terms) ≡ width_size width = omega arith in
     omega (arith, rest, first, sum_by-cons (item_size names width) (number_item terms) (map number_item values))
 
-number_behind : (names : Names) (width : DataWidth) (items : List Item) (values : List (List Term)) (i : ℕ) (d : List Term) → i < length values
-    → items ≡ map number_item values → StandsBehind names width items (Value (get_or values i d)) (i * width_size width)
-number_behind names width items values i d within is =
+number_after : (names : Names) (width : DataWidth) (items : List Item) (values : List (List Term)) (i : ℕ) (d : List Term) → i < length values
+    → items ≡ map number_item values → StandsAfter names width items (Value (get_or values i d)) (i * width_size width)
+number_after names width items values i d within is =
     let parts : values ≡ take i values ++ get_or values i d ∷ drop (i + 1) values =
     sym (take-append-drop i values) ∙ ap (λ vs. take i values ++ vs) (drop_more values i d within) in
     let count : length (take i values) ≡ i = length-take-le i values (omega (arith, within)) in
@@ -152,8 +152,8 @@ number_behind names width items values i d within is =
       counted = omega (arith, size);
     }
 
-text_behind : (names : Names) (width : DataWidth) (items : List Item) (text : List ℕ) → items ≡ Once (Text text) ∷ [] → StandsBehind names width items (Text text) 0
-text_behind names width items text is = record {
+text_after : (names : Names) (width : DataWidth) (items : List Item) (text : List ℕ) → items ≡ Once (Text text) ∷ [] → StandsAfter names width items (Text text) 0
+text_after names width items text is = record {
   before = [];
   item = Once (Text text);
   after = [];
@@ -166,9 +166,9 @@ text_behind names width items text is = record {
   counted = omega arith;
 }
 
-copy_behind : (names : Names) (width : DataWidth) (items : List Item) (count terms : List Term) (n i : ℕ) → items ≡ Repeated count (Value terms ∷ []) ∷ []
-    → constant_of names count ≡ Some (pos n) → i < n → StandsBehind names width items (Value terms) (i * width_size width)
-copy_behind names width items count terms n i is times within = record {
+copy_after : (names : Names) (width : DataWidth) (items : List Item) (count terms : List Term) (n i : ℕ) → items ≡ Repeated count (Value terms ∷ []) ∷ []
+    → constant_of names count ≡ Some (pos n) → i < n → StandsAfter names width items (Value terms) (i * width_size width)
+copy_after names width items count terms n i is times within = record {
   before = [];
   item = Repeated count (Value terms ∷ []);
   after = [];
@@ -191,12 +191,12 @@ not_false : (b : Bool) → not b ≡ false → b ≡ true
 not_false true is = refl
 not_false false is = absurd (let never : true ≡ false = is in cc)
 
-places_data : (names : Names) (image : List (ℕ × ℕ)) (row : Row) (width : DataWidth) (items : List Item) (location : Location) → row.location ≡ Some location
+places_data : (names : Names) (image : List (ℕ × ℕ)) (row : LocatedLine) (width : DataWidth) (items : List Item) (location : Location) → row.location ≡ Some location
     → are_items_known names location.offset items ≡ true → do_items_fit names location.offset width items ≡ true
     → ((item : Item) → Contains items item → HasCount names item) → length (data_bytes names location.offset width items) ≡ row.size
     → HasBytes image location (data_bytes names location.offset width items) → PlacesData names image row width items
 places_data names image row width items location at known fits counts long has =
-    let each : (piece : Piece) (start : ℕ) → StandsBehind names width items piece start → HasPiece names image location start width piece = λ piece start is.
+    let each : (piece : Piece) (start : ℕ) → StandsAfter names width items piece start → HasPiece names image location start width piece = λ piece start is.
     has_piece names image location start width piece (in_order names location.offset width items piece start known fits is)
     (has_part image location (data_bytes names location.offset width items) (piece_bytes names location.offset width piece) start has
     (piece_there names location.offset width items piece start known is)) in
@@ -206,17 +206,17 @@ places_data names image row width items location at known fits counts long has =
       counts = counts;
       size = sym long ∙ line_count names location.offset width items known;
       pieces = each;
-      numbers = λ values is i d within. each (Value (get_or values i d)) (i * width_size width) (number_behind names width items values i d within is);
-      text = λ text is. each (Text text) 0 (text_behind names width items text is);
-      copies = λ count terms n is times i within. each (Value terms) (i * width_size width) (copy_behind names width items count terms n i is times within);
+      numbers = λ values is i d within. each (Value (get_or values i d)) (i * width_size width) (number_after names width items values i d within is);
+      text = λ text is. each (Text text) 0 (text_after names width items text is);
+      copies = λ count terms n is times i within. each (Value terms) (i * width_size width) (copy_after names width items count terms n i is times within);
     }
 
-counts_there : (front : List Row) (row : Row) (back : List Row) (width : DataWidth) (items : List Item) → row.line.statement ≡ Data width items
+counts_there : (front : List LocatedLine) (row : LocatedLine) (back : List LocatedLine) (width : DataWidth) (items : List Item) → row.line.statement ≡ Data width items
     → HasNone (names_of front) row.location row.line row.form → (item : Item) → Contains items item → HasCount (names_of (front ++ row ∷ back)) item
 counts_there front row back width items is none item there =
     let known : Names = names_of front in
     let keeps : Keeps known (names_of (front ++ row ∷ back)) =
-    subst (Keeps known) (sym (flat_map-append (λ (r : Row). r.names) front (row ∷ back))) (keeps_behind known (names_of (row ∷ back))) in
+    subst (Keeps known) (sym (flat_map-append (λ (r : LocatedLine). r.names) front (row ∷ back))) (keeps_after known (names_of (row ∷ back))) in
     let split = split_there items item there in
     let wrong : list_any (is_wrong_count known) (counts_of items) ≡ false = sym (ap (has_wrong_constant known) is) ∙ none.wrong in
     let unknown : list_any (is_unknown known) (counts_of items) ≡ false = sym (ap (has_unknown_constant known) is) ∙ none.unknown in
@@ -229,7 +229,7 @@ data_goes_low_byte_first source image gives row width items within is =
     let names : Names = names_of gives.rows in
     let split = split_there gives.rows row within in
     let there : CleanThere split.front row =
-    clean_there [] (text_lines source) split.front row split.back (subst (AreRows [] (text_lines source)) split.is gives.are_rows) in
+    clean_there [] (text_lines source) split.front row split.back (subst (AreLocatedLines [] (text_lines source)) split.is gives.are_located_lines) in
     let none : HasNone (names_of split.front) row.location row.line row.form = has_none (names_of split.front) row.location row.line row.form there.clean.clean in
     let place = placed_in row.location row.line (ap wants_segment is) none.outside in
     let location : Location = place.0 in
@@ -241,12 +241,12 @@ data_goes_low_byte_first source image gives row width items within is =
     places_data names image row width items location place.1
     (not_false (are_items_known names location.offset items) (sym (ap (λ (s : Statement). lacks_name names location (content_of s row.form)) is) ∙ fits.known))
     (not_false (do_items_fit names location.offset width items) (sym (ap (λ (s : Statement). has_wrong_number names location row.size (content_of s row.form)) is) ∙ fits.fits))
-    (subst (λ (rows : List Row). (item : Item) → Contains items item → HasCount (names_of rows) item) (sym split.is)
+    (subst (λ (rows : List LocatedLine). (item : Item) → Contains items item → HasCount (names_of rows) item) (sym split.is)
     (counts_there split.front row split.back width items is none))
     (ap (λ (s : Statement). length (bytes_by names location row.size (content_of s row.form))) (sym is)
-    ∙ subst (λ (rows : List Row). length (bytes_by (names_of rows) location row.size (content_of row.line.statement row.form)) ≡ row.size) (sym split.is)
-    (row_length split.front row split.back there.text location there.clean (subst (λ (rows : List Row). FitsAt (names_of rows) row location) split.is fits)))
+    ∙ subst (λ (rows : List LocatedLine). length (bytes_by (names_of rows) location row.size (content_of row.line.statement row.form)) ≡ row.size) (sym split.is)
+    (line_length split.front row split.back there.text location there.clean (subst (λ (rows : List LocatedLine). FitsAt (names_of rows) row location) split.is fits)))
     (λ k d inside.
-    (gives.placed.bytes (address_behind location k) (get_or bytes k d)).1
-    (placed_there (placed_by names) gives.rows row (address_behind location k, get_or bytes k d) within
-    (subst (λ es. Contains es (address_behind location k, get_or bytes k d)) (sym placed) (from_there location 0 bytes k k d inside (omega arith)))))
+    (gives.placed.bytes (address_after location k) (get_or bytes k d)).1
+    (placed_there (placed_by names) gives.rows row (address_after location k, get_or bytes k d) within
+    (subst (λ es. Contains es (address_after location k, get_or bytes k d)) (sym placed) (from_there location 0 bytes k k d inside (omega arith)))))

@@ -15,11 +15,11 @@ use Rattle.assembler_meaning.specs.Instructions.{code_bytes, instruction_size, n
 use Rattle.assembler_meaning.specs.Values.{Names}
 use Rattle.assembler_meaning.proofs.LeavesLength.{code_length}
 use Rattle.board_types.specs.TextLines.{text_lines}
-use Rattle.assembler.specs.declared.row.Content.TheVariants.{Code}
+use Rattle.assembler.specs.declared.kept_line.Content.TheVariants.{Code}
 use Rattle.assembler.specs.Placement.{bytes_by, bytes_from, content_of, fields_of, has_wrong_number, placed_by}
-use Rattle.assembler.specs.Rows.{Row, names_of}
+use Rattle.assembler.specs.LocatedLines.{LocatedLine, names_of}
 use Rattle.assembler.specs.Gives.{Fits, FitsAt}
-use Rattle.assembler.proofs.PlacingRows.{ends_within}
+use Rattle.assembler.proofs.PlacingLines.{ends_within}
 use Rattle.assembler.proofs.AnsweringPlaces.{placed_there as bytes_placed}
 use Rattle.assembler_laws.specs.DecodingBack.{instr_of, BytesDecodeBack, DecodesBack}
 use Rattle.assembler_laws.proofs.CleanRows.{all_there, clean_there, fields_fit, has_place, placed_there, some_there, HasPlace}
@@ -44,7 +44,7 @@ stands_there byte location i bytes is within each =
     found_is code (decoded_from code) i (length (spelling i)) (exact code (seen_long byte location) (seen_bytes byte location bytes))
     (record { is_instr = is; length = refl; spelled = seen_first byte location (spelling i) (none_is_longer i is) within each })
 
-row_decodes : (byte : ℕ → ℕ) (names : Names) (row : Row) (i : Written) → row.line.statement ≡ Instruction i → HasPlace row i → Fits names row
+row_decodes : (byte : ℕ → ℕ) (names : Names) (row : LocatedLine) (i : Written) → row.line.statement ≡ Instruction i → HasPlace row i → Fits names row
     → ((address : ℕ) → byte address < 256) → ((address b : ℕ) → Contains (placed_by names row) (address, b) → byte address ≡ b)
     → DecodesBack byte names row i
 row_decodes byte names row i is has fits bytes each =
@@ -81,6 +81,6 @@ row_decodes byte names row i is has fits bytes each =
 pub bytes_decode_back : BytesDecodeBack
 bytes_decode_back source image gives byte loaded row i within is =
     let names : Names = names_of gives.rows in
-    row_decodes byte names row i is (has_place row i is (clean_there (text_lines source) gives.rows row gives.are_rows within))
+    row_decodes byte names row i is (has_place row i is (clean_there (text_lines source) gives.rows row gives.are_located_lines within))
     (all_there (Fits names) gives.rows row gives.placed.fit within) loaded.bytes
     (λ address b there. loaded.holds address b ((gives.placed.bytes address b).1 (placed_there (placed_by names) gives.rows row (address, b) within there)))

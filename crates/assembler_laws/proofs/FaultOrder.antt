@@ -12,10 +12,10 @@ use Rattle.assembler_meaning.specs.declared.symbol.Location.{Location}
 use Rattle.assembler_meaning.specs.Values.{Names}
 use Rattle.assembler.specs.declared.fault.SourceFault.{SourceFault}
 use Rattle.assembler.specs.declared.fault.SourceFault.TheVariants.{BadLine, UnknownName, BadForm, TwiceDefined, Undefined, OutOfRange, OutOfSegment, Overlap, NoSegment, NotLoadable}
-use Rattle.assembler.specs.declared.row.Content.{Content}
+use Rattle.assembler.specs.declared.kept_line.Content.{Content}
 use Rattle.assembler.specs.FirstFault.{HasLateFault, IsTextFault, fault_of_line, source_fault_number}
 use Rattle.assembler.specs.Placement.{addresses_from, content_of, fault_at, has_wrong_number, is_loadable, is_past_end, is_placed, lacks_name, late_fault, placed_by_all}
-use Rattle.assembler.specs.Rows.{Row, defines_again, early_fault, has_unknown_constant, has_wrong_constant, lacks_form, names_of, opens_within, location_behind, stands_outside}
+use Rattle.assembler.specs.LocatedLines.{LocatedLine, defines_again, early_fault, has_unknown_constant, has_wrong_constant, lacks_form, names_of, opens_within, location_following, stands_outside}
 use Rattle.assembler_laws.specs.FirstFaults.{FaultsComeInPasses, HasEarly, HasLate, IsLeast, LeastNumbersComeFirst, is_early}
 use Rattle.assembler_laws.proofs.Uniqueness.{never_both}
 
@@ -57,8 +57,8 @@ above n (test fails fault more) other up found =
     let parts = and_parts (nat_lt n (source_fault_number fault)) (rises (source_fault_number fault) more) up in
     above_by n fails fault more other (below n (source_fault_number fault) parts.0) (above (source_fault_number fault) more other parts.1) found
 
-behind : (n : ℕ) (fault : SourceFault) (more : Tests) → rises n (test false fault more) ≡ true → rises (source_fault_number fault) more ≡ true
-behind n fault more up = (and_parts (nat_lt n (source_fault_number fault)) (rises (source_fault_number fault) more) up).1
+following : (n : ℕ) (fault : SourceFault) (more : Tests) → rises n (test false fault more) ≡ true → rises (source_fault_number fault) more ≡ true
+following n fault more up = (and_parts (nat_lt n (source_fault_number fault)) (rises (source_fault_number fault) more) up).1
 
 found_is_least : (n : ℕ) (tests : Tests) (fault : SourceFault) → rises n tests ≡ true → found_by tests ≡ Some fault → IsLeast (Finds tests) fault
 found_is_least n none fault up is = absurd (let never : None ≡ Some fault = is in cc)
@@ -67,9 +67,9 @@ found_is_least n (test true first more) fault up is =
   where
     least : (other : SourceFault) → Finds (test true first more) other → source_fault_number first ≤ source_fault_number other
     least other (inl same) = let number = ap source_fault_number same.1 in omega (arith, number)
-    least other (inr later) = let over = above (source_fault_number first) more other (behind n first more up) later in omega (arith, over)
+    least other (inr later) = let over = above (source_fault_number first) more other (following n first more up) later in omega (arith, over)
 found_is_least n (test false first more) fault up is =
-    let least = found_is_least (source_fault_number first) more fault (behind n first more up) is in
+    let least = found_is_least (source_fault_number first) more fault (following n first more up) is in
     record { has = inr least.has; least = over least.least }
   where
     over : ((other : SourceFault) → Finds more other → source_fault_number fault ≤ source_fault_number other)
@@ -84,11 +84,11 @@ least_is_found n (test true first more) fault up is = by is.has
     by : Finds (test true first more) fault → Some first ≡ Some fault
     by (inl same) = ap Some same.1
     by (inr later) =
-        let over = above (source_fault_number first) more fault (behind n first more up) later in
+        let over = above (source_fault_number first) more fault (following n first more up) later in
         let least = is.least first (inl (refl, refl)) in
         absurd (omega (arith, over, least))
 least_is_found n (test false first more) fault up is =
-    least_is_found (source_fault_number first) more fault (behind n first more up) (record { has = by is.has; least = λ other later. is.least other (inr later) })
+    least_is_found (source_fault_number first) more fault (following n first more up) (record { has = by is.has; least = λ other later. is.least other (inr later) })
   where
     by : Finds (test false first more) fault → Finds more fault
     by (inl same) = no same.0
@@ -177,7 +177,7 @@ of_reading line_faults.UnknownName = refl
 text_is_early : (names : Names) (location : Option Location) (text : List ℕ) (fault : SourceFault) → IsTextFault names location text fault → is_early fault ≡ true
 text_is_early names location text fault (inl read) = ap is_early read.2 ∙ of_reading read.0
 text_is_early names location text fault (inr found) =
-    let row : Row = found.0 in
+    let row : LocatedLine = found.0 in
     each_has (λ f. is_early f ≡ true) (early_tests names row.location row.line row.form) fault ((λ is. refl), ((λ is. refl), ((λ is. refl), ((λ is. refl), ((λ is. refl), tt)))))
     (early_finds names row.location row.line row.form fault ((early_least names row.location row.line row.form fault).0 found.2).has)
 
@@ -189,14 +189,14 @@ late_is_late names is_taken has_label (Some location) size content fault is =
     each_has (λ f. is_early f ≡ false) (late_tests names is_taken has_label location size content) fault ((λ is. refl), ((λ is. refl), ((λ is. refl), ((λ is. refl), ((λ is. refl), tt)))))
     (late_finds names is_taken has_label location size content fault ((late_least names is_taken has_label location size content fault).0 is).has)
 
-row_is_late : (rows : List Row) (fault : SourceFault) (number : ℕ) → HasLateFault rows fault number → is_early fault ≡ false
+row_is_late : (rows : List LocatedLine) (fault : SourceFault) (number : ℕ) → HasLateFault rows fault number → is_early fault ≡ false
 row_is_late rows fault number late =
     late_is_late (names_of rows) (is_placed (placed_by_all (names_of rows) late.front)) (is_some late.row.line.label) late.row.location late.row.size
     (content_of late.row.line.statement late.row.form) fault late.found
 
 pub faults_come_in_passes : FaultsComeInPasses
 faults_come_in_passes source = record {
-  early = λ fault number is. text_is_early (names_of is.rows) (location_behind is.rows) is.text fault is.found;
+  early = λ fault number is. text_is_early (names_of is.rows) (location_following is.rows) is.text fault is.found;
   late = λ fault number is. row_is_late is.rows fault number is.found;
   never_both = never_both source;
 }

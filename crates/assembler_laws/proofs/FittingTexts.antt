@@ -21,7 +21,7 @@ use Rattle.assembler_form.specs.declared.operand.KnownOperand.TheVariants as kno
 use Rattle.assembler_form.specs.declared.asked.Asked.{Asked}
 use Rattle.assembler_form.specs.declared.fields.Numbers.{Numbers}
 use Rattle.assembler_form.specs.Fields.{byte_of, displacement_in, field_kind, modulo, number_in, segment_in, signed_byte_of, values_of, values_with, word_of}
-use Rattle.assembler_form.specs.Parts.{first_place, in_place, place_at, place_of, place_without}
+use Rattle.assembler_form.specs.OperandBytes.{first_place, in_place, place_at, place_of, place_without}
 use Rattle.assembler_form.specs.Kinds.{is_direct, is_far_target, is_of}
 use Rattle.assembler_form.specs.Takes.{is_constant_within, is_within, Takes}
 use Rattle.assembler_form.proofs.Alike.{in_steps}

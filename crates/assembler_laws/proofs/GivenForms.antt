@@ -42,7 +42,7 @@ use Rattle.assembler_laws.specs.SameMeaning.{AreOf}
 use Rattle.assembler_laws.proofs.AskedTexts.{asked_by, Has}
 use Rattle.assembler_laws.proofs.ChosenRows.{first_field, has_field, second_field}
 use Rattle.assembler_laws.proofs.FittingTexts.{numbers_fit}
-use Rattle.assembler_laws.proofs.GivenTexts.{in_order_fits, never, rel_length, rel_number, row_tight}
+use Rattle.assembler_laws.proofs.GivenTexts.{in_order_fits, never, rel_length, rel_number, row_strict}
 use Rattle.assembler_laws.proofs.TakenTexts.{xchg_registers}
 use Rattle.assembler_laws.proofs.TextForms.{ask_both, ax, chosen_said, exchanged_is, first_asked, nop_says, numbers_said, plain_says, row_agrees, second_asked, AskBoth, Says}
 
@@ -111,8 +111,8 @@ order_fits location i f is near prefixes formed takes =
     let both : AskBoth i.form i.values next n = ask_both i.form i.values next is.form is.values in
     in_order_fits i.form i.values next n f.row (ip + instruction_size f (said_instruction i ip))
     (record {
-      tight = row_tight i.form.row is.form.row;
-      s_tight = row_tight f.row formed.row;
+      strict = row_strict i.form.row is.form.row;
+      s_strict = row_strict f.row formed.row;
       agrees = row_agrees i.form.row is.form.row;
       size = both.size;
       has_first = both.has_first;

@@ -103,19 +103,19 @@ is_byte_field _ = false
 abbrev pub implies : Bool → Bool → Bool
 implies a b = not a || b
 
-abbrev is_tight : Row → Bool
-is_tight r =
+abbrev is_strict : Row → Bool
+is_strict r =
     (implies (is_imm8 (second_of r)) (is_byte_kind (first_of r) || is_in (operation_of r))
     && implies (is_wide (second_of r)) (is_word_kind (first_of r) && not (is_in (operation_of r))))
     && ((implies (is_imm8 (first_of r)) (is_int_or_out (operation_of r)) && implies (is_int_or_out (operation_of r)) (not (is_wide (first_of r))))
     && ((implies (is_rel8 (first_of r)) (is_jmp (operation_of r) || is_short_jump (operation_of r)) && implies (is_short_jump (operation_of r)) (is_rel8 (first_of r)))
     && (not (is_rel8 (second_of r)) && implies (is_rel8 (first_of r)) (is_bare (second_part r) && is_byte_field (field_part r)))))
 
-all_tight : list_all is_tight rows ≡ true
+all_strict : list_all is_strict rows ≡ true
 unfolding rows
-all_tight = refl
+all_strict = refl
 
-pub record IsTight (r : Row) : Type 0 where
+pub record IsStrict (r : Row) : Type 0 where
   pub byte_second : implies (is_imm8 (second_of r)) (is_byte_kind (first_of r) || is_in (operation_of r)) ≡ true
   pub word_second : implies (is_wide (second_of r)) (is_word_kind (first_of r) && not (is_in (operation_of r))) ≡ true
   pub byte_first : implies (is_imm8 (first_of r)) (is_int_or_out (operation_of r)) ≡ true
@@ -125,9 +125,9 @@ pub record IsTight (r : Row) : Type 0 where
   pub no_second : not (is_rel8 (second_of r)) ≡ true
   pub bare : implies (is_rel8 (first_of r)) (is_bare (second_part r) && is_byte_field (field_part r)) ≡ true
 
-pub row_tight : (r : Row) → Contains rows r → IsTight r
-row_tight r within =
-    let one = and_parts _ _ (each is_tight rows r all_tight within) in
+pub row_strict : (r : Row) → Contains rows r → IsStrict r
+row_strict r within =
+    let one = and_parts _ _ (each is_strict rows r all_strict within) in
     let two = and_parts _ _ one.1 in
     let three = and_parts _ _ two.1 in
     let second = and_parts _ _ one.0 in
@@ -219,31 +219,31 @@ word_kind_not_byte f v next op kinds.Rm16 l other e size = word_not_byte op f.pl
 word_kind_not_byte f v next op _ l other e size = cc
 
 -- ---- the byte of a form that is chosen in the text's order
-byte_first_by : (f : Form) (v : Values) (next : ℕ) (s : Row) (n : Numbers) → IsTight f.row → IsTight s → operation_of s ≡ operation_of f.row → first_of s ≡ kinds.Imm8
+byte_first_by : (f : Form) (v : Values) (next : ℕ) (s : Row) (n : Numbers) → IsStrict f.row → IsStrict s → operation_of s ≡ operation_of f.row → first_of s ≡ kinds.Imm8
     → Has (first_written f v next) n → is_number (sized (operation_of f.row) (asked_by (first_written f v next)) (asked_by (second_written f v next))) ≡ true → IsByte n
-byte_first_by f v next s n tight s_tight same is has number =
+byte_first_by f v next s n strict s_strict same is has number =
     let op : Operation = operation_of f.row in
-    let outs : is_int_or_out op ≡ true = subst (λ (o : Operation). is_int_or_out o ≡ true) same (follows (is_imm8 (first_of s)) (is_int_or_out (operation_of s)) s_tight.byte_first (ap is_imm8 is)) in
-    let narrow : is_wide (first_of f.row) ≡ false = not_true (is_wide (first_of f.row)) (follows (is_int_or_out op) (not (is_wide (first_of f.row))) tight.word_first outs) in
+    let outs : is_int_or_out op ≡ true = subst (λ (o : Operation). is_int_or_out o ≡ true) same (follows (is_imm8 (first_of s)) (is_int_or_out (operation_of s)) s_strict.byte_first (ap is_imm8 is)) in
+    let narrow : is_wide (first_of f.row) ≡ false = not_true (is_wide (first_of f.row)) (follows (is_int_or_out op) (not (is_wide (first_of f.row))) strict.word_first outs) in
     narrow_byte f v next op (first_of f.row) (second_of f.row) (asked_by (second_written f v next)) n narrow has number
 
 either_true : (a b : Bool) → (a || b) ≡ true → b ≡ false → a ≡ true
 either_true true b e is_false = refl
 either_true false b e is_false = absurd (let contradiction : false ≡ true = sym is_false ∙ e in cc)
 
-byte_second_by : (f : Form) (v : Values) (next : ℕ) (s : Row) (n : Numbers) → IsTight f.row → IsTight s → operation_of s ≡ operation_of f.row → second_of s ≡ kinds.Imm8
+byte_second_by : (f : Form) (v : Values) (next : ℕ) (s : Row) (n : Numbers) → IsStrict f.row → IsStrict s → operation_of s ≡ operation_of f.row → second_of s ≡ kinds.Imm8
     → HasSize (operation_of f.row) (first_of f.row) (second_of f.row) (asked_by (second_written f v next))
     → IsTrue (is_of (operation_of f.row) (first_of s) (sized (operation_of f.row) (asked_by (first_written f v next)) (asked_by (second_written f v next))))
     → Has (second_written f v next) n → is_number (sized (operation_of f.row) (asked_by (second_written f v next)) (asked_by (first_written f v next))) ≡ true → IsByte n
-byte_second_by f v next s n tight s_tight same is size takes has number = by (is_wide (second_of f.row)) refl
+byte_second_by f v next s n strict s_strict same is size takes has number = by (is_wide (second_of f.row)) refl
   where
     by : (b : Bool) → is_wide (second_of f.row) ≡ b → IsByte n
     by false e = narrow_byte f v next (operation_of f.row) (second_of f.row) (first_of f.row) (asked_by (first_written f v next)) n e has number
     by true e =
-        let words = and_parts _ _ (follows (is_wide (second_of f.row)) (is_word_kind (first_of f.row) && not (is_in (operation_of f.row))) tight.word_second e) in
+        let words = and_parts _ _ (follows (is_wide (second_of f.row)) (is_word_kind (first_of f.row) && not (is_in (operation_of f.row))) strict.word_second e) in
         let no_in : is_in (operation_of s) ≡ false = ap is_in same ∙ not_true (is_in (operation_of f.row)) words.1 in
         let bytes : is_byte_kind (first_of s) ≡ true =
-        either_true (is_byte_kind (first_of s)) (is_in (operation_of s)) (follows (is_imm8 (second_of s)) (is_byte_kind (first_of s) || is_in (operation_of s)) s_tight.byte_second (ap is_imm8 is)) no_in in
+        either_true (is_byte_kind (first_of s)) (is_in (operation_of s)) (follows (is_imm8 (second_of s)) (is_byte_kind (first_of s) || is_in (operation_of s)) s_strict.byte_second (ap is_imm8 is)) no_in in
         never _ (word_kind_not_byte f v next (operation_of f.row) (first_of f.row) (second_of f.row) (asked_by (second_written f v next)) words.0 size)
         (byte_taken (operation_of f.row) (first_of s) (sized (operation_of f.row) (asked_by (first_written f v next)) (asked_by (second_written f v next))) bytes takes)
 
@@ -275,19 +275,19 @@ or_either : {A : Type 0} → (a b : Bool) → (a || b) ≡ true → (a ≡ true 
 or_either true b e one two = one refl
 or_either false b e one two = two e
 
-target_kind : (f : Form) (v : Values) (next : ℕ) (s : Row) → IsTight f.row → IsTight s → RowAgrees f.row → operation_of s ≡ operation_of f.row → first_of s ≡ kinds.Rel8
+target_kind : (f : Form) (v : Values) (next : ℕ) (s : Row) → IsStrict f.row → IsStrict s → RowAgrees f.row → operation_of s ≡ operation_of f.row → first_of s ≡ kinds.Rel8
     → IsTrue (is_of (operation_of f.row) kinds.Rel8 (sized (operation_of f.row) (asked_by (first_written f v next)) (asked_by (second_written f v next)))) → first_of f.row ≡ kinds.Rel8
-target_kind f v next s tight s_tight agrees same is takes =
+target_kind f v next s strict s_strict agrees same is takes =
     let op : Operation = operation_of f.row in
     let x : KnownOperand = sized op (asked_by (first_written f v next)) (asked_by (second_written f v next)) in
     let jumps : (is_jmp op || is_short_jump op) ≡ true =
-    subst (λ (o : Operation). (is_jmp o || is_short_jump o) ≡ true) same (follows (is_rel8 (first_of s)) (is_jmp (operation_of s) || is_short_jump (operation_of s)) s_tight.target (ap is_rel8 is)) in
+    subst (λ (o : Operation). (is_jmp o || is_short_jump o) ≡ true) same (follows (is_rel8 (first_of s)) (is_jmp (operation_of s) || is_short_jump (operation_of s)) s_strict.target (ap is_rel8 is)) in
     rel_is (first_of f.row)
     (or_either (is_jmp op) (is_short_jump op) jumps
     (λ e. let jmp : op ≡ Control control.Jmp = jmp_is op e in
     short_kind f v next op (first_of f.row) (second_of f.row) (asked_by (second_written f v next))
     (subst (λ (o : Operation). far_agrees o (first_of f.row) ≡ true) jmp agrees.far) (subst (λ (o : Operation). is_near o x ≡ true) jmp takes))
-    (λ e. follows (is_short_jump op) (is_rel8 (first_of f.row)) tight.targets e))
+    (λ e. follows (is_short_jump op) (is_rel8 (first_of f.row)) strict.targets e))
 
 bare_place : (s : Second) (reg : ℕ) (p : Place) → FitsSecond s reg p → is_bare s ≡ true → (s ≡ seconds.Absent) × (p ≡ places.Absent)
 bare_place seconds.Absent reg p fits e = (refl, fits.1)
@@ -301,8 +301,8 @@ byte_field_is _ e = cc
 pub rel_length : (f : Form) → IsForm f → first_of f.row ≡ kinds.Rel8 → form_length f ≡ 2
 unfolding form_length
 rel_length f is rel =
-    let tight : IsTight f.row = row_tight f.row is.row in
-    let bare = and_parts _ _ (follows (is_rel8 (first_of f.row)) (is_bare (second_part f.row) && is_byte_field (field_part f.row)) tight.bare (ap is_rel8 rel)) in
+    let strict : IsStrict f.row = row_strict f.row is.row in
+    let bare = and_parts _ _ (follows (is_rel8 (first_of f.row)) (is_bare (second_part f.row) && is_byte_field (field_part f.row)) strict.bare (ap is_rel8 rel)) in
     let place = bare_place (second_part f.row) f.reg f.place is.second bare.0 in
     rw (place.0, place.1, byte_field_is (field_part f.row) bare.1) refl
 
@@ -322,8 +322,8 @@ fits_byte kinds.Rel8 next n byte near = near refl
 fits_byte _ next n byte near = tt
 
 pub record Chosen (f : Form) (v : Values) (next : ℕ) (n : Numbers) (s : Row) : Type 0 where
-  pub tight : IsTight f.row
-  pub s_tight : IsTight s
+  pub strict : IsStrict f.row
+  pub s_strict : IsStrict s
   pub agrees : RowAgrees f.row
   pub size : HasSize (operation_of f.row) (first_of f.row) (second_of f.row) (asked_by (second_written f v next))
   pub has_first : Has (first_written f v next) n
@@ -339,14 +339,14 @@ in_order_fits f v next n s from is near = by (has_field (first_of s)) refl
         let same : field_kind s ≡ first_of s = first_field (first_of s) (second_of s) e in
         subst (λ (k : Kind). FitsByte k from n) (sym same)
         (fits_byte (first_of s) from n
-        (λ imm. byte_first_by f v next s n is.tight is.s_tight is.takes.operation imm is.has_first
+        (λ imm. byte_first_by f v next s n is.strict is.s_strict is.takes.operation imm is.has_first
         (subst (λ (k : Kind). is_of (operation_of f.row) k (sized (operation_of f.row) (asked_by (first_written f v next)) (asked_by (second_written f v next))) ≡ true) imm (in_steps (operation_of f.row) (first_of s) (sized (operation_of f.row) (asked_by (first_written f v next)) (asked_by (second_written f v next))) is.takes.first)))
-        (λ rel. near (target_kind f v next s is.tight is.s_tight is.agrees is.takes.operation rel
+        (λ rel. near (target_kind f v next s is.strict is.s_strict is.agrees is.takes.operation rel
         (subst (λ (k : Kind). is_of (operation_of f.row) k (sized (operation_of f.row) (asked_by (first_written f v next)) (asked_by (second_written f v next))) ≡ true) rel (in_steps (operation_of f.row) (first_of s) (sized (operation_of f.row) (asked_by (first_written f v next)) (asked_by (second_written f v next))) is.takes.first))) rel))
     by false e =
         let same : field_kind s ≡ second_of s = second_field (first_of s) (second_of s) e in
         subst (λ (k : Kind). FitsByte k from n) (sym same)
         (fits_byte (second_of s) from n
-        (λ imm. byte_second_by f v next s n is.tight is.s_tight is.takes.operation imm is.size (in_steps (operation_of f.row) (first_of s) (sized (operation_of f.row) (asked_by (first_written f v next)) (asked_by (second_written f v next))) is.takes.first) is.has_second
+        (λ imm. byte_second_by f v next s n is.strict is.s_strict is.takes.operation imm is.size (in_steps (operation_of f.row) (first_of s) (sized (operation_of f.row) (asked_by (first_written f v next)) (asked_by (second_written f v next))) is.takes.first) is.has_second
         (subst (λ (k : Kind). is_of (operation_of f.row) k (sized (operation_of f.row) (asked_by (second_written f v next)) (asked_by (first_written f v next))) ≡ true) imm (in_steps (operation_of f.row) (second_of s) (sized (operation_of f.row) (asked_by (second_written f v next)) (asked_by (first_written f v next))) is.takes.second)))
-        (λ rel. never (is_rel8 (second_of s)) (not_true (is_rel8 (second_of s)) is.s_tight.no_second) (ap is_rel8 rel)))
+        (λ rel. never (is_rel8 (second_of s)) (not_true (is_rel8 (second_of s)) is.s_strict.no_second) (ap is_rel8 rel)))

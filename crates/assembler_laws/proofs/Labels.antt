@@ -19,11 +19,11 @@ use Rattle.assembler_meaning.specs.declared.symbol.Symbol.TheVariants.{Label, Co
 use Rattle.assembler_meaning.specs.Values.{Names, constant_of, is_defined, meaning, same_name}
 use Rattle.assembler.specs.Gives.{Fits}
 use Rattle.assembler.specs.Placement.{bytes_by, bytes_from, content_of, placed_at, placed_by}
-use Rattle.assembler.specs.Rows.{Row, AreRows, constant_definition, defines_again, has_unknown_constant, is_same, label_definition, names_of, size_of, location_behind, statement_definition, statement_name, stands_outside, wants_segment}
-use Rattle.assembler.proofs.AnsweringPlaces.{clean_there, fits_there, placed_there, row_length, CleanThere}
+use Rattle.assembler.specs.LocatedLines.{LocatedLine, AreLocatedLines, constant_definition, defines_again, has_unknown_constant, is_same, label_definition, names_of, size_of, location_following, statement_definition, statement_name, stands_outside, wants_segment}
+use Rattle.assembler.proofs.AnsweringPlaces.{clean_there, fits_there, placed_there, line_length, CleanThere}
 use Rattle.assembler_laws.specs.Places.{LinesStandWhereCounted, StandsWhereCounted, said_constant}
 use Rattle.assembler_laws.proofs.Prefixes.{along, has_none, HasNone}
-use Rattle.assembler_laws.proofs.Standing.{stands_at, told_behind, told_of_none, AreClean, IsTold}
+use Rattle.assembler_laws.proofs.Standing.{stands_at, told_after, told_of_none, AreClean, IsTold}
 
 -- ---- what a label stands for
 bytes_same : (bytes : List ℕ) → bytes_eq bytes bytes ≡ true
@@ -150,49 +150,49 @@ nothing_outside known form (Org n) wants = refl
 nothing_outside known form (Data width items) wants = absurd (let never : true ≡ false = wants in cc)
 nothing_outside known form (Instruction i) wants = absurd (let never : true ≡ false = wants in cc)
 
-placed_nowhere : (names : Names) (row : Row) → row.location ≡ None → placed_by names row ≡ []
+placed_nowhere : (names : Names) (row : LocatedLine) → row.location ≡ None → placed_by names row ≡ []
 unfolding placed_by
 placed_nowhere names row at = ap (λ (o : Option Location). placed_at names o row.size (content_of row.line.statement row.form)) at
 
-counted_at : (front : List Row) (row : Row) (back : List Row) → CleanThere front row → Fits (names_of (front ++ row ∷ back)) row
+counted_at : (front : List LocatedLine) (row : LocatedLine) (back : List LocatedLine) → CleanThere front row → Fits (names_of (front ++ row ∷ back)) row
     → (here : Option Location) → row.location ≡ here → length (placed_by (names_of (front ++ row ∷ back)) row) ≡ row.size
 counted_at front row back there fits (Some location) at =
     ap length (placed_there (names_of (front ++ row ∷ back)) row location at)
     ∙ bytes_count location 0 (bytes_by (names_of (front ++ row ∷ back)) location row.size (content_of row.line.statement row.form))
-    ∙ row_length front row back there.text location there.clean (fits location at)
+    ∙ line_length front row back there.text location there.clean (fits location at)
 counted_at front row back there fits None at =
     let none : HasNone (names_of front) row.location row.line row.form = has_none (names_of front) row.location row.line row.form there.clean.clean in
     let wants : wants_segment row.line.statement ≡ false =
     (or_parts (is_some row.line.label) (wants_segment row.line.statement) (ap (λ (o : Option Location). stands_outside o row.line) (sym at) ∙ none.outside)).1 in
     ap length (placed_nowhere (names_of (front ++ row ∷ back)) row at)
-    ∙ sym (there.clean.is_row.size ∙ nothing_outside (names_of front) row.form row.line.statement wants)
+    ∙ sym (there.clean.is_located_line.size ∙ nothing_outside (names_of front) row.form row.line.statement wants)
 
 -- ---- the law
-stands_so : (texts : List (List ℕ)) (front : List Row) (row : Row) (back : List Row) → AreRows [] texts (front ++ row ∷ back)
+stands_so : (texts : List (List ℕ)) (front : List LocatedLine) (row : LocatedLine) (back : List LocatedLine) → AreLocatedLines [] texts (front ++ row ∷ back)
     → Fits (names_of (front ++ row ∷ back)) row → AreClean front → StandsWhereCounted (names_of (front ++ row ∷ back)) front row
 stands_so texts front row back are fits clean =
     let there : CleanThere front row = clean_there [] texts front row back are in
     let none : HasNone (names_of front) row.location row.line row.form = has_none (names_of front) row.location row.line row.form there.clean.clean in
-    let told : IsTold front = along IsTold told_behind [] texts front row back are told_of_none in
-    let at : row.location ≡ location_behind front = there.clean.is_row.location in
+    let told : IsTold front = along IsTold told_after [] texts front row back are told_of_none in
+    let at : row.location ≡ location_following front = there.clean.is_located_line.location in
     record {
       place = λ location. ((λ is. told location (sym at ∙ is)), (λ counted. at ∙ stands_at front location clean counted.0 counted.1));
       label = λ name is.
           let location = labelled row.location row.line name is none.outside in (
             location.0,
             location.1,
-            ap (λ (ns : Names). meaning ns name) (flat_map-append (λ (r : Row). r.names) front (row ∷ back))
-                ∙ ap (λ (ns : Names). meaning (names_of front ++ (ns ++ names_of back)) name) there.clean.is_row.names
-                ∙ label_there (names_of front) (names_of back) (location_behind front) row.line name location.0 is (sym at ∙ location.1)
+            ap (λ (ns : Names). meaning ns name) (flat_map-append (λ (r : LocatedLine). r.names) front (row ∷ back))
+                ∙ ap (λ (ns : Names). meaning (names_of front ++ (ns ++ names_of back)) name) there.clean.is_located_line.names
+                ∙ label_there (names_of front) (names_of back) (location_following front) row.line name location.0 is (sym at ∙ location.1)
                 (not_known (names_of front) row.line.label name is
                 (or_parts (option_map_or (is_defined (names_of front)) row.line.label false) _ none.again).0),
           );
       constant = λ name terms is.
-          let named = constant_there (names_of front) (names_of back) (location_behind front) row.line name terms is none.unknown none.again in (
+          let named = constant_there (names_of front) (names_of back) (location_following front) row.line name terms is none.unknown none.again in (
             named.0,
             named.1,
-            ap (λ (ns : Names). meaning ns name) (flat_map-append (λ (r : Row). r.names) front (row ∷ back))
-                ∙ ap (λ (ns : Names). meaning (names_of front ++ (ns ++ names_of back)) name) there.clean.is_row.names ∙ named.2,
+            ap (λ (ns : Names). meaning ns name) (flat_map-append (λ (r : LocatedLine). r.names) front (row ∷ back))
+                ∙ ap (λ (ns : Names). meaning (names_of front ++ (ns ++ names_of back)) name) there.clean.is_located_line.names ∙ named.2,
           );
       bytes = counted_at front row back there fits row.location refl;
     }
@@ -200,10 +200,10 @@ stands_so texts front row back are fits clean =
 pub lines_stand_where_counted : LinesStandWhereCounted
 lines_stand_where_counted source image gives front row back split =
     let texts : List (List ℕ) = text_lines source in
-    let are : AreRows [] texts (front ++ row ∷ back) = subst (AreRows [] texts) split gives.are_rows in
+    let are : AreLocatedLines [] texts (front ++ row ∷ back) = subst (AreLocatedLines [] texts) split gives.are_located_lines in
     let fits : Fits (names_of gives.rows) row = fits_there (names_of gives.rows) front row back (subst (AllByRecursion (Fits (names_of gives.rows))) split gives.placed.fit) in
     let clean : AreClean front = λ b r a is.
     clean_there [] texts b r (a ++ row ∷ back)
-    (subst (AreRows [] texts) (split ∙ ap (λ (rs : List Row). rs ++ row ∷ back) is ∙ append_assoc b (r ∷ a) (row ∷ back)) gives.are_rows) in
-    subst (λ (rows : List Row). StandsWhereCounted (names_of rows) front row) (sym split)
-    (stands_so texts front row back are (subst (λ (rows : List Row). Fits (names_of rows) row) split fits) clean)
+    (subst (AreLocatedLines [] texts) (split ∙ ap (λ (rs : List LocatedLine). rs ++ row ∷ back) is ∙ append_assoc b (r ∷ a) (row ∷ back)) gives.are_located_lines) in
+    subst (λ (rows : List LocatedLine). StandsWhereCounted (names_of rows) front row) (sym split)
+    (stands_so texts front row back are (subst (λ (rows : List LocatedLine). Fits (names_of rows) row) split fits) clean)

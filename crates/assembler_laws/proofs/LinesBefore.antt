@@ -5,31 +5,31 @@ use Rattle.std.proofs.lemmas.List.{length-append}
 use Rattle.board_types.specs.TextLines.{text_lines}
 use Rattle.assembler.specs.declared.fault.SourceFault.{SourceFault}
 use Rattle.assembler.specs.FirstFault.{IsEarlyFault, IsLateFault}
-use Rattle.assembler.specs.Rows.{Row, AreRows, IsCleanRow}
-use Rattle.assembler.proofs.AnsweringRows.{rows_up_to, RowsUpTo}
+use Rattle.assembler.specs.LocatedLines.{LocatedLine, AreLocatedLines, IsCleanLine}
+use Rattle.assembler.proofs.AnsweringLines.{lines_up_to, LinesUpTo}
 use Rattle.assembler_laws.specs.FirstFaults.{IsFirstLine, LinesBeforeAreClean}
 use Rattle.assembler_laws.proofs.FaultOrder.{faults_come_in_passes}
 use Rattle.assembler_laws.proofs.Uniqueness.{parted, IsLonger, IsSame}
 
-are_push : (before : List Row) (texts : List (List ℕ)) (rows : List Row) (text : List ℕ) (row : Row) → AreRows before texts rows → IsCleanRow (before ++ rows) text row
-    → AreRows before (texts ++ text ∷ []) (rows ++ row ∷ [])
-are_push before [] [] text row are is = (subst (λ (rs : List Row). IsCleanRow rs text row) (append-nil before) is, tt)
+are_push : (before : List LocatedLine) (texts : List (List ℕ)) (rows : List LocatedLine) (text : List ℕ) (row : LocatedLine) → AreLocatedLines before texts rows → IsCleanLine (before ++ rows) text row
+    → AreLocatedLines before (texts ++ text ∷ []) (rows ++ row ∷ [])
+are_push before [] [] text row are is = (subst (λ (rs : List LocatedLine). IsCleanLine rs text row) (append-nil before) is, tt)
 are_push before [] (r ∷ rows) text row are is = absurd are
 are_push before (t ∷ texts) [] text row are is = absurd are
 are_push before (t ∷ texts) (r ∷ rows) text row are is =
-    (are.0, are_push (before ++ r ∷ []) texts rows text row are.1 (subst (λ (rs : List Row). IsCleanRow rs text row) (sym (append_assoc before (r ∷ []) rows)) is))
+    (are.0, are_push (before ++ r ∷ []) texts rows text row are.1 (subst (λ (rs : List LocatedLine). IsCleanLine rs text row) (sym (append_assoc before (r ∷ []) rows)) is))
 
-rows_count : (before : List Row) (texts : List (List ℕ)) (rows : List Row) → AreRows before texts rows → length rows ≡ length texts
+rows_count : (before : List LocatedLine) (texts : List (List ℕ)) (rows : List LocatedLine) → AreLocatedLines before texts rows → length rows ≡ length texts
 rows_count before [] [] are = refl
 rows_count before [] (row ∷ rows) are = absurd are
 rows_count before (text ∷ texts) [] are = absurd are
 rows_count before (text ∷ texts) (row ∷ rows) are = ap suc (rows_count (before ++ row ∷ []) texts rows are.1)
 
-clean_to : (texts : List (List ℕ)) (rows : List Row) (front : List (List ℕ)) (text : List ℕ) (back : List (List ℕ)) → texts ≡ front ++ text ∷ back → AreRows [] texts rows
-    → (rs : List Row) × AreRows [] (front ++ text ∷ []) rs
+clean_to : (texts : List (List ℕ)) (rows : List LocatedLine) (front : List (List ℕ)) (text : List ℕ) (back : List (List ℕ)) → texts ≡ front ++ text ∷ back → AreLocatedLines [] texts rows
+    → (rs : List LocatedLine) × AreLocatedLines [] (front ++ text ∷ []) rs
 clean_to texts rows front text back split are =
-    let own : RowsUpTo [] front text = rows_up_to [] front text back rows (subst (λ (ts : List (List ℕ)). AreRows [] ts rows) split are) in
-    (own.rows ++ own.row ∷ [], are_push [] front own.rows text own.row own.clean own.is_row)
+    let own : LinesUpTo [] front text = lines_up_to [] front text back rows (subst (λ (ts : List (List ℕ)). AreLocatedLines [] ts rows) split are) in
+    (own.rows ++ own.row ∷ [], are_push [] front own.rows text own.row own.clean own.is_located_line)
 
 longer : {X : Type 0} (f : List X) (x : X) (g : List X) → IsLonger f x g → length f < length g
 longer f x g is = let long : length g ≡ length f + suc (length is.0) = ap length is.1 ∙ length-append f (x ∷ is.0) in omega (arith, long)
@@ -41,7 +41,7 @@ split_count xs front x back n split counted =
 
 clean_before : (source : List ℕ) (fault : SourceFault) (number : ℕ) (early : IsEarlyFault source fault number) (front : List (List ℕ)) (text : List ℕ)
     → length front + 1 < number → IsSame front text early.front early.text ⊎ (IsLonger front text early.front ⊎ IsLonger early.front early.text front)
-    → (rows : List Row) × AreRows [] (front ++ text ∷ []) rows
+    → (rows : List LocatedLine) × AreLocatedLines [] (front ++ text ∷ []) rows
 clean_before source fault number early front text below (inl same) =
     let at : length front ≡ length early.front = ap length same.0 in
     let counted : length early.front + 1 ≡ number = early.counted in

@@ -8,7 +8,7 @@ use Rattle.isa.specs.Row.{first_of, operation_of, second_of}
 use Rattle.isa.specs.Table.{rows as table}
 use Rattle.assembler_form.specs.declared.asked.Asked.{Asked}
 use Rattle.assembler_form.specs.Choice.{IsFirst as IsFirstRow, NoneTakes}
-use Rattle.assembler_form.specs.Parts.{form_with}
+use Rattle.assembler_form.specs.OperandBytes.{form_with}
 use Rattle.assembler_form.specs.Takes.{is_of, Takes}
 use Rattle.assembler_lexeme.specs.declared.fault.SyntaxFault.{SyntaxFault}
 use Rattle.assembler_syntax.specs.declared.statement.Line.{Line}
@@ -22,13 +22,13 @@ use Rattle.assembler.specs.declared.fault.AsmFault.{AsmFault}
 use Rattle.assembler.specs.declared.fault.AsmFault.TheVariants.{SourceTooLong, InLine, Memory}
 use Rattle.assembler.specs.declared.fault.SourceFault.{SourceFault}
 use Rattle.assembler.specs.FirstFault.{AreFaultless, IsFirst, IsTextFault, fault_of_line}
-use Rattle.assembler.specs.FirstPass.{row_of}
+use Rattle.assembler.specs.FirstPass.{located_of}
 use Rattle.assembler.specs.Gives.{source_limit, Gives}
-use Rattle.assembler.specs.Placement.{placed_by_all, row_fault}
-use Rattle.assembler.specs.Rows.{Row, AreRows, IsCleanRow, IsFormOf, IsRow, early_fault, names_of, location_behind}
+use Rattle.assembler.specs.Placement.{placed_by_all, located_fault}
+use Rattle.assembler.specs.LocatedLines.{LocatedLine, AreLocatedLines, IsCleanLine, IsFormOf, IsLocatedLine, early_fault, names_of, location_following}
 use Rattle.assembler.specs.SecondPass.{with_entries}
-use Rattle.assembler.proofs.PlacingWhole.{are_placed, no_entries, rows_sized}
-use Rattle.assembler.proofs.ReadingFaults.{is_row}
+use Rattle.assembler.proofs.PlacingWhole.{are_placed, no_entries, lines_sized}
+use Rattle.assembler.proofs.ReadingFaults.{is_located_line}
 use Rattle.assembler_laws.specs.FirstFaults.{EachSourceHasAnOutcome}
 use Rattle.assembler_laws.proofs.CleanRows.{all_clean}
 use Rattle.assembler_laws.proofs.Operations.{one_or_other}
@@ -109,43 +109,43 @@ form_of names (Data width items) = (None, refl)
 form_of names (Instruction i) = form_for (instruction_asked names i)
 
 -- ---- a text makes a clean row, or has a fault
-abbrev HasOutcome : List Row → List ℕ → Type 0
-HasOutcome before text = ((row : Row) × IsCleanRow before text row) ⊎ ((fault : SourceFault) × IsTextFault (names_of before) (location_behind before) text fault)
+abbrev HasOutcome : List LocatedLine → List ℕ → Type 0
+HasOutcome before text = ((row : LocatedLine) × IsCleanLine before text row) ⊎ ((fault : SourceFault) × IsTextFault (names_of before) (location_following before) text fault)
 
-row_outcome : (before : List Row) (text : List ℕ) (row : Row) → IsRow (names_of before) (location_behind before) text row → (o : Option SourceFault)
+row_outcome : (before : List LocatedLine) (text : List ℕ) (row : LocatedLine) → IsLocatedLine (names_of before) (location_following before) text row → (o : Option SourceFault)
     → early_fault (names_of before) row.location row.line row.form ≡ o → HasOutcome before text
-row_outcome before text row is None at = inl (row, record { is_row = is; clean = at })
+row_outcome before text row is None at = inl (row, record { is_located_line = is; clean = at })
 row_outcome before text row is (Some fault) at = inr (fault, inr (row, is, at))
 
-read_outcome : (before : List Row) (text : List ℕ) (r : Result Line SyntaxFault) → read_line text ≡ r → HasOutcome before text
+read_outcome : (before : List LocatedLine) (text : List ℕ) (r : Result Line SyntaxFault) → read_line text ≡ r → HasOutcome before text
 read_outcome before text (Ok line) reads =
     let form = form_of (names_of before) line.statement in
-    let row : Row = row_of (names_of before) (location_behind before) line form.0 in
-    row_outcome before text row (is_row (names_of before) (location_behind before) text line form.0 reads form.1)
+    let row : LocatedLine = located_of (names_of before) (location_following before) line form.0 in
+    row_outcome before text row (is_located_line (names_of before) (location_following before) text line form.0 reads form.1)
     (early_fault (names_of before) row.location row.line row.form) refl
 read_outcome before text (Err found) reads = inr (fault_of_line found, inl (found, reads, refl))
 
-text_outcome : (before : List Row) (text : List ℕ) → HasOutcome before text
+text_outcome : (before : List LocatedLine) (text : List ℕ) → HasOutcome before text
 text_outcome before text = read_outcome before text (read_line text) refl
 
 -- ---- all texts make clean rows, or one has the first fault
-record HasEarly (before : List Row) (texts : List (List ℕ)) : Type 0 where
+record HasEarly (before : List LocatedLine) (texts : List (List ℕ)) : Type 0 where
   pub front : List (List ℕ)
   pub text : List ℕ
   pub back : List (List ℕ)
   pub texts_are : texts ≡ front ++ text ∷ back
-  pub rows : List Row
-  pub clean : AreRows before front rows
+  pub rows : List LocatedLine
+  pub clean : AreLocatedLines before front rows
   pub fault : SourceFault
-  pub found : IsTextFault (names_of (before ++ rows)) (location_behind (before ++ rows)) text fault
+  pub found : IsTextFault (names_of (before ++ rows)) (location_following (before ++ rows)) text fault
 
-abbrev HaveOutcome : List Row → List (List ℕ) → Type 0
-HaveOutcome before texts = ((rows : List Row) × AreRows before texts rows) ⊎ HasEarly before texts
+abbrev HaveOutcome : List LocatedLine → List (List ℕ) → Type 0
+HaveOutcome before texts = ((rows : List LocatedLine) × AreLocatedLines before texts rows) ⊎ HasEarly before texts
 
-texts_behind : (before : List Row) (text : List ℕ) (texts : List (List ℕ)) (row : Row) → IsCleanRow before text row → HaveOutcome (before ++ row ∷ []) texts
+texts_after : (before : List LocatedLine) (text : List ℕ) (texts : List (List ℕ)) (row : LocatedLine) → IsCleanLine before text row → HaveOutcome (before ++ row ∷ []) texts
     → HaveOutcome before (text ∷ texts)
-texts_behind before text texts row is (inl clean) = inl (row ∷ clean.0, (is, clean.1))
-texts_behind before text texts row is (inr early) = inr (record {
+texts_after before text texts row is (inl clean) = inl (row ∷ clean.0, (is, clean.1))
+texts_after before text texts row is (inr early) = inr (record {
   front = text ∷ early.front;
   text = early.text;
   back = early.back;
@@ -153,10 +153,10 @@ texts_behind before text texts row is (inr early) = inr (record {
   rows = row ∷ early.rows;
   clean = (is, early.clean);
   fault = early.fault;
-  found = subst (λ (rs : List Row). IsTextFault (names_of rs) (location_behind rs) early.text early.fault) (append_assoc before (row ∷ []) early.rows) early.found;
+  found = subst (λ (rs : List LocatedLine). IsTextFault (names_of rs) (location_following rs) early.text early.fault) (append_assoc before (row ∷ []) early.rows) early.found;
 })
 
-fault_first : (before : List Row) (text : List ℕ) (texts : List (List ℕ)) (fault : SourceFault) → IsTextFault (names_of before) (location_behind before) text fault
+fault_first : (before : List LocatedLine) (text : List ℕ) (texts : List (List ℕ)) (fault : SourceFault) → IsTextFault (names_of before) (location_following before) text fault
     → HaveOutcome before (text ∷ texts)
 fault_first before text texts fault found = inr (record {
   front = [];
@@ -166,45 +166,45 @@ fault_first before text texts fault found = inr (record {
   rows = [];
   clean = tt;
   fault = fault;
-  found = subst (λ (rs : List Row). IsTextFault (names_of rs) (location_behind rs) text fault) (sym (append-nil before)) found;
+  found = subst (λ (rs : List LocatedLine). IsTextFault (names_of rs) (location_following rs) text fault) (sym (append-nil before)) found;
 })
 
-texts_outcome : (before : List Row) (texts : List (List ℕ)) → HaveOutcome before texts
+texts_outcome : (before : List LocatedLine) (texts : List (List ℕ)) → HaveOutcome before texts
 texts_outcome before [] = inl ([], tt)
 texts_outcome before (text ∷ texts) = elim (text_outcome before text) [
-  | inl made ↦ texts_behind before text texts made.0 made.1 (texts_outcome (before ++ made.0 ∷ []) texts)
+  | inl made ↦ texts_after before text texts made.0 made.1 (texts_outcome (before ++ made.0 ∷ []) texts)
   | inr has ↦ fault_first before text texts has.0 has.1
 ]
 
 -- ---- rows can all be placed, or one has the first fault
-record HasLate (names : Names) (before rows : List Row) : Type 0 where
-  pub front : List Row
-  pub row : Row
-  pub back : List Row
+record HasLate (names : Names) (before rows : List LocatedLine) : Type 0 where
+  pub front : List LocatedLine
+  pub row : LocatedLine
+  pub back : List LocatedLine
   pub rows_are : rows ≡ front ++ row ∷ back
   pub placed : AreFaultless names before front
   pub fault : SourceFault
-  pub found : row_fault names (before ++ front) row ≡ Some fault
+  pub found : located_fault names (before ++ front) row ≡ Some fault
 
-abbrev CanBePlaced : Names → List Row → List Row → Type 0
+abbrev CanBePlaced : Names → List LocatedLine → List LocatedLine → Type 0
 CanBePlaced names before rows = AreFaultless names before rows ⊎ HasLate names before rows
 
-rows_behind : (names : Names) (before : List Row) (row : Row) (rows : List Row) → row_fault names before row ≡ None → CanBePlaced names (before ++ row ∷ []) rows
+rows_after : (names : Names) (before : List LocatedLine) (row : LocatedLine) (rows : List LocatedLine) → located_fault names before row ≡ None → CanBePlaced names (before ++ row ∷ []) rows
     → CanBePlaced names before (row ∷ rows)
-rows_behind names before row rows none (inl free) = inl (none, free)
-rows_behind names before row rows none (inr late) = inr (record {
+rows_after names before row rows none (inl free) = inl (none, free)
+rows_after names before row rows none (inr late) = inr (record {
   front = row ∷ late.front;
   row = late.row;
   back = late.back;
-  rows_are = ap (λ (rs : List Row). row ∷ rs) late.rows_are;
+  rows_are = ap (λ (rs : List LocatedLine). row ∷ rs) late.rows_are;
   placed = (none, late.placed);
   fault = late.fault;
-  found = ap (λ (rs : List Row). row_fault names rs late.row) (sym (append_assoc before (row ∷ []) late.front)) ∙ late.found;
+  found = ap (λ (rs : List LocatedLine). located_fault names rs late.row) (sym (append_assoc before (row ∷ []) late.front)) ∙ late.found;
 })
 
-rows_by : (names : Names) (before : List Row) (row : Row) (rows : List Row) (o : Option SourceFault) → row_fault names before row ≡ o
+rows_by : (names : Names) (before : List LocatedLine) (row : LocatedLine) (rows : List LocatedLine) (o : Option SourceFault) → located_fault names before row ≡ o
     → CanBePlaced names (before ++ row ∷ []) rows → CanBePlaced names before (row ∷ rows)
-rows_by names before row rows None at rest = rows_behind names before row rows at rest
+rows_by names before row rows None at rest = rows_after names before row rows at rest
 rows_by names before row rows (Some fault) at rest = inr (record {
   front = [];
   row = row;
@@ -212,12 +212,12 @@ rows_by names before row rows (Some fault) at rest = inr (record {
   rows_are = refl;
   placed = tt;
   fault = fault;
-  found = ap (λ (rs : List Row). row_fault names rs row) (append-nil before) ∙ at;
+  found = ap (λ (rs : List LocatedLine). located_fault names rs row) (append-nil before) ∙ at;
 })
 
-rows_outcome : (names : Names) (before rows : List Row) → CanBePlaced names before rows
+rows_outcome : (names : Names) (before rows : List LocatedLine) → CanBePlaced names before rows
 rows_outcome names before [] = inl tt
-rows_outcome names before (row ∷ rows) = rows_by names before row rows (row_fault names before row) refl (rows_outcome names (before ++ row ∷ []) rows)
+rows_outcome names before (row ∷ rows) = rows_by names before row rows (located_fault names before row) refl (rows_outcome names (before ++ row ∷ []) rows)
 
 -- ---- the law
 abbrev Outcome : List ℕ → Type 0
@@ -232,17 +232,17 @@ too_long : SourceTooLong ≢ Memory
 too_long is = cc
 
 -- clean rows that can all be placed place an image
-gives_image : (source : List ℕ) (rows : List Row) → length source ≤ source_limit → AreRows [] (text_lines source) rows → AreFaultless (names_of rows) [] rows
+gives_image : (source : List ℕ) (rows : List LocatedLine) → length source ≤ source_limit → AreLocatedLines [] (text_lines source) rows → AreFaultless (names_of rows) [] rows
     → (image : List (ℕ × ℕ)) × Gives source image
 gives_image source rows within are free =
     let names : Names = names_of rows in
-    let sized = rows_sized names [] (text_lines source) rows are refl in
+    let sized = lines_sized names [] (text_lines source) rows are refl in
     let is_image = image_of_rows names [] rows [] no_entries free sized (all_place_bytes names rows (all_clean [] (text_lines source) rows are)) in (
       with_entries [] (placed_by_all names rows),
-      record { within = within; rows = rows; are_rows = are; placed = are_placed names rows free sized refl is_image },
+      record { within = within; rows = rows; are_located_lines = are; placed = are_placed names rows free sized refl is_image },
     )
 
-late_outcome : (source : List ℕ) (rows : List Row) → length source ≤ source_limit → AreRows [] (text_lines source) rows → CanBePlaced (names_of rows) [] rows → Outcome source
+late_outcome : (source : List ℕ) (rows : List LocatedLine) → length source ≤ source_limit → AreLocatedLines [] (text_lines source) rows → CanBePlaced (names_of rows) [] rows → Outcome source
 late_outcome source rows within are (inl free) = inr (gives_image source rows within are free)
 late_outcome source rows within are (inr late) = inl (
   InLine late.fault (length late.front + 1),

@@ -30,7 +30,7 @@ use Rattle.isa.specs.declared.register.SegmentRegister.TheVariants.{Es, Cs, Ss, 
 use Rattle.isa.specs.declared.row.Row.{Row as TableRow}
 use Rattle.isa.specs.Encoding.{addressing, base_number, code_number, displacement_field, encoding, field_bytes, mod_of, prefix_byte, reg_number, rm_of, second_bytes, FitsField, FitsForm, FitsPlace, FitsReg, FitsSecond, IsForm}
 use Rattle.isa.specs.Layout.{code_part, field_part, second_part}
-use Rattle.isa.specs.Rows.{HasDigit}
+use Rattle.isa.specs.RowSearch.{HasDigit}
 use Rattle.isa.specs.Table.{rows as table}
 use Rattle.isa.proofs.Rows.{code_within, digit_within, each}
 use Rattle.assembler_form.specs.Fields.{modulo}
@@ -47,14 +47,14 @@ use Rattle.assembler_meaning.specs.declared.symbol.Location.{Location}
 use Rattle.assembler_meaning.specs.Data.{data_bytes, item_bytes, number_bytes, piece_bytes, pieces_of, repeated, times_of}
 use Rattle.assembler_meaning.specs.Instructions.{code_bytes, numbers_of, prefixes_of}
 use Rattle.assembler_meaning.specs.Values.{Names, value_of}
-use Rattle.assembler.specs.declared.row.Content.{Content}
+use Rattle.assembler.specs.declared.kept_line.Content.{Content}
 use Rattle.assembler.specs.FirstFault.{AreFaultless}
-use Rattle.assembler.specs.Placement.{address_behind, addresses_from, bytes_by, bytes_from, content_of, fields_of, is_loadable, is_placed, late_fault, placed_at, placed_by, placed_by_all, row_fault}
-use Rattle.assembler.specs.Rows.{Row}
-use Rattle.assembler.specs.SecondPass.{HasSize, RowHasSize, with_entries}
+use Rattle.assembler.specs.Placement.{address_after, addresses_from, bytes_by, bytes_from, content_of, fields_of, is_loadable, is_placed, late_fault, placed_at, placed_by, placed_by_all, located_fault}
+use Rattle.assembler.specs.LocatedLines.{LocatedLine}
+use Rattle.assembler.specs.SecondPass.{HasSize, LineHasSize, with_entries}
 use Rattle.assembler.proofs.PlacingAddresses.{can_load_at}
 use Rattle.assembler.proofs.PlacingImage.{still_image}
-use Rattle.assembler.proofs.PlacingRows.{can_stand}
+use Rattle.assembler.proofs.PlacingLines.{can_stand}
 use Rattle.assembler_laws.proofs.CleanRows.{IsClean, HasPlace, fields_fit, has_place}
 use Rattle.assembler_laws.proofs.TextBytes.{are_bytes, below_byte, byte_below, has_bytes_texts, is_byte, is_bytes_item, is_bytes_piece, texts_are_bytes}
 
@@ -62,8 +62,8 @@ use Rattle.assembler_laws.proofs.TextBytes.{are_bytes, below_byte, byte_below, h
 alone : (b : ℕ) → b < 256 → are_bytes (b ∷ []) ≡ true
 alone b is = and_from (is_byte b) true (below_byte b is) refl
 
-behind : (b : ℕ) (bs : List ℕ) → b < 256 → are_bytes bs ≡ true → are_bytes (b ∷ bs) ≡ true
-behind b bs is all = and_from (is_byte b) (are_bytes bs) (below_byte b is) all
+following : (b : ℕ) (bs : List ℕ) → b < 256 → are_bytes bs ≡ true → are_bytes (b ∷ bs) ≡ true
+following b bs is all = and_from (is_byte b) (are_bytes bs) (below_byte b is) all
 
 joined : (xs ys : List ℕ) → are_bytes xs ≡ true → are_bytes ys ≡ true → are_bytes (xs ++ ys) ≡ true
 joined xs ys one two = list_all-append is_byte xs ys ∙ and_from (are_bytes xs) (are_bytes ys) one two
@@ -81,13 +81,13 @@ modulo_within m (pos n) some = omega arith
 modulo_within m (negsuc n) some = omega arith
 
 word_bytes : (n : ℕ) → n < 65536 → are_bytes (n % 256 ∷ n / 256 ∷ []) ≡ true
-word_bytes n few = behind (n % 256) (n / 256 ∷ []) (omega arith) (alone (n / 256) (omega (arith, few)))
+word_bytes n few = following (n % 256) (n / 256 ∷ []) (omega arith) (alone (n / 256) (omega (arith, few)))
 
 double_bytes : (n : ℕ) → n < 4294967296 → are_bytes (n % 256 ∷ n / 256 % 256 ∷ n / 65536 % 256 ∷ n / 16777216 ∷ []) ≡ true
 double_bytes n few =
-    behind (n % 256) (n / 256 % 256 ∷ n / 65536 % 256 ∷ n / 16777216 ∷ []) (omega arith)
-    (behind (n / 256 % 256) (n / 65536 % 256 ∷ n / 16777216 ∷ []) (omega arith)
-    (behind (n / 65536 % 256) (n / 16777216 ∷ []) (omega arith) (alone (n / 16777216) (omega (arith, few)))))
+    following (n % 256) (n / 256 % 256 ∷ n / 65536 % 256 ∷ n / 16777216 ∷ []) (omega arith)
+    (following (n / 256 % 256) (n / 65536 % 256 ∷ n / 16777216 ∷ []) (omega arith)
+    (following (n / 65536 % 256) (n / 16777216 ∷ []) (omega arith) (alone (n / 16777216) (omega (arith, few)))))
 
 number_in : (width : DataWidth) (n : ℤ) → are_bytes (number_bytes width n) ≡ true
 number_in Byte n = alone (modulo 256 n) (modulo_within 256 n (lit< tt))
@@ -131,7 +131,7 @@ prefix_in (prefixes.Repeat Rep) = lit< tt
 
 prefixes_in : (ps : List Prefix) → are_bytes (map prefix_byte ps) ≡ true
 prefixes_in [] = refl
-prefixes_in (p ∷ ps) = behind (prefix_byte p) (map prefix_byte ps) (prefix_in p) (prefixes_in ps)
+prefixes_in (p ∷ ps) = following (prefix_byte p) (map prefix_byte ps) (prefix_in p) (prefixes_in ps)
 
 abbrev is_exact_byte : Second → Bool
 is_exact_byte (seconds.Exactly byte) = is_byte byte
@@ -194,7 +194,7 @@ field_in fields.Far number segment fits =
 encoding_in : (f : Form) (v : Values) → IsForm f → FitsForm f v → are_bytes (encoding f v) ≡ true
 unfolding encoding
 encoding_in f v form fits =
-    behind (f.row.opcode + code_number (code_part f.row) f.code)
+    following (f.row.opcode + code_number (code_part f.row) f.code)
     (second_bytes (second_part f.row) f.reg f.place ++ (field_bytes (displacement_field f.place) v.displacement 0 ++ field_bytes (field_part f.row) v.number v.segment))
     (code_within f form)
     (joined (second_bytes (second_part f.row) f.reg f.place) (field_bytes (displacement_field f.place) v.displacement 0 ++ field_bytes (field_part f.row) v.number v.segment)
@@ -210,17 +210,17 @@ code_by f i (Some v) form fits = code_in f i v form (fits v refl)
 code_by f i None form fits = refl
 
 -- ---- rows
-abbrev pub PlacesBytes : Names → Row → Type 0
+abbrev pub PlacesBytes : Names → LocatedLine → Type 0
 PlacesBytes names row = (location : Location) → are_bytes (bytes_by names location row.size (content_of row.line.statement row.form)) ≡ true
 
-instruction_in : (names : Names) (row : Row) (location : Location) (i : Written) → row.line.statement ≡ statements.Instruction i → HasPlace row i
+instruction_in : (names : Names) (row : LocatedLine) (location : Location) (i : Written) → row.line.statement ≡ statements.Instruction i → HasPlace row i
     → are_bytes (bytes_by names location row.size (content_of (statements.Instruction i) row.form)) ≡ true
 instruction_in names row location i is has =
     rw has.has_form
     (code_by has.form i (fields_of names location row.size has.form i) has.is_form
     (λ v found. fields_fit has.form (location.offset + row.size) (numbers_of names location.offset i.operands) v found))
 
-statement_in : (names : Names) (row : Row) (location : Location) (s : Statement) → row.line.statement ≡ s → has_bytes_texts s ≡ true → IsClean row
+statement_in : (names : Names) (row : LocatedLine) (location : Location) (s : Statement) → row.line.statement ≡ s → has_bytes_texts s ≡ true → IsClean row
     → are_bytes (bytes_by names location row.size (content_of s row.form)) ≡ true
 statement_in names row location statements.Empty is texts there = refl
 statement_in names row location (statements.Segment name n) is texts there = refl
@@ -230,11 +230,11 @@ statement_in names row location (statements.Org n) is texts there = refl
 statement_in names row location (statements.Data width items) is texts there = data_in names location.offset width items texts
 statement_in names row location (statements.Instruction i) is texts there = instruction_in names row location i is (has_place row i is there)
 
-pub places_bytes : (names : Names) (row : Row) → IsClean row → PlacesBytes names row
+pub places_bytes : (names : Names) (row : LocatedLine) → IsClean row → PlacesBytes names row
 places_bytes names row there location =
-    statement_in names row location row.line.statement refl (texts_are_bytes there.text row.line there.clean.is_row.reads) there
+    statement_in names row location row.line.statement refl (texts_are_bytes there.text row.line there.clean.is_located_line.reads) there
 
-pub all_place_bytes : (names : Names) (rows : List Row) → AllByRecursion IsClean rows → AllByRecursion (PlacesBytes names) rows
+pub all_place_bytes : (names : Names) (rows : List LocatedLine) → AllByRecursion IsClean rows → AllByRecursion (PlacesBytes names) rows
 all_place_bytes names [] clean = tt
 all_place_bytes names (row ∷ rows) clean = (places_bytes names row clean.0, all_place_bytes names rows clean.1)
 
@@ -243,10 +243,10 @@ image_from : (image : List (ℕ × ℕ)) (location : Location) (n : ℕ) (bytes 
     → are_bytes bytes ≡ true → IsImage (with_entries image (bytes_from location n bytes))
 image_from image location n [] is loadable all = is
 image_from image location n (b ∷ bs) is loadable all =
-    let first = and_parts (is_loadable (address_behind location n)) (list_all is_loadable (addresses_from location (n + 1) (length bs))) loadable in
+    let first = and_parts (is_loadable (address_after location n)) (list_all is_loadable (addresses_from location (n + 1) (length bs))) loadable in
     let both = and_parts (is_byte b) (are_bytes bs) all in
-    image_from (insert_entry nat_cmp image (address_behind location n) b) location (n + 1) bs
-    (still_image image (address_behind location n) b is (can_load_at (address_behind location n) first.0) (byte_below b both.0)) first.1 both.1
+    image_from (insert_entry nat_cmp image (address_after location n) b) location (n + 1) bs
+    (still_image image (address_after location n) b is (can_load_at (address_after location n) first.0) (byte_below b both.0)) first.1 both.1
 
 image_at : (names : Names) (is_taken : ℕ → Bool) (has_label : Bool) (image : List (ℕ × ℕ)) (here : Option Location) (size : ℕ) (content : Option Content) → IsImage image
     → late_fault names is_taken has_label here size content ≡ None → HasSize names here size content
@@ -257,13 +257,13 @@ image_at names is_taken has_label image (Some location) size content is none has
     image_from image location 0 (bytes_by names location size content) is
     (ap (λ (n : ℕ). list_all is_loadable (addresses_from location 0 n)) (has_size can.known can.fits) ∙ can.loadable) (all location)
 
-image_by : (names : Names) (before : List Row) (row : Row) (image : List (ℕ × ℕ)) → IsImage image → row_fault names before row ≡ None → RowHasSize names row → PlacesBytes names row
+image_by : (names : Names) (before : List LocatedLine) (row : LocatedLine) (image : List (ℕ × ℕ)) → IsImage image → located_fault names before row ≡ None → LineHasSize names row → PlacesBytes names row
     → IsImage (with_entries image (placed_by names row))
 unfolding placed_by
 image_by names before row image is none sized all =
     image_at names (is_placed (placed_by_all names before)) _ image row.location row.size (content_of row.line.statement row.form) is none sized all
 
-pub image_of_rows : (names : Names) (before rows : List Row) (image : List (ℕ × ℕ)) → IsImage image → AreFaultless names before rows → AllByRecursion (RowHasSize names) rows
+pub image_of_rows : (names : Names) (before rows : List LocatedLine) (image : List (ℕ × ℕ)) → IsImage image → AreFaultless names before rows → AllByRecursion (LineHasSize names) rows
     → AllByRecursion (PlacesBytes names) rows → IsImage (with_entries image (placed_by_all names rows))
 image_of_rows names before [] image is free sized all = is
 image_of_rows names before (row ∷ rows) image is free sized all =

@@ -6,14 +6,14 @@ use Rattle.assembler_syntax.specs.declared.statement.Line.{Line}
 use Rattle.assembler_meaning.specs.declared.symbol.Location.{Location}
 use Rattle.assembler_meaning.specs.Values.{Names}
 use Rattle.assembler.specs.declared.fault.SourceFault.TheVariants.{BadLine, UnknownName, BadForm, TwiceDefined, NoSegment}
-use Rattle.assembler.specs.Rows.{Row, AreRows, early_fault, defines_again, has_unknown_constant, has_wrong_constant, lacks_form, opens_within, stands_outside}
+use Rattle.assembler.specs.LocatedLines.{LocatedLine, AreLocatedLines, early_fault, defines_again, has_unknown_constant, has_wrong_constant, lacks_form, opens_within, stands_outside}
 use Rattle.assembler.proofs.AnsweringPlaces.{CleanThere}
-use Rattle.assembler.proofs.PlacingRows.{is_else}
+use Rattle.assembler.proofs.PlacingLines.{is_else}
 
 -- a claim that holds of no lines, and of the lines before a line with it if it holds of those, holds of the lines
 -- before each
-pub along : (P : List Row → Type 0) → ((before : List Row) (row : Row) → CleanThere before row → P before → P (before ++ row ∷ []))
-    → (before : List Row) (texts : List (List ℕ)) (front : List Row) (row : Row) (back : List Row) → AreRows before texts (front ++ row ∷ back)
+pub along : (P : List LocatedLine → Type 0) → ((before : List LocatedLine) (row : LocatedLine) → CleanThere before row → P before → P (before ++ row ∷ []))
+    → (before : List LocatedLine) (texts : List (List ℕ)) (front : List LocatedLine) (row : LocatedLine) (back : List LocatedLine) → AreLocatedLines before texts (front ++ row ∷ back)
     → P before → P (before ++ front)
 along P more before [] [] row back are there = absurd are
 along P more before (text ∷ texts) [] row back are there = subst P (sym (append-nil before)) there

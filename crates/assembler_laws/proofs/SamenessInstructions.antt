@@ -14,7 +14,7 @@ use Rattle.assembler_form.specs.declared.operand.KnownOperand.TheVariants as ope
 use Rattle.assembler_form.specs.declared.fields.Numbers.{Numbers}
 use Rattle.assembler_form.specs.Asked.{asked}
 use Rattle.assembler_meaning.specs.Values.{Names}
-use Rattle.assembler_meaning.specs.Instructions.{or_else, operand_override, override_of, override_prefix, prefixes_of, number_by, known_number, known_displacement, known_operand, known_operands, instruction_asked, instruction_size, no_numbers, with_number, with_displacement, with_label, with_pointer, displacement_value, numbers_with, numbers_behind, numbers_of, code_bytes}
+use Rattle.assembler_meaning.specs.Instructions.{or_else, operand_override, override_of, override_prefix, prefixes_of, number_by, known_number, known_displacement, known_operand, known_operands, instruction_asked, instruction_size, no_numbers, with_number, with_displacement, with_label, with_pointer, displacement_value, numbers_with, numbers_after, numbers_of, code_bytes}
 use Rattle.assembler_laws.specs.Sameness.{IsOneToOne, renamed_terms, renamed_operand, renamed_instruction}
 use Rattle.assembler_laws.proofs.SamenessNames.{renamed_names, same_value, same_constant, same_label}
 
@@ -86,15 +86,15 @@ module _ (rename : Name → Name) (once : IsOneToOne rename) where
   same_numbers_with names here n (FarLabel name) = λ i. option_map (with_label n) (same_label rename once names name i)
   same_numbers_with names here n (FarPointer s o) = λ i. with_pointer n (same_value rename once names here s i) (same_value rename once names here o i)
 
-  same_numbers_behind : (names : Names) (here : ℕ) (n : Option Numbers) (os : List Operand)
-      → numbers_behind (renamed_names rename names) here n (map (renamed_operand rename) os) ≡ numbers_behind names here n os
-  same_numbers_behind names here None os = refl
-  same_numbers_behind names here (Some n) [] = refl
-  same_numbers_behind names here (Some n) (o ∷ os) =
-      same_numbers_behind names here (numbers_with (renamed_names rename names) here n (renamed_operand rename o)) os
-      ∙ ap (λ (m : Option Numbers). numbers_behind names here m os) (same_numbers_with names here n o)
+  same_numbers_after : (names : Names) (here : ℕ) (n : Option Numbers) (os : List Operand)
+      → numbers_after (renamed_names rename names) here n (map (renamed_operand rename) os) ≡ numbers_after names here n os
+  same_numbers_after names here None os = refl
+  same_numbers_after names here (Some n) [] = refl
+  same_numbers_after names here (Some n) (o ∷ os) =
+      same_numbers_after names here (numbers_with (renamed_names rename names) here n (renamed_operand rename o)) os
+      ∙ ap (λ (m : Option Numbers). numbers_after names here m os) (same_numbers_with names here n o)
 
   pub same_numbers : (names : Names) (here : ℕ) (os : List Operand)
       → numbers_of (renamed_names rename names) here (map (renamed_operand rename) os) ≡ numbers_of names here os
   unfolding numbers_of
-  same_numbers names here os = same_numbers_behind names here (Some no_numbers) os
+  same_numbers names here os = same_numbers_after names here (Some no_numbers) os

@@ -29,9 +29,9 @@ flat_changed f p q same (x ∷ xs) = λ i. same x i ++ flat_changed f p q same x
 abbrev pub renamed_names : (Name → Name) → Names → Names
 renamed_names rename names = map (λ (e : Name × Symbol). (rename e.0, e.1)) names
 
-pub renamed_behind : (rename : Name → Name) (a b : Names) → renamed_names rename (a ++ b) ≡ renamed_names rename a ++ renamed_names rename b
-renamed_behind rename [] b = refl
-renamed_behind rename (e ∷ es) b = λ i. (rename e.0, e.1) ∷ renamed_behind rename es b i
+pub renamed_after : (rename : Name → Name) (a b : Names) → renamed_names rename (a ++ b) ≡ renamed_names rename a ++ renamed_names rename b
+renamed_after rename [] b = refl
+renamed_after rename (e ∷ es) b = λ i. (rename e.0, e.1) ∷ renamed_after rename es b i
 
 module _ (rename : Name → Name) (once : IsOneToOne rename) where
   pub same_meaning : (names : Names) (name : Name) → meaning (renamed_names rename names) (rename name) ≡ meaning names name

@@ -14,10 +14,10 @@ use Rattle.assembler_syntax.specs.declared.statement.Instruction.{Instruction}
 use Rattle.board_types.specs.TextLines.{text_lines}
 use Rattle.assembler_meaning.specs.declared.symbol.Location.{Location}
 use Rattle.assembler_meaning.specs.Values.{Names}
-use Rattle.assembler.specs.declared.row.Content.{Content}
-use Rattle.assembler.specs.declared.row.Content.TheVariants.{Data, Code}
+use Rattle.assembler.specs.declared.kept_line.Content.{Content}
+use Rattle.assembler.specs.declared.kept_line.Content.TheVariants.{Data, Code}
 use Rattle.assembler.specs.Placement.{content_of, fields_for, fields_of, bytes_by, bytes_from, placed_at, placed_by, placed_by_all, lacks_name, has_wrong_number, is_past_end}
-use Rattle.assembler.specs.Rows.{Row, names_of}
+use Rattle.assembler.specs.LocatedLines.{LocatedLine, names_of}
 use Rattle.assembler.specs.Gives.{Fits, ArePlaced}
 use Rattle.assembler_laws.specs.Sameness.{IsOneToOne, renamed_item, renamed_instruction, renamed_statement, RenamingDoesNotCount}
 use Rattle.assembler_laws.proofs.SamenessNames.{renamed_names, flat_changed}
@@ -58,13 +58,13 @@ module _ (rename : Name → Name) (once : IsOneToOne rename) where
   same_placed_at names None size content = refl
   same_placed_at names (Some location) size content = ap (bytes_from location 0) (same_bytes names location size content)
 
-  same_placed : (names : Names) (row : Row) → placed_by (renamed_names rename names) (renamed_row rename row) ≡ placed_by names row
+  same_placed : (names : Names) (row : LocatedLine) → placed_by (renamed_names rename names) (renamed_row rename row) ≡ placed_by names row
   unfolding placed_by
   same_placed names row =
       ap (placed_at (renamed_names rename names) row.location row.size) (content_renamed rename row.line.statement row.form)
       ∙ same_placed_at names row.location row.size (content_of row.line.statement row.form)
 
-  same_placed_by_all : (names : Names) (rows : List Row)
+  same_placed_by_all : (names : Names) (rows : List LocatedLine)
       → placed_by_all (renamed_names rename names) (map (renamed_row rename) rows) ≡ placed_by_all names rows
   same_placed_by_all names rows =
       flat_changed (renamed_row rename) (placed_by (renamed_names rename names)) (placed_by names) (same_placed names) rows
@@ -81,7 +81,7 @@ module _ (rename : Name → Name) (once : IsOneToOne rename) where
   same_wrong names location size (Some (Data width items)) = λ k. not (same_items_fit rename once names location.offset width items k)
   same_wrong names location size (Some (Code f i)) = λ k. is_none (same_fields names location size f i k)
 
-  fits_renamed : (names : Names) (row : Row) → Fits names row → Fits (renamed_names rename names) (renamed_row rename row)
+  fits_renamed : (names : Names) (row : LocatedLine) → Fits names row → Fits (renamed_names rename names) (renamed_row rename row)
   fits_renamed names row fits = λ location at.
       let is = fits location at in
       let content = content_renamed rename row.line.statement row.form in
@@ -92,12 +92,12 @@ module _ (rename : Name → Name) (once : IsOneToOne rename) where
         within = ap (is_past_end location row.size) (same_labelling rename once row.line.label) ∙ is.within;
       }
 
-  all_fit_renamed : (names : Names) (rows : List Row)
+  all_fit_renamed : (names : Names) (rows : List LocatedLine)
       → AllByRecursion (Fits names) rows → AllByRecursion (Fits (renamed_names rename names)) (map (renamed_row rename) rows)
   all_fit_renamed names [] fit = fit
   all_fit_renamed names (row ∷ rows) fit = (fits_renamed names row fit.0, all_fit_renamed names rows fit.1)
 
-  placed_renamed : (rows : List Row) (image : List (ℕ × ℕ)) → ArePlaced rows image → ArePlaced (map (renamed_row rename) rows) image
+  placed_renamed : (rows : List LocatedLine) (image : List (ℕ × ℕ)) → ArePlaced rows image → ArePlaced (map (renamed_row rename) rows) image
   placed_renamed rows image is =
       let names : renamed_names rename (names_of rows) ≡ names_of (map (renamed_row rename) rows) = sym (names_renamed rename rows) in
       let same : placed_by_all (names_of rows) rows ≡ placed_by_all (names_of (map (renamed_row rename) rows)) (map (renamed_row rename) rows) =
@@ -114,6 +114,6 @@ pub renaming_is_nothing : RenamingDoesNotCount
 renaming_is_nothing rename once s t image differ within gives = record {
   within = within;
   rows = map (renamed_row rename) gives.rows;
-  are_rows = rows_renamed rename once [] (text_lines s) (text_lines t) gives.rows differ gives.are_rows;
+  are_located_lines = rows_renamed rename once [] (text_lines s) (text_lines t) gives.rows differ gives.are_located_lines;
   placed = placed_renamed rename once gives.rows image gives.placed;
 }

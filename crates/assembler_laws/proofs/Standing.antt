@@ -10,42 +10,42 @@ use Rattle.assembler_syntax.specs.declared.statement.Statement.TheVariants.{Empt
 use Rattle.assembler_meaning.specs.declared.symbol.Location.{Location}
 use Rattle.assembler_meaning.specs.Values.{Names, constant_of}
 use Rattle.assembler_meaning.specs.Data.{is_other, natural}
-use Rattle.assembler.specs.Rows.{Row, has_unknown_constant, has_wrong_constant, names_of, opened_at, set_to, location_after, location_behind, stands_outside, wants_segment}
+use Rattle.assembler.specs.LocatedLines.{LocatedLine, has_unknown_constant, has_wrong_constant, names_of, opened_at, set_to, location_after, location_following, stands_outside, wants_segment}
 use Rattle.assembler_laws.specs.Places.{IsCountedTo, IsOpenAt, SaysOffset, SaysParagraph, changes_segment, sets_location}
 use Rattle.assembler.proofs.AnsweringPlaces.{CleanThere}
 use Rattle.assembler_laws.proofs.Prefixes.{has_none, HasNone}
 
-abbrev pub size_of_row : Row → ℕ
+abbrev pub size_of_row : LocatedLine → ℕ
 size_of_row row = row.size
 
 abbrev pub at_place : ℕ → ℕ → Location
 at_place paragraph offset = record { segment = paragraph; offset = offset }
 
 -- the place after one more line
-pub behind_more : (before : List Row) (row : Row) → location_behind (before ++ row ∷ []) ≡ row.next
-behind_more before row = fold-append (λ (location : Option Location) (r : Row). r.next) None before (row ∷ [])
+pub after_more : (before : List LocatedLine) (row : LocatedLine) → location_following (before ++ row ∷ []) ≡ row.next
+after_more before row = fold-append (λ (location : Option Location) (r : LocatedLine). r.next) None before (row ∷ [])
 
-pub next_is : (before : List Row) (row : Row) → CleanThere before row
-    → location_behind (before ++ row ∷ []) ≡ location_after (names_of before) (location_behind before) row.line.statement row.size
-next_is before row there = behind_more before row ∙ there.clean.is_row.next
+pub next_is : (before : List LocatedLine) (row : LocatedLine) → CleanThere before row
+    → location_following (before ++ row ∷ []) ≡ location_after (names_of before) (location_following before) row.line.statement row.size
+next_is before row there = after_more before row ∙ there.clean.is_located_line.next
 
 all_push : {X : Type 0} (P : X → Type 0) (xs : List X) (x : X) → AllByRecursion P xs → P x → AllByRecursion P (xs ++ x ∷ [])
 all_push P [] x all is = (is, tt)
 all_push P (y ∷ ys) x all is = (all.0, all_push P ys x all.1 is)
 
 -- ---- from the place to what says it
-open_more : (lines : List Row) (row : Row) (paragraph : ℕ) → changes_segment row.line.statement ≡ false → IsOpenAt lines paragraph
+open_more : (lines : List LocatedLine) (row : LocatedLine) (paragraph : ℕ) → changes_segment row.line.statement ≡ false → IsOpenAt lines paragraph
     → IsOpenAt (lines ++ row ∷ []) paragraph
 open_more lines row paragraph stays opened = record {
   before = opened.before;
   opening = opened.opening;
   since = opened.since ++ row ∷ [];
-  split = ap (λ (ls : List Row). ls ++ row ∷ []) opened.split ∙ append_assoc opened.before (opened.opening ∷ opened.since) (row ∷ []);
+  split = ap (λ (ls : List LocatedLine). ls ++ row ∷ []) opened.split ∙ append_assoc opened.before (opened.opening ∷ opened.since) (row ∷ []);
   says = opened.says;
-  stays = all_push (λ (r : Row). changes_segment r.line.statement ≡ false) opened.since row opened.stays stays;
+  stays = all_push (λ (r : LocatedLine). changes_segment r.line.statement ≡ false) opened.since row opened.stays stays;
 }
 
-counted_more : (lines : List Row) (row : Row) (offset : ℕ) → sets_location row.line.statement ≡ false → IsCountedTo lines offset
+counted_more : (lines : List LocatedLine) (row : LocatedLine) (offset : ℕ) → sets_location row.line.statement ≡ false → IsCountedTo lines offset
     → IsCountedTo (lines ++ row ∷ []) (offset + row.size)
 counted_more lines row offset stays to =
     let count : sum_by size_of_row (to.since ++ row ∷ []) ≡ sum_by size_of_row to.since + row.size = sum_by_push size_of_row to.since row in
@@ -54,10 +54,10 @@ counted_more lines row offset stays to =
       before = to.before;
       setting = to.setting;
       since = to.since ++ row ∷ [];
-      split = ap (λ (ls : List Row). ls ++ row ∷ []) to.split ∙ append_assoc to.before (to.setting ∷ to.since) (row ∷ []);
+      split = ap (λ (ls : List LocatedLine). ls ++ row ∷ []) to.split ∙ append_assoc to.before (to.setting ∷ to.since) (row ∷ []);
       base = to.base;
       says = to.says;
-      stays = all_push (λ (r : Row). sets_location r.line.statement ≡ false) to.since row to.stays stays;
+      stays = all_push (λ (r : LocatedLine). sets_location r.line.statement ≡ false) to.since row to.stays stays;
       counted = ap (λ (n : ℕ). n + row.size) was ∙ (let same : (to.base + sum_by size_of_row to.since) + row.size ≡ to.base + sum_by size_of_row (to.since ++ row ∷ []) = omega (arith, count) in same);
     }
 
@@ -133,14 +133,14 @@ told_by known here (Org n) size location wrong at =
 told_by known here (Data width items) size location wrong at = inr (inr (moved_by here (Data width items) size location refl refl at))
 told_by known here (Instruction i) size location wrong at = inr (inr (moved_by here (Instruction i) size location refl refl at))
 
-abbrev pub IsTold : List Row → Type 0
-IsTold lines = (location : Location) → location_behind lines ≡ Some location → IsOpenAt lines location.segment × IsCountedTo lines location.offset
+abbrev pub IsTold : List LocatedLine → Type 0
+IsTold lines = (location : Location) → location_following lines ≡ Some location → IsOpenAt lines location.segment × IsCountedTo lines location.offset
 
-opens_here : (before : List Row) (row : Row) (paragraph : ℕ) → SaysParagraph (names_of before) row.line.statement paragraph
+opens_here : (before : List LocatedLine) (row : LocatedLine) (paragraph : ℕ) → SaysParagraph (names_of before) row.line.statement paragraph
     → IsOpenAt (before ++ row ∷ []) paragraph
 opens_here before row paragraph says = record { before = before; opening = row; since = []; split = refl; says = says; stays = tt }
 
-counts_here : (before : List Row) (row : Row) (offset : ℕ) → SaysOffset (names_of before) row.line.statement offset
+counts_here : (before : List LocatedLine) (row : LocatedLine) (offset : ℕ) → SaysOffset (names_of before) row.line.statement offset
     → IsCountedTo (before ++ row ∷ []) offset
 counts_here before row offset says = record {
   before = before;
@@ -153,7 +153,7 @@ counts_here before row offset says = record {
   counted = let same : offset ≡ offset + 0 = omega arith in same;
 }
 
-told_more : (before : List Row) (row : Row) (location : Location) → IsTold before → Told (names_of before) (location_behind before) row.line.statement row.size location
+told_more : (before : List LocatedLine) (row : LocatedLine) (location : Location) → IsTold before → Told (names_of before) (location_following before) row.line.statement row.size location
     → IsOpenAt (before ++ row ∷ []) location.segment × IsCountedTo (before ++ row ∷ []) location.offset
 told_more before row location is (inl opens) = (opens_here before row location.segment opens.paragraph, counts_here before row location.offset opens.offset)
 told_more before row location is (inr (inl sets)) =
@@ -165,32 +165,32 @@ told_more before row location is (inr (inr moves)) =
       subst (IsCountedTo (before ++ row ∷ [])) moves.moved (counted_more before row moves.from.offset moves.counts was.1),
     )
 
-pub told_behind : (before : List Row) (row : Row) → CleanThere before row → IsTold before → IsTold (before ++ row ∷ [])
-told_behind before row there is location at =
+pub told_after : (before : List LocatedLine) (row : LocatedLine) → CleanThere before row → IsTold before → IsTold (before ++ row ∷ [])
+told_after before row there is location at =
     let none : HasNone (names_of before) row.location row.line row.form =
     has_none (names_of before) row.location row.line row.form there.clean.clean in
     told_more before row location is
-    (told_by (names_of before) (location_behind before) row.line.statement row.size location none.wrong (sym (next_is before row there) ∙ at))
+    (told_by (names_of before) (location_following before) row.line.statement row.size location none.wrong (sym (next_is before row there) ∙ at))
 
 pub told_of_none : IsTold []
 told_of_none location at = absurd (let never : None ≡ Some location = at in cc)
 
 -- ---- from what says the place to the place
-abbrev pub AreClean : List Row → Type 0
-AreClean lines = (before : List Row) (row : Row) (after : List Row) → lines ≡ before ++ row ∷ after → CleanThere before row
+abbrev pub AreClean : List LocatedLine → Type 0
+AreClean lines = (before : List LocatedLine) (row : LocatedLine) (after : List LocatedLine) → lines ≡ before ++ row ∷ after → CleanThere before row
 
 -- a claim that holds if no line was passed, and holds for one more line if it holds for those that were passed, holds
 -- after all lines
-walked : (P : List Row → Type 0) (before : List Row) (test : Row → Bool)
-    → ((passed : List Row) (row : Row) → CleanThere (before ++ passed) row → test row ≡ false → P passed → P (passed ++ row ∷ []))
-    → (passed since : List Row) → AreClean (before ++ (passed ++ since)) → AllByRecursion (λ row. test row ≡ false) since
+walked : (P : List LocatedLine → Type 0) (before : List LocatedLine) (test : LocatedLine → Bool)
+    → ((passed : List LocatedLine) (row : LocatedLine) → CleanThere (before ++ passed) row → test row ≡ false → P passed → P (passed ++ row ∷ []))
+    → (passed since : List LocatedLine) → AreClean (before ++ (passed ++ since)) → AllByRecursion (λ row. test row ≡ false) since
     → P passed → P (passed ++ since)
 walked P before test more passed [] clean stays there = subst P (sym (append-nil passed)) there
 walked P before test more passed (row ∷ since) clean stays there =
     let same : (passed ++ row ∷ []) ++ since ≡ passed ++ row ∷ since = append_assoc passed (row ∷ []) since in
     let now = more passed row (clean (before ++ passed) row since (sym (append_assoc before passed (row ∷ since)))) stays.0 there in
     subst P same
-    (walked P before test more (passed ++ row ∷ []) since (λ b r a is. clean b r a (ap (λ (ls : List Row). before ++ ls) (sym same) ∙ is)) stays.1 now)
+    (walked P before test more (passed ++ row ∷ []) since (λ b r a is. clean b r a (ap (λ (ls : List LocatedLine). before ++ ls) (sym same) ∙ is)) stays.1 now)
 
 abbrev IsIn : ℕ → Option Location → Type 0
 IsIn paragraph here = (offset : ℕ) × (here ≡ Some (at_place paragraph offset))
@@ -271,57 +271,57 @@ to_first known here (Org n) size offset unknown placed says = set_at (constant_o
 to_first known here (Data width items) size offset unknown placed says = absurd says
 to_first known here (Instruction i) size offset unknown placed says = absurd says
 
-none_of : (before : List Row) (row : Row) → CleanThere before row → HasNone (names_of before) row.location row.line row.form
+none_of : (before : List LocatedLine) (row : LocatedLine) → CleanThere before row → HasNone (names_of before) row.location row.line row.form
 none_of before row there = has_none (names_of before) row.location row.line row.form there.clean.clean
 
-opened_location : (lines : List Row) (paragraph : ℕ) → AreClean lines → IsOpenAt lines paragraph → IsIn paragraph (location_behind lines)
+opened_location : (lines : List LocatedLine) (paragraph : ℕ) → AreClean lines → IsOpenAt lines paragraph → IsIn paragraph (location_following lines)
 opened_location lines paragraph clean opened =
-    let front : List Row = opened.before ++ opened.opening ∷ [] in
+    let front : List LocatedLine = opened.before ++ opened.opening ∷ [] in
     let parts : lines ≡ front ++ opened.since = opened.split ∙ sym (append_assoc opened.before (opened.opening ∷ []) opened.since) in
-    let first : IsIn paragraph (location_behind front) =
+    let first : IsIn paragraph (location_following front) =
     let there = clean opened.before opened.opening opened.since opened.split in
     subst (IsIn paragraph) (sym (next_is opened.before opened.opening there))
-    (in_first (names_of opened.before) (location_behind opened.before) opened.opening.line.statement opened.opening.size paragraph opened.says) in
-    let all = walked (λ (passed : List Row). IsIn paragraph (location_behind (front ++ passed))) front (λ (row : Row). changes_segment row.line.statement)
+    (in_first (names_of opened.before) (location_following opened.before) opened.opening.line.statement opened.opening.size paragraph opened.says) in
+    let all = walked (λ (passed : List LocatedLine). IsIn paragraph (location_following (front ++ passed))) front (λ (row : LocatedLine). changes_segment row.line.statement)
     (λ passed row there stays is.
-    subst (λ (ls : List Row). IsIn paragraph (location_behind ls)) (append_assoc front passed (row ∷ []))
+    subst (λ (ls : List LocatedLine). IsIn paragraph (location_following ls)) (append_assoc front passed (row ∷ []))
     (subst (IsIn paragraph) (sym (next_is (front ++ passed) row there))
-    (in_more (names_of (front ++ passed)) (location_behind (front ++ passed)) row.line.statement row.size paragraph (none_of (front ++ passed) row there).unknown stays is)))
+    (in_more (names_of (front ++ passed)) (location_following (front ++ passed)) row.line.statement row.size paragraph (none_of (front ++ passed) row there).unknown stays is)))
     [] opened.since (λ b r a is. clean b r a (parts ∙ is)) opened.stays
-    (subst (λ (ls : List Row). IsIn paragraph (location_behind ls)) (sym (append-nil front)) first) in
-    subst (λ (ls : List Row). IsIn paragraph (location_behind ls)) (sym parts) all
+    (subst (λ (ls : List LocatedLine). IsIn paragraph (location_following ls)) (sym (append-nil front)) first) in
+    subst (λ (ls : List LocatedLine). IsIn paragraph (location_following ls)) (sym parts) all
 
-counted_location : (lines : List Row) (offset : ℕ) → AreClean lines → IsCountedTo lines offset → IsTo offset (location_behind lines)
+counted_location : (lines : List LocatedLine) (offset : ℕ) → AreClean lines → IsCountedTo lines offset → IsTo offset (location_following lines)
 counted_location lines offset clean to =
-    let front : List Row = to.before ++ to.setting ∷ [] in
+    let front : List LocatedLine = to.before ++ to.setting ∷ [] in
     let parts : lines ≡ front ++ to.since = to.split ∙ sym (append_assoc to.before (to.setting ∷ []) to.since) in
-    let first : IsTo to.base (location_behind front) =
+    let first : IsTo to.base (location_following front) =
     let there = clean to.before to.setting to.since to.split in
     let none = none_of to.before to.setting there in
     subst (IsTo to.base) (sym (next_is to.before to.setting there))
-    (to_first (names_of to.before) (location_behind to.before) to.setting.line.statement to.setting.size to.base none.unknown
-    (λ wants. place_wanted (location_behind to.before) (is_some to.setting.line.label) (wants_segment to.setting.line.statement) wants
+    (to_first (names_of to.before) (location_following to.before) to.setting.line.statement to.setting.size to.base none.unknown
+    (λ wants. place_wanted (location_following to.before) (is_some to.setting.line.label) (wants_segment to.setting.line.statement) wants
     (λ (here : Option Location). stands_outside here to.setting.line) refl
-    (ap (λ (here : Option Location). stands_outside here to.setting.line) (sym there.clean.is_row.location) ∙ none.outside)) to.says) in
-    let At : List Row → Type 0 = λ passed. IsTo (to.base + sum_by size_of_row passed) (location_behind (front ++ passed)) in
-    let all = walked At front (λ (row : Row). sets_location row.line.statement)
+    (ap (λ (here : Option Location). stands_outside here to.setting.line) (sym there.clean.is_located_line.location) ∙ none.outside)) to.says) in
+    let At : List LocatedLine → Type 0 = λ passed. IsTo (to.base + sum_by size_of_row passed) (location_following (front ++ passed)) in
+    let all = walked At front (λ (row : LocatedLine). sets_location row.line.statement)
     (λ passed row there stays is.
     let more : (to.base + sum_by size_of_row passed) + row.size ≡ to.base + sum_by size_of_row (passed ++ row ∷ []) =
     omega (arith, sum_by_push size_of_row passed row) in
-    subst (λ (n : ℕ). IsTo n (location_behind (front ++ (passed ++ row ∷ [])))) more
-    (subst (λ (ls : List Row). IsTo ((to.base + sum_by size_of_row passed) + row.size) (location_behind ls)) (append_assoc front passed (row ∷ []))
+    subst (λ (n : ℕ). IsTo n (location_following (front ++ (passed ++ row ∷ [])))) more
+    (subst (λ (ls : List LocatedLine). IsTo ((to.base + sum_by size_of_row passed) + row.size) (location_following ls)) (append_assoc front passed (row ∷ []))
     (subst (IsTo ((to.base + sum_by size_of_row passed) + row.size)) (sym (next_is (front ++ passed) row there))
-    (to_more (names_of (front ++ passed)) (location_behind (front ++ passed)) row.line.statement row.size (to.base + sum_by size_of_row passed) stays is))))
+    (to_more (names_of (front ++ passed)) (location_following (front ++ passed)) row.line.statement row.size (to.base + sum_by size_of_row passed) stays is))))
     [] to.since (λ b r a is. clean b r a (parts ∙ is)) to.stays
-    (subst (λ (ls : List Row). IsTo (to.base + 0) (location_behind ls)) (sym (append-nil front))
-    (subst (λ (n : ℕ). IsTo n (location_behind front)) (let same : to.base ≡ to.base + 0 = omega arith in same) first)) in
-    subst (λ (n : ℕ). IsTo n (location_behind lines)) (sym to.counted) (subst (λ (ls : List Row). IsTo (to.base + sum_by size_of_row to.since) (location_behind ls)) (sym parts) all)
+    (subst (λ (ls : List LocatedLine). IsTo (to.base + 0) (location_following ls)) (sym (append-nil front))
+    (subst (λ (n : ℕ). IsTo n (location_following front)) (let same : to.base ≡ to.base + 0 = omega arith in same) first)) in
+    subst (λ (n : ℕ). IsTo n (location_following lines)) (sym to.counted) (subst (λ (ls : List LocatedLine). IsTo (to.base + sum_by size_of_row to.since) (location_following ls)) (sym parts) all)
 
 both_are : (location : Location) (here : Option Location) → IsIn location.segment here → IsTo location.offset here → here ≡ Some location
 both_are location here inside to =
     let same : at_place location.segment inside.0 ≡ at_place to.0 location.offset = some_is _ _ (sym inside.1 ∙ to.1) in
     to.1 ∙ ap (λ (l : Location). Some (at_place l.segment location.offset)) (sym same)
 
-pub stands_at : (lines : List Row) (location : Location) → AreClean lines → IsOpenAt lines location.segment → IsCountedTo lines location.offset
-    → location_behind lines ≡ Some location
-stands_at lines location clean opened to = both_are location (location_behind lines) (opened_location lines location.segment clean opened) (counted_location lines location.offset clean to)
+pub stands_at : (lines : List LocatedLine) (location : Location) → AreClean lines → IsOpenAt lines location.segment → IsCountedTo lines location.offset
+    → location_following lines ≡ Some location
+stands_at lines location clean opened to = both_are location (location_following lines) (opened_location lines location.segment clean opened) (counted_location lines location.offset clean to)

@@ -27,7 +27,7 @@ use Rattle.isa.specs.declared.row.Kind.TheVariants as kinds
 use Rattle.isa.specs.declared.row.Clocks.TheVariants.{Place as AtPlace, Always}
 use Rattle.isa.specs.declared.row.Row.{Row}
 use Rattle.isa.specs.Row.{first_of, operation_of, second_of}
-use Rattle.isa.specs.Registers.{segment_register_of}
+use Rattle.isa.specs.RegisterNumbers.{segment_register_of}
 use Rattle.isa.specs.Table.{row, row/, rows}
 use Rattle.isa.specs.Layout.{code_part, second_part}
 use Rattle.isa.specs.Encoding.{sign_extended, FitsCode, FitsForm, FitsSecond, IsForm, IsInstr, IsMemory, IsPlace}

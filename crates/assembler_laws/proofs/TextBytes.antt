@@ -20,13 +20,13 @@ use Rattle.assembler_lexeme.specs.declared.fault.SyntaxFault.{SyntaxFault}
 use Rattle.assembler_lexeme.specs.declared.fault.SyntaxFault.TheVariants.{BadLine, UnknownName, BadCharacter}
 use Rattle.assembler_lexeme.specs.declared.name.Name.{Name}
 use Rattle.assembler_lexeme.specs.declared.token.Token.{Token}
-use Rattle.assembler_lexeme.specs.declared.token.Token.TheVariants.{One, Number, Named, Quoted, Word, Mark}
-use Rattle.assembler_lexeme.specs.declared.token.Mark.{Mark as MarkType}
-use Rattle.assembler_lexeme.specs.declared.token.Mark.TheVariants as marks
+use Rattle.assembler_lexeme.specs.declared.token.Token.TheVariants.{One, Number, Named, Quoted, Word, Punctuator}
+use Rattle.assembler_lexeme.specs.declared.token.Punctuator.{Punctuator as PunctuatorType}
+use Rattle.assembler_lexeme.specs.declared.token.Punctuator.TheVariants as punctuators
 use Rattle.assembler_lexeme.specs.Lexemes.{is_character, is_letter, is_digit, is_blank, is_word_byte, lexemes_from, lexemes}
 use Rattle.assembler_lexeme.specs.Faults.{◌>>=◌, all_of, wanted}
 use Rattle.assembler_lexeme.specs.Numbers.{last_byte, number_of}
-use Rattle.assembler_lexeme.specs.Tokens.{name_of, word_token, number_token, text_token, between_quotes, quoted_token, mark_of, mark_token, token_of, tokens_of}
+use Rattle.assembler_lexeme.specs.Tokens.{name_of, word_token, number_token, text_token, between_quotes, quoted_token, punctuator_of, punctuator_token, token_of, tokens_of}
 use Rattle.assembler_syntax.specs.declared.expression.Term.{Term}
 use Rattle.assembler_syntax.specs.declared.statement.DataWidth.{DataWidth}
 use Rattle.assembler_syntax.specs.declared.statement.DataWidth.TheVariants as widths
@@ -41,7 +41,7 @@ use Rattle.assembler_syntax.specs.PartSteps.{parts, parts_from, parts_here, is_o
 use Rattle.assembler_syntax.specs.ExpressionSteps.{expression_of, constant_of}
 use Rattle.assembler_syntax.specs.OperandSteps.{operands_of}
 use Rattle.assembler_syntax.specs.ItemSteps.{value_piece, single_piece, piece_of, pieces_of, in_parentheses, repeated, item_by, item_of, items_of}
-use Rattle.assembler_syntax.specs.StatementSteps.{segment_by, is_at, segment_of, ends_of, org_of, data_of, equ_of, directive_of, instruction_of, onto_prefixes, segment_token, prefixes_of, is_directive, keyword_statement, word_statement, led_statement, statement_behind, prefixed_statement, is_equ, statement_of}
+use Rattle.assembler_syntax.specs.StatementSteps.{segment_by, is_at, segment_of, ends_of, org_of, data_of, equ_of, directive_of, instruction_of, onto_prefixes, segment_token, prefixes_of, is_directive, keyword_statement, word_statement, led_statement, statement_after, prefixed_statement, is_equ, statement_of}
 use Rattle.assembler_syntax.specs.LineSteps.{with_label, labelled, line_of, read_line as read_in_steps}
 use Rattle.assembler_syntax.specs.Lines.{read_line}
 use Rattle.assembler_syntax.proofs.Alike.{text_alike}
@@ -177,21 +177,21 @@ quoted_in : (l : List ℕ) (t : Token) → are_bytes l ≡ true → quoted_token
 unfolding quoted_token
 quoted_in l t all is = quoted_is l (nat_le 3 (length l) && last_byte l == 39) t all is
 
-mark_is : (m : Option MarkType) (t : Token) → option_map Mark m ≡ Some t → has_bytes t ≡ true
-mark_is (Some m) t is = let same : Mark m ≡ t = cc in rw (← same) refl
-mark_is None t is = absurd (cc)
+punctuator_is : (m : Option PunctuatorType) (t : Token) → option_map Punctuator m ≡ Some t → has_bytes t ≡ true
+punctuator_is (Some m) t is = let same : Punctuator m ≡ t = cc in rw (← same) refl
+punctuator_is None t is = absurd (cc)
 
-mark_in : (l : List ℕ) (t : Token) → mark_token l ≡ Some t → has_bytes t ≡ true
-mark_in [] t is = absurd (cc)
-mark_in (b ∷ []) t is = mark_is (mark_of b) t is
-mark_in (b ∷ c ∷ cs) t is = absurd (cc)
+punctuator_in : (l : List ℕ) (t : Token) → punctuator_token l ≡ Some t → has_bytes t ≡ true
+punctuator_in [] t is = absurd (cc)
+punctuator_in (b ∷ []) t is = punctuator_is (punctuator_of b) t is
+punctuator_in (b ∷ c ∷ cs) t is = absurd (cc)
 
 kind_in : (l : List ℕ) (t : Token) (letter digit quote : Bool) → are_bytes l ≡ true
-    → (if letter then word_token l else (if digit then number_token l else (if quote then quoted_token l else mark_token l))) ≡ Some t → has_bytes t ≡ true
+    → (if letter then word_token l else (if digit then number_token l else (if quote then quoted_token l else punctuator_token l))) ≡ Some t → has_bytes t ≡ true
 kind_in l t true digit quote all is = word_in l t is
 kind_in l t false true quote all is = number_in l t is
 kind_in l t false false true all is = quoted_in l t all is
-kind_in l t false false false all is = mark_in l t is
+kind_in l t false false false all is = punctuator_in l t is
 
 wanted_is : {A : Type 0} (o : Option A) (x : A) → wanted o ≡ Ok x → o ≡ Some x
 wanted_is (Some y) x is = cc
@@ -275,7 +275,7 @@ single_in widths.Byte One p all is = value_in (One ∷ []) p is
 single_in widths.Byte (Number k) p all is = value_in (Number k ∷ []) p is
 single_in widths.Byte (Named name) p all is = value_in (Named name ∷ []) p is
 single_in widths.Byte (Word meaning) p all is = value_in (Word meaning ∷ []) p is
-single_in widths.Byte (Mark mark) p all is = value_in (Mark mark ∷ []) p is
+single_in widths.Byte (Punctuator punctuator) p all is = value_in (Punctuator punctuator ∷ []) p is
 single_in widths.Word t p all is = value_in (t ∷ []) p is
 single_in widths.Double t p all is = value_in (t ∷ []) p is
 
@@ -417,14 +417,14 @@ led_in : (ps : List Prefix) (t : Token) (ts : List Token) (s : Statement) → ha
 led_in ps (Word m) ts s all is = word_statement_in ps m ts s all is
 led_in ps t ts s all is = absurd (cc)
 
-behind_in : (ps : List Prefix) (ts : List Token) (s : Statement) → have_bytes ts ≡ true → statement_behind ps ts ≡ Ok s → has_bytes_texts s ≡ true
-unfolding statement_behind
-behind_in ps [] s all is = absurd (cc)
-behind_in ps (t ∷ ts) s all is = led_in ps t ts s ((and_parts (has_bytes t) (have_bytes ts) all).1) is
+after_in : (ps : List Prefix) (ts : List Token) (s : Statement) → have_bytes ts ≡ true → statement_after ps ts ≡ Ok s → has_bytes_texts s ≡ true
+unfolding statement_after
+after_in ps [] s all is = absurd (cc)
+after_in ps (t ∷ ts) s all is = led_in ps t ts s ((and_parts (has_bytes t) (have_bytes ts) all).1) is
 
 prefixed_in : (ts : List Token) (s : Statement) → have_bytes ts ≡ true → prefixed_statement ts ≡ Ok s → has_bytes_texts s ≡ true
 unfolding prefixed_statement
-prefixed_in ts s all is = behind_in (prefixes_of ts).0 (prefixes_of ts).1 s (prefixes_in ts all) is
+prefixed_in ts s all is = after_in (prefixes_of ts).0 (prefixes_of ts).1 s (prefixes_in ts all) is
 
 second_by : (t u : Token) (ts : List Token) (s : Statement) (test : Bool) → have_bytes (t ∷ u ∷ ts) ≡ true
     → (if test then equ_of t ts else prefixed_statement (t ∷ u ∷ ts)) ≡ Ok s → has_bytes_texts s ≡ true
@@ -448,7 +448,7 @@ with_label_in label ts line all is = with_label_by label (statement_of ts) line 
 
 named_in : (label : Name) (u : Token) (ts : List Token) (line : Line) → have_bytes (u ∷ ts) ≡ true → labelled (Named label) u ts ≡ Ok line
     → has_bytes_texts line.statement ≡ true
-named_in label (Mark marks.Colon) ts line all is = with_label_in (Some label) ts line all is
+named_in label (Punctuator punctuators.Colon) ts line all is = with_label_in (Some label) ts line all is
 named_in label u ts line all is = with_label_in None (Named label ∷ u ∷ ts) line all is
 
 labelled_in : (t u : Token) (ts : List Token) (line : Line) → have_bytes (t ∷ u ∷ ts) ≡ true → labelled t u ts ≡ Ok line → has_bytes_texts line.statement ≡ true

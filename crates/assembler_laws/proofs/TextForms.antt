@@ -45,7 +45,7 @@ use Rattle.assembler_form.specs.Asked.{asked, asked_in_order, asked_of, is_excha
 use Rattle.assembler_form.specs.Choice.{IsChosen}
 use Rattle.assembler_meaning.specs.declared.symbol.Location.{Location}
 use Rattle.assembler_meaning.specs.Values.{Names, constant_of, value_of}
-use Rattle.assembler_meaning.specs.Instructions.{displacement_value, instruction_asked, instruction_size, known_displacement, known_operand, known_operands, no_numbers, number_by, numbers_behind, numbers_of, numbers_with, operand_override, or_else, override_of, override_prefix, prefixes_of, with_displacement, with_number, IsFormFor}
+use Rattle.assembler_meaning.specs.Instructions.{displacement_value, instruction_asked, instruction_size, known_displacement, known_operand, known_operands, no_numbers, number_by, numbers_after, numbers_of, numbers_with, operand_override, or_else, override_of, override_prefix, prefixes_of, with_displacement, with_number, IsFormFor}
 use Rattle.assembler.specs.Placement.{fields_for, fields_of}
 use Rattle.assembler_laws.specs.DecodingBack.{instr_of}
 use Rattle.assembler_laws.specs.SaidTexts.{first_written, mnemonic_in, next_of, number, operands_in, said_instruction, said_mnemonic, said_operands, said_size, second_written}
@@ -121,7 +121,7 @@ one_said names here v is =
     let os : said_operands v Nothing ≡ operand_said v ∷ [] = said_with_first v Nothing is in
     record {
       asked = ap (known_operands names) os ∙ ap (λ (x : KnownOperand). Some (x, known.Nothing)) (said_known names v is);
-      numbers = ap (numbers_behind names here (Some no_numbers)) os ∙ ap (λ o. numbers_behind names here o []) (said_numbers names here no_numbers v is);
+      numbers = ap (numbers_after names here (Some no_numbers)) os ∙ ap (λ o. numbers_after names here o []) (said_numbers names here no_numbers v is);
       override = ap override_of os ∙ ap (λ o. or_else o None) (no_override v);
     }
 
@@ -131,9 +131,9 @@ two_said names here v w is there =
     let os : said_operands v w ≡ operand_said v ∷ operand_said w ∷ [] = said_with_first v w is ∙ ap (λ (os : List Operand). operand_said v ∷ os) (said_is w there) in
     record {
       asked = ap (known_operands names) os ∙ (ap (λ (x : KnownOperand). Some (x, known_operand names (operand_said w))) (said_known names v is) ∙ ap (λ (x : KnownOperand). Some (asked_by v, x)) (said_known names w there));
-      numbers = ap (numbers_behind names here (Some no_numbers)) os
-          ∙ (ap (λ o. numbers_behind names here o (operand_said w ∷ [])) (said_numbers names here no_numbers v is)
-          ∙ ap (λ o. numbers_behind names here o []) (said_numbers names here (numbers_by v no_numbers) w there));
+      numbers = ap (numbers_after names here (Some no_numbers)) os
+          ∙ (ap (λ o. numbers_after names here o (operand_said w ∷ [])) (said_numbers names here no_numbers v is)
+          ∙ ap (λ o. numbers_after names here o []) (said_numbers names here (numbers_by v no_numbers) w there));
       override = ap override_of os
           ∙ (ap (λ o. or_else o (override_of (operand_said w ∷ []))) (no_override v)
           ∙ ap (λ o. or_else o None) (no_override w));

@@ -73,12 +73,12 @@ token_more lexeme lexemes t ts is more = rw (is, more) refl
 pub opens_blank : Opens (32 ∷ []) []
 opens_blank rest us reads = record { characters = reads.characters; tokens = reads.tokens }
 
-abbrev IsMarkAt : ℕ → Token → Type 0
-IsMarkAt b t = (rest : List ℕ) → lexemes_from false (b ∷ rest) ≡ (b ∷ []) ∷ lexemes_from false rest
+abbrev IsPunctuatorAt : ℕ → Token → Type 0
+IsPunctuatorAt b t = (rest : List ℕ) → lexemes_from false (b ∷ rest) ≡ (b ∷ []) ∷ lexemes_from false rest
 
-pub opens_mark : (b : ℕ) (t : Token) → ((rest : List ℕ) → lexemes_from false (b ∷ rest) ≡ (b ∷ []) ∷ lexemes_from false rest)
+pub opens_punctuator : (b : ℕ) (t : Token) → ((rest : List ℕ) → lexemes_from false (b ∷ rest) ≡ (b ∷ []) ∷ lexemes_from false rest)
     → is_character b ≡ true → token_of (b ∷ []) ≡ Some t → Opens (b ∷ []) (t ∷ [])
-opens_mark b t alone character is rest us reads = record {
+opens_punctuator b t alone character is rest us reads = record {
   characters = and_from (is_character b) (list_all is_character rest) character reads.characters;
   tokens = ap tokens_of (alone rest) ∙ token_more (b ∷ []) (lexemes_from false rest) t us is reads.tokens;
 }

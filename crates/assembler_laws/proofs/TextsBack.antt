@@ -17,7 +17,7 @@ use Rattle.assembler_meaning.specs.declared.symbol.Location.{Location}
 use Rattle.assembler_meaning.specs.Instructions.{instruction_size}
 use Rattle.assembler_meaning.specs.Values.{Names}
 use Rattle.assembler.specs.Placement.{fields_of}
-use Rattle.assembler.specs.Rows.{Row, names_of, IsFormOf}
+use Rattle.assembler.specs.LocatedLines.{LocatedLine, names_of, IsFormOf}
 use Rattle.assembler_laws.specs.DecodingBack.{instr_of, DecodesBack}
 use Rattle.assembler_laws.specs.SaidTexts.{said_instruction, said_line, TextsAreRead}
 use Rattle.assembler_laws.specs.TextsBack.{DecodesTheSame, TextsDecodeTheSame}
@@ -34,7 +34,7 @@ same_form f g is = cc
 same_place : (a b : Location) → Some a ≡ Some b → a ≡ b
 same_place a b is = cc
 
-row_back : (byte : ℕ → ℕ) (names : Names) (row : Row) (location : Location) (i : Instr) → IsInstr i → row.location ≡ Some location
+row_back : (byte : ℕ → ℕ) (names : Names) (row : LocatedLine) (location : Location) (i : Instr) → IsInstr i → row.location ≡ Some location
     → row.line.statement ≡ Instruction (said_instruction i location.offset) → IsClean row → DecodesBack byte names row (said_instruction i location.offset)
     → DecodesTheSame byte location row.size i
 row_back byte names row location i is stands statement clean back =
@@ -45,7 +45,7 @@ row_back byte names row location i is stands statement clean back =
     let place : back.location ≡ location = same_place back.location location (sym back.has_place ∙ stands) in
     let size : row.size ≡ instruction_size back.form said = has.size ∙ ap (λ (f : Form). instruction_size f said) form in
     let formed : IsFormOf known (Instruction said) (Some back.form) =
-    subst (IsFormOf known (Instruction said)) back.has_form (subst (λ (s : Statement). IsFormOf known s row.form) statement clean.clean.is_row.form) in
+    subst (IsFormOf known (Instruction said)) back.has_form (subst (λ (s : Statement). IsFormOf known s row.form) statement clean.clean.is_located_line.form) in
     let fields : fields_of names location (instruction_size back.form said) back.form said ≡ Some back.numbers =
     subst (λ (n : ℕ). fields_of names location n back.form said ≡ Some back.numbers) size
     (subst (λ (l : Location). fields_of names l row.size back.form said ≡ Some back.numbers) place back.has_numbers) in
@@ -59,5 +59,5 @@ pub texts_decode_the_same : TextsAreRead → TextsDecodeTheSame
 texts_decode_the_same read source image gives byte loaded row location i within is stands reads =
     let line : row.line ≡ said_line i location.offset = same_line (read_line (instr_text i location.offset)) row.line (said_line i location.offset) reads (read i location.offset is) in
     let statement : row.line.statement ≡ Instruction (said_instruction i location.offset) = ap (λ (l : Line). l.statement) line in
-    row_back byte (names_of gives.rows) row location i is stands statement (clean_there (text_lines source) gives.rows row gives.are_rows within)
+    row_back byte (names_of gives.rows) row location i is stands statement (clean_there (text_lines source) gives.rows row gives.are_located_lines within)
     (bytes_decode_back source image gives byte loaded row (said_instruction i location.offset) within statement)

@@ -26,7 +26,7 @@ use Rattle.dialect.specs.declared.mnemonic.Mnemonic.{Mnemonic}
 use Rattle.dialect.specs.declared.mnemonic.Mnemonic.TheVariants as mnemonics
 use Rattle.dialect.specs.declared.register.Register.{Register as RegisterType}
 use Rattle.dialect.specs.declared.register.Register.TheVariants as registers
-use Rattle.dialect.specs.Laws.{KeywordsAreRead, OperationsAreRead, PrefixesAreRead, RegistersAreRead, StandsFor}
+use Rattle.dialect.specs.DialectLaws.{KeywordsAreRead, OperationsAreRead, PrefixesAreRead, RegistersAreRead, StandsFor}
 use Rattle.dialect.specs.Names.{keyword_name, mnemonic_name, operation_name, prefix_name, register_name, word_register_name}
 use Rattle.dialect.specs.Words.{meaning_of, spells, words}
 use Rattle.disassembler.specs.declared.written.Memory.{Memory as WrittenMemory}
@@ -35,38 +35,38 @@ use Rattle.disassembler.specs.declared.written.Written.TheVariants.{Nothing, Reg
 use Rattle.disassembler.specs.Text.{address_text, base_text, body_text, instr_text, is_nop, memory_text, operand_text, operands_text, plain_text, prefix_text, second_text, size_text, word_text}
 use Rattle.assembler_lexeme.specs.declared.token.Token.{Token}
 use Rattle.assembler_lexeme.specs.declared.token.Token.TheVariants as tokens
-use Rattle.assembler_lexeme.specs.declared.token.Mark.TheVariants as marks
+use Rattle.assembler_lexeme.specs.declared.token.Punctuator.TheVariants as punctuators
 use Rattle.assembler_lexeme.specs.Lexemes.{lexemes}
 use Rattle.assembler_lexeme.specs.Tokens.{number_token, token_of}
 use Rattle.assembler_syntax.specs.declared.operand.Operand.{Operand}
 use Rattle.assembler_syntax.specs.Lines.{line_of, read_line}
 use Rattle.assembler_syntax.specs.Spelling.{address_tokens, base_tokens, inner_tokens, line_tokens, operand_tokens, prefix_tokens, register, size_tokens, with_commas, word}
-use Rattle.assembler_syntax.specs.Laws.{EachLineIsRead}
+use Rattle.assembler_syntax.specs.SyntaxLaws.{EachLineIsRead}
 use Rattle.assembler_laws.specs.SaidTexts.{first_written, mnemonic_in, next_of, number, operands_in, said_address, said_line, said_mnemonic, said_operands, said_size, second_written, TextsAreRead}
 use Rattle.assembler_laws.proofs.Operations.{each_operation}
-use Rattle.assembler_laws.proofs.TextPieces.{is_plain, open_says, opens_blank, opens_mark, opens_opens, opens_then, reads_nothing, says_byte, says_meant, says_number, says_opens, says_then, says_word, Opens, Reads, Says}
+use Rattle.assembler_laws.proofs.TextPieces.{is_plain, open_says, opens_blank, opens_punctuator, opens_opens, opens_then, reads_nothing, says_byte, says_meant, says_number, says_opens, says_then, says_word, Opens, Reads, Says}
 use Rattle.assembler_laws.proofs.WrittenOperands.{operand_said, operand_written, operands_in_fine, said_is, said_with_first, IsAddress, IsSizeWord, IsWritten, MayBeWritten}
 
 -- ---- marks
-opens_comma : Opens (44 ∷ []) (tokens.Mark marks.Comma ∷ [])
+opens_comma : Opens (44 ∷ []) (tokens.Punctuator punctuators.Comma ∷ [])
 unfolding token_of
-opens_comma = opens_mark 44 (tokens.Mark marks.Comma) (λ rest. refl) refl refl
+opens_comma = opens_punctuator 44 (tokens.Punctuator punctuators.Comma) (λ rest. refl) refl refl
 
-opens_colon : Opens (58 ∷ []) (tokens.Mark marks.Colon ∷ [])
+opens_colon : Opens (58 ∷ []) (tokens.Punctuator punctuators.Colon ∷ [])
 unfolding token_of
-opens_colon = opens_mark 58 (tokens.Mark marks.Colon) (λ rest. refl) refl refl
+opens_colon = opens_punctuator 58 (tokens.Punctuator punctuators.Colon) (λ rest. refl) refl refl
 
-opens_plus : Opens (43 ∷ []) (tokens.Mark marks.Plus ∷ [])
+opens_plus : Opens (43 ∷ []) (tokens.Punctuator punctuators.Plus ∷ [])
 unfolding token_of
-opens_plus = opens_mark 43 (tokens.Mark marks.Plus) (λ rest. refl) refl refl
+opens_plus = opens_punctuator 43 (tokens.Punctuator punctuators.Plus) (λ rest. refl) refl refl
 
-opens_bracket : Opens (91 ∷ []) (tokens.Mark marks.OpenBracket ∷ [])
+opens_bracket : Opens (91 ∷ []) (tokens.Punctuator punctuators.OpenBracket ∷ [])
 unfolding token_of
-opens_bracket = opens_mark 91 (tokens.Mark marks.OpenBracket) (λ rest. refl) refl refl
+opens_bracket = opens_punctuator 91 (tokens.Punctuator punctuators.OpenBracket) (λ rest. refl) refl refl
 
-closes_bracket : Opens (93 ∷ []) (tokens.Mark marks.CloseBracket ∷ [])
+closes_bracket : Opens (93 ∷ []) (tokens.Punctuator punctuators.CloseBracket ∷ [])
 unfolding token_of
-closes_bracket = opens_mark 93 (tokens.Mark marks.CloseBracket) (λ rest. refl) refl refl
+closes_bracket = opens_punctuator 93 (tokens.Punctuator punctuators.CloseBracket) (λ rest. refl) refl refl
 
 -- ---- words
 plain_byte : (r : _) → is_plain (register_name (registers.Byte r)) ≡ true
@@ -255,8 +255,8 @@ module _ (words : AreRead) where
   -- ---- prefixes
   opens_segment : (r : _) → Opens (prefix_text (prefixes.Segment r)) (prefix_tokens (prefixes.Segment r))
   opens_segment r =
-      says_opens (register_name (registers.Segment r)) 58 (32 ∷ []) (register (registers.Segment r) ∷ []) (tokens.Mark marks.Colon ∷ []) refl
-      (says_register (registers.Segment r)) (opens_opens (58 ∷ []) (32 ∷ []) (tokens.Mark marks.Colon ∷ []) [] opens_colon opens_blank)
+      says_opens (register_name (registers.Segment r)) 58 (32 ∷ []) (register (registers.Segment r) ∷ []) (tokens.Punctuator punctuators.Colon ∷ []) refl
+      (says_register (registers.Segment r)) (opens_opens (58 ∷ []) (32 ∷ []) (tokens.Punctuator punctuators.Colon ∷ []) [] opens_colon opens_blank)
 
   opens_prefix_word : (p : Prefix) → is_plain (prefix_name p) ≡ true → meaning_of (prefix_name p) ≡ Some (meanings.Prefix p) → Opens (prefix_name p ++ 32 ∷ []) (tokens.Word (meanings.Prefix p) ∷ [])
   opens_prefix_word p plain means =
@@ -276,10 +276,10 @@ module _ (words : AreRead) where
   says_word_register : (r : WordRegister) → Says (word_register_name r) (word r ∷ [])
   says_word_register r = says_register (registers.Word r)
 
-  says_two : (r s : WordRegister) → Says (word_register_name r ++ 43 ∷ word_register_name s) (word r ∷ tokens.Mark marks.Plus ∷ word s ∷ [])
+  says_two : (r s : WordRegister) → Says (word_register_name r ++ 43 ∷ word_register_name s) (word r ∷ tokens.Punctuator punctuators.Plus ∷ word s ∷ [])
   says_two r s =
-      says_then (word_register_name r) 43 (word_register_name s) (word r ∷ []) (tokens.Mark marks.Plus ∷ word s ∷ []) refl (says_word_register r)
-      (opens_then (43 ∷ []) (word_register_name s) (tokens.Mark marks.Plus ∷ []) (word s ∷ []) opens_plus (says_word_register s))
+      says_then (word_register_name r) 43 (word_register_name s) (word r ∷ []) (tokens.Punctuator punctuators.Plus ∷ word s ∷ []) refl (says_word_register r)
+      (opens_then (43 ∷ []) (word_register_name s) (tokens.Punctuator punctuators.Plus ∷ []) (word s ∷ []) opens_plus (says_word_register s))
 
   says_base : (b : Base) → Says (base_text b) (base_tokens b)
   says_base bases.BxSi = says_two word_registers.Bx word_registers.Si
@@ -296,8 +296,8 @@ module _ (words : AreRead) where
   says_address None (Some d) is = says_number d is
   says_address (Some b) None is = says_base b
   says_address (Some b) (Some d) is =
-      says_then (base_text b) 43 (word_text d) (base_tokens b) (tokens.Mark marks.Plus ∷ tokens.Number d ∷ []) refl (says_base b)
-      (opens_then (43 ∷ []) (word_text d) (tokens.Mark marks.Plus ∷ []) (tokens.Number d ∷ []) opens_plus (says_number d is))
+      says_then (base_text b) 43 (word_text d) (base_tokens b) (tokens.Punctuator punctuators.Plus ∷ tokens.Number d ∷ []) refl (says_base b)
+      (opens_then (43 ∷ []) (word_text d) (tokens.Punctuator punctuators.Plus ∷ []) (tokens.Number d ∷ []) opens_plus (says_number d is))
 
   opens_size : (s : Option Keyword) → IsSizeWord s → Opens (size_text s) (size_tokens (said_size s))
   opens_size None is = λ rest us reads. reads
@@ -310,11 +310,11 @@ module _ (words : AreRead) where
   says_memory m size is =
       let inner : List Token = inner_tokens m.base (option_map number m.displacement) in
       opens_then (size_text m.size) (91 ∷ (address_text m.base m.displacement ++ 93 ∷ [])) (size_tokens (said_size m.size))
-      (tokens.Mark marks.OpenBracket ∷ (inner ++ tokens.Mark marks.CloseBracket ∷ [])) (opens_size m.size size)
-      (opens_then (91 ∷ []) (address_text m.base m.displacement ++ 93 ∷ []) (tokens.Mark marks.OpenBracket ∷ []) (inner ++ tokens.Mark marks.CloseBracket ∷ [])
+      (tokens.Punctuator punctuators.OpenBracket ∷ (inner ++ tokens.Punctuator punctuators.CloseBracket ∷ [])) (opens_size m.size size)
+      (opens_then (91 ∷ []) (address_text m.base m.displacement ++ 93 ∷ []) (tokens.Punctuator punctuators.OpenBracket ∷ []) (inner ++ tokens.Punctuator punctuators.CloseBracket ∷ [])
       opens_bracket
-      (says_then (address_text m.base m.displacement) 93 [] inner (tokens.Mark marks.CloseBracket ∷ []) refl (says_address m.base m.displacement is)
-      (open_says (93 ∷ []) (tokens.Mark marks.CloseBracket ∷ []) closes_bracket)))
+      (says_then (address_text m.base m.displacement) 93 [] inner (tokens.Punctuator punctuators.CloseBracket ∷ []) refl (says_address m.base m.displacement is)
+      (open_says (93 ∷ []) (tokens.Punctuator punctuators.CloseBracket ∷ []) closes_bracket)))
 
   says_operand : (w : Written) → IsWritten w → Says (operand_text w) (operand_tokens (operand_said w))
   unfolding words
@@ -328,9 +328,9 @@ module _ (words : AreRead) where
       (opens_keyword keywords.Short short_plain) (says_number n is)
   says_operand (Far s o) is =
       opens_then (keyword_name keywords.Far ++ 32 ∷ []) (word_text s ++ 58 ∷ word_text o) (tokens.Word (meanings.Keyword keywords.Far) ∷ [])
-      (tokens.Number s ∷ tokens.Mark marks.Colon ∷ tokens.Number o ∷ []) (opens_keyword keywords.Far far_plain)
-      (says_then (word_text s) 58 (word_text o) (tokens.Number s ∷ []) (tokens.Mark marks.Colon ∷ tokens.Number o ∷ []) refl (says_number s is.0)
-      (opens_then (58 ∷ []) (word_text o) (tokens.Mark marks.Colon ∷ []) (tokens.Number o ∷ []) opens_colon (says_number o is.1)))
+      (tokens.Number s ∷ tokens.Punctuator punctuators.Colon ∷ tokens.Number o ∷ []) (opens_keyword keywords.Far far_plain)
+      (says_then (word_text s) 58 (word_text o) (tokens.Number s ∷ []) (tokens.Punctuator punctuators.Colon ∷ tokens.Number o ∷ []) refl (says_number s is.0)
+      (opens_then (58 ∷ []) (word_text o) (tokens.Punctuator punctuators.Colon ∷ []) (tokens.Number o ∷ []) opens_colon (says_number o is.1)))
   says_operand (Memory m) is = says_memory m is.0 is.1
 
   says_with : (name : List ℕ) (t : Token) → Says name (t ∷ []) → (v w : Written) → MayBeWritten v → MayBeWritten w
@@ -349,10 +349,10 @@ module _ (words : AreRead) where
       (sym (text_with_first v w is ∙ ap (λ (xs : List ℕ). 32 ∷ (operand_text v ++ xs)) (text_of_second w there)))
       (subst (λ (os : List Operand). Says (name ++ 32 ∷ (operand_text v ++ 44 ∷ operand_text w)) (t ∷ tokens_said os))
       (sym (said_with_first v w is ∙ ap (λ (os : List Operand). operand_said v ∷ os) (said_is w there)))
-      (says_then name 32 (operand_text v ++ 44 ∷ operand_text w) (t ∷ []) (operand_tokens (operand_said v) ++ tokens.Mark marks.Comma ∷ operand_tokens (operand_said w)) refl says
-      (opens_then (32 ∷ []) (operand_text v ++ 44 ∷ operand_text w) [] (operand_tokens (operand_said v) ++ tokens.Mark marks.Comma ∷ operand_tokens (operand_said w)) opens_blank
-      (says_then (operand_text v) 44 (operand_text w) (operand_tokens (operand_said v)) (tokens.Mark marks.Comma ∷ operand_tokens (operand_said w)) refl (says_operand v is)
-      (opens_then (44 ∷ []) (operand_text w) (tokens.Mark marks.Comma ∷ []) (operand_tokens (operand_said w)) opens_comma (says_operand w there))))))
+      (says_then name 32 (operand_text v ++ 44 ∷ operand_text w) (t ∷ []) (operand_tokens (operand_said v) ++ tokens.Punctuator punctuators.Comma ∷ operand_tokens (operand_said w)) refl says
+      (opens_then (32 ∷ []) (operand_text v ++ 44 ∷ operand_text w) [] (operand_tokens (operand_said v) ++ tokens.Punctuator punctuators.Comma ∷ operand_tokens (operand_said w)) opens_blank
+      (says_then (operand_text v) 44 (operand_text w) (operand_tokens (operand_said v)) (tokens.Punctuator punctuators.Comma ∷ operand_tokens (operand_said w)) refl (says_operand v is)
+      (opens_then (44 ∷ []) (operand_text w) (tokens.Punctuator punctuators.Comma ∷ []) (operand_tokens (operand_said w)) opens_comma (says_operand w there))))))
 
   plain_means : (o : Operation) → ((c : _) → Control c ≡ o → ⊥) → ((t : _) → Transfer t ≡ o → ⊥) → Means (operation_name o) (mnemonics.Plain o)
   plain_means o not_control not_transfer =

@@ -11,9 +11,9 @@ use Rattle.assembler_meaning.specs.Values.{Names}
 use Rattle.assembler.specs.declared.fault.AsmFault.TheVariants.{SourceTooLong, InLine, Memory}
 use Rattle.assembler.specs.declared.fault.SourceFault.{SourceFault}
 use Rattle.assembler.specs.FirstFault.{AreFaultless, HasLateFault, IsEarlyFault, IsLateFault, IsTextFault, fault_of_line}
-use Rattle.assembler.specs.Placement.{row_fault}
-use Rattle.assembler.specs.Rows.{Row, AreRows, IsCleanRow, early_fault, names_of, location_behind}
-use Rattle.assembler.proofs.AnsweringRows.{one_row, one_rows, rows_up_to, RowsUpTo}
+use Rattle.assembler.specs.Placement.{located_fault}
+use Rattle.assembler.specs.LocatedLines.{LocatedLine, AreLocatedLines, IsCleanLine, early_fault, names_of, location_following}
+use Rattle.assembler.proofs.AnsweringLines.{one_located, one_lines, lines_up_to, LinesUpTo}
 use Rattle.assembler_laws.specs.FirstFaults.{LaterLinesDoNotCount, OneFaultIsFirst}
 
 -- ---- a list that is parted twice
@@ -64,37 +64,37 @@ one_text_fault names location text a b (inl is) (inl also) = is.2 ∙ ap fault_o
 one_text_fault names location text a b (inl is) (inr also) = absurd (not_read text also.0.line is.0 also.1.reads is.1)
 one_text_fault names location text a b (inr is) (inl also) = absurd (not_read text is.0.line also.0 is.1.reads also.1)
 one_text_fault names location text a b (inr is) (inr also) =
-    let same : is.0 ≡ also.0 = one_row names location text is.0 also.0 is.1 also.1 in
+    let same : is.0 ≡ also.0 = one_located names location text is.0 also.0 is.1 also.1 in
     some_once (early_fault names also.0.location also.0.line also.0.form) a b
-    (subst (λ (row : Row). early_fault names row.location row.line row.form ≡ Some a) same is.2) also.2
+    (subst (λ (row : LocatedLine). early_fault names row.location row.line row.form ≡ Some a) same is.2) also.2
 
-no_text_fault : (before : List Row) (text : List ℕ) (row : Row) (fault : SourceFault) → IsCleanRow before text row
-    → IsTextFault (names_of before) (location_behind before) text fault → ⊥
-no_text_fault before text row fault clean (inl read) = not_read text row.line read.0 clean.is_row.reads read.1
+no_text_fault : (before : List LocatedLine) (text : List ℕ) (row : LocatedLine) (fault : SourceFault) → IsCleanLine before text row
+    → IsTextFault (names_of before) (location_following before) text fault → ⊥
+no_text_fault before text row fault clean (inl read) = not_read text row.line read.0 clean.is_located_line.reads read.1
 no_text_fault before text row fault clean (inr found) =
-    let same : row ≡ found.0 = one_row (names_of before) (location_behind before) text row found.0 clean.is_row found.1 in
+    let same : row ≡ found.0 = one_located (names_of before) (location_following before) text row found.0 clean.is_located_line found.1 in
     never_found (early_fault (names_of before) found.0.location found.0.line found.0.form) fault
-    (subst (λ (r : Row). early_fault (names_of before) r.location r.line r.form ≡ None) same clean.clean) found.2
+    (subst (λ (r : LocatedLine). early_fault (names_of before) r.location r.line r.form ≡ None) same clean.clean) found.2
 
 -- clean lines have no fault of the first pass among them
-none_among : (texts : List (List ℕ)) (rows : List Row) (front : List (List ℕ)) (text : List ℕ) (back : List (List ℕ)) (before : List Row) (fault : SourceFault)
-    → texts ≡ front ++ text ∷ back → AreRows [] texts rows → AreRows [] front before → IsTextFault (names_of before) (location_behind before) text fault → ⊥
+none_among : (texts : List (List ℕ)) (rows : List LocatedLine) (front : List (List ℕ)) (text : List ℕ) (back : List (List ℕ)) (before : List LocatedLine) (fault : SourceFault)
+    → texts ≡ front ++ text ∷ back → AreLocatedLines [] texts rows → AreLocatedLines [] front before → IsTextFault (names_of before) (location_following before) text fault → ⊥
 none_among texts rows front text back before fault split are clean found =
-    let own : RowsUpTo [] front text = rows_up_to [] front text back rows (subst (λ (ts : List (List ℕ)). AreRows [] ts rows) split are) in
-    let same : own.rows ≡ before = one_rows [] front own.rows before own.clean clean in
-    no_text_fault before text own.row fault (subst (λ (rs : List Row). IsCleanRow rs text own.row) same own.is_row) found
+    let own : LinesUpTo [] front text = lines_up_to [] front text back rows (subst (λ (ts : List (List ℕ)). AreLocatedLines [] ts rows) split are) in
+    let same : own.rows ≡ before = one_lines [] front own.rows before own.clean clean in
+    no_text_fault before text own.row fault (subst (λ (rs : List LocatedLine). IsCleanLine rs text own.row) same own.is_located_line) found
 
 one_early : (source : List ℕ) (a b : SourceFault) (m n : ℕ) (is : IsEarlyFault source a m) (also : IsEarlyFault source b n)
     → IsSame is.front is.text also.front also.text ⊎ (IsLonger is.front is.text also.front ⊎ IsLonger also.front also.text is.front)
     → InLine a m ≡ InLine b n
 one_early source a b m n is also (inl same) =
     let rows : is.rows ≡ also.rows =
-    one_rows [] also.front is.rows also.rows (subst (λ (ts : List (List ℕ)). AreRows [] ts is.rows) same.0 is.clean) also.clean in
-    let found : IsTextFault (names_of also.rows) (location_behind also.rows) also.text a =
-    subst (λ (t : List ℕ). IsTextFault (names_of also.rows) (location_behind also.rows) t a) same.1
-    (subst (λ (rs : List Row). IsTextFault (names_of rs) (location_behind rs) is.text a) rows is.found) in
+    one_lines [] also.front is.rows also.rows (subst (λ (ts : List (List ℕ)). AreLocatedLines [] ts is.rows) same.0 is.clean) also.clean in
+    let found : IsTextFault (names_of also.rows) (location_following also.rows) also.text a =
+    subst (λ (t : List ℕ). IsTextFault (names_of also.rows) (location_following also.rows) t a) same.1
+    (subst (λ (rs : List LocatedLine). IsTextFault (names_of rs) (location_following rs) is.text a) rows is.found) in
     let number : m ≡ n = sym is.counted ∙ ap (λ (ts : List (List ℕ)). length ts + 1) same.0 ∙ also.counted in
-    ap₂ InLine (one_text_fault (names_of also.rows) (location_behind also.rows) also.text a b found also.found) number
+    ap₂ InLine (one_text_fault (names_of also.rows) (location_following also.rows) also.text a b found also.found) number
 one_early source a b m n is also (inr (inl longer)) =
     absurd (none_among also.front also.rows is.front is.text longer.0 is.rows a longer.1 also.clean is.clean is.found)
 one_early source a b m n is also (inr (inr longer)) =
@@ -105,26 +105,26 @@ never_both source a b m n early late =
     none_among (text_lines source) late.rows early.front early.text early.back early.rows a early.texts late.clean early.clean early.found
 
 -- ---- rows have one fault of placing
-faultless_there : (names : Names) (before front : List Row) (row : Row) (back : List Row) → AreFaultless names before (front ++ row ∷ back)
-    → row_fault names (before ++ front) row ≡ None
-faultless_there names before [] row back free = ap (λ (rs : List Row). row_fault names rs row) (append-nil before) ∙ free.0
+faultless_there : (names : Names) (before front : List LocatedLine) (row : LocatedLine) (back : List LocatedLine) → AreFaultless names before (front ++ row ∷ back)
+    → located_fault names (before ++ front) row ≡ None
+faultless_there names before [] row back free = ap (λ (rs : List LocatedLine). located_fault names rs row) (append-nil before) ∙ free.0
 faultless_there names before (first ∷ front) row back free =
-    ap (λ (rs : List Row). row_fault names rs row) (sym (append_assoc before (first ∷ []) front))
+    ap (λ (rs : List LocatedLine). located_fault names rs row) (sym (append_assoc before (first ∷ []) front))
     ∙ faultless_there names (before ++ first ∷ []) front row back free.1
 
-one_late : (rows : List Row) (a b : SourceFault) (m n : ℕ) (is : HasLateFault rows a m) (also : HasLateFault rows b n)
+one_late : (rows : List LocatedLine) (a b : SourceFault) (m n : ℕ) (is : HasLateFault rows a m) (also : HasLateFault rows b n)
     → IsSame is.front is.row also.front also.row ⊎ (IsLonger is.front is.row also.front ⊎ IsLonger also.front also.row is.front)
     → InLine a m ≡ InLine b n
 one_late rows a b m n is also (inl same) =
-    let found : row_fault (names_of rows) also.front also.row ≡ Some a =
-    sym (ap₂ (λ (rs : List Row) (r : Row). row_fault (names_of rows) rs r) same.0 same.1) ∙ is.found in
-    let number : m ≡ n = sym is.counted ∙ ap (λ (rs : List Row). length rs + 1) same.0 ∙ also.counted in
-    ap₂ InLine (some_once (row_fault (names_of rows) also.front also.row) a b found also.found) number
+    let found : located_fault (names_of rows) also.front also.row ≡ Some a =
+    sym (ap₂ (λ (rs : List LocatedLine) (r : LocatedLine). located_fault (names_of rows) rs r) same.0 same.1) ∙ is.found in
+    let number : m ≡ n = sym is.counted ∙ ap (λ (rs : List LocatedLine). length rs + 1) same.0 ∙ also.counted in
+    ap₂ InLine (some_once (located_fault (names_of rows) also.front also.row) a b found also.found) number
 one_late rows a b m n is also (inr (inl longer)) =
-    absurd (never_found (row_fault (names_of rows) is.front is.row) a
+    absurd (never_found (located_fault (names_of rows) is.front is.row) a
     (faultless_there (names_of rows) [] is.front is.row longer.0 (subst (AreFaultless (names_of rows) []) longer.1 also.placed)) is.found)
 one_late rows a b m n is also (inr (inr longer)) =
-    absurd (never_found (row_fault (names_of rows) also.front also.row) b
+    absurd (never_found (located_fault (names_of rows) also.front also.row) b
     (faultless_there (names_of rows) [] also.front also.row longer.0 (subst (AreFaultless (names_of rows) []) longer.1 is.placed)) also.found)
 
 -- ---- the laws
@@ -135,8 +135,8 @@ one_in_line source a b m n (inl is) (inl also) =
 one_in_line source a b m n (inl is) (inr also) = absurd (never_both source a b m n is also)
 one_in_line source a b m n (inr is) (inl also) = absurd (never_both source b a n m also is)
 one_in_line source a b m n (inr is) (inr also) =
-    let rows : also.rows ≡ is.rows = one_rows [] (text_lines source) also.rows is.rows also.clean is.clean in
-    let found : HasLateFault is.rows b n = subst (λ (rs : List Row). HasLateFault rs b n) rows also.found in
+    let rows : also.rows ≡ is.rows = one_lines [] (text_lines source) also.rows is.rows also.clean is.clean in
+    let found : HasLateFault is.rows b n = subst (λ (rs : List LocatedLine). HasLateFault rs b n) rows also.found in
     one_late is.rows a b m n is.found found
     (parted is.found.front is.found.row is.found.back found.front found.row found.back (sym is.found.split ∙ found.split))
 

@@ -12,8 +12,8 @@ use Rattle.assembler_syntax.specs.declared.statement.Statement.TheVariants.{Data
 use Rattle.assembler_meaning.specs.declared.symbol.Location.{Location}
 use Rattle.assembler_meaning.specs.Data.{piece_size, pieces_of, times_of, width_size}
 use Rattle.assembler_meaning.specs.Values.{Names, constant_of, value_of}
-use Rattle.assembler.specs.Placement.{address_behind}
-use Rattle.assembler.specs.Rows.{Row, names_of}
+use Rattle.assembler.specs.Placement.{address_after}
+use Rattle.assembler.specs.LocatedLines.{LocatedLine, names_of}
 use Rattle.assembler.specs.Gives.{Gives}
 
 -- From this place on the image has a number of this many bytes, the low one first. A negative number is there as the
@@ -22,7 +22,7 @@ pub record HasNumber (image : List (ℕ × ℕ)) (location : Location) (start si
   pub number : ℕ
   pub below : number < 256 ^ size
   pub is_value : (value ≡ pos number) ⊎ (value +ℤ pos (256 ^ size) ≡ pos number)
-  pub bytes : (k : ℕ) → k < size → image_byte image (address_behind location (start + k))
+  pub bytes : (k : ℕ) → k < size → image_byte image (address_after location (start + k))
       ≡ Some (number / 256 ^ k % 256)
 
 -- from this place on the image has the value of this expression
@@ -33,7 +33,7 @@ HasValue names image location start size terms =
 -- from this place on the image has these characters, one byte each
 abbrev pub HasText : List (ℕ × ℕ) → Location → ℕ → List ℕ → Type 0
 HasText image location start text =
-    (k d : ℕ) → k < length text → image_byte image (address_behind location (start + k)) ≡ Some (get_or text k d)
+    (k d : ℕ) → k < length text → image_byte image (address_after location (start + k)) ≡ Some (get_or text k d)
 
 abbrev pub HasPiece : Names → List (ℕ × ℕ) → Location → ℕ → DataWidth → Piece → Type 0
 HasPiece names image location start width (Value terms) = HasValue names image location start (width_size width) terms
@@ -50,7 +50,7 @@ item_size names width item = times_of names item * sum_by (piece_size width) (pi
 
 -- A piece of a data line, and how many bytes stand before it: those of the items before its own, of the copies before
 -- its own, and of the pieces before it in the copy.
-pub record StandsBehind (names : Names) (width : DataWidth) (items : List Item) (piece : Piece) (start : ℕ) : Type 0
+pub record StandsAfter (names : Names) (width : DataWidth) (items : List Item) (piece : Piece) (start : ℕ) : Type 0
   where
     pub before : List Item
     pub item : Item
@@ -67,13 +67,13 @@ pub record StandsBehind (names : Names) (width : DataWidth) (items : List Item) 
 -- A data line stands in a segment, has as many bytes as its items, and has each piece at the place that is counted for
 -- it. So the i-th number of DW x, y and z is two times i bytes on, the i-th character of DB 'AB' i bytes, and the i-th
 -- copy of n DUP (x) i times the width of x.
-pub record PlacesData (names : Names) (image : List (ℕ × ℕ)) (row : Row) (width : DataWidth) (items : List Item) : Type
+pub record PlacesData (names : Names) (image : List (ℕ × ℕ)) (row : LocatedLine) (width : DataWidth) (items : List Item) : Type
     0 where
   pub location : Location
   pub has_place : row.location ≡ Some location
   pub counts : (item : Item) → Contains items item → HasCount names item
   pub size : row.size ≡ sum_by (item_size names width) items
-  pub pieces : (piece : Piece) (start : ℕ) → StandsBehind names width items piece start
+  pub pieces : (piece : Piece) (start : ℕ) → StandsAfter names width items piece start
       → HasPiece names image location start width piece
   pub numbers : (values : List (List Term)) → items ≡ map (λ terms. Once (Value terms)) values
       → (i : ℕ) (d : List Term) → i < length values
@@ -86,7 +86,7 @@ pub record PlacesData (names : Names) (image : List (ℕ × ℕ)) (row : Row) (w
 -- the image of an accepted source has each data line at the place that is counted for it, low bytes first
 abbrev pub DataGoesLowByteFirst : Type 0
 DataGoesLowByteFirst =
-    (source : List ℕ) (image : List (ℕ × ℕ)) (gives : Gives source image) (row : Row) (width : DataWidth)
+    (source : List ℕ) (image : List (ℕ × ℕ)) (gives : Gives source image) (row : LocatedLine) (width : DataWidth)
     (items : List Item)
     → Contains gives.rows row → row.line.statement ≡ Data width items
     → PlacesData (names_of gives.rows) image row width items

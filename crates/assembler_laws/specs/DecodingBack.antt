@@ -13,7 +13,7 @@ use Rattle.assembler_meaning.specs.declared.symbol.Location.{Location}
 use Rattle.assembler_meaning.specs.Instructions.{prefixes_of}
 use Rattle.assembler_meaning.specs.Values.{Names}
 use Rattle.assembler.specs.Placement.{fields_of}
-use Rattle.assembler.specs.Rows.{Row, names_of}
+use Rattle.assembler.specs.LocatedLines.{LocatedLine, names_of}
 use Rattle.assembler.specs.Gives.{Gives}
 
 -- a memory of bytes that has each byte of the image at its address; what it has elsewhere is open
@@ -27,7 +27,7 @@ instr_of f i v = record { prefixes = record { items = prefixes_of i }; form = f;
 
 -- A row with an instruction has a form and a place, each of its numbers is known and fits, and decoding this memory at
 -- that place gives this instruction, with as many bytes as the row.
-pub record DecodesBack (byte : ℕ → ℕ) (names : Names) (row : Row) (i : Written) : Type 0 where
+pub record DecodesBack (byte : ℕ → ℕ) (names : Names) (row : LocatedLine) (i : Written) : Type 0 where
   pub form : Form
   pub location : Location
   pub numbers : Values
@@ -40,5 +40,5 @@ pub record DecodesBack (byte : ℕ → ℕ) (names : Names) (row : Row) (i : Wri
 abbrev pub BytesDecodeBack : Type 0
 BytesDecodeBack =
     (source : List ℕ) (image : List (ℕ × ℕ)) (gives : Gives source image) (byte : ℕ → ℕ) → HoldsImage byte image
-    → (row : Row) (i : Written) → Contains gives.rows row → row.line.statement ≡ Instruction i
+    → (row : LocatedLine) (i : Written) → Contains gives.rows row → row.line.statement ≡ Instruction i
     → DecodesBack byte (names_of gives.rows) row i

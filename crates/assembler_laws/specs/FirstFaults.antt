@@ -11,11 +11,11 @@ use Rattle.assembler.specs.declared.fault.AsmFault.{AsmFault}
 use Rattle.assembler.specs.declared.fault.AsmFault.TheVariants.{InLine, Memory}
 use Rattle.assembler.specs.declared.fault.SourceFault.{SourceFault}
 use Rattle.assembler.specs.declared.fault.SourceFault.TheVariants.{BadLine, UnknownName, BadForm, TwiceDefined, Undefined, OutOfRange, OutOfSegment, Overlap, NoSegment, NotLoadable}
-use Rattle.assembler.specs.declared.row.Content.{Content}
+use Rattle.assembler.specs.declared.kept_line.Content.{Content}
 use Rattle.assembler.specs.FirstFault.{IsEarlyFault, IsFirst, IsLateFault, source_fault_number}
 use Rattle.assembler.specs.Gives.{source_limit, Gives}
 use Rattle.assembler.specs.Placement.{addresses_from, fault_at, has_wrong_number, is_loadable, is_past_end, lacks_name}
-use Rattle.assembler.specs.Rows.{AreRows, Row, defines_again, early_fault, has_unknown_constant, has_wrong_constant, lacks_form, opens_within, stands_outside}
+use Rattle.assembler.specs.LocatedLines.{AreLocatedLines, LocatedLine, defines_again, early_fault, has_unknown_constant, has_wrong_constant, lacks_form, opens_within, stands_outside}
 
 -- at most one fault is first, not counting want of memory
 abbrev pub OneFaultIsFirst : Type 0
@@ -60,8 +60,8 @@ pub record IsFirstLine (source : List ℕ) (fault : SourceFault) (number : ℕ) 
   pub counted : (0 < number) × (number ≤ length (text_lines source))
   pub before : (front : List (List ℕ)) (text : List ℕ) (back : List (List ℕ))
       → text_lines source ≡ front ++ text ∷ back → length front + 1 < number
-      → (rows : List Row) × AreRows [] (front ++ text ∷ []) rows
-  pub all : is_early fault ≡ false → (rows : List Row) × AreRows [] (text_lines source) rows
+      → (rows : List LocatedLine) × AreLocatedLines [] (front ++ text ∷ []) rows
+  pub all : is_early fault ≡ false → (rows : List LocatedLine) × AreLocatedLines [] (text_lines source) rows
 
 abbrev pub LinesBeforeAreClean : Type 0
 LinesBeforeAreClean =

@@ -10,7 +10,7 @@ use Rattle.assembler_meaning.specs.declared.symbol.Location.{Location}
 use Rattle.assembler_meaning.specs.declared.symbol.Symbol.TheVariants.{Label, Constant}
 use Rattle.assembler_meaning.specs.Values.{Names, constant_of, meaning}
 use Rattle.assembler.specs.Placement.{placed_by}
-use Rattle.assembler.specs.Rows.{Row, names_of}
+use Rattle.assembler.specs.LocatedLines.{LocatedLine, names_of}
 use Rattle.assembler.specs.Gives.{Gives}
 
 -- the statements after which no segment is open, or another one
@@ -38,20 +38,20 @@ SaysOffset known (Org n) offset = constant_of known n ≡ Some (pos offset)
 SaysOffset known statement offset = ⊥
 
 -- After these lines a segment is open at this paragraph: the last SEGMENT says it, and no ENDS follows that.
-pub record IsOpenAt (lines : List Row) (paragraph : ℕ) : Type 0 where
-  pub before : List Row
-  pub opening : Row
-  pub since : List Row
+pub record IsOpenAt (lines : List LocatedLine) (paragraph : ℕ) : Type 0 where
+  pub before : List LocatedLine
+  pub opening : LocatedLine
+  pub since : List LocatedLine
   pub split : lines ≡ before ++ opening ∷ since
   pub says : SaysParagraph (names_of before) opening.line.statement paragraph
   pub stays : AllByRecursion (λ row. changes_segment row.line.statement ≡ false) since
 
 -- After these lines the next byte goes to this offset: what the last SEGMENT or ORG says, plus the sizes of the lines
 -- since then; no ENDS is among them.
-pub record IsCountedTo (lines : List Row) (offset : ℕ) : Type 0 where
-  pub before : List Row
-  pub setting : Row
-  pub since : List Row
+pub record IsCountedTo (lines : List LocatedLine) (offset : ℕ) : Type 0 where
+  pub before : List LocatedLine
+  pub setting : LocatedLine
+  pub since : List LocatedLine
   pub split : lines ≡ before ++ setting ∷ since
   pub base : ℕ
   pub says : SaysOffset (names_of before) setting.line.statement base
@@ -67,7 +67,7 @@ said_constant statement = None
 -- A line after these stands at a place if and only if they open its segment and count to its offset. A label on it is
 -- that place in the names of the source, and a line with a label has a place. What SEGMENT or EQU names is there its
 -- constant, by the lines before. A line places as many bytes as its size says.
-pub record StandsWhereCounted (names : Names) (front : List Row) (row : Row) : Type 0 where
+pub record StandsWhereCounted (names : Names) (front : List LocatedLine) (row : LocatedLine) : Type 0 where
   pub place : (location : Location) → (row.location ≡ Some location)
       ↔ (IsOpenAt front location.segment × IsCountedTo front location.offset)
   pub label : (name : Name) → row.line.label ≡ Some name
@@ -79,6 +79,6 @@ pub record StandsWhereCounted (names : Names) (front : List Row) (row : Row) : T
 -- each line of a source that gives an image stands where it is counted to
 abbrev pub LinesStandWhereCounted : Type 0
 LinesStandWhereCounted =
-    (source : List ℕ) (image : List (ℕ × ℕ)) (gives : Gives source image) (front : List Row) (row : Row)
-    (back : List Row)
+    (source : List ℕ) (image : List (ℕ × ℕ)) (gives : Gives source image) (front : List LocatedLine) (row : LocatedLine)
+    (back : List LocatedLine)
     → gives.rows ≡ front ++ row ∷ back → StandsWhereCounted (names_of gives.rows) front row

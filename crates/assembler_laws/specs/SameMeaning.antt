@@ -17,7 +17,7 @@ use Rattle.isa.specs.declared.form.Instr.{Instr}
 use Rattle.isa.specs.declared.row.Kind.{Kind}
 use Rattle.isa.specs.declared.row.Kind.TheVariants as kinds
 use Rattle.isa.specs.Row.{first_of, operation_of, second_of}
-use Rattle.isa.specs.Registers.{byte_register_of, segment_register_of, word_register_of}
+use Rattle.isa.specs.RegisterNumbers.{byte_register_of, segment_register_of, word_register_of}
 use Rattle.isa.specs.Encoding.{instr_length, sign_extended, IsInstr}
 use Rattle.dialect.specs.declared.register.Register.{Register}
 use Rattle.dialect.specs.declared.register.Register.TheVariants as registers

@@ -8,7 +8,7 @@ use Rattle.decode.specs.Decoding.{code_at, decoded_from}
 use Rattle.disassembler.specs.Text.{instr_text}
 use Rattle.assembler_syntax.specs.Lines.{read_line}
 use Rattle.assembler_meaning.specs.declared.symbol.Location.{Location}
-use Rattle.assembler.specs.Rows.{Row}
+use Rattle.assembler.specs.LocatedLines.{LocatedLine}
 use Rattle.assembler.specs.Gives.{Gives}
 use Rattle.assembler_laws.specs.DecodingBack.{HoldsImage}
 use Rattle.assembler_laws.specs.SameMeaning.{MeansTheSame}
@@ -24,6 +24,6 @@ pub record DecodesTheSame (byte : ℕ → ℕ) (location : Location) (size : ℕ
 abbrev pub TextsDecodeTheSame : Type 0
 TextsDecodeTheSame =
     (source : List ℕ) (image : List (ℕ × ℕ)) (gives : Gives source image) (byte : ℕ → ℕ) → HoldsImage byte image
-    → (row : Row) (location : Location) (i : Instr) → Contains gives.rows row → IsInstr i
+    → (row : LocatedLine) (location : Location) (i : Instr) → Contains gives.rows row → IsInstr i
     → row.location ≡ Some location → read_line (instr_text i location.offset) ≡ Ok row.line
     → DecodesTheSame byte location row.size i

@@ -11,12 +11,12 @@ use Rattle.std.proofs.Math.ListN.{get_or-map}
 use Rattle.dialect.specs.Words.{meaning_of, spells}
 use Rattle.dialect.proofs.Once.{case_is_nothing}
 use Rattle.assembler_lexeme.specs.declared.name.Name.{Name}
-use Rattle.assembler_lexeme.specs.declared.token.Token.TheVariants.{Named, Word, Mark}
+use Rattle.assembler_lexeme.specs.declared.token.Token.TheVariants.{Named, Word, Punctuator}
 use Rattle.assembler_lexeme.specs.Lexemes.{folded, is_letter, is_digit}
 use Rattle.board_types.specs.Digits.{digit_of, spelled}
 use Rattle.assembler_lexeme.specs.Numbers.{in_bounds, number_to, number_of, last_byte, without_last}
 use Rattle.assembler_lexeme.specs.Faults.{all_of, wanted}
-use Rattle.assembler_lexeme.specs.Tokens.{name_of, word_token, number_token, mark_of, mark_token, token_of, tokens_of}
+use Rattle.assembler_lexeme.specs.Tokens.{name_of, word_token, number_token, punctuator_of, punctuator_token, token_of, tokens_of}
 
 abbrev low : ℕ → ℕ
 low = to_ascii_lowercase
@@ -53,8 +53,8 @@ map_again f [] same = refl
 map_again f (b ∷ bs) same = let first = same b in let rest = map_again f bs same in cc
 
 -- a mark is no letter
-mark_low : (b : ℕ) → is_letter b ≡ false → mark_of (low b) ≡ mark_of b
-mark_low b other = let same : low b ≡ b = grind (arith, nat_tests) in ap mark_of same
+punctuator_low : (b : ℕ) → is_letter b ≡ false → punctuator_of (low b) ≡ punctuator_of b
+punctuator_low b other = let same : low b ≡ b = grind (arith, nat_tests) in ap punctuator_of same
 
 alike : (word : List ℕ) → spells (map low word) word ≡ true
 unfolding spells
@@ -116,17 +116,17 @@ number_token_low : (word : List ℕ) → number_token (map low word) ≡ number_
 unfolding number_token
 number_token_low word = rw (one_word_low word, number_low word) refl
 
-mark_token_low : (b : ℕ) (bs : List ℕ) → is_letter b ≡ false → mark_token (map low (b ∷ bs)) ≡ mark_token (b ∷ bs)
-mark_token_low b [] other = ap (option_map Mark) (mark_low b other)
-mark_token_low b (c ∷ cs) other = refl
+punctuator_token_low : (b : ℕ) (bs : List ℕ) → is_letter b ≡ false → punctuator_token (map low (b ∷ bs)) ≡ punctuator_token (b ∷ bs)
+punctuator_token_low b [] other = ap (option_map Punctuator) (punctuator_low b other)
+punctuator_token_low b (c ∷ cs) other = refl
 
 -- a lexeme outside quotes
 by_kind : (letter digit : Bool) (b : ℕ) (bs : List ℕ) → is_letter b ≡ letter
-    → (if letter then word_token (map low (b ∷ bs)) else (if digit then number_token (map low (b ∷ bs)) else mark_token (map low (b ∷ bs))))
-    ≡ (if letter then word_token (b ∷ bs) else (if digit then number_token (b ∷ bs) else mark_token (b ∷ bs)))
+    → (if letter then word_token (map low (b ∷ bs)) else (if digit then number_token (map low (b ∷ bs)) else punctuator_token (map low (b ∷ bs))))
+    ≡ (if letter then word_token (b ∷ bs) else (if digit then number_token (b ∷ bs) else punctuator_token (b ∷ bs)))
 by_kind true digit b bs is = word_low (b ∷ bs)
 by_kind false true b bs is = number_token_low (b ∷ bs)
-by_kind false false b bs is = mark_token_low b bs is
+by_kind false false b bs is = punctuator_token_low b bs is
 
 token_low : (b : ℕ) (bs : List ℕ) → (b == 39) ≡ false → token_of (map low (b ∷ bs)) ≡ token_of (b ∷ bs)
 unfolding token_of

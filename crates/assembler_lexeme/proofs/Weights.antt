@@ -12,13 +12,13 @@ use Rattle.dialect.specs.Words.{meaning_of}
 use Rattle.assembler_lexeme.specs.declared.fault.SyntaxFault.{SyntaxFault}
 use Rattle.assembler_lexeme.specs.declared.name.Name.{Name}
 use Rattle.assembler_lexeme.specs.declared.token.Token.{Token}
-use Rattle.assembler_lexeme.specs.declared.token.Token.TheVariants.{One, Number, Named, Quoted, Word, Mark}
-use Rattle.assembler_lexeme.specs.declared.token.Mark.{Mark as MarkType}
+use Rattle.assembler_lexeme.specs.declared.token.Token.TheVariants.{One, Number, Named, Quoted, Word, Punctuator}
+use Rattle.assembler_lexeme.specs.declared.token.Punctuator.{Punctuator as PunctuatorType}
 use Rattle.assembler_lexeme.specs.Lexemes.{is_letter, is_digit, is_blank, is_word_byte, lexemes_from, lexemes}
 use Rattle.board_types.specs.TextLines.{begins_with, onto_first}
 use Rattle.assembler_lexeme.specs.Numbers.{last_byte, number_of}
 use Rattle.assembler_lexeme.specs.Faults.{◌>>=◌, all_of, wanted}
-use Rattle.assembler_lexeme.specs.Tokens.{name_of, word_token, number_token, text_token, between_quotes, quoted_token, mark_of, mark_token, token_of, tokens_of}
+use Rattle.assembler_lexeme.specs.Tokens.{name_of, word_token, number_token, text_token, between_quotes, quoted_token, punctuator_of, punctuator_token, token_of, tokens_of}
 
 pub is_le : (a b : ℕ) → a ≤ b → nat_le a b ≡ true
 is_le a b le = grind (arith, nat_tests)
@@ -76,8 +76,8 @@ pub all_pass : {A B : Type 0} (f : A → Result B SyntaxFault) (u : A → ℕ) (
 all_pass f u p n each [] ys le is = let same : [] ≡ ys = cc in rw (← same) refl
 all_pass f u p n each (x ∷ xs) ys le is =
     let here : u x ≤ n = omega arith in
-    let behind : total u xs ≤ n = omega arith in
-    pass_by p (f x) (all_of f xs) ys (λ y. each x y here) (λ zs. all_pass f u p n each xs zs behind) is
+    let following : total u xs ≤ n = omega arith in
+    pass_by p (f x) (all_of f xs) ys (λ y. each x y here) (λ zs. all_pass f u p n each xs zs following) is
 
 -- the lexemes of a text have no more bytes than the text
 abbrev bytes : List (List ℕ) → ℕ
@@ -165,21 +165,21 @@ unfolding quoted_token
 quoted_le l t is =
     quoted_is l (nat_le 3 (length l) && last_byte l == 39) t (λ test. from_le 3 (length l) ((and_parts (nat_le 3 (length l)) (last_byte l == 39) test).0)) is
 
-mark_is : (m : Option MarkType) (t : Token) → option_map Mark m ≡ Some t → token_weight t ≡ 1
-mark_is (Some m) t is = let same : Mark m ≡ t = cc in rw (← same) refl
-mark_is None t is = absurd (cc)
+punctuator_is : (m : Option PunctuatorType) (t : Token) → option_map Punctuator m ≡ Some t → token_weight t ≡ 1
+punctuator_is (Some m) t is = let same : Punctuator m ≡ t = cc in rw (← same) refl
+punctuator_is None t is = absurd (cc)
 
-mark_le : (l : List ℕ) (t : Token) → mark_token l ≡ Some t → token_weight t ≤ length l
-mark_le [] t is = absurd (cc)
-mark_le (b ∷ []) t is = let one = mark_is (mark_of b) t is in omega arith
-mark_le (b ∷ c ∷ cs) t is = absurd (cc)
+punctuator_le : (l : List ℕ) (t : Token) → punctuator_token l ≡ Some t → token_weight t ≤ length l
+punctuator_le [] t is = absurd (cc)
+punctuator_le (b ∷ []) t is = let one = punctuator_is (punctuator_of b) t is in omega arith
+punctuator_le (b ∷ c ∷ cs) t is = absurd (cc)
 
 kind_le : (l : List ℕ) (t : Token) (letter digit quote : Bool) → (letter ≡ true → 1 ≤ length l) → (digit ≡ true → 1 ≤ length l)
-    → (if letter then word_token l else (if digit then number_token l else (if quote then quoted_token l else mark_token l))) ≡ Some t → token_weight t ≤ length l
+    → (if letter then word_token l else (if digit then number_token l else (if quote then quoted_token l else punctuator_token l))) ≡ Some t → token_weight t ≤ length l
 kind_le l t true digit quote is_word is_number is = word_le l t (is_word refl) is
 kind_le l t false true quote is_word is_number is = number_le l t (is_number refl) is
 kind_le l t false false true is_word is_number is = quoted_le l t is
-kind_le l t false false false is_word is_number is = mark_le l t is
+kind_le l t false false false is_word is_number is = punctuator_le l t is
 
 token_le : (l : List ℕ) (t : Token) → token_of l ≡ Some t → token_weight t ≤ length l
 unfolding token_of

@@ -10,8 +10,8 @@ use Rattle.assembler_lexeme.specs.declared.name.Name.{Name}
 use Rattle.assembler_lexeme.specs.declared.token.Token.{Token}
 use Rattle.assembler_lexeme.specs.declared.token.Token.TheVariants.{One, Number, Named, Quoted, Word}
 use Rattle.assembler_lexeme.specs.declared.token.Token.TheVariants as kinds
-use Rattle.assembler_lexeme.specs.declared.token.Mark.{Mark}
-use Rattle.assembler_lexeme.specs.declared.token.Mark.TheVariants.{Comma, Colon, Plus, Minus, OpenBracket, CloseBracket, OpenParenthesis, CloseParenthesis, Dollar}
+use Rattle.assembler_lexeme.specs.declared.token.Punctuator.{Punctuator}
+use Rattle.assembler_lexeme.specs.declared.token.Punctuator.TheVariants.{Comma, Colon, Plus, Minus, OpenBracket, CloseBracket, OpenParenthesis, CloseParenthesis, Dollar}
 use Rattle.assembler_lexeme.specs.Lexemes.{is_letter, is_digit}
 use Rattle.board_types.specs.TextLines.{begins_with}
 use Rattle.assembler_lexeme.specs.Numbers.{number_of, last_byte}
@@ -43,8 +43,8 @@ unfoldable pub quoted_token : List ℕ → Option Token
 quoted_token lexeme =
     if nat_le 3 (length lexeme) && last_byte lexeme == 39 then Some (text_token (between_quotes lexeme)) else None
 
-abbrev pub mark_of : ℕ → Option Mark
-mark_of b =
+abbrev pub punctuator_of : ℕ → Option Punctuator
+punctuator_of b =
     if b == 44 then Some Comma else (
     if b == 58 then Some Colon else (
     if b == 43 then Some Plus else (
@@ -55,9 +55,9 @@ mark_of b =
     if b == 41 then Some CloseParenthesis else (
     if b == 36 then Some Dollar else None))))))))
 
-abbrev pub mark_token : List ℕ → Option Token
-mark_token (b ∷ []) = option_map kinds.Mark (mark_of b)
-mark_token lexeme = None
+abbrev pub punctuator_token : List ℕ → Option Token
+punctuator_token (b ∷ []) = option_map kinds.Punctuator (punctuator_of b)
+punctuator_token lexeme = None
 
 -- The token of a lexeme. A word that is too long, a number that can't be read, a quoted text without characters or
 -- without its end, and any other character have none.
@@ -66,7 +66,7 @@ token_of lexeme =
     if begins_with is_letter lexeme then word_token lexeme else (
     if begins_with is_digit lexeme then number_token lexeme else (
     if begins_with (λ b. b == 39) lexeme then quoted_token lexeme else
-    mark_token lexeme))
+    punctuator_token lexeme))
 
 unfoldable pub tokens_of : List (List ℕ) → Result (List Token) SyntaxFault
 tokens_of lexemes = all_of (λ lexeme. wanted (token_of lexeme)) lexemes

@@ -3,7 +3,7 @@ ghost use Rattle.std.specs.Prelude.{◌≡◌, ◌==◌};
 ghost use Rattle.assembler_lexeme.specs.Lexemes.{lexemes};
 ghost use Rattle.board_types.specs.TextLines.{begins_with};
 ghost use Rattle.assembler_lexeme.specs.Faults.{Gives};
-ghost use Rattle.assembler_lexeme.specs.Tokens.{mark_of, mark_token, number_token, quoted_token, text_token, token_of, tokens_of, word_token};
+ghost use Rattle.assembler_lexeme.specs.Tokens.{punctuator_of, punctuator_token, number_token, quoted_token, text_token, token_of, tokens_of, word_token};
 
 use crate::fault::{SyntaxError, SyntaxFault};
 use crate::lexeme::{begins_with_digit, begins_with_letter, next_lexeme};
@@ -16,7 +16,7 @@ use std::marker::Model;
 
 /// A mark.
 #[derive(Clone, Copy)]
-pub enum Mark {
+pub enum Punctuator {
     Comma,
     Colon,
     Plus,
@@ -63,7 +63,7 @@ pub enum Token<'a> {
     Quoted(Characters<'a>),
     /// A word of the dialect.
     Word(Meaning),
-    Mark(Mark),
+    Punctuator(Punctuator),
 }
 
 /// The tokens of a line; `BadLine` if one of its lexemes is no token.
@@ -94,7 +94,7 @@ fn token_of(lexeme: &[u8]) -> Option<Token<'_>>
     } else if begins_with_quote(lexeme) {
         quoted_token(lexeme)
     } else {
-        mark_token(lexeme)
+        punctuator_token(lexeme)
     }
 }
 
@@ -150,28 +150,28 @@ fn text_token(text: &[u8]) -> Token<'_>
     }
 }
 
-fn mark_token(lexeme: &[u8]) -> Option<Token<'_>>
-    ensures { result ≡ mark_token lexeme.now }
+fn punctuator_token(lexeme: &[u8]) -> Option<Token<'_>>
+    ensures { result ≡ punctuator_token lexeme.now }
 {
     match lexeme {
-        [byte] => Some(Token::Mark(mark_of(*byte)?)),
+        [byte] => Some(Token::Punctuator(punctuator_of(*byte)?)),
         _ => None,
     }
 }
 
-fn mark_of(byte: u8) -> Option<Mark>
-    ensures { result ≡ mark_of byte }
+fn punctuator_of(byte: u8) -> Option<Punctuator>
+    ensures { result ≡ punctuator_of byte }
 {
     match byte {
-        b',' => Some(Mark::Comma),
-        b':' => Some(Mark::Colon),
-        b'+' => Some(Mark::Plus),
-        b'-' => Some(Mark::Minus),
-        b'[' => Some(Mark::OpenBracket),
-        b']' => Some(Mark::CloseBracket),
-        b'(' => Some(Mark::OpenParenthesis),
-        b')' => Some(Mark::CloseParenthesis),
-        b'$' => Some(Mark::Dollar),
+        b',' => Some(Punctuator::Comma),
+        b':' => Some(Punctuator::Colon),
+        b'+' => Some(Punctuator::Plus),
+        b'-' => Some(Punctuator::Minus),
+        b'[' => Some(Punctuator::OpenBracket),
+        b']' => Some(Punctuator::CloseBracket),
+        b'(' => Some(Punctuator::OpenParenthesis),
+        b')' => Some(Punctuator::CloseParenthesis),
+        b'$' => Some(Punctuator::Dollar),
         _ => None,
     }
 }

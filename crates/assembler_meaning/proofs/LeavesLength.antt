@@ -47,8 +47,8 @@ found_stays test (entry ∷ before) more symbol is =
     found_by (test entry.0) entry.1 symbol (lookup test before) (lookup test (before ++ more)) (found_stays test before more symbol) is
 
 -- names after these change nothing
-pub keeps_behind : (before more : Names) → Keeps before (before ++ more)
-keeps_behind before more = record { stays = λ name symbol is. found_stays (same_name name) before more symbol is }
+pub keeps_after : (before more : Names) → Keeps before (before ++ more)
+keeps_after before more = record { stays = λ name symbol is. found_stays (same_name name) before more symbol is }
 
 -- a constant keeps its value
 symbol_stays : (old new : Option Symbol) → ((symbol : Symbol) → old ≡ Some symbol → new ≡ Some symbol)

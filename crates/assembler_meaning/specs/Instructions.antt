@@ -132,15 +132,15 @@ numbers_with names here n (Memory a) = option_map (with_displacement n) (displac
 numbers_with names here n (FarLabel name) = option_map (with_label n) (label_of names name)
 numbers_with names here n (FarPointer s o) = with_pointer n (value_of names here s) (value_of names here o)
 
-abbrev pub numbers_behind : Names → ℕ → Option Numbers → List Operand → Option Numbers
-numbers_behind names here None operands = None
-numbers_behind names here (Some n) [] = Some n
-numbers_behind names here (Some n) (operand ∷ more) = numbers_behind names here (numbers_with names here n operand) more
+abbrev pub numbers_after : Names → ℕ → Option Numbers → List Operand → Option Numbers
+numbers_after names here None operands = None
+numbers_after names here (Some n) [] = Some n
+numbers_after names here (Some n) (operand ∷ more) = numbers_after names here (numbers_with names here n operand) more
 
 -- The numbers that the operands name, in a line that stands at the offset `here`. There are none if a name isn't
 -- defined, or is no label after FAR.
 unfoldable pub numbers_of : Names → ℕ → List Operand → Option Numbers
-numbers_of names here operands = numbers_behind names here (Some no_numbers) operands
+numbers_of names here operands = numbers_after names here (Some no_numbers) operands
 
 -- the bytes of an instruction: its prefixes, and the encoding that the table gives its form
 abbrev pub code_bytes : Form → Instruction → Values → List ℕ

@@ -16,9 +16,9 @@ use Rattle.assembler_lexeme.specs.declared.fault.SyntaxFault.{SyntaxFault}
 use Rattle.assembler_lexeme.specs.declared.fault.SyntaxFault.TheVariants.{BadCharacter, BadLine}
 use Rattle.assembler_lexeme.specs.declared.name.Name.{Name}
 use Rattle.assembler_lexeme.specs.declared.token.Token.{Token}
-use Rattle.assembler_lexeme.specs.declared.token.Token.TheVariants.{One, Number, Named, Quoted, Word, Mark}
-use Rattle.assembler_lexeme.specs.declared.token.Mark.{Mark as MarkType}
-use Rattle.assembler_lexeme.specs.declared.token.Mark.TheVariants.{Comma, Colon, Plus, Minus, OpenBracket, OpenParenthesis, CloseParenthesis, Dollar}
+use Rattle.assembler_lexeme.specs.declared.token.Token.TheVariants.{One, Number, Named, Quoted, Word, Punctuator}
+use Rattle.assembler_lexeme.specs.declared.token.Punctuator.{Punctuator as PunctuatorType}
+use Rattle.assembler_lexeme.specs.declared.token.Punctuator.TheVariants.{Comma, Colon, Plus, Minus, OpenBracket, OpenParenthesis, CloseParenthesis, Dollar}
 use Rattle.assembler_lexeme.specs.Lexemes.{is_character, lexemes}
 use Rattle.assembler_lexeme.specs.Faults.{◌>>=◌, all_of}
 use Rattle.assembler_lexeme.specs.Tokens.{tokens_of}
@@ -31,11 +31,11 @@ use Rattle.assembler_syntax.specs.OperandSteps as operand_steps
 use Rattle.assembler_syntax.specs.ItemSteps as item_steps
 use Rattle.assembler_syntax.specs.StatementSteps as statement_steps
 use Rattle.assembler_syntax.specs.LineSteps as line_steps
-use Rattle.assembler_syntax.specs.Parts.{Signed, around, closed, is_close_parenthesis, is_colon, is_dup, onto_part, onto_signed, parts, parts_from, signed_from, signed_part, signed_parts}
+use Rattle.assembler_syntax.specs.TokenParts.{Signed, around, closed, is_close_parenthesis, is_colon, is_dup, onto_part, onto_signed, parts, parts_from, signed_from, signed_part, signed_parts}
 use Rattle.assembler_syntax.specs.Expressions.{atom_of, constant_of, expression_of, term_of}
 use Rattle.assembler_syntax.specs.Operands.{brackets_of, far_label, far_target, memory_of, memory_or, operand_of, operands_of, register_of, short_of, value_of, with_part, with_part_by, with_parts}
 use Rattle.assembler_syntax.specs.Items.{in_parentheses, item_by, item_of, items_of, piece_of, pieces_of, repeated}
-use Rattle.assembler_syntax.specs.Statements.{data_of, directive_of, ends_of, instruction_of, onto_prefixes, org_of, prefixes_of, segment_of, statement_behind, statement_of}
+use Rattle.assembler_syntax.specs.Statements.{data_of, directive_of, ends_of, instruction_of, onto_prefixes, org_of, prefixes_of, segment_of, statement_after, statement_of}
 use Rattle.assembler_syntax.specs.Lines.{line_of, read_line, with_label}
 
 bind_same : {A B : Type 0} (r : Result A SyntaxFault) (f g : A → Result B SyntaxFault) → ((x : A) → f x ≡ g x) → (r >>= f) ≡ (r >>= g)
@@ -62,12 +62,12 @@ around_alike passes ts = at_alike ts (position passes ts)
 parts_from_alike : (is_open : Bool) (ts : List Token) → part_steps.parts_from is_open ts ≡ parts_from is_open ts
 parts_from_alike true [] = refl
 parts_from_alike false [] = refl
-parts_from_alike false (Mark Comma ∷ ts) = ap (λ (ps : List (List Token)). [] ∷ ps) (parts_from_alike false ts)
-parts_from_alike true (Mark Comma ∷ ts) = ap (onto_part (Mark Comma)) (parts_from_alike true ts)
-parts_from_alike false (Mark OpenParenthesis ∷ ts) = ap (onto_part (Mark OpenParenthesis)) (parts_from_alike true ts)
-parts_from_alike true (Mark OpenParenthesis ∷ ts) = ap (onto_part (Mark OpenParenthesis)) (parts_from_alike true ts)
-parts_from_alike false (Mark CloseParenthesis ∷ ts) = ap (onto_part (Mark CloseParenthesis)) (parts_from_alike false ts)
-parts_from_alike true (Mark CloseParenthesis ∷ ts) = ap (onto_part (Mark CloseParenthesis)) (parts_from_alike false ts)
+parts_from_alike false (Punctuator Comma ∷ ts) = ap (λ (ps : List (List Token)). [] ∷ ps) (parts_from_alike false ts)
+parts_from_alike true (Punctuator Comma ∷ ts) = ap (onto_part (Punctuator Comma)) (parts_from_alike true ts)
+parts_from_alike false (Punctuator OpenParenthesis ∷ ts) = ap (onto_part (Punctuator OpenParenthesis)) (parts_from_alike true ts)
+parts_from_alike true (Punctuator OpenParenthesis ∷ ts) = ap (onto_part (Punctuator OpenParenthesis)) (parts_from_alike true ts)
+parts_from_alike false (Punctuator CloseParenthesis ∷ ts) = ap (onto_part (Punctuator CloseParenthesis)) (parts_from_alike false ts)
+parts_from_alike true (Punctuator CloseParenthesis ∷ ts) = ap (onto_part (Punctuator CloseParenthesis)) (parts_from_alike false ts)
 parts_from_alike false (t ∷ ts) = ap (onto_part t) (parts_from_alike false ts)
 parts_from_alike true (t ∷ ts) = ap (onto_part t) (parts_from_alike true ts)
 
@@ -77,13 +77,13 @@ parts_alike ts = parts_from_alike false ts
 
 signed_from_alike : (is_negative : Bool) (ts : List Token) → part_steps.signed_from is_negative ts ≡ signed_from is_negative ts
 signed_from_alike is_negative [] = refl
-signed_from_alike is_negative (Mark Plus ∷ ts) = ap (λ (ps : List Signed). signed_part is_negative [] ∷ ps) (signed_from_alike false ts)
-signed_from_alike is_negative (Mark Minus ∷ ts) = ap (λ (ps : List Signed). signed_part is_negative [] ∷ ps) (signed_from_alike true ts)
+signed_from_alike is_negative (Punctuator Plus ∷ ts) = ap (λ (ps : List Signed). signed_part is_negative [] ∷ ps) (signed_from_alike false ts)
+signed_from_alike is_negative (Punctuator Minus ∷ ts) = ap (λ (ps : List Signed). signed_part is_negative [] ∷ ps) (signed_from_alike true ts)
 signed_from_alike is_negative (t ∷ ts) = ap (onto_signed is_negative t) (signed_from_alike is_negative ts)
 
 signed_parts_alike : (ts : List Token) → part_steps.signed_parts ts ≡ signed_parts ts
 signed_parts_alike [] = refl
-signed_parts_alike (Mark Minus ∷ ts) = signed_from_alike true ts
+signed_parts_alike (Punctuator Minus ∷ ts) = signed_from_alike true ts
 signed_parts_alike (t ∷ ts) = signed_from_alike false (t ∷ ts)
 
 -- ---- expressions
@@ -93,15 +93,15 @@ atom_alike [] = refl
 atom_alike (One ∷ []) = refl
 atom_alike (Number n ∷ []) = refl
 atom_alike (Named name ∷ []) = refl
-atom_alike (Mark Dollar ∷ []) = refl
+atom_alike (Punctuator Dollar ∷ []) = refl
 atom_alike (Word (Keyword keywords.Seg) ∷ []) = refl
 atom_alike (t ∷ []) = refl
 atom_alike (Word (Keyword keywords.Seg) ∷ Named name ∷ []) = refl
 atom_alike (Word (Keyword keywords.Seg) ∷ t ∷ []) = refl
-atom_alike (Mark Dollar ∷ t ∷ []) = refl
+atom_alike (Punctuator Dollar ∷ t ∷ []) = refl
 atom_alike (s ∷ t ∷ []) = refl
 atom_alike (Word (Keyword keywords.Seg) ∷ Named name ∷ u ∷ ts) = refl
-atom_alike (Mark Dollar ∷ t ∷ u ∷ ts) = refl
+atom_alike (Punctuator Dollar ∷ t ∷ u ∷ ts) = refl
 atom_alike (s ∷ t ∷ u ∷ ts) = refl
 
 term_alike : (part : Signed) → expression_steps.term_of part ≡ term_of part
@@ -149,12 +149,12 @@ value_alike ts = simp expression_alike
 brackets_alike : (ts : List Token) → operand_steps.brackets_of ts ≡ brackets_of ts
 unfolding operand_steps.brackets_of brackets_of
 brackets_alike [] = refl
-brackets_alike (Mark OpenBracket ∷ ts) = refl
+brackets_alike (Punctuator OpenBracket ∷ ts) = refl
 brackets_alike (Word (Register (registers.Segment s)) ∷ []) = refl
-brackets_alike (Word (Register (registers.Segment s)) ∷ Mark Colon ∷ []) = refl
+brackets_alike (Word (Register (registers.Segment s)) ∷ Punctuator Colon ∷ []) = refl
 brackets_alike (Word (Register (registers.Segment s)) ∷ t ∷ []) = refl
-brackets_alike (Word (Register (registers.Segment s)) ∷ Mark Colon ∷ Mark OpenBracket ∷ ts) = refl
-brackets_alike (Word (Register (registers.Segment s)) ∷ Mark Colon ∷ u ∷ ts) = refl
+brackets_alike (Word (Register (registers.Segment s)) ∷ Punctuator Colon ∷ Punctuator OpenBracket ∷ ts) = refl
+brackets_alike (Word (Register (registers.Segment s)) ∷ Punctuator Colon ∷ u ∷ ts) = refl
 brackets_alike (Word (Register (registers.Segment s)) ∷ t ∷ u ∷ ts) = refl
 brackets_alike (t ∷ ts) = refl
 
@@ -203,13 +203,13 @@ place_alike ts =
 short_alike : (ts : List Token) → operand_steps.short_of ts ≡ short_of ts
 short_alike ts = simp expression_alike
 
-mark_alike : (m : MarkType) → operand_steps.single_operand (Mark m) ≡ operand_of (Mark m ∷ [])
+punctuator_alike : (m : PunctuatorType) → operand_steps.single_operand (Punctuator m) ≡ operand_of (Punctuator m ∷ [])
 unfolding operand_of operand_steps.value_of value_of expression_of expression_steps.expression_of expression_steps.atom_of atom_of brackets_of memory_of
-mark_alike Plus = refl
-mark_alike Minus = refl
-mark_alike OpenBracket = refl
-mark_alike Dollar = refl
-mark_alike _ = refl
+punctuator_alike Plus = refl
+punctuator_alike Minus = refl
+punctuator_alike OpenBracket = refl
+punctuator_alike Dollar = refl
+punctuator_alike _ = refl
 
 -- an operand of one token that is no register and not `1` is a value; the words that begin other operands say nothing
 -- by themselves
@@ -220,7 +220,7 @@ one_alike One = refl
 one_alike (Number n) = refl
 one_alike (Named name) = refl
 one_alike (Quoted text) = refl
-one_alike (Mark m) = mark_alike m
+one_alike (Punctuator m) = punctuator_alike m
 one_alike (Word (Keyword keywords.Short)) = refl
 one_alike (Word (Keyword keywords.Byte)) = refl
 one_alike (Word (Keyword keywords.Word)) = refl
@@ -271,7 +271,7 @@ pieces_alike width ts =
 
 inner_alike : (ts : List Token) → item_steps.in_parentheses ts ≡ in_parentheses ts
 inner_alike [] = refl
-inner_alike (Mark OpenParenthesis ∷ ts) = ap closed (around_alike is_close_parenthesis ts)
+inner_alike (Punctuator OpenParenthesis ∷ ts) = ap closed (around_alike is_close_parenthesis ts)
 inner_alike (t ∷ ts) = refl
 
 repeated_alike : (width : DataWidth) (front back : List Token) → item_steps.repeated width front back ≡ repeated width front back
@@ -334,26 +334,26 @@ prefixes_alike : (ts : List Token) → statement_steps.prefixes_of ts ≡ prefix
 prefixes_alike [] = refl
 prefixes_alike (Word (Prefix p) ∷ ts) = ap (onto_prefixes p) (prefixes_alike ts)
 prefixes_alike (Word (Register (registers.Segment s)) ∷ []) = refl
-prefixes_alike (Word (Register (registers.Segment s)) ∷ Mark Colon ∷ ts) = ap (onto_prefixes (prefixes.Segment s)) (prefixes_alike ts)
+prefixes_alike (Word (Register (registers.Segment s)) ∷ Punctuator Colon ∷ ts) = ap (onto_prefixes (prefixes.Segment s)) (prefixes_alike ts)
 prefixes_alike (Word (Register (registers.Segment s)) ∷ t ∷ ts) = refl
 prefixes_alike (t ∷ ts) = refl
 
-behind_alike : (ps : List PrefixType) (ts : List Token) → statement_steps.statement_behind ps ts ≡ statement_behind ps ts
-unfolding statement_steps.statement_behind statement_behind
-behind_alike [] [] = refl
-behind_alike (p ∷ ps) [] = refl
-behind_alike [] (Word (Mnemonic m) ∷ ts) = instruction_alike [] m ts
-behind_alike (p ∷ ps) (Word (Mnemonic m) ∷ ts) = instruction_alike (p ∷ ps) m ts
-behind_alike [] (Word (Keyword k) ∷ ts) = directive_alike k ts
-behind_alike (p ∷ ps) (Word (Keyword k) ∷ ts) = refl
-behind_alike [] (t ∷ ts) = refl
-behind_alike (p ∷ ps) (t ∷ ts) = refl
+after_alike : (ps : List PrefixType) (ts : List Token) → statement_steps.statement_after ps ts ≡ statement_after ps ts
+unfolding statement_steps.statement_after statement_after
+after_alike [] [] = refl
+after_alike (p ∷ ps) [] = refl
+after_alike [] (Word (Mnemonic m) ∷ ts) = instruction_alike [] m ts
+after_alike (p ∷ ps) (Word (Mnemonic m) ∷ ts) = instruction_alike (p ∷ ps) m ts
+after_alike [] (Word (Keyword k) ∷ ts) = directive_alike k ts
+after_alike (p ∷ ps) (Word (Keyword k) ∷ ts) = refl
+after_alike [] (t ∷ ts) = refl
+after_alike (p ∷ ps) (t ∷ ts) = refl
 
-prefixed_alike : (ts : List Token) → statement_steps.prefixed_statement ts ≡ statement_behind (prefixes_of ts).0 (prefixes_of ts).1
+prefixed_alike : (ts : List Token) → statement_steps.prefixed_statement ts ≡ statement_after (prefixes_of ts).0 (prefixes_of ts).1
 unfolding statement_steps.prefixed_statement
 prefixed_alike ts =
-    behind_alike (statement_steps.prefixes_of ts).0 (statement_steps.prefixes_of ts).1
-    ∙ ap (λ (p : List PrefixType × List Token). statement_behind p.0 p.1) (prefixes_alike ts)
+    after_alike (statement_steps.prefixes_of ts).0 (statement_steps.prefixes_of ts).1
+    ∙ ap (λ (p : List PrefixType × List Token). statement_after p.0 p.1) (prefixes_alike ts)
 
 statement_alike : (ts : List Token) → statement_steps.statement_of ts ≡ statement_of ts
 unfolding statement_steps.statement_of statement_of statement_steps.equ_of
@@ -374,7 +374,7 @@ unfolding line_steps.line_of line_of
 line_alike [] = label_with_alike None []
 line_alike (Named label ∷ []) = label_with_alike None (Named label ∷ [])
 line_alike (t ∷ []) = label_with_alike None (t ∷ [])
-line_alike (Named label ∷ Mark Colon ∷ ts) = label_with_alike (Some label) ts
+line_alike (Named label ∷ Punctuator Colon ∷ ts) = label_with_alike (Some label) ts
 line_alike (Named label ∷ u ∷ ts) = label_with_alike None (Named label ∷ u ∷ ts)
 line_alike (t ∷ u ∷ ts) = label_with_alike None (t ∷ u ∷ ts)
 

@@ -8,8 +8,8 @@ use Rattle.std.proofs.lemmas.Bool.Decides.{nat_tests}
 use Rattle.dialect.specs.declared.meaning.Meaning.TheVariants as meanings
 use Rattle.dialect.specs.declared.keyword.Keyword.TheVariants as keywords
 use Rattle.assembler_lexeme.specs.declared.token.Token.{Token}
-use Rattle.assembler_lexeme.specs.declared.token.Token.TheVariants.{Word, Mark}
-use Rattle.assembler_lexeme.specs.declared.token.Mark.TheVariants.{Comma, Colon, OpenBracket, CloseBracket, OpenParenthesis, CloseParenthesis}
+use Rattle.assembler_lexeme.specs.declared.token.Token.TheVariants.{Word, Punctuator}
+use Rattle.assembler_lexeme.specs.declared.token.Punctuator.TheVariants.{Comma, Colon, OpenBracket, CloseBracket, OpenParenthesis, CloseParenthesis}
 use Rattle.assembler_syntax.specs.PartSteps.{around}
 use Rattle.assembler_syntax.specs.Spellings.{Exactly, InTurn, WithCommas}
 
@@ -30,22 +30,22 @@ exactly_passes p tokens pass ts is = ap (list_all p) is ∙ pass
 pub turn_passes : (p : Token → Bool) (One' Other : List Token → Type 0) → EachPasses p One' → EachPasses p Other → EachPasses p (InTurn One' Other)
 turn_passes p One' Other one other ts is = ap (list_all p) is.are ∙ both_pass p is.front is.back (one is.front is.first) (other is.back is.second)
 
-pub commas_pass : {A : Type 0} (p : Token → Bool) → p (Mark Comma) ≡ true → (Spells : A → List Token → Type 0) → ((x : A) → EachPasses p (Spells x)) → (xs : List A) → EachPasses p (WithCommas Spells xs)
+pub commas_pass : {A : Type 0} (p : Token → Bool) → p (Punctuator Comma) ≡ true → (Spells : A → List Token → Type 0) → ((x : A) → EachPasses p (Spells x)) → (xs : List A) → EachPasses p (WithCommas Spells xs)
 commas_pass p comma Spells each [] ts is = absurd is
 commas_pass p comma Spells each (x ∷ []) ts is = each x ts is
 commas_pass p comma Spells each (x ∷ y ∷ more) ts is =
-    turn_passes p (Spells x) (InTurn (Exactly (Mark Comma ∷ [])) (WithCommas Spells (y ∷ more))) (each x)
-    (turn_passes p (Exactly (Mark Comma ∷ [])) (WithCommas Spells (y ∷ more)) (exactly_passes p (Mark Comma ∷ []) (rw comma refl)) (commas_pass p comma Spells each (y ∷ more)))
+    turn_passes p (Spells x) (InTurn (Exactly (Punctuator Comma ∷ [])) (WithCommas Spells (y ∷ more))) (each x)
+    (turn_passes p (Exactly (Punctuator Comma ∷ [])) (WithCommas Spells (y ∷ more)) (exactly_passes p (Punctuator Comma ∷ []) (rw comma refl)) (commas_pass p comma Spells each (y ∷ more)))
     ts is
 
 -- the tokens of expressions: none of them parts, opens, closes or belongs to another statement
 abbrev pub is_plain : Token → Bool
-is_plain (Mark Comma) = false
-is_plain (Mark Colon) = false
-is_plain (Mark OpenBracket) = false
-is_plain (Mark CloseBracket) = false
-is_plain (Mark OpenParenthesis) = false
-is_plain (Mark CloseParenthesis) = false
+is_plain (Punctuator Comma) = false
+is_plain (Punctuator Colon) = false
+is_plain (Punctuator OpenBracket) = false
+is_plain (Punctuator CloseBracket) = false
+is_plain (Punctuator OpenParenthesis) = false
+is_plain (Punctuator CloseParenthesis) = false
 is_plain (Word (meanings.Keyword keywords.Dup)) = false
 is_plain (Word (meanings.Keyword keywords.Equ)) = false
 is_plain t = true
@@ -62,11 +62,11 @@ pass_too p q passes (t ∷ ts) all =
     let rest = pass_too p q passes ts ((and_parts (p t) (list_all p ts) all).1) in
     rw (first, rest) refl
 
-place_behind : (p : Token → Bool) (xs : List Token) (t : Token) (ys : List Token) → list_all (fails p) xs ≡ true → p t ≡ true → position_or_len p (xs ++ t ∷ ys) ≡ length xs
-place_behind p [] t ys none is = rw is refl
-place_behind p (x ∷ xs) t ys none is =
+place_following : (p : Token → Bool) (xs : List Token) (t : Token) (ys : List Token) → list_all (fails p) xs ≡ true → p t ≡ true → position_or_len p (xs ++ t ∷ ys) ≡ length xs
+place_following p [] t ys none is = rw is refl
+place_following p (x ∷ xs) t ys none is =
     let first = (and_parts (not (p x)) (list_all (fails p) xs) none).0 in
-    let rest = place_behind p xs t ys ((and_parts (not (p x)) (list_all (fails p) xs) none).1) is in
+    let rest = place_following p xs t ys ((and_parts (not (p x)) (list_all (fails p) xs) none).1) is in
     rw (first, rest) (omega arith)
 
 place_none : (p : Token → Bool) (xs : List Token) → list_all (fails p) xs ≡ true → position_or_len p xs ≡ length xs
@@ -76,9 +76,9 @@ place_none p (x ∷ xs) none =
     let rest = place_none p xs ((and_parts (not (p x)) (list_all (fails p) xs) none).1) in
     rw (first, rest) (omega arith)
 
-drop_behind : (xs : List Token) (t : Token) (ys : List Token) → drop (length xs + 1) (xs ++ t ∷ ys) ≡ ys
-drop_behind [] t ys = refl
-drop_behind (x ∷ xs) t ys = let more : suc (length xs) + 1 ≡ suc (length xs + 1) = omega arith in rw more (drop_behind xs t ys)
+drop_after : (xs : List Token) (t : Token) (ys : List Token) → drop (length xs + 1) (xs ++ t ∷ ys) ≡ ys
+drop_after [] t ys = refl
+drop_after (x ∷ xs) t ys = let more : suc (length xs) + 1 ≡ suc (length xs + 1) = omega arith in rw more (drop_after xs t ys)
 
 is_within : (m n : ℕ) → m < n → nat_lt m n ≡ true
 is_within m n less = grind (arith, nat_tests)
@@ -88,11 +88,11 @@ is_not_within n = grind (arith, nat_tests)
 
 pub around_one : (p : Token → Bool) (xs : List Token) (t : Token) (ys : List Token) → list_all (fails p) xs ≡ true → p t ≡ true → around p (xs ++ t ∷ ys) ≡ Some (xs, ys)
 around_one p xs t ys none is =
-    let place = place_behind p xs t ys none is in
+    let place = place_following p xs t ys none is in
     let size : length xs < length (xs ++ t ∷ ys) = simp length-append (omega arith) in
     let within = is_within (length xs) (length (xs ++ t ∷ ys)) size in
     let front : take (length xs) (xs ++ t ∷ ys) ≡ xs = take_at xs (t ∷ ys) (length xs) refl in
-    let back = drop_behind xs t ys in
+    let back = drop_after xs t ys in
     rw (place, within, front, back) refl
 
 pub around_none : (p : Token → Bool) (xs : List Token) → list_all (fails p) xs ≡ true → around p xs ≡ None

@@ -13,8 +13,8 @@ use Rattle.assembler_lexeme.specs.declared.fault.SyntaxFault.{SyntaxFault}
 use Rattle.assembler_lexeme.specs.declared.fault.SyntaxFault.TheVariants.{BadLine, UnknownName}
 use Rattle.assembler_lexeme.specs.declared.name.Name.{Name}
 use Rattle.assembler_lexeme.specs.declared.token.Token.{Token}
-use Rattle.assembler_lexeme.specs.declared.token.Token.TheVariants.{One, Number, Named, Quoted, Word, Mark}
-use Rattle.assembler_lexeme.specs.declared.token.Mark.TheVariants as marks
+use Rattle.assembler_lexeme.specs.declared.token.Token.TheVariants.{One, Number, Named, Quoted, Word, Punctuator}
+use Rattle.assembler_lexeme.specs.declared.token.Punctuator.TheVariants as punctuators
 use Rattle.assembler_lexeme.specs.Faults.{◌>>=◌}
 use Rattle.assembler_syntax.specs.declared.statement.DataWidth.{DataWidth}
 use Rattle.assembler_syntax.specs.declared.statement.DataWidth.TheVariants as widths
@@ -29,9 +29,9 @@ use Rattle.assembler_syntax.specs.PartSteps.{around, closed, is_colon, is_open_p
 use Rattle.assembler_syntax.specs.ExpressionSteps.{expression_of, constant_of}
 use Rattle.assembler_syntax.specs.OperandSteps.{operands_of}
 use Rattle.assembler_syntax.specs.ItemSteps.{value_piece, single_piece, piece_of, pieces_of, in_parentheses, repeated, item_by, item_of, items_of}
-use Rattle.assembler_syntax.specs.StatementSteps.{segment_at, segment_by, is_at, segment_of, ends_of, org_of, data_of, equ_at, equ_of, directive_of, instruction_of, onto_prefixes, segment_token, prefixes_of, is_directive, keyword_statement, word_statement, led_statement, statement_behind, prefixed_statement, is_equ, statement_of}
+use Rattle.assembler_syntax.specs.StatementSteps.{segment_at, segment_by, is_at, segment_of, ends_of, org_of, data_of, equ_at, equ_of, directive_of, instruction_of, onto_prefixes, segment_token, prefixes_of, is_directive, keyword_statement, word_statement, led_statement, statement_after, prefixed_statement, is_equ, statement_of}
 use Rattle.assembler_syntax.specs.LineSteps.{with_label, labelled, line_of}
-use Rattle.assembler_syntax.specs.Laws.{EachLineReadIsSpelled}
+use Rattle.assembler_syntax.specs.SyntaxLaws.{EachLineReadIsSpelled}
 use Rattle.assembler_syntax.specs.Spelling.{keyword, label_tokens, width_keyword}
 use Rattle.assembler_syntax.specs.Spellings.{SpellsItem, SpellsLine, SpellsPiece, SpellsPrefix, SpellsPrefixes, SpellsStatement, WithCommas}
 use Rattle.assembler_syntax.proofs.BackTerms.{StandsAround, around_spelled, commas_spelled, constant_spelled, expression_spelled, ok_is, reads}
@@ -52,7 +52,7 @@ single_spelled widths.Byte One p is = value_spelled widths.Byte (One ∷ []) p i
 single_spelled widths.Byte (Number n) p is = value_spelled widths.Byte (Number n ∷ []) p is
 single_spelled widths.Byte (Named name) p is = value_spelled widths.Byte (Named name ∷ []) p is
 single_spelled widths.Byte (Word meaning) p is = value_spelled widths.Byte (Word meaning ∷ []) p is
-single_spelled widths.Byte (Mark mark) p is = value_spelled widths.Byte (Mark mark ∷ []) p is
+single_spelled widths.Byte (Punctuator punctuator) p is = value_spelled widths.Byte (Punctuator punctuator ∷ []) p is
 single_spelled widths.Word t p is = value_spelled widths.Word (t ∷ []) p is
 single_spelled widths.Double t p is = value_spelled widths.Double (t ∷ []) p is
 
@@ -66,12 +66,12 @@ pieces_spelled : (width : DataWidth) (ts : List Token) (ps : List Piece) → pie
 unfolding pieces_of
 pieces_spelled width ts ps is = commas_spelled (piece_of width) (SpellsPiece width) (piece_spelled width) ts ps is
 
-open_is : (t : Token) → is_open_parenthesis t ≡ true → t ≡ Mark marks.OpenParenthesis
-open_is (Mark marks.OpenParenthesis) is = refl
+open_is : (t : Token) → is_open_parenthesis t ≡ true → t ≡ Punctuator punctuators.OpenParenthesis
+open_is (Punctuator punctuators.OpenParenthesis) is = refl
 open_is t is = absurd (cc)
 
-close_is : (t : Token) → is_close_parenthesis t ≡ true → t ≡ Mark marks.CloseParenthesis
-close_is (Mark marks.CloseParenthesis) is = refl
+close_is : (t : Token) → is_close_parenthesis t ≡ true → t ≡ Punctuator punctuators.CloseParenthesis
+close_is (Punctuator punctuators.CloseParenthesis) is = refl
 close_is t is = absurd (cc)
 
 dup_is : (t : Token) → is_dup t ≡ true → t ≡ keyword keywords.Dup
@@ -79,14 +79,14 @@ dup_is (Word (meanings.Keyword keywords.Dup)) is = refl
 dup_is t is = absurd (cc)
 
 abbrev InParentheses : List Token → List Token → Type 0
-InParentheses ts inner = ts ≡ Mark marks.OpenParenthesis ∷ (inner ++ Mark marks.CloseParenthesis ∷ [])
+InParentheses ts inner = ts ≡ Punctuator punctuators.OpenParenthesis ∷ (inner ++ Punctuator punctuators.CloseParenthesis ∷ [])
 
 parenthesis_step : (t : Token) (ts inner : List Token) (test : Bool) → is_open_parenthesis t ≡ test → (if test then closed (around is_close_parenthesis ts) else Err BadLine) ≡ Ok inner
     → InParentheses (t ∷ ts) inner
 parenthesis_step t ts inner true at is =
     let around_it = around_spelled is_close_parenthesis ts (inner, []) (closed_is (around is_close_parenthesis ts) inner is) in
     ap (λ (u : Token). u ∷ ts) (open_is t at)
-    ∙ ap (λ (us : List Token). Mark marks.OpenParenthesis ∷ us)
+    ∙ ap (λ (us : List Token). Punctuator punctuators.OpenParenthesis ∷ us)
     (around_it.are ∙ ap (λ (u : Token). inner ++ u ∷ []) (close_is around_it.token around_it.passes_it))
 parenthesis_step t ts inner false at is = absurd (cc)
 
@@ -101,7 +101,7 @@ repeated_spelled width ts front back i around_it is =
     let inside = reads (in_parentheses back) (λ inner. pieces_of width inner >>= λ each. Ok (items.Repeated of.read each)) i of.then' in
     let made = reads (pieces_of width inside.read) (λ each. Ok (items.Repeated of.read each)) i inside.then' in
     let same : items.Repeated of.read made.read ≡ i = ok_is (items.Repeated of.read made.read) i made.then' in
-    let back_is : back ≡ Mark marks.OpenParenthesis ∷ (inside.read ++ Mark marks.CloseParenthesis ∷ []) = parentheses_are back inside.read inside.is in
+    let back_is : back ≡ Punctuator punctuators.OpenParenthesis ∷ (inside.read ++ Punctuator punctuators.CloseParenthesis ∷ []) = parentheses_are back inside.read inside.is in
     let dup : around_it.token ≡ keyword keywords.Dup = dup_is around_it.token around_it.passes_it in
     subst (λ (j : Item). SpellsItem width j ts) same
     (record {
@@ -110,13 +110,13 @@ repeated_spelled width ts front back i around_it is =
       are = around_it.are ∙ ap (λ (u : Token). front ++ u ∷ back) dup;
       first = constant_spelled front of.read of.is;
       second = record {
-        front = keyword keywords.Dup ∷ Mark marks.OpenParenthesis ∷ [];
-        back = inside.read ++ Mark marks.CloseParenthesis ∷ [];
+        front = keyword keywords.Dup ∷ Punctuator punctuators.OpenParenthesis ∷ [];
+        back = inside.read ++ Punctuator punctuators.CloseParenthesis ∷ [];
         are = ap (λ (us : List Token). keyword keywords.Dup ∷ us) back_is;
         first = refl;
         second = record {
           front = inside.read;
-          back = Mark marks.CloseParenthesis ∷ [];
+          back = Punctuator punctuators.CloseParenthesis ∷ [];
           are = refl;
           first = pieces_spelled width inside.read made.read made.is;
           second = refl;
@@ -249,7 +249,7 @@ segment_step : (s : SegmentRegister) (t : Token) (ts : List Token) (test : Bool)
     → HasPrefixes (segment_token s ∷ t ∷ ts) (if test then onto_prefixes (prefixes.Segment s) (prefixes_of ts) else ([], segment_token s ∷ t ∷ ts))
 segment_step s t ts true at has =
     subst (λ (u : Token). HasPrefixes (segment_token s ∷ u ∷ ts) (onto_prefixes (prefixes.Segment s) (prefixes_of ts))) (sym (colon_is t at))
-    (one_prefix (segment_token s ∷ Mark marks.Colon ∷ []) (prefixes.Segment s) ts (prefixes_of ts) (inl refl) has)
+    (one_prefix (segment_token s ∷ Punctuator punctuators.Colon ∷ []) (prefixes.Segment s) ts (prefixes_of ts) (inl refl) has)
 segment_step s t ts false at has = no_prefix (segment_token s ∷ t ∷ ts)
 
 has_prefixes : (ts : List Token) → HasPrefixes ts (prefixes_of ts)
@@ -277,16 +277,16 @@ led_spelled : (ps : List Prefix) (front : List Token) (t : Token) (ts : List Tok
 led_spelled ps front (Word m) ts s before is = word_spelled ps front m ts s before is
 led_spelled ps front t ts s before is = absurd (cc)
 
-behind_spelled : (ps : List Prefix) (front ts : List Token) (s : Statement) → SpellsPrefixes ps front → statement_behind ps ts ≡ Ok s → SpellsStatement s (front ++ ts)
-unfolding statement_behind
-behind_spelled ps front [] s before is = absurd (cc)
-behind_spelled ps front (t ∷ ts) s before is = led_spelled ps front t ts s before is
+after_spelled : (ps : List Prefix) (front ts : List Token) (s : Statement) → SpellsPrefixes ps front → statement_after ps ts ≡ Ok s → SpellsStatement s (front ++ ts)
+unfolding statement_after
+after_spelled ps front [] s before is = absurd (cc)
+after_spelled ps front (t ∷ ts) s before is = led_spelled ps front t ts s before is
 
 prefixed_spelled : (ts : List Token) (s : Statement) → prefixed_statement ts ≡ Ok s → SpellsStatement s ts
 unfolding prefixed_statement
 prefixed_spelled ts s is =
     let has = has_prefixes ts in
-    subst (SpellsStatement s) (sym has.are) (behind_spelled (prefixes_of ts).0 has.front (prefixes_of ts).1 s has.spelled is)
+    subst (SpellsStatement s) (sym has.are) (after_spelled (prefixes_of ts).0 has.front (prefixes_of ts).1 s has.spelled is)
 
 -- ---- lines
 equ_is : (t : Token) → is_equ t ≡ true → keyword keywords.Equ ≡ t
@@ -313,7 +313,7 @@ with_label_spelled label ts l is =
     (record { front = label_tokens label; back = ts; are = refl; first = refl; second = statement_spelled ts of.read of.is })
 
 named_spelled : (label : Name) (u : Token) (ts : List Token) (l : Line) → labelled (Named label) u ts ≡ Ok l → SpellsLine l (Named label ∷ u ∷ ts)
-named_spelled label (Mark marks.Colon) ts l is = with_label_spelled (Some label) ts l is
+named_spelled label (Punctuator punctuators.Colon) ts l is = with_label_spelled (Some label) ts l is
 named_spelled label u ts l is = with_label_spelled None (Named label ∷ u ∷ ts) l is
 
 labelled_spelled : (t u : Token) (ts : List Token) (l : Line) → labelled t u ts ≡ Ok l → SpellsLine l (t ∷ u ∷ ts)

@@ -14,8 +14,8 @@ use Rattle.dialect.specs.declared.size.Size.{Size}
 use Rattle.dialect.specs.declared.size.Size.TheVariants as sizes
 use Rattle.assembler_lexeme.specs.declared.fault.SyntaxFault.TheVariants.{BadLine}
 use Rattle.assembler_lexeme.specs.declared.token.Token.{Token}
-use Rattle.assembler_lexeme.specs.declared.token.Token.TheVariants.{One, Number, Named, Quoted, Word, Mark}
-use Rattle.assembler_lexeme.specs.declared.token.Mark.TheVariants.{Colon, OpenBracket, CloseBracket}
+use Rattle.assembler_lexeme.specs.declared.token.Token.TheVariants.{One, Number, Named, Quoted, Word, Punctuator}
+use Rattle.assembler_lexeme.specs.declared.token.Punctuator.TheVariants.{Colon, OpenBracket, CloseBracket}
 use Rattle.assembler_lexeme.specs.Faults.{◌>>=◌, wanted}
 use Rattle.assembler_syntax.specs.declared.expression.Term.{Term}
 use Rattle.assembler_syntax.specs.declared.operand.Address.{Address}
@@ -23,10 +23,10 @@ use Rattle.assembler_syntax.specs.declared.operand.Operand.{Operand}
 use Rattle.assembler_syntax.specs.declared.operand.Operand.TheVariants as operands
 use Rattle.assembler_syntax.specs.PartSteps.{Signed, signed_parts, around, closed, is_colon, is_open_bracket, is_close_bracket}
 use Rattle.assembler_syntax.specs.ExpressionSteps.{expression_of, term_of}
-use Rattle.assembler_syntax.specs.OperandSteps.{base_with, with_register, terms_with, with_term, single_register, register_of, with_part_by, with_part, with_parts, empty_address, memory_of, value_of, behind_segment, brackets_by, brackets_of, memory_in, single_label, far_label, far_pointer, far_target, far_by, far_of, short_of, single_operand, place_or_value, led_operand, operand_of, operands_of}
+use Rattle.assembler_syntax.specs.OperandSteps.{base_with, with_register, terms_with, with_term, single_register, register_of, with_part_by, with_part, with_parts, empty_address, memory_of, value_of, after_segment, brackets_by, brackets_of, memory_in, single_label, far_label, far_pointer, far_target, far_by, far_of, short_of, single_operand, place_or_value, led_operand, operand_of, operands_of}
 use Rattle.assembler_syntax.specs.Spelling.{keyword, register, word, sign_token, size_tokens, segment_tokens}
 use Rattle.assembler_syntax.specs.Spellings.{AddressPart, a_register, a_term, AreOfBase, SpellsAtom, SpellsFirstPart, SpellsInner, SpellsMoreParts, SpellsOperand, SpellsOperands, SpellsPart, WithCommas, leading_tokens, part_registers, part_terms, some_terms}
-use Rattle.assembler_syntax.proofs.BackTerms.{AreParts, StandsAround, around_spelled, behind_signs, commas_spelled, expression_spelled, ok_is, parts_are_signed, reads, term_spelled}
+use Rattle.assembler_syntax.proofs.BackTerms.{AreParts, StandsAround, around_spelled, after_signs, commas_spelled, expression_spelled, ok_is, parts_are_signed, reads, term_spelled}
 
 -- ---- a part in brackets
 -- what stands between two signs
@@ -151,7 +151,7 @@ part_added a b p is = part_by (register_of p.tokens) a b p refl is
 -- ---- all parts
 record AddsParts (a b : Address) (ps : List Signed) : Type 0 where
   parts : List AddressPart
-  spelled : SpellsMoreParts parts (behind_signs ps)
+  spelled : SpellsMoreParts parts (after_signs ps)
   size : a.size ≡ b.size
   segment : a.segment ≡ b.segment
   base : KeepsBase a.base b.base (flat_map part_registers parts)
@@ -174,7 +174,7 @@ parts_added (p ∷ ps) a b is =
     let more = parts_added ps of.read b of.then' in
     record {
       parts = one.part ∷ more.parts;
-      spelled = record { front = sign_token p.is_negative ∷ p.tokens; back = behind_signs ps; are = refl; first = next_part p one.part one.is_part; second = more.spelled };
+      spelled = record { front = sign_token p.is_negative ∷ p.tokens; back = after_signs ps; are = refl; first = next_part p one.part one.is_part; second = more.spelled };
       size = one.size ∙ more.size;
       segment = one.segment ∙ more.segment;
       base = both_bases a.base of.read.base b.base (part_registers one.part) (flat_map part_registers more.parts) one.base more.base;
@@ -199,8 +199,8 @@ inner_spelled size segment ts ps b are is =
         parts = one.part ∷ more.parts;
         spelled = record {
           front = leading_tokens p.is_negative ++ p.tokens;
-          back = behind_signs are.rest;
-          are = sym are.tokens ∙ sym (append_assoc (leading_tokens p.is_negative) p.tokens (behind_signs are.rest));
+          back = after_signs are.rest;
+          are = sym are.tokens ∙ sym (append_assoc (leading_tokens p.is_negative) p.tokens (after_signs are.rest));
           first = first_part p one.part one.is_part;
           second = more.spelled;
         };
@@ -217,17 +217,17 @@ closed_is (Some (front, [])) inner is = cc
 closed_is (Some (front, t ∷ ts)) inner is = absurd (cc)
 closed_is None inner is = absurd (cc)
 
-close_is : (t : Token) → is_close_bracket t ≡ true → t ≡ Mark CloseBracket
-close_is (Mark CloseBracket) is = refl
+close_is : (t : Token) → is_close_bracket t ≡ true → t ≡ Punctuator CloseBracket
+close_is (Punctuator CloseBracket) is = refl
 close_is t is = absurd (cc)
 
 abbrev memory_tokens : Option Size → Option SegmentRegister → List Token → List Token
-memory_tokens size segment ts = size_tokens size ++ (segment_tokens segment ++ Mark OpenBracket ∷ ts)
+memory_tokens size segment ts = size_tokens size ++ (segment_tokens segment ++ Punctuator OpenBracket ∷ ts)
 
 opened : (size : Option Size) (segment : Option SegmentRegister) (ts : List Token) → memory_tokens size segment ts ≡ memory_tokens size segment [] ++ ts
 opened size segment ts =
-    ap (λ (us : List Token). size_tokens size ++ us) (sym (append_assoc (segment_tokens segment) (Mark OpenBracket ∷ []) ts))
-    ∙ sym (append_assoc (size_tokens size) (segment_tokens segment ++ Mark OpenBracket ∷ []) ts)
+    ap (λ (us : List Token). size_tokens size ++ us) (sym (append_assoc (segment_tokens segment) (Punctuator OpenBracket ∷ []) ts))
+    ∙ sym (append_assoc (size_tokens size) (segment_tokens segment ++ Punctuator OpenBracket ∷ []) ts)
 
 pub memory_spelled : (size : Option Size) (segment : Option SegmentRegister) (ts : List Token) (o : Operand) → memory_of size segment ts ≡ Ok o
     → SpellsOperand o (memory_tokens size segment ts)
@@ -253,36 +253,36 @@ memory_spelled size segment ts o is =
       };
     })
 
-open_is : (t : Token) → is_open_bracket t ≡ true → t ≡ Mark OpenBracket
-open_is (Mark OpenBracket) is = refl
+open_is : (t : Token) → is_open_bracket t ≡ true → t ≡ Punctuator OpenBracket
+open_is (Punctuator OpenBracket) is = refl
 open_is t is = absurd (cc)
 
-pub colon_is : (t : Token) → is_colon t ≡ true → t ≡ Mark Colon
-colon_is (Mark Colon) is = refl
+pub colon_is : (t : Token) → is_colon t ≡ true → t ≡ Punctuator Colon
+colon_is (Punctuator Colon) is = refl
 colon_is t is = absurd (cc)
 
 abbrev BracketsAre : List Token → Option SegmentRegister × List Token → Type 0
-BracketsAre ts b = ts ≡ segment_tokens b.0 ++ Mark OpenBracket ∷ b.1
+BracketsAre ts b = ts ≡ segment_tokens b.0 ++ Punctuator OpenBracket ∷ b.1
 
-behind_step : (s : SegmentRegister) (t u : Token) (ts : List Token) (b : Option SegmentRegister × List Token) (test : Bool) → (is_colon t && is_open_bracket u) ≡ test
+after_step : (s : SegmentRegister) (t u : Token) (ts : List Token) (b : Option SegmentRegister × List Token) (test : Bool) → (is_colon t && is_open_bracket u) ≡ test
     → (if test then Some (Some s, ts) else None) ≡ Some b → BracketsAre (register (registers.Segment s) ∷ t ∷ u ∷ ts) b
-behind_step s t u ts b true at is =
+after_step s t u ts b true at is =
     let same : (Some s, ts) ≡ b = cc in
     let both = and_parts (is_colon t) (is_open_bracket u) at in
     subst (BracketsAre (register (registers.Segment s) ∷ t ∷ u ∷ ts)) same
     (ap₂ (λ (v w : Token). register (registers.Segment s) ∷ v ∷ w ∷ ts) (colon_is t both.0) (open_is u both.1))
-behind_step s t u ts b false at is = absurd (cc)
+after_step s t u ts b false at is = absurd (cc)
 
-behind_is : (r : Register) (ts : List Token) (b : Option SegmentRegister × List Token) → behind_segment r ts ≡ Some b → BracketsAre (register r ∷ ts) b
-behind_is (registers.Segment s) (t ∷ u ∷ ts) b is = behind_step s t u ts b (is_colon t && is_open_bracket u) refl is
-behind_is (registers.Segment s) (t ∷ []) b is = absurd (cc)
-behind_is (registers.Segment s) [] b is = absurd (cc)
-behind_is (registers.Byte r) ts b is = absurd (cc)
-behind_is (registers.Word r) ts b is = absurd (cc)
+after_is : (r : Register) (ts : List Token) (b : Option SegmentRegister × List Token) → after_segment r ts ≡ Some b → BracketsAre (register r ∷ ts) b
+after_is (registers.Segment s) (t ∷ u ∷ ts) b is = after_step s t u ts b (is_colon t && is_open_bracket u) refl is
+after_is (registers.Segment s) (t ∷ []) b is = absurd (cc)
+after_is (registers.Segment s) [] b is = absurd (cc)
+after_is (registers.Byte r) ts b is = absurd (cc)
+after_is (registers.Word r) ts b is = absurd (cc)
 
 by_first : (t : Token) (ts : List Token) (b : Option SegmentRegister × List Token) → brackets_by t ts ≡ Some b → BracketsAre (t ∷ ts) b
-by_first (Mark OpenBracket) ts b is = let same : (None, ts) ≡ b = cc in subst (BracketsAre (Mark OpenBracket ∷ ts)) same refl
-by_first (Word (meanings.Register r)) ts b is = behind_is r ts b is
+by_first (Punctuator OpenBracket) ts b is = let same : (None, ts) ≡ b = cc in subst (BracketsAre (Punctuator OpenBracket ∷ ts)) same refl
+by_first (Word (meanings.Register r)) ts b is = after_is r ts b is
 by_first t ts b is = absurd (cc)
 
 brackets_are : (ts : List Token) (b : Option SegmentRegister × List Token) → brackets_of ts ≡ Some b → BracketsAre ts b
@@ -330,8 +330,8 @@ far_label_spelled (t ∷ u ∷ ts) o is = absurd (cc)
 pointer_spelled : (ts front back : List Token) (o : Operand) → StandsAround is_colon ts front back → far_pointer front back ≡ Ok o → SpellsOperand o (keyword keywords.Far ∷ ts)
 pointer_spelled ts front back o around_it is =
     let of = reads (expression_of front) (λ s. expression_of back >>= λ t. Ok (operands.FarPointer s t)) o is in
-    let behind = reads (expression_of back) (λ t. Ok (operands.FarPointer of.read t)) o of.then' in
-    let same : operands.FarPointer of.read behind.read ≡ o = ok_is (operands.FarPointer of.read behind.read) o behind.then' in
+    let following = reads (expression_of back) (λ t. Ok (operands.FarPointer of.read t)) o of.then' in
+    let same : operands.FarPointer of.read following.read ≡ o = ok_is (operands.FarPointer of.read following.read) o following.then' in
     subst (λ (p : Operand). SpellsOperand p (keyword keywords.Far ∷ ts)) same
     (record {
       front = keyword keywords.Far ∷ [];
@@ -348,7 +348,7 @@ pointer_spelled ts front back o around_it is =
           back = back;
           are = refl;
           first = ap (λ (t : Token). t ∷ []) (colon_is around_it.token around_it.passes_it);
-          second = expression_spelled back behind.read behind.is;
+          second = expression_spelled back following.read following.is;
         };
       };
     })
@@ -379,7 +379,7 @@ single_spelled One o is = let same : operands.One ≡ o = ok_is operands.One o i
 single_spelled (Number n) o is = value_spelled (Number n ∷ []) o (λ same. cc) is
 single_spelled (Named name) o is = value_spelled (Named name ∷ []) o (λ same. cc) is
 single_spelled (Quoted text) o is = value_spelled (Quoted text ∷ []) o (λ same. cc) is
-single_spelled (Mark mark) o is = value_spelled (Mark mark ∷ []) o (λ same. cc) is
+single_spelled (Punctuator punctuator) o is = value_spelled (Punctuator punctuator ∷ []) o (λ same. cc) is
 single_spelled (Word (meanings.Mnemonic m)) o is = value_spelled (Word (meanings.Mnemonic m) ∷ []) o (λ same. cc) is
 single_spelled (Word (meanings.Prefix p)) o is = value_spelled (Word (meanings.Prefix p) ∷ []) o (λ same. cc) is
 single_spelled (Word (meanings.Keyword k)) o is = value_spelled (Word (meanings.Keyword k) ∷ []) o (λ same. cc) is

@@ -7,8 +7,8 @@ use Rattle.dialect.specs.declared.keyword.Keyword.TheVariants as keywords
 use Rattle.assembler_lexeme.specs.declared.fault.SyntaxFault.{SyntaxFault}
 use Rattle.assembler_lexeme.specs.declared.fault.SyntaxFault.TheVariants.{BadLine}
 use Rattle.assembler_lexeme.specs.declared.token.Token.{Token}
-use Rattle.assembler_lexeme.specs.declared.token.Token.TheVariants.{One, Number, Named, Word, Mark}
-use Rattle.assembler_lexeme.specs.declared.token.Mark.TheVariants.{Comma, Plus, Minus, Dollar}
+use Rattle.assembler_lexeme.specs.declared.token.Token.TheVariants.{One, Number, Named, Word, Punctuator}
+use Rattle.assembler_lexeme.specs.declared.token.Punctuator.TheVariants.{Comma, Plus, Minus, Dollar}
 use Rattle.assembler_lexeme.specs.Faults.{◌>>=◌, all_of}
 use Rattle.assembler_syntax.specs.declared.expression.Atom.{Atom}
 use Rattle.assembler_syntax.specs.declared.expression.Atom.TheVariants as atoms
@@ -39,7 +39,7 @@ single_spelled : (t : Token) (a : Atom) → single_atom t ≡ Ok a → SpellsAto
 single_spelled One a is = let same : atoms.Number 1 ≡ a = ok_is (atoms.Number 1) a is in subst (λ b. SpellsAtom b (One ∷ [])) same (inr (refl, refl))
 single_spelled (Number n) a is = let same : atoms.Number n ≡ a = ok_is (atoms.Number n) a is in subst (λ b. SpellsAtom b (Number n ∷ [])) same (inl refl)
 single_spelled (Named name) a is = let same : atoms.Named name ≡ a = ok_is (atoms.Named name) a is in subst (λ b. SpellsAtom b (Named name ∷ [])) same refl
-single_spelled (Mark Dollar) a is = let same : atoms.Here ≡ a = ok_is atoms.Here a is in subst (λ b. SpellsAtom b (Mark Dollar ∷ [])) same refl
+single_spelled (Punctuator Dollar) a is = let same : atoms.Here ≡ a = ok_is atoms.Here a is in subst (λ b. SpellsAtom b (Punctuator Dollar ∷ [])) same refl
 single_spelled t a is = absurd (cc)
 
 segment_spelled : (s t : Token) (a : Atom) → segment_atom s t ≡ Ok a → SpellsAtom a (s ∷ t ∷ [])
@@ -66,20 +66,20 @@ term_spelled part term is =
     subst (IsTermOf part) same (record { sign = refl; atom = atom_spelled part.tokens of.read of.is })
 
 -- ---- parts between signs
-abbrev pub behind_signs : List Signed → List Token
-behind_signs [] = []
-behind_signs (p ∷ ps) = sign_token p.is_negative ∷ (p.tokens ++ behind_signs ps)
+abbrev pub after_signs : List Signed → List Token
+after_signs [] = []
+after_signs (p ∷ ps) = sign_token p.is_negative ∷ (p.tokens ++ after_signs ps)
 
 pub record AreSignedParts (is_negative : Bool) (ts : List Token) (ps : List Signed) : Type 0 where
   pub first : Signed
   pub rest : List Signed
   pub parts_are : ps ≡ first ∷ rest
   pub sign : first.is_negative ≡ is_negative
-  pub tokens : first.tokens ++ behind_signs rest ≡ ts
+  pub tokens : first.tokens ++ after_signs rest ≡ ts
 
 sign_is : (t : Token) (next : Bool) → sign_of t ≡ Some next → sign_token next ≡ t
-sign_is (Mark Plus) next is = let same : false ≡ next = cc in rw (← same) refl
-sign_is (Mark Minus) next is = let same : true ≡ next = cc in rw (← same) refl
+sign_is (Punctuator Plus) next is = let same : false ≡ next = cc in rw (← same) refl
+sign_is (Punctuator Minus) next is = let same : true ≡ next = cc in rw (← same) refl
 sign_is t next is = absurd (cc)
 
 signed_step : (t : Token) (ts : List Token) (is_negative : Bool) (sign : Option Bool) → sign_of t ≡ sign
@@ -100,7 +100,7 @@ signed_step t ts is_negative (Some next) is each =
       rest = signed_from next ts;
       parts_are = refl;
       sign = refl;
-      tokens = ap behind_signs more.parts_are ∙ ap₂ (λ (s : Token) (us : List Token). s ∷ us) (ap sign_token more.sign ∙ sign_is t next is) more.tokens;
+      tokens = ap after_signs more.parts_are ∙ ap₂ (λ (s : Token) (us : List Token). s ∷ us) (ap sign_token more.sign ∙ sign_is t next is) more.tokens;
     }
 
 pub signed_are : (ts : List Token) (is_negative : Bool) → AreSignedParts is_negative ts (signed_from is_negative ts)
@@ -112,7 +112,7 @@ pub record AreParts (ts : List Token) (ps : List Signed) : Type 0 where
   pub first : Signed
   pub rest : List Signed
   pub parts_are : ps ≡ first ∷ rest
-  pub tokens : leading_tokens first.is_negative ++ (first.tokens ++ behind_signs rest) ≡ ts
+  pub tokens : leading_tokens first.is_negative ++ (first.tokens ++ after_signs rest) ≡ ts
 
 led_parts : (ts us : List Token) (is_negative : Bool) (ps : List Signed) → AreSignedParts is_negative us ps → leading_tokens is_negative ++ us ≡ ts → AreParts ts ps
 led_parts ts us is_negative ps are is = record {
@@ -122,8 +122,8 @@ led_parts ts us is_negative ps are is = record {
   tokens = ap₂ (λ (n : Bool) (vs : List Token). leading_tokens n ++ vs) are.sign are.tokens ∙ is;
 }
 
-minus_is : (t : Token) → is_minus t ≡ true → Mark Minus ≡ t
-minus_is (Mark Minus) is = refl
+minus_is : (t : Token) → is_minus t ≡ true → Punctuator Minus ≡ t
+minus_is (Punctuator Minus) is = refl
 minus_is t is = absurd (cc)
 
 minus_step : (t : Token) (ts : List Token) (minus : Bool) → is_minus t ≡ minus → AreParts (t ∷ ts) (if minus then signed_from true ts else signed_from false (t ∷ ts))
@@ -147,19 +147,19 @@ one_and_rest (Ok y) (Ok zs) ys is = record { first = y; rest = zs; are = sym (ok
 one_and_rest (Ok y) (Err fault) ys is = absurd (cc)
 one_and_rest (Err fault) rs ys is = absurd (cc)
 
-signed_spelled : (ps : List Signed) (terms : List Term) → all_of term_of ps ≡ Ok terms → SpellsSigned terms (behind_signs ps)
+signed_spelled : (ps : List Signed) (terms : List Term) → all_of term_of ps ≡ Ok terms → SpellsSigned terms (after_signs ps)
 signed_spelled [] terms is = let same : [] ≡ terms = ok_is [] terms is in subst (λ (us : List Term). SpellsSigned us []) same refl
 signed_spelled (p ∷ ps) terms is =
     let of = one_and_rest (term_of p) (all_of term_of ps) terms is in
     let term = term_spelled p of.first of.is_first in
     let rest = signed_spelled ps of.rest of.are_rest in
-    subst (λ (us : List Term). SpellsSigned us (behind_signs (p ∷ ps))) (sym of.are)
+    subst (λ (us : List Term). SpellsSigned us (after_signs (p ∷ ps))) (sym of.are)
     (record {
       front = sign_token p.is_negative ∷ [];
-      back = p.tokens ++ behind_signs ps;
+      back = p.tokens ++ after_signs ps;
       are = refl;
       first = ap (λ (n : Bool). sign_token n ∷ []) term.sign;
-      second = record { front = p.tokens; back = behind_signs ps; are = refl; first = term.atom; second = rest };
+      second = record { front = p.tokens; back = after_signs ps; are = refl; first = term.atom; second = rest };
     })
 
 terms_spelled : (ts : List Token) (ps : List Signed) (terms : List Term) → AreParts ts ps → all_of term_of ps ≡ Ok terms → SpellsExpression terms ts
@@ -171,10 +171,10 @@ terms_spelled ts ps terms are is =
     subst (λ (us : List Term). SpellsExpression us ts) (sym of.are)
     (record {
       front = leading_tokens p.is_negative;
-      back = p.tokens ++ behind_signs are.rest;
+      back = p.tokens ++ after_signs are.rest;
       are = sym are.tokens;
       first = ap leading_tokens term.sign;
-      second = record { front = p.tokens; back = behind_signs are.rest; are = refl; first = term.atom; second = rest };
+      second = record { front = p.tokens; back = after_signs are.rest; are = refl; first = term.atom; second = rest };
     })
 
 pub expression_spelled : (ts : List Token) (terms : List Term) → expression_of ts ≡ Ok terms → SpellsExpression terms ts
@@ -203,12 +203,12 @@ onto_first t [] some = absurd (let never : [] ≡ some.first ∷ some.rest = som
 onto_first t (p ∷ []) some = (refl, record { first = t ∷ p; rest = []; are = refl })
 onto_first t (p ∷ q ∷ qs) some = (refl, record { first = t ∷ p; rest = q ∷ qs; are = refl })
 
-comma_first : (ps : List (List Token)) → HasFirst (List Token) ps → with_commas ([] ∷ ps) ≡ Mark Comma ∷ with_commas ps
+comma_first : (ps : List (List Token)) → HasFirst (List Token) ps → with_commas ([] ∷ ps) ≡ Punctuator Comma ∷ with_commas ps
 comma_first [] some = absurd (let never : [] ≡ some.first ∷ some.rest = some.are in cc)
 comma_first (p ∷ ps) some = refl
 
-comma_is : (is_open : Bool) (t : Token) → parts_here is_open t ≡ true → Mark Comma ≡ t
-comma_is false (Mark Comma) is = refl
+comma_is : (is_open : Bool) (t : Token) → parts_here is_open t ≡ true → Punctuator Comma ≡ t
+comma_is false (Punctuator Comma) is = refl
 comma_is true t is = absurd (cc)
 comma_is false t is = absurd (cc)
 
@@ -247,11 +247,11 @@ each_spelled read Spells each p (q ∷ qs) xs is =
     subst (λ zs. WithCommas Spells zs (with_commas (p ∷ q ∷ qs))) (sym are)
     (record {
       front = p;
-      back = Mark Comma ∷ with_commas (q ∷ qs);
+      back = Punctuator Comma ∷ with_commas (q ∷ qs);
       are = refl;
       first = each p of.first of.is_first;
       second = record {
-        front = Mark Comma ∷ [];
+        front = Punctuator Comma ∷ [];
         back = with_commas (q ∷ qs);
         are = refl;
         first = refl;

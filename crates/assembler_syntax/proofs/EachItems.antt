@@ -4,8 +4,8 @@ use Rattle.dialect.specs.declared.meaning.Meaning.TheVariants as meanings
 use Rattle.dialect.specs.declared.keyword.Keyword.TheVariants as keywords
 use Rattle.assembler_lexeme.specs.declared.fault.SyntaxFault.{SyntaxFault}
 use Rattle.assembler_lexeme.specs.declared.token.Token.{Token}
-use Rattle.assembler_lexeme.specs.declared.token.Token.TheVariants.{Quoted, Word, Mark}
-use Rattle.assembler_lexeme.specs.declared.token.Mark.TheVariants.{OpenParenthesis, CloseParenthesis}
+use Rattle.assembler_lexeme.specs.declared.token.Token.TheVariants.{Quoted, Word, Punctuator}
+use Rattle.assembler_lexeme.specs.declared.token.Punctuator.TheVariants.{OpenParenthesis, CloseParenthesis}
 use Rattle.assembler_lexeme.specs.Faults.{◌>>=◌}
 use Rattle.assembler_syntax.specs.declared.expression.Term.{Term}
 use Rattle.assembler_syntax.specs.declared.statement.DataWidth.{DataWidth}
@@ -69,14 +69,14 @@ enclosed_pieces width each =
     commas_pass is_enclosed refl (SpellsPiece width) (λ piece ts is. pass_too is_plain is_enclosed plain_is_enclosed ts (plain_piece width piece ts is)) each
 
 enclosed_is_open : (t : Token) → is_enclosed t ≡ true → fails is_close_parenthesis t ≡ true
-enclosed_is_open (Mark CloseParenthesis) is = cc
+enclosed_is_open (Punctuator CloseParenthesis) is = cc
 enclosed_is_open t is = refl
 
 abbrev enclosed : List Token → List Token
-enclosed ts = Mark OpenParenthesis ∷ (ts ++ Mark CloseParenthesis ∷ [])
+enclosed ts = Punctuator OpenParenthesis ∷ (ts ++ Punctuator CloseParenthesis ∷ [])
 
 enclosed_read : (ts : List Token) → AllPass is_enclosed ts → in_parentheses (enclosed ts) ≡ Ok ts
-enclosed_read ts all = ap closed (around_one is_close_parenthesis ts (Mark CloseParenthesis) [] (pass_too is_enclosed (fails is_close_parenthesis) enclosed_is_open ts all) refl)
+enclosed_read ts all = ap closed (around_one is_close_parenthesis ts (Punctuator CloseParenthesis) [] (pass_too is_enclosed (fails is_close_parenthesis) enclosed_is_open ts all) refl)
 
 repeated_read : (width : DataWidth) (count : List Term) (each : List Piece) (front ts : List Token) → SpellsConstant count front → WithCommas (SpellsPiece width) each ts
     → repeated width front (enclosed ts) ≡ Ok (items.Repeated count each)
@@ -116,14 +116,14 @@ record Repeats (width : DataWidth) (count : List Term) (each : List Piece) (ts :
 
 repeats : (width : DataWidth) (count : List Term) (each : List Piece) (ts : List Token) → SpellsItem width (items.Repeated count each) ts → Repeats width count each ts
 repeats width count each ts is =
-    let dup = led (keyword keywords.Dup ∷ Mark OpenParenthesis ∷ []) (InTurn (WithCommas (SpellsPiece width) each) (Exactly (Mark CloseParenthesis ∷ []))) is.back is.second in
+    let dup = led (keyword keywords.Dup ∷ Punctuator OpenParenthesis ∷ []) (InTurn (WithCommas (SpellsPiece width) each) (Exactly (Punctuator CloseParenthesis ∷ []))) is.back is.second in
     let inside = dup.other in
     record {
       front = is.front;
       inner = inside.front;
       are = is.are
           ∙ ap (λ (us : List Token). is.front ++ us)
-          (dup.are ∙ ap (λ (us : List Token). keyword keywords.Dup ∷ Mark OpenParenthesis ∷ us) (inside.are ∙ ap (λ (us : List Token). inside.front ++ us) inside.second));
+          (dup.are ∙ ap (λ (us : List Token). keyword keywords.Dup ∷ Punctuator OpenParenthesis ∷ us) (inside.are ∙ ap (λ (us : List Token). inside.front ++ us) inside.second));
       counts = is.first;
       pieces = inside.first;
     }
@@ -141,8 +141,8 @@ calm_constant count front is = pass_too is_plain is_calm plain_is_calm front (pl
 
 keeps_enclosing : (ts : List Token) → AllPass is_enclosed ts → Whole (keyword keywords.Dup ∷ enclosed ts)
 keeps_enclosing ts all back =
-    ap (λ (ps : List (List Token)). onto_part (keyword keywords.Dup) (onto_part (Mark OpenParenthesis) ps))
-    (keeps_both true true false ts (Mark CloseParenthesis ∷ []) (keeps_enclosed ts all) (λ back. refl) back)
+    ap (λ (ps : List (List Token)). onto_part (keyword keywords.Dup) (onto_part (Punctuator OpenParenthesis) ps))
+    (keeps_both true true false ts (Punctuator CloseParenthesis ∷ []) (keeps_enclosed ts all) (λ back. refl) back)
 
 whole_item : (width : DataWidth) (item : Item) (ts : List Token) → SpellsItem width item ts → Whole ts
 whole_item width (items.Once piece) ts is = whole_piece width piece ts is
@@ -170,13 +170,13 @@ piece_no_equ width piece ts is = pass_too is_plain (fails is_equ) plain_no_equ t
 item_no_equ : (width : DataWidth) (item : Item) → EachPasses (fails is_equ) (SpellsItem width item)
 item_no_equ width (items.Once piece) = piece_no_equ width piece
 item_no_equ width (items.Repeated count each) =
-    turn_passes (fails is_equ) (SpellsConstant count) (InTurn (Exactly (keyword keywords.Dup ∷ Mark OpenParenthesis ∷ [])) (InTurn (WithCommas (SpellsPiece width) each) (Exactly (Mark CloseParenthesis ∷ []))))
+    turn_passes (fails is_equ) (SpellsConstant count) (InTurn (Exactly (keyword keywords.Dup ∷ Punctuator OpenParenthesis ∷ [])) (InTurn (WithCommas (SpellsPiece width) each) (Exactly (Punctuator CloseParenthesis ∷ []))))
     (constant_no_equ count)
-    (turn_passes (fails is_equ) (Exactly (keyword keywords.Dup ∷ Mark OpenParenthesis ∷ [])) (InTurn (WithCommas (SpellsPiece width) each) (Exactly (Mark CloseParenthesis ∷ [])))
-    (exactly_passes (fails is_equ) (keyword keywords.Dup ∷ Mark OpenParenthesis ∷ []) refl)
-    (turn_passes (fails is_equ) (WithCommas (SpellsPiece width) each) (Exactly (Mark CloseParenthesis ∷ []))
+    (turn_passes (fails is_equ) (Exactly (keyword keywords.Dup ∷ Punctuator OpenParenthesis ∷ [])) (InTurn (WithCommas (SpellsPiece width) each) (Exactly (Punctuator CloseParenthesis ∷ [])))
+    (exactly_passes (fails is_equ) (keyword keywords.Dup ∷ Punctuator OpenParenthesis ∷ []) refl)
+    (turn_passes (fails is_equ) (WithCommas (SpellsPiece width) each) (Exactly (Punctuator CloseParenthesis ∷ []))
     (commas_pass (fails is_equ) refl (SpellsPiece width) (piece_no_equ width) each)
-    (exactly_passes (fails is_equ) (Mark CloseParenthesis ∷ []) refl)))
+    (exactly_passes (fails is_equ) (Punctuator CloseParenthesis ∷ []) refl)))
 
 pub items_no_equ : (width : DataWidth) (its : List Item) → EachPasses (fails is_equ) (WithCommas (SpellsItem width) its)
 items_no_equ width its = commas_pass (fails is_equ) refl (SpellsItem width) (item_no_equ width) its

@@ -14,8 +14,8 @@ use Rattle.assembler_lexeme.specs.declared.fault.SyntaxFault.{SyntaxFault}
 use Rattle.assembler_lexeme.specs.declared.fault.SyntaxFault.TheVariants.{BadCharacter}
 use Rattle.assembler_lexeme.specs.declared.name.Name.{Name}
 use Rattle.assembler_lexeme.specs.declared.token.Token.{Token}
-use Rattle.assembler_lexeme.specs.declared.token.Token.TheVariants.{Named, Word, Mark}
-use Rattle.assembler_lexeme.specs.declared.token.Mark.TheVariants.{Colon}
+use Rattle.assembler_lexeme.specs.declared.token.Token.TheVariants.{Named, Word, Punctuator}
+use Rattle.assembler_lexeme.specs.declared.token.Punctuator.TheVariants.{Colon}
 use Rattle.assembler_lexeme.specs.Faults.{◌>>=◌}
 use Rattle.assembler_lexeme.specs.Lexemes.{is_character, lexemes}
 use Rattle.assembler_lexeme.specs.Tokens.{tokens_of}
@@ -27,11 +27,11 @@ use Rattle.assembler_syntax.specs.declared.statement.Item.{Item}
 use Rattle.assembler_syntax.specs.declared.statement.Statement.{Statement}
 use Rattle.assembler_syntax.specs.declared.statement.Statement.TheVariants as statements
 use Rattle.assembler_syntax.specs.declared.statement.Line.{Line}
-use Rattle.assembler_syntax.specs.StatementSteps.{segment_of, ends_of, org_of, data_of, equ_of, directive_of, instruction_of, onto_prefixes, prefixes_of, statement_behind, prefixed_statement, is_equ, statement_of}
+use Rattle.assembler_syntax.specs.StatementSteps.{segment_of, ends_of, org_of, data_of, equ_of, directive_of, instruction_of, onto_prefixes, prefixes_of, statement_after, prefixed_statement, is_equ, statement_of}
 use Rattle.assembler_syntax.specs.LineSteps.{with_label, line_of, read_line}
 use Rattle.assembler_syntax.specs.Spelling.{keyword, label_tokens, prefix_tokens, width_keyword}
 use Rattle.assembler_syntax.specs.Spellings.{Exactly, InTurn, SpellsConstant, SpellsItem, SpellsOperands, SpellsPrefix, SpellsPrefixes, SpellsStatement, WithCommas, SpellsLine}
-use Rattle.assembler_syntax.specs.Laws.{EachSpellingIsRead, EachTextIsReadAsItSays, Says}
+use Rattle.assembler_syntax.specs.SyntaxLaws.{EachSpellingIsRead, EachTextIsReadAsItSays, Says}
 use Rattle.assembler_syntax.proofs.Around.{AllPass, EachPasses, both_pass, exactly_passes, fails, turn_passes}
 use Rattle.assembler_syntax.proofs.EachTerms.{constant_read, led}
 use Rattle.assembler_syntax.proofs.EachOperands.{operands_no_equ, operands_read}
@@ -53,7 +53,7 @@ without_equ t (u ∷ ts) none =
     rw other refl
 
 by_keyword : (k : Keyword) (ts : List Token) → prefixed_statement (keyword k ∷ ts) ≡ directive_of k ts
-unfolding prefixed_statement statement_behind
+unfolding prefixed_statement statement_after
 by_keyword k ts = refl
 
 directive_read : (k : Keyword) (ts : List Token) → AllPass (fails is_equ) ts → statement_of (keyword k ∷ ts) ≡ directive_of k ts
@@ -110,14 +110,14 @@ prefixes_read (p ∷ ps) us m ts is =
     ∙ one_prefix p is.front (is.back ++ mnemonic m ∷ ts) is.first
     ∙ ap (onto_prefixes p) (prefixes_read ps is.back m ts is.second)
 
-behind : (ps : List PrefixType) (m : Mnemonic) (ts : List Token) → statement_behind ps (mnemonic m ∷ ts) ≡ instruction_of ps m ts
-unfolding statement_behind
-behind ps m ts = refl
+following : (ps : List PrefixType) (m : Mnemonic) (ts : List Token) → statement_after ps (mnemonic m ∷ ts) ≡ instruction_of ps m ts
+unfolding statement_after
+following ps m ts = refl
 
 prefixed_read : (ps : List PrefixType) (us : List Token) (m : Mnemonic) (ts : List Token) → SpellsPrefixes ps us → prefixed_statement (us ++ mnemonic m ∷ ts) ≡ instruction_of ps m ts
 unfolding prefixed_statement
 prefixed_read ps us m ts is =
-    ap (λ (found : List PrefixType × List Token). statement_behind found.0 found.1) (prefixes_read ps us m ts is) ∙ behind ps m ts
+    ap (λ (found : List PrefixType × List Token). statement_after found.0 found.1) (prefixes_read ps us m ts is) ∙ following ps m ts
 
 prefix_no_equ : (p : PrefixType) → AllPass (fails is_equ) (prefix_tokens p)
 prefix_no_equ (prefixes.Segment s) = refl
@@ -142,7 +142,7 @@ word_before : (us back : List Token) → BeginsWord us → BeginsWord (us ++ bac
 word_before us back b = record { meaning = b.meaning; rest = b.rest ++ back; are = ap (λ (vs : List Token). vs ++ back) b.are }
 
 plain_prefix_word : (p : PrefixType) → BeginsWord (prefix_tokens p)
-plain_prefix_word (prefixes.Segment s) = record { meaning = meanings.Register (registers.Segment s); rest = Mark Colon ∷ []; are = refl }
+plain_prefix_word (prefixes.Segment s) = record { meaning = meanings.Register (registers.Segment s); rest = Punctuator Colon ∷ []; are = refl }
 plain_prefix_word prefixes.Lock = record { meaning = meanings.Prefix prefixes.Lock; rest = []; are = refl }
 plain_prefix_word (prefixes.Repeat r) = record { meaning = meanings.Prefix (prefixes.Repeat r); rest = []; are = refl }
 
@@ -172,8 +172,8 @@ record Instructs (ps : List PrefixType) (m : Mnemonic) (ops : List Operand) (ts 
 
 instructs : (ps : List PrefixType) (m : Mnemonic) (ops : List Operand) (ts : List Token) → InTurn (SpellsPrefixes ps) (InTurn (Exactly (mnemonic m ∷ [])) (SpellsOperands ops)) ts → Instructs ps m ops ts
 instructs ps m ops ts is =
-    let behind = led (mnemonic m ∷ []) (SpellsOperands ops) is.back is.second in
-    record { front = is.front; back = behind.back; are = is.are ∙ ap (λ (us : List Token). is.front ++ us) behind.are; prefixes = is.first; operands = behind.other }
+    let following = led (mnemonic m ∷ []) (SpellsOperands ops) is.back is.second in
+    record { front = is.front; back = following.back; are = is.are ∙ ap (λ (us : List Token). is.front ++ us) following.are; prefixes = is.first; operands = following.other }
 
 instruction_is : (ps : List PrefixType) (m : Mnemonic) (ops : List Operand) (ts : List Token) → SpellsOperands ops ts
     → instruction_of ps m ts ≡ Ok (statements.Instruction (record { prefixes = ps; mnemonic = m; operands = ops }))
@@ -196,7 +196,7 @@ unfolding statement_of
 empty_read = refl
 
 ends_read : statement_of (keyword keywords.Ends ∷ []) ≡ Ok statements.Ends
-unfolding statement_of prefixed_statement statement_behind directive_of ends_of
+unfolding statement_of prefixed_statement statement_after directive_of ends_of
 ends_read = refl
 
 statement_read : (s : Statement) (ts : List Token) → SpellsStatement s ts → statement_of ts ≡ Ok s
@@ -246,7 +246,7 @@ no_label (statements.Instruction i) ts is =
     let made = instructs i.prefixes i.mnemonic i.operands ts is in
     worded_line ts (subst BeginsWord (sym made.are) (prefixes_word i.prefixes made.front i.mnemonic made.back made.prefixes))
 
-label_is : (name : Name) (ts : List Token) → line_of (Named name ∷ Mark Colon ∷ ts) ≡ with_label (Some name) ts
+label_is : (name : Name) (ts : List Token) → line_of (Named name ∷ Punctuator Colon ∷ ts) ≡ with_label (Some name) ts
 unfolding line_of
 label_is name ts = refl
 
@@ -256,10 +256,10 @@ line_by (Some name) s ts is = label_is name ts
 
 pub spelling_read : (ts : List Token) (l : Line) → SpellsLine l ts → line_of ts ≡ Ok l
 spelling_read ts l is =
-    let behind = led (label_tokens l.label) (SpellsStatement l.statement) ts is in
-    ap line_of behind.are
-    ∙ line_by l.label l.statement behind.back behind.other
-    ∙ ap (λ (r : Result Statement SyntaxFault). r >>= λ s. Ok (record { label = l.label; statement = s })) (statement_read l.statement behind.back behind.other)
+    let following = led (label_tokens l.label) (SpellsStatement l.statement) ts is in
+    ap line_of following.are
+    ∙ line_by l.label l.statement following.back following.other
+    ∙ ap (λ (r : Result Statement SyntaxFault). r >>= λ s. Ok (record { label = l.label; statement = s })) (statement_read l.statement following.back following.other)
 
 pub each_spelling_read : EachSpellingIsRead
 each_spelling_read ts l is = sym (line_alike ts) ∙ spelling_read ts l is

@@ -6,8 +6,8 @@ use Rattle.dialect.specs.declared.meaning.Meaning.TheVariants as meanings
 use Rattle.dialect.specs.declared.keyword.Keyword.TheVariants as keywords
 use Rattle.assembler_lexeme.specs.declared.fault.SyntaxFault.{SyntaxFault}
 use Rattle.assembler_lexeme.specs.declared.token.Token.{Token}
-use Rattle.assembler_lexeme.specs.declared.token.Token.TheVariants.{Word, Mark}
-use Rattle.assembler_lexeme.specs.declared.token.Mark.TheVariants.{Comma, OpenParenthesis, CloseParenthesis}
+use Rattle.assembler_lexeme.specs.declared.token.Token.TheVariants.{Word, Punctuator}
+use Rattle.assembler_lexeme.specs.declared.token.Punctuator.TheVariants.{Comma, OpenParenthesis, CloseParenthesis}
 use Rattle.assembler_lexeme.specs.Faults.{◌>>=◌, all_of}
 use Rattle.assembler_syntax.specs.PartSteps.{parts, parts_from, onto_part}
 use Rattle.assembler_syntax.specs.Spellings.{WithCommas}
@@ -29,7 +29,7 @@ onto_empty (x ∷ xs) ps = ap (onto_part x) (onto_empty xs ps)
 
 -- these tokens part nothing, and leave parentheses open or closed
 abbrev pub Keeps : Bool → List Token → Bool → Type 0
-Keeps before ts behind = (back : List Token) → parts_from before (ts ++ back) ≡ onto_parts ts (parts_from behind back)
+Keeps before ts following = (back : List Token) → parts_from before (ts ++ back) ≡ onto_parts ts (parts_from following back)
 
 pub keeps_both : (a b c : Bool) (xs ys : List Token) → Keeps a xs b → Keeps b ys c → Keeps a (xs ++ ys) c
 keeps_both a b c xs ys one two back =
@@ -40,23 +40,23 @@ keeps_both a b c xs ys one two back =
 
 -- calm tokens: no comma, no parenthesis and no EQU
 abbrev pub is_calm : Token → Bool
-is_calm (Mark Comma) = false
-is_calm (Mark OpenParenthesis) = false
-is_calm (Mark CloseParenthesis) = false
+is_calm (Punctuator Comma) = false
+is_calm (Punctuator OpenParenthesis) = false
+is_calm (Punctuator CloseParenthesis) = false
 is_calm (Word (meanings.Keyword keywords.Equ)) = false
 is_calm t = true
 
 pub plain_is_calm : (t : Token) → is_plain t ≡ true → is_calm t ≡ true
-plain_is_calm (Mark Comma) is = cc
-plain_is_calm (Mark OpenParenthesis) is = cc
-plain_is_calm (Mark CloseParenthesis) is = cc
+plain_is_calm (Punctuator Comma) is = cc
+plain_is_calm (Punctuator OpenParenthesis) is = cc
+plain_is_calm (Punctuator CloseParenthesis) is = cc
 plain_is_calm (Word (meanings.Keyword keywords.Equ)) is = cc
 plain_is_calm t is = refl
 
 calm_step : (inside : Bool) (t : Token) (back : List Token) → is_calm t ≡ true → parts_from inside (t ∷ back) ≡ onto_part t (parts_from inside back)
-calm_step inside (Mark Comma) back is = absurd (cc)
-calm_step inside (Mark OpenParenthesis) back is = absurd (cc)
-calm_step inside (Mark CloseParenthesis) back is = absurd (cc)
+calm_step inside (Punctuator Comma) back is = absurd (cc)
+calm_step inside (Punctuator OpenParenthesis) back is = absurd (cc)
+calm_step inside (Punctuator CloseParenthesis) back is = absurd (cc)
 calm_step false t back is = refl
 calm_step true t back is = refl
 
@@ -68,18 +68,18 @@ keeps_calm inside (t ∷ ts) calm back =
 
 -- the tokens that neither open nor close a parenthesis
 abbrev pub is_enclosed : Token → Bool
-is_enclosed (Mark OpenParenthesis) = false
-is_enclosed (Mark CloseParenthesis) = false
+is_enclosed (Punctuator OpenParenthesis) = false
+is_enclosed (Punctuator CloseParenthesis) = false
 is_enclosed t = true
 
 pub plain_is_enclosed : (t : Token) → is_plain t ≡ true → is_enclosed t ≡ true
-plain_is_enclosed (Mark OpenParenthesis) is = cc
-plain_is_enclosed (Mark CloseParenthesis) is = cc
+plain_is_enclosed (Punctuator OpenParenthesis) is = cc
+plain_is_enclosed (Punctuator CloseParenthesis) is = cc
 plain_is_enclosed t is = refl
 
 enclosed_step : (t : Token) (back : List Token) → is_enclosed t ≡ true → parts_from true (t ∷ back) ≡ onto_part t (parts_from true back)
-enclosed_step (Mark OpenParenthesis) back is = absurd (cc)
-enclosed_step (Mark CloseParenthesis) back is = absurd (cc)
+enclosed_step (Punctuator OpenParenthesis) back is = absurd (cc)
+enclosed_step (Punctuator CloseParenthesis) back is = absurd (cc)
 enclosed_step t back is = refl
 
 pub keeps_enclosed : (ts : List Token) → AllPass is_enclosed ts → Keeps true ts true
@@ -95,8 +95,8 @@ Whole ts = Keeps false ts false
 last_part : (ts : List Token) → Whole ts → parts_from false ts ≡ ts ∷ []
 last_part ts whole = ap (parts_from false) (sym (append-nil ts)) ∙ whole [] ∙ onto_empty ts []
 
-first_part : (ts back : List Token) → Whole ts → parts_from false (ts ++ Mark Comma ∷ back) ≡ ts ∷ parts_from false back
-first_part ts back whole = whole (Mark Comma ∷ back) ∙ onto_empty ts (parts_from false back)
+first_part : (ts back : List Token) → Whole ts → parts_from false (ts ++ Punctuator Comma ∷ back) ≡ ts ∷ parts_from false back
+first_part ts back whole = whole (Punctuator Comma ∷ back) ∙ onto_empty ts (parts_from false back)
 
 one_read : {A : Type 0} (read : List Token → Result A SyntaxFault) (us : List Token) (uss : List (List Token)) (x : A) (xs : List A) → read us ≡ Ok x → all_of read uss ≡ Ok xs
     → all_of read (us ∷ uss) ≡ Ok (x ∷ xs)
@@ -109,7 +109,7 @@ each_read : {A : Type 0} (read : List Token → Result A SyntaxFault) (Spells : 
 each_read read Spells whole one [] ts is = absurd is
 each_read read Spells whole one (x ∷ []) ts is = ap (all_of read) (last_part ts (whole x ts is)) ∙ one_read read ts [] x [] (one x ts is) refl
 each_read read Spells whole one (x ∷ y ∷ more) ts is =
-    let comma = led (Mark Comma ∷ []) (WithCommas Spells (y ∷ more)) is.back is.second in
+    let comma = led (Punctuator Comma ∷ []) (WithCommas Spells (y ∷ more)) is.back is.second in
     ap (λ (us : List Token). all_of read (parts_from false us)) (is.are ∙ ap (λ (us : List Token). is.front ++ us) comma.are)
     ∙ ap (all_of read) (first_part is.front comma.back (whole x is.front is.first))
     ∙ one_read read is.front (parts_from false comma.back) x (y ∷ more) (one x is.front is.first) (each_read read Spells whole one (y ∷ more) comma.back comma.other)

@@ -14,8 +14,8 @@ use Rattle.dialect.specs.declared.size.Size.TheVariants as sizes
 use Rattle.assembler_lexeme.specs.declared.fault.SyntaxFault.{SyntaxFault}
 use Rattle.assembler_lexeme.specs.declared.name.Name.{Name}
 use Rattle.assembler_lexeme.specs.declared.token.Token.{Token}
-use Rattle.assembler_lexeme.specs.declared.token.Token.TheVariants.{One, Number, Named, Word, Mark}
-use Rattle.assembler_lexeme.specs.declared.token.Mark.TheVariants.{Colon, Plus, Minus, OpenBracket, CloseBracket, Dollar}
+use Rattle.assembler_lexeme.specs.declared.token.Token.TheVariants.{One, Number, Named, Word, Punctuator}
+use Rattle.assembler_lexeme.specs.declared.token.Punctuator.TheVariants.{Colon, Plus, Minus, OpenBracket, CloseBracket, Dollar}
 use Rattle.assembler_lexeme.specs.Faults.{◌>>=◌, wanted, all_of}
 use Rattle.assembler_syntax.specs.declared.expression.Atom.{Atom}
 use Rattle.assembler_syntax.specs.declared.expression.Term.{Term}
@@ -31,7 +31,7 @@ use Rattle.assembler_syntax.specs.Spellings.{AddressPart, a_register, a_term, Ar
 use Rattle.assembler_syntax.proofs.Around.{AllPass, EachPasses, around_one, commas_pass, exactly_passes, fails, is_plain, pass_too, turn_passes}
 use Rattle.assembler_syntax.proofs.EachTerms.{Begins, EachIsPart, IsPart, NoMinus, atom_is_part, atom_no_minus, begins_before, begins_some, begins_value, expression_begins, expression_read, led, of_atoms, parts_are, plain_expression, plain_first_term, plain_next_term, term_read}
 use Rattle.assembler_syntax.proofs.EachLists.{Whole, commas_read, is_calm, keeps_calm, plain_is_calm}
-use Rattle.assembler_syntax.proofs.BackTerms.{behind_signs}
+use Rattle.assembler_syntax.proofs.BackTerms.{after_signs}
 
 -- ---- what the parts in brackets come to
 abbrev put : Address → AddressPart → Result Address SyntaxFault
@@ -142,17 +142,17 @@ next_leads (a_term t) ts is =
 
 record AreParts (xs : List AddressPart) (ts : List Token) : Type 0 where
   parts : List Signed
-  are : ts ≡ behind_signs parts
+  are : ts ≡ after_signs parts
   each : EachIsPart parts
   read : (a : Address) → with_parts a parts ≡ put_all a xs
 
 part_put : (a : Address) (p : Signed) (ps : List Signed) (x : AddressPart) (xs : List AddressPart) → with_part a p ≡ put a x → ((b : Address) → with_parts b ps ≡ put_all b xs)
     → with_parts a (p ∷ ps) ≡ put_all a (x ∷ xs)
-part_put a p ps x xs one more = ap (λ (r : Result Address SyntaxFault). r >>= λ b. with_parts b ps) one ∙ behind (put a x)
+part_put a p ps x xs one more = ap (λ (r : Result Address SyntaxFault). r >>= λ b. with_parts b ps) one ∙ following (put a x)
   where
-    behind : (r : Result Address SyntaxFault) → (r >>= λ b. with_parts b ps) ≡ (r >>= λ b. put_all b xs)
-    behind (Ok b) = more b
-    behind (Err fault) = refl
+    following : (r : Result Address SyntaxFault) → (r >>= λ b. with_parts b ps) ≡ (r >>= λ b. put_all b xs)
+    following (Ok b) = more b
+    following (Err fault) = refl
 
 more_parts : (xs : List AddressPart) (ts : List Token) → SpellsMoreParts xs ts → AreParts xs ts
 more_parts [] ts is = record { parts = []; are = is; each = tt; read = λ a. refl }
@@ -190,7 +190,7 @@ inner_read a (x ∷ xs) ts is base displacement =
 
 -- ---- a place in memory
 part_plain : (x : AddressPart) → EachPasses is_plain (SpellsPart x)
-part_plain (a_register r) = exactly_passes is_plain (Mark Plus ∷ word r ∷ []) refl
+part_plain (a_register r) = exactly_passes is_plain (Punctuator Plus ∷ word r ∷ []) refl
 part_plain (a_term t) = plain_next_term t
 
 first_plain : (x : AddressPart) → EachPasses is_plain (SpellsFirstPart x)
@@ -209,36 +209,36 @@ inner_plain : (a : Address) → EachPasses is_plain (SpellsInner a)
 inner_plain a ts is = parts_plain is.parts ts is.spelled
 
 open_passes : (t : Token) → is_plain t ≡ true → fails is_close_bracket t ≡ true
-open_passes (Mark CloseBracket) is = cc
+open_passes (Punctuator CloseBracket) is = cc
 open_passes t is = refl
 
-memory_read : (a : Address) (ts : List Token) → SpellsInner a ts → memory_of a.size a.segment (ts ++ Mark CloseBracket ∷ []) ≡ Ok (operands.Memory a)
+memory_read : (a : Address) (ts : List Token) → SpellsInner a ts → memory_of a.size a.segment (ts ++ Punctuator CloseBracket ∷ []) ≡ Ok (operands.Memory a)
 unfolding memory_of
 memory_read a ts is =
     ap (λ (found : Option (List Token × List Token)). closed found >>= λ inner. with_parts (empty_address a.size a.segment) (signed_parts inner) >>= λ b. Ok (operands.Memory b))
-    (around_one is_close_bracket ts (Mark CloseBracket) [] (pass_too is_plain (fails is_close_bracket) open_passes ts (inner_plain a ts is)) refl)
+    (around_one is_close_bracket ts (Punctuator CloseBracket) [] (pass_too is_plain (fails is_close_bracket) open_passes ts (inner_plain a ts is)) refl)
     ∙ ap (λ (r : Result Address SyntaxFault). r >>= λ b. Ok (operands.Memory b)) (inner_read a is.parts ts is.spelled is.base is.displacement)
 
 some_last : (ts : List Token) (t : Token) → ts ++ t ∷ [] ≢ []
 some_last [] t none = cc
 some_last (u ∷ ts) t none = cc
 
-open_bracket : (ts : List Token) → ts ≢ [] → operand_of (Mark OpenBracket ∷ ts) ≡ memory_of None None ts
+open_bracket : (ts : List Token) → ts ≢ [] → operand_of (Punctuator OpenBracket ∷ ts) ≡ memory_of None None ts
 unfolding operand_of brackets_of
 open_bracket [] some = absurd (some refl)
 open_bracket (t ∷ ts) some = refl
 
-segment_bracket : (s : SegmentRegister) (ts : List Token) → operand_of (register (registers.Segment s) ∷ Mark Colon ∷ Mark OpenBracket ∷ ts) ≡ memory_of None (Some s) ts
+segment_bracket : (s : SegmentRegister) (ts : List Token) → operand_of (register (registers.Segment s) ∷ Punctuator Colon ∷ Punctuator OpenBracket ∷ ts) ≡ memory_of None (Some s) ts
 unfolding operand_of brackets_of
 segment_bracket s ts = refl
 
-size_bracket : (size : Size) (ts : List Token) → operand_of (size_tokens (Some size) ++ Mark OpenBracket ∷ ts) ≡ memory_of (Some size) None ts
+size_bracket : (size : Size) (ts : List Token) → operand_of (size_tokens (Some size) ++ Punctuator OpenBracket ∷ ts) ≡ memory_of (Some size) None ts
 unfolding operand_of brackets_of far_of
 size_bracket sizes.Byte ts = refl
 size_bracket sizes.Word ts = refl
 size_bracket sizes.Far ts = refl
 
-size_segment : (size : Size) (s : SegmentRegister) (ts : List Token) → operand_of (size_tokens (Some size) ++ (segment_tokens (Some s) ++ Mark OpenBracket ∷ ts)) ≡ memory_of (Some size) (Some s) ts
+size_segment : (size : Size) (s : SegmentRegister) (ts : List Token) → operand_of (size_tokens (Some size) ++ (segment_tokens (Some s) ++ Punctuator OpenBracket ∷ ts)) ≡ memory_of (Some size) (Some s) ts
 unfolding operand_of brackets_of far_of
 size_segment sizes.Byte s ts = refl
 size_segment sizes.Word s ts = refl
@@ -246,7 +246,7 @@ size_segment sizes.Far s ts = refl
 
 -- a size, a segment register with its colon, and an open bracket
 abbrev opening : Option Size → Option SegmentRegister → List Token
-opening size segment = size_tokens size ++ (segment_tokens segment ++ Mark OpenBracket ∷ [])
+opening size segment = size_tokens size ++ (segment_tokens segment ++ Punctuator OpenBracket ∷ [])
 
 place_of : (size : Option Size) (segment : Option SegmentRegister) (ts : List Token) → ts ≢ [] → operand_of (opening size segment ++ ts) ≡ memory_of size segment ts
 place_of None None ts some = open_bracket ts some
@@ -260,10 +260,10 @@ place_of (Some sizes.Far) (Some s) ts some = size_segment sizes.Far s ts
 
 address_read : (a : Address) (ts : List Token) → SpellsOperand (operands.Memory a) ts → operand_of ts ≡ Ok (operands.Memory a)
 address_read a ts is =
-    let inside = led (opening a.size a.segment) (InTurn (SpellsInner a) (Exactly (Mark CloseBracket ∷ []))) ts is in
+    let inside = led (opening a.size a.segment) (InTurn (SpellsInner a) (Exactly (Punctuator CloseBracket ∷ []))) ts is in
     let inner = inside.other in
     ap operand_of (inside.are ∙ ap (λ (us : List Token). opening a.size a.segment ++ us) (inner.are ∙ ap (λ (us : List Token). inner.front ++ us) inner.second))
-    ∙ place_of a.size a.segment (inner.front ++ Mark CloseBracket ∷ []) (some_last inner.front (Mark CloseBracket))
+    ∙ place_of a.size a.segment (inner.front ++ Punctuator CloseBracket ∷ []) (some_last inner.front (Punctuator CloseBracket))
     ∙ memory_read a inner.front inner.first
 
 -- ---- an expression
@@ -272,14 +272,14 @@ unfolding operand_of brackets_of
 value_by One [] is other = absurd (other refl)
 value_by (Number n) [] is other = refl
 value_by (Named name) [] is other = refl
-value_by (Mark Dollar) [] is other = refl
-value_by (Mark Minus) [] is other = refl
+value_by (Punctuator Dollar) [] is other = refl
+value_by (Punctuator Minus) [] is other = refl
 value_by (Word (meanings.Keyword keywords.Seg)) [] is other = refl
 value_by One (u ∷ ts) is other = refl
 value_by (Number n) (u ∷ ts) is other = refl
 value_by (Named name) (u ∷ ts) is other = refl
-value_by (Mark Dollar) (u ∷ ts) is other = refl
-value_by (Mark Minus) (u ∷ ts) is other = refl
+value_by (Punctuator Dollar) (u ∷ ts) is other = refl
+value_by (Punctuator Minus) (u ∷ ts) is other = refl
 value_by (Word (meanings.Keyword keywords.Seg)) (u ∷ ts) is other = refl
 value_by t ts is other = absurd (cc)
 
@@ -313,8 +313,8 @@ unfolding brackets_of
 no_brackets_by One ts is = refl
 no_brackets_by (Number n) ts is = refl
 no_brackets_by (Named name) ts is = refl
-no_brackets_by (Mark Dollar) ts is = refl
-no_brackets_by (Mark Minus) ts is = refl
+no_brackets_by (Punctuator Dollar) ts is = refl
+no_brackets_by (Punctuator Minus) ts is = refl
 no_brackets_by (Word (meanings.Keyword keywords.Seg)) ts is = refl
 no_brackets_by t ts is = absurd (cc)
 
@@ -326,18 +326,18 @@ unfolding far_of
 far_without_brackets ts none = rw none refl
 
 no_colon_passes : (t : Token) → is_plain t ≡ true → fails is_colon t ≡ true
-no_colon_passes (Mark Colon) is = cc
+no_colon_passes (Punctuator Colon) is = cc
 no_colon_passes t is = refl
 
 pointer_read : (s o : List Term) (front back : List Token) → SpellsExpression s front → SpellsExpression o back
-    → operand_of (keyword keywords.Far ∷ (front ++ Mark Colon ∷ back)) ≡ Ok (operands.FarPointer s o)
+    → operand_of (keyword keywords.Far ∷ (front ++ Punctuator Colon ∷ back)) ≡ Ok (operands.FarPointer s o)
 pointer_read s o front back is_s is_o =
-    let tokens : List Token = front ++ Mark Colon ∷ back in
-    let begins : Begins tokens = begins_before front (Mark Colon ∷ back) (expression_begins s front is_s) in
+    let tokens : List Token = front ++ Punctuator Colon ∷ back in
+    let begins : Begins tokens = begins_before front (Punctuator Colon ∷ back) (expression_begins s front is_s) in
     far_by tokens (begins_some tokens begins)
     ∙ far_without_brackets tokens (no_brackets tokens begins)
     ∙ ap (λ (found : Option (List Token × List Token)). far_target found tokens)
-    (around_one is_colon front (Mark Colon) back (pass_too is_plain (fails is_colon) no_colon_passes front (plain_expression s front is_s)) refl)
+    (around_one is_colon front (Punctuator Colon) back (pass_too is_plain (fails is_colon) no_colon_passes front (plain_expression s front is_s)) refl)
     ∙ ap (λ (r : Result (List Term) SyntaxFault). r >>= λ x. expression_of back >>= λ y. Ok (operands.FarPointer x y)) (expression_read s front is_s)
     ∙ ap (λ (r : Result (List Term) SyntaxFault). r >>= λ y. Ok (operands.FarPointer s y)) (expression_read o back is_o)
 
@@ -362,11 +362,11 @@ operand_read (operands.Short e) ts is =
     let target = led (keyword keywords.Short ∷ []) (SpellsExpression e) ts is in ap operand_of target.are ∙ short_read e target.back target.other
 operand_read (operands.FarLabel label) ts is = ap operand_of is ∙ label_read label
 operand_read (operands.FarPointer s o) ts is =
-    let target = led (keyword keywords.Far ∷ []) (InTurn (SpellsExpression s) (InTurn (Exactly (Mark Colon ∷ [])) (SpellsExpression o))) ts is in
+    let target = led (keyword keywords.Far ∷ []) (InTurn (SpellsExpression s) (InTurn (Exactly (Punctuator Colon ∷ [])) (SpellsExpression o))) ts is in
     let first = target.other in
-    let behind = led (Mark Colon ∷ []) (SpellsExpression o) first.back first.second in
-    ap operand_of (target.are ∙ ap (λ (us : List Token). keyword keywords.Far ∷ us) (first.are ∙ ap (λ (us : List Token). first.front ++ us) behind.are))
-    ∙ pointer_read s o first.front behind.back first.first behind.other
+    let following = led (Punctuator Colon ∷ []) (SpellsExpression o) first.back first.second in
+    ap operand_of (target.are ∙ ap (λ (us : List Token). keyword keywords.Far ∷ us) (first.are ∙ ap (λ (us : List Token). first.front ++ us) following.are))
+    ∙ pointer_read s o first.front following.back first.first following.other
 
 -- ---- operands
 calm_expression : (e : List Term) → EachPasses is_calm (SpellsExpression e)
@@ -390,17 +390,17 @@ calm_operand (operands.Register r) = exactly_passes is_calm (register r ∷ []) 
 calm_operand operands.One = exactly_passes is_calm (One ∷ []) refl
 calm_operand (operands.Value e) = λ ts is. calm_expression e ts is.0
 calm_operand (operands.Memory a) =
-    turn_passes is_calm (Exactly (opening a.size a.segment)) (InTurn (SpellsInner a) (Exactly (Mark CloseBracket ∷ [])))
+    turn_passes is_calm (Exactly (opening a.size a.segment)) (InTurn (SpellsInner a) (Exactly (Punctuator CloseBracket ∷ [])))
     (exactly_passes is_calm (opening a.size a.segment) (calm_opening a.size a.segment))
-    (turn_passes is_calm (SpellsInner a) (Exactly (Mark CloseBracket ∷ [])) (calm_inner a) (exactly_passes is_calm (Mark CloseBracket ∷ []) refl))
+    (turn_passes is_calm (SpellsInner a) (Exactly (Punctuator CloseBracket ∷ [])) (calm_inner a) (exactly_passes is_calm (Punctuator CloseBracket ∷ []) refl))
 calm_operand (operands.Short e) =
     turn_passes is_calm (Exactly (keyword keywords.Short ∷ [])) (SpellsExpression e) (exactly_passes is_calm (keyword keywords.Short ∷ []) refl) (calm_expression e)
 calm_operand (operands.FarLabel label) = exactly_passes is_calm (keyword keywords.Far ∷ Named label ∷ []) refl
 calm_operand (operands.FarPointer s o) =
-    turn_passes is_calm (Exactly (keyword keywords.Far ∷ [])) (InTurn (SpellsExpression s) (InTurn (Exactly (Mark Colon ∷ [])) (SpellsExpression o)))
+    turn_passes is_calm (Exactly (keyword keywords.Far ∷ [])) (InTurn (SpellsExpression s) (InTurn (Exactly (Punctuator Colon ∷ [])) (SpellsExpression o)))
     (exactly_passes is_calm (keyword keywords.Far ∷ []) refl)
-    (turn_passes is_calm (SpellsExpression s) (InTurn (Exactly (Mark Colon ∷ [])) (SpellsExpression o)) (calm_expression s)
-    (turn_passes is_calm (Exactly (Mark Colon ∷ [])) (SpellsExpression o) (exactly_passes is_calm (Mark Colon ∷ []) refl) (calm_expression o)))
+    (turn_passes is_calm (SpellsExpression s) (InTurn (Exactly (Punctuator Colon ∷ [])) (SpellsExpression o)) (calm_expression s)
+    (turn_passes is_calm (Exactly (Punctuator Colon ∷ [])) (SpellsExpression o) (exactly_passes is_calm (Punctuator Colon ∷ []) refl) (calm_expression o)))
 
 whole_operand : (op : Operand) (ts : List Token) → SpellsOperand op ts → Whole ts
 whole_operand op ts is = keeps_calm false ts (calm_operand op ts is)
@@ -435,7 +435,7 @@ operand_some (operands.Value e) ts is = begins_some ts (expression_begins e ts i
 operand_some (operands.Memory a) ts is = opening_some a ts is
 operand_some (operands.Short e) ts is = led_some (keyword keywords.Short) [] (SpellsExpression e) ts is
 operand_some (operands.FarLabel label) ts is = exactly_some (keyword keywords.Far) (Named label ∷ []) ts is
-operand_some (operands.FarPointer s o) ts is = led_some (keyword keywords.Far) [] (InTurn (SpellsExpression s) (InTurn (Exactly (Mark Colon ∷ [])) (SpellsExpression o))) ts is
+operand_some (operands.FarPointer s o) ts is = led_some (keyword keywords.Far) [] (InTurn (SpellsExpression s) (InTurn (Exactly (Punctuator Colon ∷ [])) (SpellsExpression o))) ts is
 
 front_some : (front back : List Token) → IsSome front → IsSome (front ++ back)
 front_some [] back some none = some refl

@@ -7,8 +7,8 @@ use Rattle.assembler_lexeme.specs.declared.fault.SyntaxFault.{SyntaxFault}
 use Rattle.assembler_lexeme.specs.declared.fault.SyntaxFault.TheVariants.{BadLine}
 use Rattle.assembler_lexeme.specs.declared.name.Name.{Name}
 use Rattle.assembler_lexeme.specs.declared.token.Token.{Token}
-use Rattle.assembler_lexeme.specs.declared.token.Token.TheVariants.{One, Number, Named, Word, Mark}
-use Rattle.assembler_lexeme.specs.declared.token.Mark.TheVariants.{Minus, Dollar}
+use Rattle.assembler_lexeme.specs.declared.token.Token.TheVariants.{One, Number, Named, Word, Punctuator}
+use Rattle.assembler_lexeme.specs.declared.token.Punctuator.TheVariants.{Minus, Dollar}
 use Rattle.assembler_lexeme.specs.Faults.{◌>>=◌, all_of}
 use Rattle.assembler_syntax.specs.declared.expression.Atom.{Atom}
 use Rattle.assembler_syntax.specs.declared.expression.Atom.TheVariants as atoms
@@ -18,7 +18,7 @@ use Rattle.assembler_syntax.specs.ExpressionSteps.{atom_of, term_of, expression_
 use Rattle.assembler_syntax.specs.Spelling.{keyword, sign_token}
 use Rattle.assembler_syntax.specs.Spellings.{Exactly, InTurn, leading_tokens, SpellsAtom, SpellsSigned, SpellsExpression, SpellsConstant}
 use Rattle.assembler_syntax.proofs.Around.{AllPass, EachPasses, exactly_passes, is_plain, turn_passes}
-use Rattle.assembler_syntax.proofs.BackTerms.{behind_signs}
+use Rattle.assembler_syntax.proofs.BackTerms.{after_signs}
 
 -- ---- tokens in turn, of which the first are known
 pub record Led (tokens : List Token) (Other : List Token → Type 0) (ts : List Token) : Type 0 where
@@ -34,7 +34,7 @@ abbrev pub OfAtoms : (Atom → List Token → Type 0) → Type 0
 OfAtoms P = (a : Atom) (ts : List Token) → SpellsAtom a ts → P a ts
 
 pub of_atoms : (P : Atom → List Token → Type 0) → ((n : ℕ) → P (atoms.Number n) (Number n ∷ [])) → P (atoms.Number 1) (One ∷ []) → ((name : Name) → P (atoms.Named name) (Named name ∷ []))
-    → P atoms.Here (Mark Dollar ∷ []) → ((name : Name) → P (atoms.SegmentOf name) (keyword keywords.Seg ∷ Named name ∷ [])) → OfAtoms P
+    → P atoms.Here (Punctuator Dollar ∷ []) → ((name : Name) → P (atoms.SegmentOf name) (keyword keywords.Seg ∷ Named name ∷ [])) → OfAtoms P
 of_atoms P number one named here segment (atoms.Number n) ts (inl is) = subst (P (atoms.Number n)) (sym is) (number n)
 of_atoms P number one named here segment (atoms.Number n) ts (inr is) =
     subst (λ (k : ℕ). P (atoms.Number k) ts) (sym is.1) (subst (P (atoms.Number 1)) (sym is.0) one)
@@ -61,7 +61,7 @@ atom_is_part = of_atoms (λ a. IsPart)
     (λ k n back rest is. ap (onto_signed n (Number k)) is)
     (λ n back rest is. ap (onto_signed n One) is)
     (λ name n back rest is. ap (onto_signed n (Named name)) is)
-    (λ n back rest is. ap (onto_signed n (Mark Dollar)) is)
+    (λ n back rest is. ap (onto_signed n (Punctuator Dollar)) is)
     (λ name n back rest is. ap (λ (r : List Signed). onto_signed n (keyword keywords.Seg) (onto_signed n (Named name) r)) is)
 
 -- tokens that don't begin with a minus
@@ -80,23 +80,23 @@ sign_step n true ts back rest is = ap (λ (r : List Signed). signed_part n [] �
 abbrev pub EachIsPart : List Signed → Type 0
 EachIsPart = AllByRecursion (λ p. IsPart p.tokens)
 
-more_parts : (ps : List Signed) → EachIsPart ps → (n : Bool) → signed_from n (behind_signs ps) ≡ signed_part n [] ∷ ps
+more_parts : (ps : List Signed) → EachIsPart ps → (n : Bool) → signed_from n (after_signs ps) ≡ signed_part n [] ∷ ps
 more_parts [] each n = refl
 more_parts (p ∷ ps) each n =
-    sign_step n p.is_negative p.tokens (behind_signs ps) ps (each.0 p.is_negative (behind_signs ps) ps (more_parts ps each.1 p.is_negative))
+    sign_step n p.is_negative p.tokens (after_signs ps) ps (each.0 p.is_negative (after_signs ps) ps (more_parts ps each.1 p.is_negative))
 
 pub parts_are : (p : Signed) (ps : List Signed) → IsPart p.tokens → NoMinus p.tokens → EachIsPart ps
-    → signed_parts (leading_tokens p.is_negative ++ (p.tokens ++ behind_signs ps)) ≡ p ∷ ps
-parts_are p ps is unled each = by_sign p.is_negative (is p.is_negative (behind_signs ps) ps (more_parts ps each p.is_negative))
+    → signed_parts (leading_tokens p.is_negative ++ (p.tokens ++ after_signs ps)) ≡ p ∷ ps
+parts_are p ps is unled each = by_sign p.is_negative (is p.is_negative (after_signs ps) ps (more_parts ps each p.is_negative))
   where
-    by_sign : (n : Bool) → signed_from n (p.tokens ++ behind_signs ps) ≡ signed_part n p.tokens ∷ ps → signed_parts (leading_tokens n ++ (p.tokens ++ behind_signs ps)) ≡ signed_part n p.tokens ∷ ps
-    by_sign false are = unled (behind_signs ps) ∙ are
+    by_sign : (n : Bool) → signed_from n (p.tokens ++ after_signs ps) ≡ signed_part n p.tokens ∷ ps → signed_parts (leading_tokens n ++ (p.tokens ++ after_signs ps)) ≡ signed_part n p.tokens ∷ ps
+    by_sign false are = unled (after_signs ps) ∙ are
     by_sign true are = are
 
 -- ---- terms
 pub record AreTerms (terms : List Term) (ts : List Token) : Type 0 where
   pub parts : List Signed
-  pub tokens : ts ≡ behind_signs parts
+  pub tokens : ts ≡ after_signs parts
   pub each : EachIsPart parts
   pub read : all_of term_of parts ≡ Ok terms
 
@@ -179,8 +179,8 @@ abbrev pub begins_value : Token → Bool
 begins_value One = true
 begins_value (Number n) = true
 begins_value (Named name) = true
-begins_value (Mark Dollar) = true
-begins_value (Mark Minus) = true
+begins_value (Punctuator Dollar) = true
+begins_value (Punctuator Minus) = true
 begins_value (Word (meanings.Keyword keywords.Seg)) = true
 begins_value t = false
 
@@ -201,12 +201,12 @@ atom_begins = of_atoms (λ a. Begins)
     (λ n. begins_with (Number n) [] refl)
     (begins_with One [] refl)
     (λ name. begins_with (Named name) [] refl)
-    (begins_with (Mark Dollar) [] refl)
+    (begins_with (Punctuator Dollar) [] refl)
     (λ name. begins_with (keyword keywords.Seg) (Named name ∷ []) refl)
 
 leads : (n : Bool) (ts : List Token) → Begins ts → Begins (leading_tokens n ++ ts)
 leads false ts b = b
-leads true ts b = begins_with (Mark Minus) ts refl
+leads true ts b = begins_with (Punctuator Minus) ts refl
 
 pub expression_begins : (terms : List Term) (ts : List Token) → SpellsExpression terms ts → Begins ts
 expression_begins [] ts is = absurd is

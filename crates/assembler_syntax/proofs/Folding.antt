@@ -9,7 +9,7 @@ use Rattle.assembler_lexeme.specs.Faults.{◌>>=◌}
 use Rattle.assembler_lexeme.specs.Tokens.{tokens_of}
 use Rattle.assembler_lexeme.proofs.Folding.{tokens_alike}
 use Rattle.assembler_syntax.specs.LineSteps.{line_of, read_line}
-use Rattle.assembler_syntax.specs.Laws.{CaseDoesNotCount}
+use Rattle.assembler_syntax.specs.SyntaxLaws.{CaseDoesNotCount}
 use Rattle.assembler_syntax.proofs.Alike.{text_alike}
 
 read_alike : (s t : List ℕ) → list_all is_character s ≡ list_all is_character t → map folded (lexemes s) ≡ map folded (lexemes t) → read_line s ≡ read_line t

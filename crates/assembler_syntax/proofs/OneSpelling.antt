@@ -9,8 +9,8 @@ use Rattle.isa.specs.declared.register.WordRegister.TheVariants.{Bx, Bp, Si, Di}
 use Rattle.dialect.specs.declared.keyword.Keyword.TheVariants as keywords
 use Rattle.dialect.specs.declared.meaning.Meaning.TheVariants as meanings
 use Rattle.assembler_lexeme.specs.declared.token.Token.{Token}
-use Rattle.assembler_lexeme.specs.declared.token.Token.TheVariants.{One, Named, Word, Mark}
-use Rattle.assembler_lexeme.specs.declared.token.Mark.TheVariants.{Comma, Colon, Plus, OpenBracket, CloseBracket, OpenParenthesis, CloseParenthesis}
+use Rattle.assembler_lexeme.specs.declared.token.Token.TheVariants.{One, Named, Word, Punctuator}
+use Rattle.assembler_lexeme.specs.declared.token.Punctuator.TheVariants.{Comma, Colon, Plus, OpenBracket, CloseBracket, OpenParenthesis, CloseParenthesis}
 use Rattle.assembler_syntax.specs.declared.expression.Atom.{Atom}
 use Rattle.assembler_syntax.specs.declared.expression.Atom.TheVariants as atoms
 use Rattle.assembler_syntax.specs.declared.expression.Term.{Term}
@@ -26,7 +26,7 @@ use Rattle.assembler_syntax.specs.declared.statement.Item.TheVariants as items
 use Rattle.assembler_syntax.specs.declared.statement.Statement.{Statement}
 use Rattle.assembler_syntax.specs.declared.statement.Statement.TheVariants as statements
 use Rattle.assembler_syntax.specs.declared.statement.Line.{Line}
-use Rattle.assembler_syntax.specs.Laws.{EachLineIsRead}
+use Rattle.assembler_syntax.specs.SyntaxLaws.{EachLineIsRead}
 use Rattle.assembler_syntax.specs.Spelling.{atom_tokens, base_tokens, expression_tokens, first_tokens, inner_tokens, item_tokens, keyword, label_tokens, line_tokens, operand_tokens, piece_tokens, prefix_tokens, segment_tokens, sign_token, signed_tokens, size_tokens, statement_tokens, width_keyword, with_commas, word, IsConstant, IsExpression, IsInner, IsItem, IsOperand, IsPiece, IsStatement, SomeAre}
 use Rattle.assembler_syntax.specs.Spellings.{AddressPart, a_register, a_term, AreOfBase, leading_tokens, part_registers, part_terms, some_terms, SpellsAtom, SpellsConstant, SpellsExpression, SpellsInner, SpellsItem, SpellsLine, SpellsMoreParts, SpellsOperand, SpellsOperands, SpellsParts, SpellsPiece, SpellsPrefixes, SpellsSigned, SpellsStatement, WithCommas}
 use Rattle.assembler_syntax.proofs.EachLines.{spelling_read}
@@ -113,13 +113,13 @@ terms_spelled (t ∷ ts) is = record {
 one_spelled : (r : WordRegister) (ts : List Term) → SpellsParts (a_register r ∷ term_parts ts) (word r ∷ signed_tokens ts)
 one_spelled r ts = record { front = word r ∷ []; back = signed_tokens ts; are = refl; first = refl; second = more_spelled ts }
 
-two_spelled : (r s : WordRegister) (ts : List Term) → SpellsParts (a_register r ∷ a_register s ∷ term_parts ts) (word r ∷ Mark Plus ∷ word s ∷ signed_tokens ts)
+two_spelled : (r s : WordRegister) (ts : List Term) → SpellsParts (a_register r ∷ a_register s ∷ term_parts ts) (word r ∷ Punctuator Plus ∷ word s ∷ signed_tokens ts)
 two_spelled r s ts = record {
   front = word r ∷ [];
-  back = Mark Plus ∷ word s ∷ signed_tokens ts;
+  back = Punctuator Plus ∷ word s ∷ signed_tokens ts;
   are = refl;
   first = refl;
-  second = record { front = Mark Plus ∷ word s ∷ []; back = signed_tokens ts; are = refl; first = refl; second = more_spelled ts };
+  second = record { front = Punctuator Plus ∷ word s ∷ []; back = signed_tokens ts; are = refl; first = refl; second = more_spelled ts };
 }
 
 abbrev base_parts : Base → List AddressPart
@@ -137,21 +137,21 @@ record IsBase (b : Base) (ts : List Term) : Type 0 where
   base : AreOfBase (Some b) (flat_map part_registers (base_parts b ++ term_parts ts))
   terms : flat_map part_terms (base_parts b ++ term_parts ts) ≡ ts
 
-two_behind : (r s : WordRegister) (rs : List WordRegister) → rs ≡ [] → r ∷ s ∷ rs ≡ r ∷ s ∷ []
-two_behind r s rs is = ap (λ (qs : List WordRegister). r ∷ s ∷ qs) is
+two_after : (r s : WordRegister) (rs : List WordRegister) → rs ≡ [] → r ∷ s ∷ rs ≡ r ∷ s ∷ []
+two_after r s rs is = ap (λ (qs : List WordRegister). r ∷ s ∷ qs) is
 
-one_behind : (r : WordRegister) (rs : List WordRegister) → rs ≡ [] → r ∷ rs ≡ r ∷ []
-one_behind r rs is = ap (λ (qs : List WordRegister). r ∷ qs) is
+one_after : (r : WordRegister) (rs : List WordRegister) → rs ≡ [] → r ∷ rs ≡ r ∷ []
+one_after r rs is = ap (λ (qs : List WordRegister). r ∷ qs) is
 
 base_spelled : (b : Base) (ts : List Term) → IsBase b ts
-base_spelled bases.BxSi ts = record { spelled = two_spelled Bx Si ts; base = inl (two_behind Bx Si _ (no_registers ts)); terms = same_terms ts }
-base_spelled bases.BxDi ts = record { spelled = two_spelled Bx Di ts; base = inl (two_behind Bx Di _ (no_registers ts)); terms = same_terms ts }
-base_spelled bases.BpSi ts = record { spelled = two_spelled Bp Si ts; base = inl (two_behind Bp Si _ (no_registers ts)); terms = same_terms ts }
-base_spelled bases.BpDi ts = record { spelled = two_spelled Bp Di ts; base = inl (two_behind Bp Di _ (no_registers ts)); terms = same_terms ts }
-base_spelled bases.Si ts = record { spelled = one_spelled Si ts; base = one_behind Si _ (no_registers ts); terms = same_terms ts }
-base_spelled bases.Di ts = record { spelled = one_spelled Di ts; base = one_behind Di _ (no_registers ts); terms = same_terms ts }
-base_spelled bases.Bp ts = record { spelled = one_spelled Bp ts; base = one_behind Bp _ (no_registers ts); terms = same_terms ts }
-base_spelled bases.Bx ts = record { spelled = one_spelled Bx ts; base = one_behind Bx _ (no_registers ts); terms = same_terms ts }
+base_spelled bases.BxSi ts = record { spelled = two_spelled Bx Si ts; base = inl (two_after Bx Si _ (no_registers ts)); terms = same_terms ts }
+base_spelled bases.BxDi ts = record { spelled = two_spelled Bx Di ts; base = inl (two_after Bx Di _ (no_registers ts)); terms = same_terms ts }
+base_spelled bases.BpSi ts = record { spelled = two_spelled Bp Si ts; base = inl (two_after Bp Si _ (no_registers ts)); terms = same_terms ts }
+base_spelled bases.BpDi ts = record { spelled = two_spelled Bp Di ts; base = inl (two_after Bp Di _ (no_registers ts)); terms = same_terms ts }
+base_spelled bases.Si ts = record { spelled = one_spelled Si ts; base = one_after Si _ (no_registers ts); terms = same_terms ts }
+base_spelled bases.Di ts = record { spelled = one_spelled Di ts; base = one_after Di _ (no_registers ts); terms = same_terms ts }
+base_spelled bases.Bp ts = record { spelled = one_spelled Bp ts; base = one_after Bp _ (no_registers ts); terms = same_terms ts }
+base_spelled bases.Bx ts = record { spelled = one_spelled Bx ts; base = one_after Bx _ (no_registers ts); terms = same_terms ts }
 
 abbrev InnerOf : Address → Option Base → Option (List Term) → Type 0
 InnerOf a base displacement = a.base ≡ base → a.displacement ≡ displacement → SpellsInner a (inner_tokens base displacement)
@@ -194,29 +194,29 @@ operand_spelled (operands.Register r) is = refl
 operand_spelled operands.One is = refl
 operand_spelled (operands.Value e) is = (expression_spelled e is, not_one e is)
 operand_spelled (operands.Memory a) is =
-    let inner : List Token = inner_tokens a.base a.displacement ++ Mark CloseBracket ∷ [] in
+    let inner : List Token = inner_tokens a.base a.displacement ++ Punctuator CloseBracket ∷ [] in
     record {
-      front = size_tokens a.size ++ (segment_tokens a.segment ++ Mark OpenBracket ∷ []);
+      front = size_tokens a.size ++ (segment_tokens a.segment ++ Punctuator OpenBracket ∷ []);
       back = inner;
-      are = ap (λ (us : List Token). size_tokens a.size ++ us) (sym (append_assoc (segment_tokens a.segment) (Mark OpenBracket ∷ []) inner))
-          ∙ sym (append_assoc (size_tokens a.size) (segment_tokens a.segment ++ Mark OpenBracket ∷ []) inner);
+      are = ap (λ (us : List Token). size_tokens a.size ++ us) (sym (append_assoc (segment_tokens a.segment) (Punctuator OpenBracket ∷ []) inner))
+          ∙ sym (append_assoc (size_tokens a.size) (segment_tokens a.segment ++ Punctuator OpenBracket ∷ []) inner);
       first = refl;
-      second = record { front = inner_tokens a.base a.displacement; back = Mark CloseBracket ∷ []; are = refl; first = inner_spelled a is; second = refl };
+      second = record { front = inner_tokens a.base a.displacement; back = Punctuator CloseBracket ∷ []; are = refl; first = inner_spelled a is; second = refl };
     }
 operand_spelled (operands.Short e) is =
     record { front = keyword keywords.Short ∷ []; back = expression_tokens e; are = refl; first = refl; second = expression_spelled e is }
 operand_spelled (operands.FarLabel label) is = refl
 operand_spelled (operands.FarPointer s o) is = record {
   front = keyword keywords.Far ∷ [];
-  back = expression_tokens s ++ Mark Colon ∷ expression_tokens o;
+  back = expression_tokens s ++ Punctuator Colon ∷ expression_tokens o;
   are = refl;
   first = refl;
   second = record {
     front = expression_tokens s;
-    back = Mark Colon ∷ expression_tokens o;
+    back = Punctuator Colon ∷ expression_tokens o;
     are = refl;
     first = expression_spelled s is.0;
-    second = record { front = Mark Colon ∷ []; back = expression_tokens o; are = refl; first = refl; second = expression_spelled o is.1 };
+    second = record { front = Punctuator Colon ∷ []; back = expression_tokens o; are = refl; first = refl; second = expression_spelled o is.1 };
   };
 }
 
@@ -226,11 +226,11 @@ commas_spelled : {A : Type 0} (tokens : A → List Token) (Spells : A → List T
 commas_spelled tokens Spells Is each x [] is all = each x is
 commas_spelled tokens Spells Is each x (y ∷ more) is all = record {
   front = tokens x;
-  back = Mark Comma ∷ with_commas (map tokens (y ∷ more));
+  back = Punctuator Comma ∷ with_commas (map tokens (y ∷ more));
   are = refl;
   first = each x is;
   second = record {
-    front = Mark Comma ∷ [];
+    front = Punctuator Comma ∷ [];
     back = with_commas (map tokens (y ∷ more));
     are = refl;
     first = refl;
@@ -260,17 +260,17 @@ item_spelled width (items.Repeated count each) is =
     let inner : List Token = with_commas (map piece_tokens each) in
     record {
       front = expression_tokens count;
-      back = keyword keywords.Dup ∷ Mark OpenParenthesis ∷ (inner ++ Mark CloseParenthesis ∷ []);
+      back = keyword keywords.Dup ∷ Punctuator OpenParenthesis ∷ (inner ++ Punctuator CloseParenthesis ∷ []);
       are = refl;
       first = constant_spelled count is.0;
       second = record {
-        front = keyword keywords.Dup ∷ Mark OpenParenthesis ∷ [];
-        back = inner ++ Mark CloseParenthesis ∷ [];
+        front = keyword keywords.Dup ∷ Punctuator OpenParenthesis ∷ [];
+        back = inner ++ Punctuator CloseParenthesis ∷ [];
         are = refl;
         first = refl;
         second = record {
           front = inner;
-          back = Mark CloseParenthesis ∷ [];
+          back = Punctuator CloseParenthesis ∷ [];
           are = refl;
           first = some_spelled piece_tokens (SpellsPiece width) (IsPiece width) (piece_spelled width) each is.1;
           second = refl;
@@ -305,13 +305,13 @@ statement_spelled (statements.Data width its) is = record {
   second = some_spelled item_tokens (SpellsItem width) (IsItem width) (item_spelled width) its is;
 }
 statement_spelled (statements.Instruction i) is =
-    let behind : List Token = with_commas (map operand_tokens i.operands) in
+    let following : List Token = with_commas (map operand_tokens i.operands) in
     record {
       front = flat_map prefix_tokens i.prefixes;
-      back = Word (meanings.Mnemonic i.mnemonic) ∷ behind;
+      back = Word (meanings.Mnemonic i.mnemonic) ∷ following;
       are = refl;
       first = prefixes_spelled i.prefixes;
-      second = record { front = Word (meanings.Mnemonic i.mnemonic) ∷ []; back = behind; are = refl; first = refl; second = operands_spelled i.operands is };
+      second = record { front = Word (meanings.Mnemonic i.mnemonic) ∷ []; back = following; are = refl; first = refl; second = operands_spelled i.operands is };
     }
 
 line_spelled : (l : Line) → IsStatement l.statement → SpellsLine l (line_tokens l)

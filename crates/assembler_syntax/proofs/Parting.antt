@@ -2,7 +2,7 @@
 use Rattle.std.proofs.Common.{◌≡◌, ℕ, ◌+◌, suc, Bool, true, false, if◌then◌else◌, List, [], ◌∷◌, take, drop, refl, ap, ◌∙◌, arith, Option, Some, None}
 use Rattle.assembler_lexeme.specs.declared.token.Token.{Token}
 use Rattle.assembler_lexeme.specs.declared.token.Token.TheVariants as kinds
-use Rattle.assembler_lexeme.specs.declared.token.Mark.TheVariants as marks
+use Rattle.assembler_lexeme.specs.declared.token.Punctuator.TheVariants as punctuators
 use Rattle.assembler_syntax.specs.PartSteps.{signed_part, parts, parts_from, parts_left, parts_here, is_open_after, onto_part, part_size, tail_of, signed_from, signed_left, signed_size, onto_signed, is_minus, signed_parts, begins_with_minus}
 
 one_more : (n : ℕ) → 1 + n ≡ suc n
@@ -37,8 +37,8 @@ first_part ts =
 pub first_signed : (ts : List Token) (is_negative : Bool)
     → signed_from is_negative ts ≡ signed_part is_negative (take (signed_size ts) ts) ∷ signed_left (begins_with_minus (drop (signed_size ts) ts)) (tail_of (drop (signed_size ts) ts))
 first_signed [] is_negative = refl
-first_signed (kinds.Mark marks.Plus ∷ ts) is_negative = refl
-first_signed (kinds.Mark marks.Minus ∷ ts) is_negative = refl
+first_signed (kinds.Punctuator punctuators.Plus ∷ ts) is_negative = refl
+first_signed (kinds.Punctuator punctuators.Minus ∷ ts) is_negative = refl
 first_signed (t ∷ ts) is_negative = rw (one_more (signed_size ts)) (ap (onto_signed is_negative t) (first_signed ts is_negative))
 
 some_from : (ts : List Token) (is_negative : Bool) → signed_from is_negative ts ≡ [] → ⊥

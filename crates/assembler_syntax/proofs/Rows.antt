@@ -30,16 +30,16 @@ use Rattle.assembler_syntax.specs.declared.statement.Line.{Line}
 use Rattle.assembler_lexeme.specs.Lexemes.{lexemes}
 use Rattle.assembler_lexeme.specs.Numbers.{number_to, number_of}
 use Rattle.assembler_lexeme.specs.Tokens.{name_of, word_token, number_token, quoted_token, token_of, tokens_of}
-use Rattle.assembler_syntax.specs.Parts.{parts}
+use Rattle.assembler_syntax.specs.TokenParts.{parts}
 use Rattle.assembler_syntax.specs.Expressions.{atom_of, expression_of, constant_of}
 use Rattle.assembler_syntax.specs.Operands.{with_part, memory_of, value_of, brackets_of, operand_of, operands_of}
 use Rattle.assembler_syntax.specs.Items.{piece_of, pieces_of, repeated, item_of, items_of}
-use Rattle.assembler_syntax.specs.Statements.{segment_of, ends_of, org_of, data_of, directive_of, instruction_of, statement_behind, statement_of}
+use Rattle.assembler_syntax.specs.Statements.{segment_of, ends_of, org_of, data_of, directive_of, instruction_of, statement_after, statement_of}
 use Rattle.assembler_syntax.specs.Lines.{line_of, read_line}
 
 -- what a row unfolds
 unfoldable on_texts : ⊤
-unfolding words spells meaning_of lexemes number_to number_of word_token number_token quoted_token token_of tokens_of parts atom_of expression_of constant_of with_part memory_of value_of brackets_of operand_of operands_of piece_of pieces_of repeated item_of items_of segment_of ends_of org_of data_of directive_of instruction_of statement_behind statement_of line_of read_line
+unfolding words spells meaning_of lexemes number_to number_of word_token number_token quoted_token token_of tokens_of parts atom_of expression_of constant_of with_part memory_of value_of brackets_of operand_of operands_of piece_of pieces_of repeated item_of items_of segment_of ends_of org_of data_of directive_of instruction_of statement_after statement_of line_of read_line
 on_texts = tt
 
 abbrev plus : Atom → Term

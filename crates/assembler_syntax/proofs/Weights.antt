@@ -34,21 +34,21 @@ use Rattle.assembler_lexeme.specs.declared.name.Name.{Name}
 use Rattle.assembler_syntax.specs.declared.expression.Atom.{Atom}
 use Rattle.assembler_syntax.specs.declared.expression.Term.{Term}
 use Rattle.assembler_lexeme.specs.declared.token.Token.{Token}
-use Rattle.assembler_lexeme.specs.declared.token.Token.TheVariants.{One, Number, Named, Quoted, Word, Mark}
-use Rattle.assembler_lexeme.specs.declared.token.Mark.TheVariants as marks
+use Rattle.assembler_lexeme.specs.declared.token.Token.TheVariants.{One, Number, Named, Quoted, Word, Punctuator}
+use Rattle.assembler_lexeme.specs.declared.token.Punctuator.TheVariants as punctuators
 use Rattle.assembler_lexeme.specs.Lexemes.{is_character, lexemes}
 use Rattle.assembler_lexeme.specs.Faults.{◌>>=◌, wanted}
 use Rattle.assembler_lexeme.specs.Tokens.{tokens_of}
 use Rattle.assembler_syntax.specs.PartSteps.{Signed, parts, parts_from, parts_here, is_open_after, onto_part, sign_of, signed_by, signed_from, onto_signed, signed_parts, is_minus, at_place, around, closed, is_colon, is_open_bracket, is_close_bracket, is_open_parenthesis, is_close_parenthesis, is_dup}
 use Rattle.assembler_syntax.specs.ExpressionSteps.{atom_of, term_of, expression_of, is_constant, constant_of}
-use Rattle.assembler_syntax.specs.OperandSteps.{base_with, with_register, terms_with, with_term, register_of, with_part_by, with_part, with_parts, empty_address, memory_of, value_of, behind_segment, brackets_by, brackets_of, memory_in, single_label, far_label, far_target, far_by, far_of, short_of, single_operand, place_or_value, led_operand, operand_of, operands_of}
+use Rattle.assembler_syntax.specs.OperandSteps.{base_with, with_register, terms_with, with_term, register_of, with_part_by, with_part, with_parts, empty_address, memory_of, value_of, after_segment, brackets_by, brackets_of, memory_in, single_label, far_label, far_target, far_by, far_of, short_of, single_operand, place_or_value, led_operand, operand_of, operands_of}
 use Rattle.assembler_syntax.specs.ItemSteps.{value_piece, single_piece, piece_of, pieces_of, in_parentheses, repeated, item_by, item_of, items_of}
-use Rattle.assembler_syntax.specs.StatementSteps.{segment_by, is_at, segment_of, ends_of, org_of, data_of, equ_of, directive_of, instruction_of, onto_prefixes, segment_token, prefixes_of, is_directive, keyword_statement, word_statement, led_statement, statement_behind, prefixed_statement, is_equ, statement_of}
+use Rattle.assembler_syntax.specs.StatementSteps.{segment_by, is_at, segment_of, ends_of, org_of, data_of, equ_of, directive_of, instruction_of, onto_prefixes, segment_token, prefixes_of, is_directive, keyword_statement, word_statement, led_statement, statement_after, prefixed_statement, is_equ, statement_of}
 use Rattle.assembler_syntax.specs.LineSteps.{with_label, labelled, line_of, read_line}
 use Rattle.assembler_lexeme.proofs.Weights.{is_le, from_le, total, sum_total, total_around, all_weight, all_pass, token_weight, weight, some_weight, tokens_le}
 use Rattle.assembler_syntax.specs.Weights.{is_expression_within, is_displacement_within, is_operand_within, is_piece_within, is_item_within, piece_weight, pieces_weight, item_weight, items_weight, IsWithin}
 use Rattle.assembler_syntax.proofs.Alike.{text_alike}
-use Rattle.assembler_syntax.specs.Laws.{HoldsNoMore}
+use Rattle.assembler_syntax.specs.SyntaxLaws.{HoldsNoMore}
 
 -- the parts of tokens weigh no more than the tokens
 onto_weight : (t : Token) (ps : List (List Token)) → total weight (onto_part t ps) ≡ token_weight t + total weight ps
@@ -255,21 +255,21 @@ short_by n (Err fault) o within is = absurd (cc)
 short_in : (n : ℕ) (ts : List Token) (o : Operand) → weight ts ≤ n → short_of ts ≡ Ok o → is_operand_within n o ≡ true
 short_in n ts o le is = short_by n (expression_of ts) o (λ terms. expression_in n ts terms le) is
 
-behind_by : (s : SegmentRegister) (t u : Token) (ts : List Token) (b : Option SegmentRegister × List Token) (test : Bool)
+after_by : (s : SegmentRegister) (t u : Token) (ts : List Token) (b : Option SegmentRegister × List Token) (test : Bool)
     → (if test then Some (Some s, ts) else None) ≡ Some b → weight b.1 ≤ weight (t ∷ u ∷ ts)
-behind_by s t u ts b true is = let same : (Some s, ts) ≡ b = cc in rw (← same) (omega arith)
-behind_by s t u ts b false is = absurd (cc)
+after_by s t u ts b true is = let same : (Some s, ts) ≡ b = cc in rw (← same) (omega arith)
+after_by s t u ts b false is = absurd (cc)
 
-behind_le : (r : Register) (ts : List Token) (b : Option SegmentRegister × List Token) → behind_segment r ts ≡ Some b → weight b.1 ≤ weight ts
-behind_le (registers.Segment s) (t ∷ u ∷ ts) b is = behind_by s t u ts b (is_colon t && is_open_bracket u) is
-behind_le (registers.Segment s) (t ∷ []) b is = absurd (cc)
-behind_le (registers.Segment s) [] b is = absurd (cc)
-behind_le (registers.Byte r) ts b is = absurd (cc)
-behind_le (registers.Word r) ts b is = absurd (cc)
+after_le : (r : Register) (ts : List Token) (b : Option SegmentRegister × List Token) → after_segment r ts ≡ Some b → weight b.1 ≤ weight ts
+after_le (registers.Segment s) (t ∷ u ∷ ts) b is = after_by s t u ts b (is_colon t && is_open_bracket u) is
+after_le (registers.Segment s) (t ∷ []) b is = absurd (cc)
+after_le (registers.Segment s) [] b is = absurd (cc)
+after_le (registers.Byte r) ts b is = absurd (cc)
+after_le (registers.Word r) ts b is = absurd (cc)
 
 brackets_by_le : (t : Token) (ts : List Token) (b : Option SegmentRegister × List Token) → brackets_by t ts ≡ Some b → weight b.1 ≤ weight ts
-brackets_by_le (Mark marks.OpenBracket) ts b is = let same : (None, ts) ≡ b = cc in rw (← same) (omega arith)
-brackets_by_le (Word (meanings.Register r)) ts b is = behind_le r ts b is
+brackets_by_le (Punctuator punctuators.OpenBracket) ts b is = let same : (None, ts) ≡ b = cc in rw (← same) (omega arith)
+brackets_by_le (Word (meanings.Register r)) ts b is = after_le r ts b is
 brackets_by_le t ts b is = absurd (cc)
 
 brackets_le : (ts : List Token) (b : Option SegmentRegister × List Token) → brackets_of ts ≡ Some b → weight b.1 ≤ weight ts
@@ -381,7 +381,7 @@ single_piece_in widths.Byte One p is = value_piece_in (One ∷ []) p is
 single_piece_in widths.Byte (Number k) p is = value_piece_in (Number k ∷ []) p is
 single_piece_in widths.Byte (Named name) p is = value_piece_in (Named name ∷ []) p is
 single_piece_in widths.Byte (Word meaning) p is = value_piece_in (Word meaning ∷ []) p is
-single_piece_in widths.Byte (Mark mark) p is = value_piece_in (Mark mark ∷ []) p is
+single_piece_in widths.Byte (Punctuator punctuator) p is = value_piece_in (Punctuator punctuator ∷ []) p is
 single_piece_in widths.Word t p is = value_piece_in (t ∷ []) p is
 single_piece_in widths.Double t p is = value_piece_in (t ∷ []) p is
 
@@ -604,14 +604,14 @@ led_statement_in : (n : ℕ) (ps : List Prefix) (t : Token) (ts : List Token) (s
 led_statement_in n ps (Word m) ts s le is = word_in n ps m ts s le is
 led_statement_in n ps t ts s le is = absurd (cc)
 
-behind_in : (n : ℕ) (ps : List Prefix) (ts : List Token) (s : Statement) → weight ts ≤ n → statement_behind ps ts ≡ Ok s → IsWithin n s
-unfolding statement_behind
-behind_in n ps [] s le is = absurd (cc)
-behind_in n ps (t ∷ ts) s le is = led_statement_in n ps t ts s (omega arith) is
+after_in : (n : ℕ) (ps : List Prefix) (ts : List Token) (s : Statement) → weight ts ≤ n → statement_after ps ts ≡ Ok s → IsWithin n s
+unfolding statement_after
+after_in n ps [] s le is = absurd (cc)
+after_in n ps (t ∷ ts) s le is = led_statement_in n ps t ts s (omega arith) is
 
 prefixed_in : (n : ℕ) (ts : List Token) (s : Statement) → weight ts ≤ n → prefixed_statement ts ≡ Ok s → IsWithin n s
 unfolding prefixed_statement
-prefixed_in n ts s le is = let rest = prefixes_le ts in behind_in n (prefixes_of ts).0 (prefixes_of ts).1 s (omega arith) is
+prefixed_in n ts s le is = let rest = prefixes_le ts in after_in n (prefixes_of ts).0 (prefixes_of ts).1 s (omega arith) is
 
 second_by : (n : ℕ) (t u : Token) (ts : List Token) (s : Statement) (test : Bool) → weight (t ∷ u ∷ ts) ≤ n
     → (if test then equ_of t ts else prefixed_statement (t ∷ u ∷ ts)) ≡ Ok s → IsWithin n s
@@ -634,7 +634,7 @@ with_label_in n label ts line le is = with_label_by n label (statement_of ts) li
 
 named_in : (n : ℕ) (label : Name) (u : Token) (ts : List Token) (line : Line) → weight (Named label ∷ u ∷ ts) ≤ n → labelled (Named label) u ts ≡ Ok line
     → IsWithin n line.statement
-named_in n label (Mark marks.Colon) ts line le is = with_label_in n (Some label) ts line (omega arith) is
+named_in n label (Punctuator punctuators.Colon) ts line le is = with_label_in n (Some label) ts line (omega arith) is
 named_in n label u ts line le is = with_label_in n None (Named label ∷ u ∷ ts) line le is
 
 labelled_in : (n : ℕ) (t u : Token) (ts : List Token) (line : Line) → weight (t ∷ u ∷ ts) ≤ n → labelled t u ts ≡ Ok line → IsWithin n line.statement

@@ -10,8 +10,8 @@ use Rattle.assembler_syntax.specs.declared.expression.Atom.{Atom}
 use Rattle.assembler_syntax.specs.declared.expression.Atom.TheVariants as atoms
 use Rattle.assembler_syntax.specs.declared.expression.Term.{Term}
 use Rattle.assembler_lexeme.specs.declared.token.Token.{Token}
-use Rattle.assembler_lexeme.specs.declared.token.Token.TheVariants.{One, Number, Named, Word, Mark}
-use Rattle.assembler_lexeme.specs.declared.token.Mark.TheVariants.{Dollar}
+use Rattle.assembler_lexeme.specs.declared.token.Token.TheVariants.{One, Number, Named, Word, Punctuator}
+use Rattle.assembler_lexeme.specs.declared.token.Punctuator.TheVariants.{Dollar}
 use Rattle.assembler_lexeme.specs.Faults.{◌>>=◌, all_of}
 use Rattle.assembler_syntax.specs.PartSteps.{Signed, signed_parts}
 pub use Rattle.assembler_syntax.specs.Expressions.{is_constant, is_constant_atom}
@@ -20,7 +20,7 @@ abbrev pub single_atom : Token → Result Atom SyntaxFault
 single_atom One = Ok (atoms.Number 1)
 single_atom (Number n) = Ok (atoms.Number n)
 single_atom (Named name) = Ok (atoms.Named name)
-single_atom (Mark Dollar) = Ok atoms.Here
+single_atom (Punctuator Dollar) = Ok atoms.Here
 single_atom t = Err BadLine
 
 abbrev pub segment_atom : Token → Token → Result Atom SyntaxFault

@@ -10,17 +10,17 @@ use Rattle.assembler_syntax.specs.declared.expression.Atom.{Atom}
 use Rattle.assembler_syntax.specs.declared.expression.Atom.TheVariants as atoms
 use Rattle.assembler_syntax.specs.declared.expression.Term.{Term}
 use Rattle.assembler_lexeme.specs.declared.token.Token.{Token}
-use Rattle.assembler_lexeme.specs.declared.token.Token.TheVariants.{One, Number, Named, Word, Mark}
-use Rattle.assembler_lexeme.specs.declared.token.Mark.TheVariants.{Dollar}
+use Rattle.assembler_lexeme.specs.declared.token.Token.TheVariants.{One, Number, Named, Word, Punctuator}
+use Rattle.assembler_lexeme.specs.declared.token.Punctuator.TheVariants.{Dollar}
 use Rattle.assembler_lexeme.specs.Faults.{◌>>=◌, all_of}
-use Rattle.assembler_syntax.specs.Parts.{Signed, signed_parts}
+use Rattle.assembler_syntax.specs.TokenParts.{Signed, signed_parts}
 
 -- an atom: a number, a name, $, or SEG and a name
 unfoldable pub atom_of : List Token → Result Atom SyntaxFault
 atom_of (One ∷ []) = Ok (atoms.Number 1)
 atom_of (Number n ∷ []) = Ok (atoms.Number n)
 atom_of (Named name ∷ []) = Ok (atoms.Named name)
-atom_of (Mark Dollar ∷ []) = Ok atoms.Here
+atom_of (Punctuator Dollar ∷ []) = Ok atoms.Here
 atom_of (Word (Keyword Seg) ∷ Named name ∷ []) = Ok (atoms.SegmentOf name)
 atom_of ts = Err BadLine
 

@@ -10,10 +10,10 @@ use Rattle.assembler_syntax.specs.declared.statement.Piece.TheVariants as pieces
 use Rattle.assembler_syntax.specs.declared.statement.Item.{Item}
 use Rattle.assembler_syntax.specs.declared.statement.Item.TheVariants as items
 use Rattle.assembler_lexeme.specs.declared.token.Token.{Token}
-use Rattle.assembler_lexeme.specs.declared.token.Token.TheVariants.{Mark, Quoted}
-use Rattle.assembler_lexeme.specs.declared.token.Mark.TheVariants.{OpenParenthesis}
+use Rattle.assembler_lexeme.specs.declared.token.Token.TheVariants.{Punctuator, Quoted}
+use Rattle.assembler_lexeme.specs.declared.token.Punctuator.TheVariants.{OpenParenthesis}
 use Rattle.assembler_lexeme.specs.Faults.{◌>>=◌, all_of}
-use Rattle.assembler_syntax.specs.Parts.{parts, around, closed, is_dup, is_close_parenthesis}
+use Rattle.assembler_syntax.specs.TokenParts.{parts, around, closed, is_dup, is_close_parenthesis}
 use Rattle.assembler_syntax.specs.Expressions.{expression_of, constant_of}
 
 -- a piece: an expression, or in DB a quoted text
@@ -28,7 +28,7 @@ pieces_of width ts = all_of (piece_of width) (parts ts)
 
 -- the tokens of the pieces that DUP repeats, which are in parentheses
 abbrev pub in_parentheses : List Token → Result (List Token) SyntaxFault
-in_parentheses (Mark OpenParenthesis ∷ ts) = closed (around is_close_parenthesis ts)
+in_parentheses (Punctuator OpenParenthesis ∷ ts) = closed (around is_close_parenthesis ts)
 in_parentheses ts = Err BadLine
 
 unfoldable pub repeated : DataWidth → List Token → List Token → Result Item SyntaxFault

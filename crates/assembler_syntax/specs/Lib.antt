@@ -1,4 +1,4 @@
-pub mod Parts
+pub mod TokenParts
 pub mod Expressions
 pub mod Operands
 pub mod Items
@@ -12,5 +12,5 @@ pub mod StatementSteps
 pub mod LineSteps
 pub mod Weights
 pub mod Spelling
-pub mod Laws
+pub mod SyntaxLaws
 pub mod Spellings

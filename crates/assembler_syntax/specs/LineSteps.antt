@@ -7,8 +7,8 @@ use Rattle.assembler_lexeme.specs.declared.fault.SyntaxFault.TheVariants.{BadCha
 use Rattle.assembler_lexeme.specs.declared.name.Name.{Name}
 use Rattle.assembler_syntax.specs.declared.statement.Line.{Line}
 use Rattle.assembler_lexeme.specs.declared.token.Token.{Token}
-use Rattle.assembler_lexeme.specs.declared.token.Token.TheVariants.{Named, Mark}
-use Rattle.assembler_lexeme.specs.declared.token.Mark.TheVariants.{Colon}
+use Rattle.assembler_lexeme.specs.declared.token.Token.TheVariants.{Named, Punctuator}
+use Rattle.assembler_lexeme.specs.declared.token.Punctuator.TheVariants.{Colon}
 use Rattle.assembler_lexeme.specs.Lexemes.{is_character, lexemes}
 use Rattle.assembler_lexeme.specs.Faults.{◌>>=◌}
 use Rattle.assembler_lexeme.specs.Tokens.{tokens_of}
@@ -18,7 +18,7 @@ abbrev pub with_label : Option Name → List Token → Result Line SyntaxFault
 with_label label ts = statement_of ts >>= (λ statement. Ok (record { label = label; statement = statement }))
 
 abbrev pub labelled : Token → Token → List Token → Result Line SyntaxFault
-labelled (Named label) (Mark Colon) ts = with_label (Some label) ts
+labelled (Named label) (Punctuator Colon) ts = with_label (Some label) ts
 labelled t u ts = with_label None (t ∷ u ∷ ts)
 
 -- the line that tokens are; a name followed by a colon is its label

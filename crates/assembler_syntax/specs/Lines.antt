@@ -7,8 +7,8 @@ use Rattle.assembler_lexeme.specs.declared.fault.SyntaxFault.TheVariants.{BadCha
 use Rattle.assembler_lexeme.specs.declared.name.Name.{Name}
 use Rattle.assembler_syntax.specs.declared.statement.Line.{Line}
 use Rattle.assembler_lexeme.specs.declared.token.Token.{Token}
-use Rattle.assembler_lexeme.specs.declared.token.Token.TheVariants.{Named, Mark}
-use Rattle.assembler_lexeme.specs.declared.token.Mark.TheVariants.{Colon}
+use Rattle.assembler_lexeme.specs.declared.token.Token.TheVariants.{Named, Punctuator}
+use Rattle.assembler_lexeme.specs.declared.token.Punctuator.TheVariants.{Colon}
 use Rattle.assembler_lexeme.specs.Lexemes.{is_character, lexemes}
 use Rattle.assembler_lexeme.specs.Faults.{◌>>=◌}
 use Rattle.assembler_lexeme.specs.Tokens.{tokens_of}
@@ -21,7 +21,7 @@ with_label label ts = do
 
 -- the line that tokens are; a name followed by a colon is its label
 unfoldable pub line_of : List Token → Result Line SyntaxFault
-line_of (Named label ∷ Mark Colon ∷ ts) = with_label (Some label) ts
+line_of (Named label ∷ Punctuator Colon ∷ ts) = with_label (Some label) ts
 line_of ts = with_label None ts
 
 -- What a line of the source says. A fault of its characters comes before a fault of its tokens, and that before a fault

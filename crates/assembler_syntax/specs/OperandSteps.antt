@@ -15,8 +15,8 @@ use Rattle.assembler_syntax.specs.declared.operand.Address.{Address}
 use Rattle.assembler_syntax.specs.declared.operand.Operand.{Operand}
 use Rattle.assembler_syntax.specs.declared.operand.Operand.TheVariants as operands
 use Rattle.assembler_lexeme.specs.declared.token.Token.{Token}
-use Rattle.assembler_lexeme.specs.declared.token.Token.TheVariants.{One, Named, Word, Mark}
-use Rattle.assembler_lexeme.specs.declared.token.Mark.TheVariants.{OpenBracket}
+use Rattle.assembler_lexeme.specs.declared.token.Token.TheVariants.{One, Named, Word, Punctuator}
+use Rattle.assembler_lexeme.specs.declared.token.Punctuator.TheVariants.{OpenBracket}
 use Rattle.assembler_lexeme.specs.Faults.{◌>>=◌, all_of}
 use Rattle.assembler_syntax.specs.PartSteps.{Signed, parts, signed_parts, around, closed, is_colon, is_open_bracket, is_close_bracket}
 use Rattle.assembler_syntax.specs.ExpressionSteps.{expression_of, term_of}
@@ -59,13 +59,13 @@ brackets_view (Some b) = Some (b.0, b.1.now)
 brackets_view None = None
 
 -- the tokens after the open bracket of an operand in memory, if it follows this segment register and a colon
-abbrev pub behind_segment : RegisterType → List Token → Option (Option SegmentRegister × List Token)
-behind_segment (registers.Segment s) (t ∷ u ∷ ts) = if is_colon t && is_open_bracket u then Some (Some s, ts) else None
-behind_segment r ts = None
+abbrev pub after_segment : RegisterType → List Token → Option (Option SegmentRegister × List Token)
+after_segment (registers.Segment s) (t ∷ u ∷ ts) = if is_colon t && is_open_bracket u then Some (Some s, ts) else None
+after_segment r ts = None
 
 abbrev pub brackets_by : Token → List Token → Option (Option SegmentRegister × List Token)
-brackets_by (Mark OpenBracket) ts = Some (None, ts)
-brackets_by (Word (Register r)) ts = behind_segment r ts
+brackets_by (Punctuator OpenBracket) ts = Some (None, ts)
+brackets_by (Word (Register r)) ts = after_segment r ts
 brackets_by t ts = None
 
 unfoldable pub brackets_of : List Token → Option (Option SegmentRegister × List Token)

@@ -19,10 +19,10 @@ use Rattle.assembler_syntax.specs.declared.operand.Address.{Address}
 use Rattle.assembler_syntax.specs.declared.operand.Operand.{Operand}
 use Rattle.assembler_syntax.specs.declared.operand.Operand.TheVariants as operands
 use Rattle.assembler_lexeme.specs.declared.token.Token.{Token}
-use Rattle.assembler_lexeme.specs.declared.token.Token.TheVariants.{One, Named, Word, Mark}
-use Rattle.assembler_lexeme.specs.declared.token.Mark.TheVariants.{Colon, OpenBracket}
+use Rattle.assembler_lexeme.specs.declared.token.Token.TheVariants.{One, Named, Word, Punctuator}
+use Rattle.assembler_lexeme.specs.declared.token.Punctuator.TheVariants.{Colon, OpenBracket}
 use Rattle.assembler_lexeme.specs.Faults.{◌>>=◌, wanted, all_of}
-use Rattle.assembler_syntax.specs.Parts.{Signed, parts, signed_parts, around, closed, is_colon, is_close_bracket}
+use Rattle.assembler_syntax.specs.TokenParts.{Signed, parts, signed_parts, around, closed, is_colon, is_close_bracket}
 use Rattle.assembler_syntax.specs.Expressions.{expression_of, term_of}
 
 -- a base with one more register: at most one of BX and BP, and at most one of SI and DI
@@ -92,8 +92,8 @@ value_of ts = do
 
 -- the tokens after the open bracket of an operand in memory, with the segment register before it, if there is one
 unfoldable pub brackets_of : List Token → Option (Option SegmentRegister × List Token)
-brackets_of (Mark OpenBracket ∷ ts) = Some (None, ts)
-brackets_of (Word (Register (registers.Segment s)) ∷ Mark Colon ∷ Mark OpenBracket ∷ ts) = Some (Some s, ts)
+brackets_of (Punctuator OpenBracket ∷ ts) = Some (None, ts)
+brackets_of (Word (Register (registers.Segment s)) ∷ Punctuator Colon ∷ Punctuator OpenBracket ∷ ts) = Some (Some s, ts)
 brackets_of ts = None
 
 -- an operand in memory, if brackets were found, or else another one

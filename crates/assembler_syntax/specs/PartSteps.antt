@@ -3,20 +3,20 @@
 use Rattle.std.specs.Prelude.{ℕ, ◌+◌, Bool, true, false, not, ◌&&◌, if◌then◌else◌, List, [], ◌∷◌, take, drop, position, Option, None, Some}
 use Rattle.std.specs.Borrow.{Bor}
 use Rattle.assembler_lexeme.specs.declared.token.Token.{Token}
-use Rattle.assembler_lexeme.specs.declared.token.Token.TheVariants.{Mark}
-use Rattle.assembler_lexeme.specs.declared.token.Mark.TheVariants.{Comma, Plus, Minus, OpenBracket, OpenParenthesis, CloseParenthesis}
-pub use Rattle.assembler_syntax.specs.Parts.{Signed, closed, is_close_bracket, is_close_parenthesis, is_colon, is_dup, onto_part, onto_signed, signed_part}
+use Rattle.assembler_lexeme.specs.declared.token.Token.TheVariants.{Punctuator}
+use Rattle.assembler_lexeme.specs.declared.token.Punctuator.TheVariants.{Comma, Plus, Minus, OpenBracket, OpenParenthesis, CloseParenthesis}
+pub use Rattle.assembler_syntax.specs.TokenParts.{Signed, closed, is_close_bracket, is_close_parenthesis, is_colon, is_dup, onto_part, onto_signed, signed_part}
 
 abbrev pub is_comma : Token → Bool
-is_comma (Mark Comma) = true
+is_comma (Punctuator Comma) = true
 is_comma t = false
 
 abbrev pub is_open_bracket : Token → Bool
-is_open_bracket (Mark OpenBracket) = true
+is_open_bracket (Punctuator OpenBracket) = true
 is_open_bracket t = false
 
 abbrev pub is_open_parenthesis : Token → Bool
-is_open_parenthesis (Mark OpenParenthesis) = true
+is_open_parenthesis (Punctuator OpenParenthesis) = true
 is_open_parenthesis t = false
 
 -- the tokens before the one at a place, and those after it
@@ -35,8 +35,8 @@ around_view None = None
 
 -- whether parentheses are open after a token
 abbrev pub is_open_after : Bool → Token → Bool
-is_open_after is_open (Mark OpenParenthesis) = true
-is_open_after is_open (Mark CloseParenthesis) = false
+is_open_after is_open (Punctuator OpenParenthesis) = true
+is_open_after is_open (Punctuator CloseParenthesis) = false
 is_open_after is_open t = is_open
 
 abbrev pub parts_here : Bool → Token → Bool
@@ -73,8 +73,8 @@ part_size is_open (t ∷ ts) = if parts_here is_open t then 0 else 1 + part_size
 
 -- whether a sign is a minus; `None` for a token that is no sign
 abbrev pub sign_of : Token → Option Bool
-sign_of (Mark Plus) = Some false
-sign_of (Mark Minus) = Some true
+sign_of (Punctuator Plus) = Some false
+sign_of (Punctuator Minus) = Some true
 sign_of t = None
 
 abbrev pub signed_by : Option Bool → Bool → Token → (Bool → List Signed) → List Signed
@@ -91,7 +91,7 @@ signed_left is_negative (Some ts) = signed_from is_negative ts
 signed_left is_negative None = []
 
 abbrev pub is_minus : Token → Bool
-is_minus (Mark Minus) = true
+is_minus (Punctuator Minus) = true
 is_minus t = false
 
 abbrev pub begins_with_minus : List Token → Bool
@@ -104,8 +104,8 @@ signed_parts [] = signed_from false []
 signed_parts (t ∷ ts) = if is_minus t then signed_from true ts else signed_from false (t ∷ ts)
 
 abbrev pub is_sign : Token → Bool
-is_sign (Mark Plus) = true
-is_sign (Mark Minus) = true
+is_sign (Punctuator Plus) = true
+is_sign (Punctuator Minus) = true
 is_sign t = false
 
 -- how many tokens stand before the first sign

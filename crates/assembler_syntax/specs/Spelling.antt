@@ -33,8 +33,8 @@ use Rattle.assembler_syntax.specs.declared.statement.Statement.{Statement}
 use Rattle.assembler_syntax.specs.declared.statement.Statement.TheVariants as statements
 use Rattle.assembler_syntax.specs.declared.statement.Line.{Line}
 use Rattle.assembler_lexeme.specs.declared.token.Token.{Token}
-use Rattle.assembler_lexeme.specs.declared.token.Token.TheVariants.{One, Number, Named, Quoted, Word, Mark}
-use Rattle.assembler_lexeme.specs.declared.token.Mark.TheVariants.{Comma, Colon, Plus, Minus, OpenBracket, CloseBracket, OpenParenthesis, CloseParenthesis, Dollar}
+use Rattle.assembler_lexeme.specs.declared.token.Token.TheVariants.{One, Number, Named, Quoted, Word, Punctuator}
+use Rattle.assembler_lexeme.specs.declared.token.Punctuator.TheVariants.{Comma, Colon, Plus, Minus, OpenBracket, CloseBracket, OpenParenthesis, CloseParenthesis, Dollar}
 use Rattle.assembler_syntax.specs.Expressions.{is_constant}
 
 abbrev pub keyword : Keyword → Token
@@ -46,12 +46,12 @@ register r = Word (meanings.Register r)
 abbrev pub atom_tokens : Atom → List Token
 atom_tokens (atoms.Number n) = Number n ∷ []
 atom_tokens (atoms.Named name) = Named name ∷ []
-atom_tokens atoms.Here = Mark Dollar ∷ []
+atom_tokens atoms.Here = Punctuator Dollar ∷ []
 atom_tokens (atoms.SegmentOf name) = keyword keywords.Seg ∷ Named name ∷ []
 
 abbrev pub sign_token : Bool → Token
-sign_token false = Mark Plus
-sign_token true = Mark Minus
+sign_token false = Punctuator Plus
+sign_token true = Punctuator Minus
 
 -- terms with a sign before each
 abbrev pub signed_tokens : List Term → List Token
@@ -61,7 +61,7 @@ signed_tokens (t ∷ ts) = sign_token t.is_negative ∷ (atom_tokens t.atom ++ s
 -- the first term of an expression, before which no plus is written
 abbrev pub first_tokens : Bool → Atom → List Token
 first_tokens false atom = atom_tokens atom
-first_tokens true atom = Mark Minus ∷ atom_tokens atom
+first_tokens true atom = Punctuator Minus ∷ atom_tokens atom
 
 abbrev pub expression_tokens : List Term → List Token
 expression_tokens [] = []
@@ -71,10 +71,10 @@ abbrev pub word : WordRegister → Token
 word r = register (registers.Word r)
 
 abbrev pub base_tokens : Base → List Token
-base_tokens bases.BxSi = word Bx ∷ Mark Plus ∷ word Si ∷ []
-base_tokens bases.BxDi = word Bx ∷ Mark Plus ∷ word Di ∷ []
-base_tokens bases.BpSi = word Bp ∷ Mark Plus ∷ word Si ∷ []
-base_tokens bases.BpDi = word Bp ∷ Mark Plus ∷ word Di ∷ []
+base_tokens bases.BxSi = word Bx ∷ Punctuator Plus ∷ word Si ∷ []
+base_tokens bases.BxDi = word Bx ∷ Punctuator Plus ∷ word Di ∷ []
+base_tokens bases.BpSi = word Bp ∷ Punctuator Plus ∷ word Si ∷ []
+base_tokens bases.BpDi = word Bp ∷ Punctuator Plus ∷ word Di ∷ []
 base_tokens bases.Si = word Si ∷ []
 base_tokens bases.Di = word Di ∷ []
 base_tokens bases.Bp = word Bp ∷ []
@@ -88,7 +88,7 @@ size_tokens (Some sizes.Far) = keyword keywords.Far ∷ []
 
 abbrev pub segment_tokens : Option SegmentRegister → List Token
 segment_tokens None = []
-segment_tokens (Some s) = register (registers.Segment s) ∷ Mark Colon ∷ []
+segment_tokens (Some s) = register (registers.Segment s) ∷ Punctuator Colon ∷ []
 
 abbrev pub inner_tokens : Option Base → Option (List Term) → List Token
 inner_tokens None None = []
@@ -97,7 +97,7 @@ inner_tokens (Some b) None = base_tokens b
 inner_tokens (Some b) (Some ts) = base_tokens b ++ signed_tokens ts
 
 abbrev pub bracket_tokens : Address → List Token
-bracket_tokens a = Mark OpenBracket ∷ (inner_tokens a.base a.displacement ++ Mark CloseBracket ∷ [])
+bracket_tokens a = Punctuator OpenBracket ∷ (inner_tokens a.base a.displacement ++ Punctuator CloseBracket ∷ [])
 
 abbrev pub address_tokens : Address → List Token
 address_tokens a = size_tokens a.size ++ (segment_tokens a.segment ++ bracket_tokens a)
@@ -110,13 +110,13 @@ operand_tokens (operands.Memory a) = address_tokens a
 operand_tokens (operands.Short e) = keyword keywords.Short ∷ expression_tokens e
 operand_tokens (operands.FarLabel label) = keyword keywords.Far ∷ Named label ∷ []
 operand_tokens (operands.FarPointer s o) =
-    keyword keywords.Far ∷ (expression_tokens s ++ Mark Colon ∷ expression_tokens o)
+    keyword keywords.Far ∷ (expression_tokens s ++ Punctuator Colon ∷ expression_tokens o)
 
 -- lists of tokens, with commas between them
 abbrev pub with_commas : List (List Token) → List Token
 with_commas [] = []
 with_commas (part ∷ []) = part
-with_commas (part ∷ next ∷ rest) = part ++ Mark Comma ∷ with_commas (next ∷ rest)
+with_commas (part ∷ next ∷ rest) = part ++ Punctuator Comma ∷ with_commas (next ∷ rest)
 
 abbrev pub piece_tokens : Piece → List Token
 piece_tokens (pieces.Value e) = expression_tokens e
@@ -125,11 +125,11 @@ piece_tokens (pieces.Text text) = Quoted text ∷ []
 abbrev pub item_tokens : Item → List Token
 item_tokens (items.Once piece) = piece_tokens piece
 item_tokens (items.Repeated count each) =
-    expression_tokens count ++ keyword keywords.Dup ∷ Mark OpenParenthesis
-    ∷ (with_commas (map piece_tokens each) ++ Mark CloseParenthesis ∷ [])
+    expression_tokens count ++ keyword keywords.Dup ∷ Punctuator OpenParenthesis
+    ∷ (with_commas (map piece_tokens each) ++ Punctuator CloseParenthesis ∷ [])
 
 abbrev pub prefix_tokens : PrefixType → List Token
-prefix_tokens (prefixes.Segment s) = register (registers.Segment s) ∷ Mark Colon ∷ []
+prefix_tokens (prefixes.Segment s) = register (registers.Segment s) ∷ Punctuator Colon ∷ []
 prefix_tokens p = Word (meanings.Prefix p) ∷ []
 
 abbrev pub width_keyword : DataWidth → Keyword
@@ -151,7 +151,7 @@ statement_tokens (statements.Instruction i) =
 
 abbrev pub label_tokens : Option Name → List Token
 label_tokens None = []
-label_tokens (Some name) = Named name ∷ Mark Colon ∷ []
+label_tokens (Some name) = Named name ∷ Punctuator Colon ∷ []
 
 abbrev pub line_tokens : Line → List Token
 line_tokens l = label_tokens l.label ++ statement_tokens l.statement

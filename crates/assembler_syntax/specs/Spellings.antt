@@ -10,8 +10,8 @@ use Rattle.isa.specs.declared.register.WordRegister.TheVariants.{Bx, Bp, Si, Di}
 use Rattle.dialect.specs.declared.meaning.Meaning.TheVariants as meanings
 use Rattle.dialect.specs.declared.keyword.Keyword.TheVariants as keywords
 use Rattle.assembler_lexeme.specs.declared.token.Token.{Token}
-use Rattle.assembler_lexeme.specs.declared.token.Token.TheVariants.{One, Number, Named, Quoted, Word, Mark}
-use Rattle.assembler_lexeme.specs.declared.token.Mark.TheVariants.{Comma, Colon, Plus, Minus, OpenBracket, CloseBracket, OpenParenthesis, CloseParenthesis, Dollar}
+use Rattle.assembler_lexeme.specs.declared.token.Token.TheVariants.{One, Number, Named, Quoted, Word, Punctuator}
+use Rattle.assembler_lexeme.specs.declared.token.Punctuator.TheVariants.{Comma, Colon, Plus, Minus, OpenBracket, CloseBracket, OpenParenthesis, CloseParenthesis, Dollar}
 use Rattle.assembler_syntax.specs.declared.expression.Atom.{Atom}
 use Rattle.assembler_syntax.specs.declared.expression.Atom.TheVariants as atoms
 use Rattle.assembler_syntax.specs.declared.expression.Term.{Term}
@@ -50,19 +50,19 @@ One' then Other = InTurn One' Other
 abbrev pub WithCommas : {A : Type 0} → (A → List Token → Type 0) → List A → List Token → Type 0
 WithCommas Spells [] = λ ts. ⊥
 WithCommas Spells (x ∷ []) = Spells x
-WithCommas Spells (x ∷ y ∷ more) = Spells x then Exactly (Mark Comma ∷ []) then WithCommas Spells (y ∷ more)
+WithCommas Spells (x ∷ y ∷ more) = Spells x then Exactly (Punctuator Comma ∷ []) then WithCommas Spells (y ∷ more)
 
 -- the tokens of an atom: a number, which for 1 may also be the token of `1`; a name; $; SEG and a name
 abbrev pub SpellsAtom : Atom → List Token → Type 0
 SpellsAtom (atoms.Number n) = λ ts. (ts ≡ Number n ∷ []) ⊎ ((ts ≡ One ∷ []) × (n ≡ 1))
 SpellsAtom (atoms.Named name) = Exactly (Named name ∷ [])
-SpellsAtom atoms.Here = Exactly (Mark Dollar ∷ [])
+SpellsAtom atoms.Here = Exactly (Punctuator Dollar ∷ [])
 SpellsAtom (atoms.SegmentOf name) = Exactly (keyword keywords.Seg ∷ Named name ∷ [])
 
 -- the sign before the first term: none or a minus; before each other term a sign is written
 abbrev pub leading_tokens : Bool → List Token
 leading_tokens false = []
-leading_tokens true = Mark Minus ∷ []
+leading_tokens true = Punctuator Minus ∷ []
 
 abbrev pub SpellsSigned : List Term → List Token → Type 0
 SpellsSigned [] = Exactly []
@@ -87,7 +87,7 @@ SpellsFirstPart (a_register r) = Exactly (word r ∷ [])
 SpellsFirstPart (a_term t) = Exactly (leading_tokens t.is_negative) then SpellsAtom t.atom
 
 abbrev pub SpellsPart : AddressPart → List Token → Type 0
-SpellsPart (a_register r) = Exactly (Mark Plus ∷ word r ∷ [])
+SpellsPart (a_register r) = Exactly (Punctuator Plus ∷ word r ∷ [])
 SpellsPart (a_term t) = Exactly (sign_token t.is_negative ∷ []) then SpellsAtom t.atom
 
 abbrev pub SpellsMoreParts : List AddressPart → List Token → Type 0
@@ -138,12 +138,12 @@ SpellsOperand (operands.Register r) = Exactly (register r ∷ [])
 SpellsOperand operands.One = Exactly (One ∷ [])
 SpellsOperand (operands.Value terms) = λ ts. SpellsExpression terms ts × (ts ≢ One ∷ [])
 SpellsOperand (operands.Memory a) =
-    Exactly (size_tokens a.size ++ (segment_tokens a.segment ++ Mark OpenBracket ∷ []))
-    then SpellsInner a then Exactly (Mark CloseBracket ∷ [])
+    Exactly (size_tokens a.size ++ (segment_tokens a.segment ++ Punctuator OpenBracket ∷ []))
+    then SpellsInner a then Exactly (Punctuator CloseBracket ∷ [])
 SpellsOperand (operands.Short terms) = Exactly (keyword keywords.Short ∷ []) then SpellsExpression terms
 SpellsOperand (operands.FarLabel label) = Exactly (keyword keywords.Far ∷ Named label ∷ [])
 SpellsOperand (operands.FarPointer s o) =
-    Exactly (keyword keywords.Far ∷ []) then SpellsExpression s then Exactly (Mark Colon ∷ []) then SpellsExpression o
+    Exactly (keyword keywords.Far ∷ []) then SpellsExpression s then Exactly (Punctuator Colon ∷ []) then SpellsExpression o
 
 abbrev pub SpellsOperands : List Operand → List Token → Type 0
 SpellsOperands [] = Exactly []
@@ -157,8 +157,8 @@ SpellsPiece width (pieces.Text text) = λ ts. (ts ≡ Quoted text ∷ []) × (wi
 abbrev pub SpellsItem : DataWidth → Item → List Token → Type 0
 SpellsItem width (items.Once piece) = SpellsPiece width piece
 SpellsItem width (items.Repeated count each) =
-    SpellsConstant count then Exactly (keyword keywords.Dup ∷ Mark OpenParenthesis ∷ [])
-    then WithCommas (SpellsPiece width) each then Exactly (Mark CloseParenthesis ∷ [])
+    SpellsConstant count then Exactly (keyword keywords.Dup ∷ Punctuator OpenParenthesis ∷ [])
+    then WithCommas (SpellsPiece width) each then Exactly (Punctuator CloseParenthesis ∷ [])
 
 -- the tokens of a prefix: its word, or a segment register and a colon
 abbrev pub SpellsPrefix : PrefixType → List Token → Type 0

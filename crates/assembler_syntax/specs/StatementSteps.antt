@@ -101,12 +101,12 @@ led_statement ps (Named name) ts = Err UnknownName
 led_statement ps t ts = Err BadLine
 
 -- a statement, from its prefixes, if it has any, and the tokens after them
-unfoldable pub statement_behind : List PrefixType → List Token → Result Statement SyntaxFault
-statement_behind ps [] = Err BadLine
-statement_behind ps (t ∷ ts) = led_statement ps t ts
+unfoldable pub statement_after : List PrefixType → List Token → Result Statement SyntaxFault
+statement_after ps [] = Err BadLine
+statement_after ps (t ∷ ts) = led_statement ps t ts
 
 unfoldable pub prefixed_statement : List Token → Result Statement SyntaxFault
-prefixed_statement ts = statement_behind ((prefixes_of ts).0) ((prefixes_of ts).1)
+prefixed_statement ts = statement_after ((prefixes_of ts).0) ((prefixes_of ts).1)
 
 abbrev pub is_equ : Token → Bool
 is_equ (Word (Keyword keywords.Equ)) = true

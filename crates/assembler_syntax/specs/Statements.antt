@@ -15,8 +15,8 @@ use Rattle.assembler_syntax.specs.declared.statement.DataWidth.TheVariants as wi
 use Rattle.assembler_syntax.specs.declared.statement.Statement.{Statement}
 use Rattle.assembler_syntax.specs.declared.statement.Statement.TheVariants as statements
 use Rattle.assembler_lexeme.specs.declared.token.Token.{Token}
-use Rattle.assembler_lexeme.specs.declared.token.Token.TheVariants.{Mark, Named, Word}
-use Rattle.assembler_lexeme.specs.declared.token.Mark.TheVariants.{Colon}
+use Rattle.assembler_lexeme.specs.declared.token.Token.TheVariants.{Punctuator, Named, Word}
+use Rattle.assembler_lexeme.specs.declared.token.Punctuator.TheVariants.{Colon}
 use Rattle.assembler_lexeme.specs.Faults.{◌>>=◌}
 use Rattle.assembler_syntax.specs.Expressions.{constant_of}
 use Rattle.assembler_syntax.specs.Operands.{operands_of}
@@ -64,7 +64,7 @@ onto_prefixes p (ps, ts) = (p ∷ ps, ts)
 
 abbrev pub prefixes_of : List Token → (List PrefixType × List Token)
 prefixes_of (Word (Prefix p) ∷ ts) = onto_prefixes p (prefixes_of ts)
-prefixes_of (Word (Register (registers.Segment s)) ∷ Mark Colon ∷ ts) =
+prefixes_of (Word (Register (registers.Segment s)) ∷ Punctuator Colon ∷ ts) =
     onto_prefixes (prefixes.Segment s) (prefixes_of ts)
 prefixes_of ts = ([], ts)
 
@@ -80,13 +80,13 @@ is_directive k = false
 
 -- A statement, from its prefixes, if it has any, and the tokens after them. A keyword that begins a statement mustn't
 -- follow prefixes, and no other keyword begins one.
-unfoldable pub statement_behind : List PrefixType → List Token → Result Statement SyntaxFault
-statement_behind ps (Word (Mnemonic m) ∷ ts) = instruction_of ps m ts
-statement_behind [] (Word (Keyword k) ∷ ts) = directive_of k ts
-statement_behind (p ∷ ps) (Word (Keyword k) ∷ ts) = if is_directive k then Err BadLine else Err UnknownName
-statement_behind ps (Word meaning ∷ ts) = Err UnknownName
-statement_behind ps (Named name ∷ ts) = Err UnknownName
-statement_behind ps ts = Err BadLine
+unfoldable pub statement_after : List PrefixType → List Token → Result Statement SyntaxFault
+statement_after ps (Word (Mnemonic m) ∷ ts) = instruction_of ps m ts
+statement_after [] (Word (Keyword k) ∷ ts) = directive_of k ts
+statement_after (p ∷ ps) (Word (Keyword k) ∷ ts) = if is_directive k then Err BadLine else Err UnknownName
+statement_after ps (Word meaning ∷ ts) = Err UnknownName
+statement_after ps (Named name ∷ ts) = Err UnknownName
+statement_after ps ts = Err BadLine
 
 -- the statement that tokens are: EQU after a first token, which must be a name, or a statement with its prefixes, if it
 -- has any
@@ -96,4 +96,4 @@ statement_of (Named name ∷ Word (Keyword keywords.Equ) ∷ ts) = do
   value ← constant_of ts
   Ok (statements.Equ name value)
 statement_of (t ∷ Word (Keyword keywords.Equ) ∷ ts) = Err BadLine
-statement_of ts = statement_behind (prefixes_of ts).0 (prefixes_of ts).1
+statement_of ts = statement_after (prefixes_of ts).0 (prefixes_of ts).1

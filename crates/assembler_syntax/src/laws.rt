@@ -1,5 +1,5 @@
 //! The laws of lines.
-ghost use Rattle.assembler_syntax.specs.Laws.{CaseDoesNotCount, EachLineIsRead, EachLineReadIsSpelled, EachSpellingIsRead, EachTextIsReadAsItSays, HoldsNoMore};
+ghost use Rattle.assembler_syntax.specs.SyntaxLaws.{CaseDoesNotCount, EachLineIsRead, EachLineReadIsSpelled, EachSpellingIsRead, EachTextIsReadAsItSays, HoldsNoMore};
 
 /// Lines say the same if their lexemes differ only in case and only outside quotes.
 pub fn case_does_not_count()

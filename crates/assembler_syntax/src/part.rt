@@ -4,7 +4,7 @@ ghost use Rattle.std.specs.Option.{option_map};
 ghost use Rattle.assembler_lexeme.specs.Faults.{wanted};
 ghost use Rattle.assembler_syntax.specs.PartSteps.{around_view, at_place, begins_with_minus, closed, is_close_bracket, is_close_parenthesis, is_colon, is_comma, is_dup, is_minus, is_open_after, is_open_bracket, is_open_parenthesis, is_sign, part_size, parts, parts_left, signed_from, signed_left, signed_part, signed_parts, signed_size, tail_of, tail_view};
 
-use assembler_lexeme::token::{Mark, Token};
+use assembler_lexeme::token::{Punctuator, Token};
 use dialect::keyword::Keyword;
 use dialect::meaning::Meaning;
 use std::marker::Model;
@@ -12,37 +12,37 @@ use std::marker::Model;
 pub(crate) fn is_comma(token: &Token) -> bool
     ensures { result ≡ is_comma token.now }
 {
-    matches!(token, Token::Mark(Mark::Comma))
+    matches!(token, Token::Punctuator(Punctuator::Comma))
 }
 
 pub(crate) fn is_colon(token: &Token) -> bool
     ensures { result ≡ is_colon token.now }
 {
-    matches!(token, Token::Mark(Mark::Colon))
+    matches!(token, Token::Punctuator(Punctuator::Colon))
 }
 
 pub(crate) fn is_open_bracket(token: &Token) -> bool
     ensures { result ≡ is_open_bracket token.now }
 {
-    matches!(token, Token::Mark(Mark::OpenBracket))
+    matches!(token, Token::Punctuator(Punctuator::OpenBracket))
 }
 
 fn is_close_bracket(token: &Token) -> bool
     ensures { result ≡ is_close_bracket token.now }
 {
-    matches!(token, Token::Mark(Mark::CloseBracket))
+    matches!(token, Token::Punctuator(Punctuator::CloseBracket))
 }
 
 pub(crate) fn is_open_parenthesis(token: &Token) -> bool
     ensures { result ≡ is_open_parenthesis token.now }
 {
-    matches!(token, Token::Mark(Mark::OpenParenthesis))
+    matches!(token, Token::Punctuator(Punctuator::OpenParenthesis))
 }
 
 fn is_close_parenthesis(token: &Token) -> bool
     ensures { result ≡ is_close_parenthesis token.now }
 {
-    matches!(token, Token::Mark(Mark::CloseParenthesis))
+    matches!(token, Token::Punctuator(Punctuator::CloseParenthesis))
 }
 
 fn is_dup(token: &Token) -> bool
@@ -54,13 +54,16 @@ fn is_dup(token: &Token) -> bool
 fn is_minus(token: &Token) -> bool
     ensures { result ≡ is_minus token.now }
 {
-    matches!(token, Token::Mark(Mark::Minus))
+    matches!(token, Token::Punctuator(Punctuator::Minus))
 }
 
 fn is_sign(token: &Token) -> bool
     ensures { result ≡ is_sign token.now }
 {
-    matches!(token, Token::Mark(Mark::Plus | Mark::Minus))
+    matches!(
+        token,
+        Token::Punctuator(Punctuator::Plus | Punctuator::Minus)
+    )
 }
 
 /// Whether parentheses are open after the token.
@@ -68,8 +71,8 @@ fn is_open_after(is_open: bool, token: &Token) -> bool
     ensures { result ≡ is_open_after is_open token.now }
 {
     match token {
-        Token::Mark(Mark::OpenParenthesis) => true,
-        Token::Mark(Mark::CloseParenthesis) => false,
+        Token::Punctuator(Punctuator::OpenParenthesis) => true,
+        Token::Punctuator(Punctuator::CloseParenthesis) => false,
         _ => is_open,
     }
 }

@@ -15,7 +15,7 @@ use crate::statement::Line;
 use assembler_lexeme::fault::{SyntaxError, SyntaxFault};
 use assembler_lexeme::lexeme::is_character;
 use assembler_lexeme::name::Name;
-use assembler_lexeme::token::{Mark, Token, read_tokens};
+use assembler_lexeme::token::{Punctuator, Token, read_tokens};
 use statement::read_statement;
 use std::alloc::Global;
 
@@ -59,7 +59,11 @@ fn labelled(
     ensures { Gives result (labelled first.now second.now rest.now) }
 {
     match (first, second) {
-        (Token::Named(label), Token::Mark(Mark::Colon)) => line_with(alloc, Some(*label), rest),
+        (Token::Named(label), Token::Punctuator(Punctuator::Colon)) => line_with(
+            alloc,
+            Some(*label),
+            rest,
+        ),
         _ => line_with(alloc, None, tokens),
     }
 }

@@ -3,7 +3,7 @@ use Rattle.wiring.specs.EachWire.{is_requested}
 use Rattle.std.proofs.Common.{◌≡◌, ℕ, ◌+◌, ◌-◌, ◌<◌, ◌≤◌, inl, inr, false, List, refl, sym, ap, ◌∙◌, arith}
 use Rattle.std.specs.Prelude.{nat_eq}
 use Rattle.board_types.proofs.Iterate.{iterate_more, iterate_zero}
-use Rattle.board_types.specs.Lines.{from_bool}
+use Rattle.board_types.specs.LineLevel.{from_bool}
 use Rattle.execute_meaning.specs.Boundaries.{boundary_of}
 use Rattle.execute_meaning.specs.declared.boundary.Boundary.TheVariants as boundaries
 use Rattle.wiring.proofs.Clocks.{clock_of_clocks}
@@ -12,13 +12,13 @@ use Rattle.wiring.proofs.Inhibited.{request_stays}
 use Rattle.wiring.specs.Wires as wires
 use Rattle.board_plain.specs.declared.act.Act.TheVariants.{Nothing}
 use Rattle.board_plain.specs.declared.stop.Condition.{Condition}
-use Rattle.board_plain.specs.Laws.{WiresHold}
+use Rattle.board_plain.specs.BoardLaws.{WiresHold}
 use Rattle.board_plain.specs.Plain.{Plain, after_clock, after_clocks, change_next, clock_of, next_act, speaker_level}
 use Rattle.board_plain.specs.Stops.{holding}
 use Rattle.board_plain.specs.Trail.{trail_next}
 use Rattle.board_plain.specs.Work.{steps_next}
 use Rattle.board_plain.proofs.Quiet.{go_on_alone, nothing_by}
-use Rattle.board.specs.Alone.{BeginsNothing, IsAlone, IsUnseen, StaysIdleAnyhow, passed_by}
+use Rattle.board.specs.UnseenClocks.{BeginsNothing, IsAlone, IsUnseen, StaysIdleDespiteTimer, passed_by}
 use Rattle.board.proofs.Leap.{LooksSame, busy_by, busy_still, bytes_stay, free_still, holding_same, idle_clocks, none_gathered, not_free, nothing_begins}
 use Rattle.board.proofs.Ticking.{no_change}
 use Rattle.board.proofs.Uneventful.{quiet_clock}
@@ -27,10 +27,10 @@ use Rattle.board.proofs.Works.{no_step, none_in_all}
 -- the processor does nothing, whatever the timer does
 
 begins_nothing : (s : Plain) (i : ℕ) → WiresHold s.chips → BeginsNothing s → boundary_of s.cpu (is_requested (wires.after_clocks s.chips i)) ≡ boundaries.Nothing
-begins_nothing s i holds (inl anyhow) = anyhow (is_requested (wires.after_clocks s.chips i))
+begins_nothing s i holds (inl despite_timer) = despite_timer (is_requested (wires.after_clocks s.chips i))
 begins_nothing s i holds (inr now) = ap (boundary_of s.cpu) (request_stays s.chips i holds.settled holds.keys now.1) ∙ now.0
 
-idle_act : (s : Plain) (n i : ℕ) → i < n → WiresHold s.chips → StaysIdleAnyhow s n → next_act (record s { busy = s.busy - i; chips = wires.after_clocks s.chips i }) ≡ Nothing
+idle_act : (s : Plain) (n i : ℕ) → i < n → WiresHold s.chips → StaysIdleDespiteTimer s n → next_act (record s { busy = s.busy - i; chips = wires.after_clocks s.chips i }) ≡ Nothing
 unfolding next_act
 idle_act s n i before holds (inl busy) = busy_by (nat_eq (s.busy - i) 0) _ (not_free (s.busy - i) (omega (arith, before, busy)))
 idle_act s n i before holds (inr idle) =
@@ -57,7 +57,7 @@ level_stays s n k within holds alone =
 
 -- no condition changes, short of the end
 
-free_by : (s : Plain) (n k : ℕ) → k < n → StaysIdleAnyhow s n → nat_eq (s.busy - k) 0 ≡ nat_eq s.busy 0
+free_by : (s : Plain) (n k : ℕ) → k < n → StaysIdleDespiteTimer s n → nat_eq (s.busy - k) 0 ≡ nat_eq s.busy 0
 free_by s n k before (inl busy) = busy_still s.busy n k before busy
 free_by s n k before (inr idle) = free_still s.busy k idle.0
 

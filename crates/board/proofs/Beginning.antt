@@ -2,20 +2,20 @@
 use Rattle.std.proofs.Common.{◌≡◌, ℕ, ◌+◌, ◌-◌, ◌<◌, ◌≤◌, inl, inr, List, ◌++◌, length, refl, sym, ap, ◌∙◌, subst, arith}
 use Rattle.std.specs.Prelude.{◌⊎◌}
 use Rattle.cached_chips.proofs.Quiet.{level_stays}
-use Rattle.board_types.specs.Lines.{from_bool}
+use Rattle.board_types.specs.LineLevel.{from_bool}
 use Rattle.execute_meaning.specs.Meaning.{StepResult}
 use Rattle.wiring.specs.Chips.{ChipsState}
 use Rattle.wiring.specs.Speaker.{is_speaker_high_after}
 use Rattle.board_plain.specs.declared.act.Act.{Act}
 use Rattle.board_plain.specs.Board.{BoardState}
-use Rattle.board.specs.Alone.{PassesOver}
-use Rattle.board.specs.Leap.{ActsQuietly}
+use Rattle.board.specs.UnseenClocks.{PassesOver}
+use Rattle.board.specs.UneventfulClocks.{ActsQuietly}
 use Rattle.board_plain.specs.Plain.{Plain, after_act, after_clock, change_next, chips_after_clock, clock_of, next_act, speaker_level}
 use Rattle.board_plain.specs.Trail.{last, trail_next}
 use Rattle.board.specs.Turns.{IsActOn, IsLeapOn}
 use Rattle.board_plain.specs.Work.{work_next}
 use Rattle.board_plain.proofs.Clocks.{clock_goes_by}
-use Rattle.board_plain.proofs.Foreseen.{foreseen}
+use Rattle.board_plain.proofs.Predicted.{predicted}
 use Rattle.board.proofs.Ticking.{nothing_listed}
 use Rattle.board.proofs.Works.{acts_now}
 
@@ -23,7 +23,7 @@ use Rattle.board.proofs.Works.{acts_now}
 same_level : (s : Plain) → ActsQuietly s → speaker_level (after_clock s) ≡ speaker_level s
 unfolding speaker_level
 same_level s quietly =
-    foreseen s quietly.wires
+    predicted s quietly.wires
     ∙ ap from_bool (
     ap (is_speaker_high_after s.chips) quietly.act.silent
     ∙ sym (level_stays s.chips (s.chips.clock + 1) (omega arith) quietly.quiet))

@@ -9,11 +9,11 @@ use Rattle.std.proofs.lemmas.List.{get_or-drop, get_or-take, get_or_default, len
 use Rattle.board_types.specs.declared.keys.StampedKey.{StampedKey}
 use Rattle.board_types.specs.Keys.{IsInOrder}
 use Rattle.board.specs.Arrivals.{Awaits, HaveArrived, IsNextStamp}
-use Rattle.board.specs.Leap.{ComesAfter}
+use Rattle.board.specs.UneventfulClocks.{ComesAfter}
 use Rattle.board.specs.declared.arrivals.Arrived.{Arrived as SoFar}
 use Rattle.wiring.specs.Chips.{ChipsState}
 use Rattle.wiring.specs.Wires.{after_arrival, after_arrivals}
-use Rattle.board_plain.specs.Laws.{NoKeyComes}
+use Rattle.board_plain.specs.BoardLaws.{NoKeyComes}
 use Rattle.board_plain.specs.Plain.{Plain, clock_of, codes_at}
 use Rattle.board_plain.proofs.Codes.{codes_append, none_due}
 

@@ -11,12 +11,12 @@ use Rattle.board.specs.Found.{found_at, found_before}
 use Rattle.board_plain.specs.Lasts.{IsLastOf}
 use Rattle.board_plain.specs.Plain.{Plain, after_clock, after_clocks, clock_of}
 use Rattle.board_plain.specs.Stops.{holding}
-use Rattle.board.specs.QuietSteps.{AreQuietSteps, Noted}
+use Rattle.board.specs.QuietSteps.{AreQuietSteps, Traced}
 use Rattle.board.specs.Turns.{AreStepsOn, IsLeapOn, IsTickOn, IsTurnOn}
 use Rattle.board_plain.specs.Work.{work_next}
-use Rattle.board.specs.Reach.{PassesNone}
+use Rattle.board.specs.IpRange.{StopsNowhere}
 use Rattle.board.proofs.Search.{none_between, none_held}
-use Rattle.board.proofs.Turns.{SoFar, before_rest, behind, so_far_leap, so_far_none, so_far_tick, act_alone, steps_lead, one_more}
+use Rattle.board.proofs.Turns.{SoFar, before_rest, following, so_far_leap, so_far_none, so_far_tick, act_alone, steps_lead, one_more}
 
 -- what holds some clocks after a board that is itself some clocks later
 later_on : (stops : List Condition) (n j : ℕ) (s p : Plain) (here : Option ℕ) → p ≡ after_clocks s n → n ≤ j → holding stops (after_clocks p (j - n)) ≡ here → holding stops (after_clocks s j) ≡ here
@@ -103,32 +103,32 @@ looked_over stops end s t u last waits looked is before (inr act) =
     looked_rest stops end s act.begun u last waits (looked_tick stops end s t act.begun last None looked is before act.first act.work) act.rest
 
 -- steps at once, between which none holds
-looked_each : (passes : ℕ → Type 0) (n : ℕ) (stops : List Condition) (end : ℕ) (s t : BoardState) (v : Noted) (last : Option (ℕ × ℕ)) → AllAwaitFree stops → PassesNone passes stops → Looked stops end s t last → holding stops t.plain ≡ None → AreQuietSteps passes n end (record { plain = t.plain; trail = t.trail }) v → Looked stops end s (behind t n v) last
+looked_each : (unwatched : ℕ → Type 0) (n : ℕ) (stops : List Condition) (end : ℕ) (s t : BoardState) (v : Traced) (last : Option (ℕ × ℕ)) → AllAwaitFree stops → StopsNowhere unwatched stops → Looked stops end s t last → holding stops t.plain ≡ None → AreQuietSteps unwatched n end (record { plain = t.plain; trail = t.trail }) v → Looked stops end s (following t n v) last
 unfolding AreQuietSteps
-looked_each passes zero stops end s t v last waits none looked here same =
+looked_each unwatched zero stops end s t v last waits none looked here same =
     let counted : t.turns ≡ t.turns + 0 = omega arith in
     subst (λ b. Looked stops end s b last) (λ k. record t { plain = (sym same k).plain; trail = (sym same k).trail; turns = counted k }) looked
-looked_each passes (suc n) stops end s t v last waits none looked here steps =
-    let w : Noted = steps.0 in
-    looked_over stops end s (behind t n w) (behind t (suc n) v) last waits
-    (looked_each passes n stops end s t w last waits none looked here steps.1)
-    (none_between passes stops n end (record { plain = t.plain; trail = t.trail }) w none here steps.1 steps.3) steps.2.before
+looked_each unwatched (suc n) stops end s t v last waits none looked here steps =
+    let w : Traced = steps.0 in
+    looked_over stops end s (following t n w) (following t (suc n) v) last waits
+    (looked_each unwatched n stops end s t w last waits none looked here steps.1)
+    (none_between unwatched stops n end (record { plain = t.plain; trail = t.trail }) w none here steps.1 steps.3) steps.2.before
     (inr (one_more n end t w v steps.2))
 
-looked_steps : (passes : ℕ → Type 0) (stops : List Condition) (end : ℕ) (s t u : BoardState) (last : Option (ℕ × ℕ)) → AllAwaitFree stops → PassesNone passes stops → Looked stops end s t last → holding stops t.plain ≡ None → AreStepsOn passes end t u → Looked stops end s u last
-looked_steps passes stops end s t u last waits none looked here on =
-    subst (λ b. Looked stops end s b last) (steps_lead passes end t u on)
-    (looked_each passes on.count stops end s t (record { plain = u.plain; trail = u.trail }) last waits none looked here on.steps)
+looked_steps : (unwatched : ℕ → Type 0) (stops : List Condition) (end : ℕ) (s t u : BoardState) (last : Option (ℕ × ℕ)) → AllAwaitFree stops → StopsNowhere unwatched stops → Looked stops end s t last → holding stops t.plain ≡ None → AreStepsOn unwatched end t u → Looked stops end s u last
+looked_steps unwatched stops end s t u last waits none looked here on =
+    subst (λ b. Looked stops end s b last) (steps_lead unwatched end t u on)
+    (looked_each unwatched on.count stops end s t (record { plain = u.plain; trail = u.trail }) last waits none looked here on.steps)
 
-looked_whole : (passes : ℕ → Type 0) (stops : List Condition) (end : ℕ) (s t u : BoardState) (last : Option (ℕ × ℕ)) → AllAwaitFree stops → PassesNone passes stops → Looked stops end s t last → holding stops t.plain ≡ None → clock_of t.plain < end → IsTurnBetween true passes end t u → Looked stops end s u last
-looked_whole passes stops end s t u last waits none looked is before (inl on) = looked_steps passes stops end s t u last waits none looked is on.0
-looked_whole passes stops end s t u last waits none looked is before (inr on) = looked_over stops end s t u last waits looked is before on
+looked_whole : (unwatched : ℕ → Type 0) (stops : List Condition) (end : ℕ) (s t u : BoardState) (last : Option (ℕ × ℕ)) → AllAwaitFree stops → StopsNowhere unwatched stops → Looked stops end s t last → holding stops t.plain ≡ None → clock_of t.plain < end → IsTurnBetween true unwatched end t u → Looked stops end s u last
+looked_whole unwatched stops end s t u last waits none looked is before (inl on) = looked_steps unwatched stops end s t u last waits none looked is on.0
+looked_whole unwatched stops end s t u last waits none looked is before (inr on) = looked_over stops end s t u last waits looked is before on
 
-pub looked_between : (passes : ℕ → Type 0) (stops : List Condition) (end : ℕ) (whole : Bool) (s t u : BoardState) (last : Option (ℕ × ℕ)) (here : Option ℕ) → (IsTrue whole → AllAwaitFree stops × (here ≡ None)) → PassesNone passes stops → Looked stops end s t last → holding stops t.plain ≡ here → clock_of t.plain < end → IsTurnBetween whole passes end t u → Looked stops end s u (found_before last here (clock_of u.plain))
-looked_between passes stops end true s t u last here waits passing looked is before on =
+pub looked_between : (unwatched : ℕ → Type 0) (stops : List Condition) (end : ℕ) (whole : Bool) (s t u : BoardState) (last : Option (ℕ × ℕ)) (here : Option ℕ) → (IsTrue whole → AllAwaitFree stops × (here ≡ None)) → StopsNowhere unwatched stops → Looked stops end s t last → holding stops t.plain ≡ here → clock_of t.plain < end → IsTurnBetween whole unwatched end t u → Looked stops end s u (found_before last here (clock_of u.plain))
+looked_between unwatched stops end true s t u last here waits passing looked is before on =
     let none : here ≡ None = (waits refl).1 in
-    subst (λ h. Looked stops end s u (found_before last h (clock_of u.plain))) (sym none) (looked_whole passes stops end s t u last (waits refl).0 passing looked (is ∙ none) before on)
-looked_between passes stops end false s t u last here waits passing looked is before on = looked_short stops end s t u last here looked is before on
+    subst (λ h. Looked stops end s u (found_before last h (clock_of u.plain))) (sym none) (looked_whole unwatched stops end s t u last (waits refl).0 passing looked (is ∙ none) before on)
+looked_between unwatched stops end false s t u last here waits passing looked is before on = looked_short stops end s t u last here looked is before on
 
 -- at the end of a run: what holds there is later than what was found
 pub found_last : (stops : List Condition) (end count : ℕ) (s t : BoardState) (last : Option (ℕ × ℕ)) (here : Option ℕ) → Looked stops end s t last → end ≡ clock_of s.plain + count → end ≤ clock_of t.plain → holding stops t.plain ≡ here → IsLastOf stops (count + 1) s.plain (found_at last here (clock_of t.plain))

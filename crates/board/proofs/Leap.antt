@@ -7,7 +7,7 @@ use Rattle.std.proofs.lemmas.Bool.Decides.{nat_tests}
 use Rattle.board_types.proofs.Iterate.{iterate_more, gathered_zero, gathered_more}
 use Rattle.board_types.specs.Bits.{has_bit}
 use Rattle.board_types.specs.Iterate.{iterate, gathered}
-use Rattle.board_types.specs.Lines.{from_bool, is_high}
+use Rattle.board_types.specs.LineLevel.{from_bool, is_high}
 use Rattle.board_types.specs.declared.line.Line.{Line}
 use Rattle.execute_meaning.specs.Boundaries.{boundary_of, is_halted}
 use Rattle.execute_meaning.specs.Cpu.{CpuState}
@@ -31,9 +31,9 @@ use Rattle.board_plain.specs.declared.act.Act.{Act}
 use Rattle.board_plain.specs.declared.act.Act.TheVariants.{Nothing}
 use Rattle.board_plain.specs.declared.stop.Condition.{Condition}
 use Rattle.board_plain.specs.declared.stop.Condition.TheVariants.{Free, At, Byte, Sound, Halted}
-use Rattle.board_plain.specs.Laws.{NoKeyComes, WiresHold}
-use Rattle.board.specs.Alone.{passed_by}
-use Rattle.board.specs.Leap.{MayLeap, StaysIdle, leapt}
+use Rattle.board_plain.specs.BoardLaws.{NoKeyComes, WiresHold}
+use Rattle.board.specs.UnseenClocks.{passed_by}
+use Rattle.board.specs.UneventfulClocks.{AreUneventful, StaysIdle, after_leap}
 use Rattle.board_plain.specs.Plain.{Plain, after_act, after_clock, after_clocks, byte_of, change_next, changes_in, chips_after_clock, clock_of, codes_at, is_free, next_act, speaker_level, state_of}
 use Rattle.board_plain.specs.Stops.{holding, holds}
 use Rattle.board_plain.specs.Trail.{entry_at, event_of, trail_in, trail_next}
@@ -74,69 +74,69 @@ idle_for : (s : Plain) (n k : ℕ) → k ≤ n → StaysIdle s n → StaysIdle s
 idle_for s n k within (inl busy) = inl (omega (arith, within, busy))
 idle_for s n k within (inr idle) = inr idle
 
-pub may_leap_for : (s : Plain) (n k : ℕ) → k ≤ n → MayLeap s n → MayLeap s k
-may_leap_for s n k within may_leap = record {
-  idle = idle_for s n k within may_leap.idle;
+pub are_uneventful_for : (s : Plain) (n k : ℕ) → k ≤ n → AreUneventful s n → AreUneventful s k
+are_uneventful_for s n k within are_uneventful = record {
+  idle = idle_for s n k within are_uneventful.idle;
   no_key = λ j d inside.
-      elim (may_leap.no_key j d inside) [
+      elim (are_uneventful.no_key j d inside) [
         | inl before ↦ inl before
         | inr later ↦ inr (omega (arith, within, later))
       ];
-  out_0 = λ j few. may_leap.out_0 j (omega (arith, few, within));
-  out_2 = λ j few. may_leap.out_2 j (omega (arith, few, within));
+  out_0 = λ j few. are_uneventful.out_0 j (omega (arith, few, within));
+  out_2 = λ j few. are_uneventful.out_2 j (omega (arith, few, within));
 }
 
-requests_stay : (s : Plain) (n : ℕ) → WiresHold s.chips → MayLeap s n → is_requested (wires.after_clocks s.chips n) ≡ is_requested s.chips
-requests_stay s n holds may_leap = ap (λ (c : ChipsState). is_requested c) (clocks_leap n s.chips holds.settled may_leap.out_0)
+requests_stay : (s : Plain) (n : ℕ) → WiresHold s.chips → AreUneventful s n → is_requested (wires.after_clocks s.chips n) ≡ is_requested s.chips
+requests_stay s n holds are_uneventful = ap (λ (c : ChipsState). is_requested c) (clocks_leap n s.chips holds.settled are_uneventful.out_0)
 
-idle_act : (s : Plain) (n i : ℕ) → WiresHold s.chips → MayLeap s n → i < n → StaysIdle s n → next_act (record s { busy = s.busy - i; chips = wires.after_clocks s.chips i }) ≡ Nothing
+idle_act : (s : Plain) (n i : ℕ) → WiresHold s.chips → AreUneventful s n → i < n → StaysIdle s n → next_act (record s { busy = s.busy - i; chips = wires.after_clocks s.chips i }) ≡ Nothing
 unfolding next_act
-idle_act s n i holds may_leap before (inl busy) =
+idle_act s n i holds are_uneventful before (inl busy) =
     busy_by (nat_eq (s.busy - i) 0) _ (not_free (s.busy - i) (omega (arith, before, busy)))
-idle_act s n i holds may_leap before (inr idle) =
+idle_act s n i holds are_uneventful before (inr idle) =
     nothing_by (nat_eq (s.busy - i) 0) s.cpu (wires.after_clocks s.chips i) _
-    (ap (boundary_of s.cpu) (requests_stay s i holds (may_leap_for s n i (omega (arith, before)) may_leap)) ∙ idle.1)
+    (ap (boundary_of s.cpu) (requests_stay s i holds (are_uneventful_for s n i (omega (arith, before)) are_uneventful)) ∙ idle.1)
 
-idle_then : (s : Plain) (n k : ℕ) → k ≤ n → WiresHold s.chips → MayLeap s n → after_clocks s k ≡ record s { busy = s.busy - k; chips = wires.after_clocks s.chips k }
-idle_then s n k within holds may_leap =
-    idle_clocks n k s within holds may_leap.no_key (λ i before. idle_act s n i holds may_leap (omega (arith, before, within)) may_leap.idle)
+idle_then : (s : Plain) (n k : ℕ) → k ≤ n → WiresHold s.chips → AreUneventful s n → after_clocks s k ≡ record s { busy = s.busy - k; chips = wires.after_clocks s.chips k }
+idle_then s n k within holds are_uneventful =
+    idle_clocks n k s within holds are_uneventful.no_key (λ i before. idle_act s n i holds are_uneventful (omega (arith, before, within)) are_uneventful.idle)
 
-pub does_nothing : (s : Plain) (n i : ℕ) → WiresHold s.chips → MayLeap s n → i < n → next_act (after_clocks s i) ≡ Nothing
-does_nothing s n i holds may_leap before =
-    ap next_act (idle_then s n i (omega (arith, before)) holds may_leap) ∙ idle_act s n i holds may_leap before may_leap.idle
+pub does_nothing : (s : Plain) (n i : ℕ) → WiresHold s.chips → AreUneventful s n → i < n → next_act (after_clocks s i) ≡ Nothing
+does_nothing s n i holds are_uneventful before =
+    ap next_act (idle_then s n i (omega (arith, before)) holds are_uneventful) ∙ idle_act s n i holds are_uneventful before are_uneventful.idle
 
 -- n clocks that may be leapt over, all at once
-pub board_leaps : (n : ℕ) (s : Plain) → WiresHold s.chips → MayLeap s n → after_clocks s n ≡ leapt s n
-unfolding leapt
-board_leaps n s holds may_leap =
-    idle_then s n n (omega arith) holds may_leap
-    ∙ ap (λ c. record s { busy = s.busy - n; chips = c }) (clocks_leap n s.chips holds.settled may_leap.out_0)
+pub board_leaps : (n : ℕ) (s : Plain) → WiresHold s.chips → AreUneventful s n → after_clocks s n ≡ after_leap s n
+unfolding after_leap
+board_leaps n s holds are_uneventful =
+    idle_then s n n (omega arith) holds are_uneventful
+    ∙ ap (λ c. record s { busy = s.busy - n; chips = c }) (clocks_leap n s.chips holds.settled are_uneventful.out_0)
 
-pub clock_of_leap : (s : Plain) (n : ℕ) → clock_of (leapt s n) ≡ clock_of s + n
-unfolding clock_of leapt
+pub clock_of_leap : (s : Plain) (n : ℕ) → clock_of (after_leap s n) ≡ clock_of s + n
+unfolding clock_of after_leap
 clock_of_leap s n = refl
 
 -- OUT0 and OUT2 stay
 
-pub out_0_stays : (s : Plain) (n : ℕ) → MayLeap s n → (leapt s n).chips.pit.counter_0.out ≡ s.chips.pit.counter_0.out
-unfolding leapt
-out_0_stays s n may_leap =
+pub out_0_stays : (s : Plain) (n : ℕ) → AreUneventful s n → (after_leap s n).chips.pit.counter_0.out ≡ s.chips.pit.counter_0.out
+unfolding after_leap
+out_0_stays s n are_uneventful =
     let ticks : ℕ = ticks_between s.chips.clock (s.chips.clock + n) in
-    ap (λ (q : PitState). q.counter_0.out) (each_counter ticks s.chips.pit) ∙ may_leap.out_0 ticks (omega arith)
+    ap (λ (q : PitState). q.counter_0.out) (each_counter ticks s.chips.pit) ∙ are_uneventful.out_0 ticks (omega arith)
 
-pub out_2_stays : (s : Plain) (n : ℕ) → MayLeap s n → (leapt s n).chips.pit.counter_2.out ≡ s.chips.pit.counter_2.out
-unfolding leapt
-out_2_stays s n may_leap =
+pub out_2_stays : (s : Plain) (n : ℕ) → AreUneventful s n → (after_leap s n).chips.pit.counter_2.out ≡ s.chips.pit.counter_2.out
+unfolding after_leap
+out_2_stays s n are_uneventful =
     let ticks : ℕ = ticks_between s.chips.clock (s.chips.clock + n) in
-    ap (λ (q : PitState). q.counter_2.out) (each_counter ticks s.chips.pit) ∙ may_leap.out_2 ticks (omega arith)
+    ap (λ (q : PitState). q.counter_2.out) (each_counter ticks s.chips.pit) ∙ are_uneventful.out_2 ticks (omega arith)
 
-level_with : (s : Plain) (n : ℕ) → (leapt s n).chips.pit.counter_2.out ≡ s.chips.pit.counter_2.out → speaker_level (leapt s n) ≡ speaker_level s
-unfolding speaker_level is_speaker_high leapt
+level_with : (s : Plain) (n : ℕ) → (after_leap s n).chips.pit.counter_2.out ≡ s.chips.pit.counter_2.out → speaker_level (after_leap s n) ≡ speaker_level s
+unfolding speaker_level is_speaker_high after_leap
 level_with s n same = ap (λ (out : Line). from_bool (has_bit (lines_b s.chips.ppi) 1 && is_high out)) same
 
-pub level_stays : (s : Plain) (n k : ℕ) → k ≤ n → WiresHold s.chips → MayLeap s n → speaker_level (after_clocks s k) ≡ speaker_level s
-level_stays s n k within holds may_leap =
-    let less : MayLeap s k = may_leap_for s n k within may_leap in
+pub level_stays : (s : Plain) (n k : ℕ) → k ≤ n → WiresHold s.chips → AreUneventful s n → speaker_level (after_clocks s k) ≡ speaker_level s
+level_stays s n k within holds are_uneventful =
+    let less : AreUneventful s k = are_uneventful_for s n k within are_uneventful in
     ap speaker_level (board_leaps k s holds less) ∙ level_with s k (out_2_stays s k less)
 
 -- nothing is listed
@@ -149,20 +149,20 @@ none_gathered step seen (suc n) s none =
     ∙ ap (λ xs. xs ++ seen (iterate step n s)) (none_gathered step seen n s (λ i before. none i (omega (arith, before))))
     ∙ none n (omega arith)
 
-pub no_changes : (s : Plain) (n : ℕ) → WiresHold s.chips → MayLeap s n → changes_in s n ≡ []
-no_changes s n holds may_leap =
+pub no_changes : (s : Plain) (n : ℕ) → WiresHold s.chips → AreUneventful s n → changes_in s n ≡ []
+no_changes s n holds are_uneventful =
     none_gathered after_clock change_next n s (λ i before.
     no_change (after_clocks s i)
-    (ap speaker_level (sym (iterate_more after_clock i s)) ∙ level_stays s n (i + 1) (omega (arith, before)) holds may_leap
-    ∙ sym (level_stays s n i (omega (arith, before)) holds may_leap)))
+    (ap speaker_level (sym (iterate_more after_clock i s)) ∙ level_stays s n (i + 1) (omega (arith, before)) holds are_uneventful
+    ∙ sym (level_stays s n i (omega (arith, before)) holds are_uneventful)))
 
 pub nothing_begins : (p : Plain) → next_act p ≡ Nothing → trail_next p ≡ []
 unfolding trail_next
 nothing_begins p nothing = ap (λ (a : Act). entry_at p (event_of p.cpu p.chips a)) nothing
 
-pub no_entries : (s : Plain) (n : ℕ) → WiresHold s.chips → MayLeap s n → trail_in s n ≡ []
-no_entries s n holds may_leap =
-    none_gathered after_clock trail_next n s (λ i before. nothing_begins (after_clocks s i) (does_nothing s n i holds may_leap before))
+pub no_entries : (s : Plain) (n : ℕ) → WiresHold s.chips → AreUneventful s n → trail_in s n ≡ []
+no_entries s n holds are_uneventful =
+    none_gathered after_clock trail_next n s (λ i before. nothing_begins (after_clocks s i) (does_nothing s n i holds are_uneventful before))
 
 -- no condition changes, short of the end
 
@@ -208,26 +208,26 @@ free_by : (s : Plain) (n k : ℕ) → k < n → StaysIdle s n → nat_eq (s.busy
 free_by s n k before (inl busy) = busy_still s.busy n k before busy
 free_by s n k before (inr idle) = free_still s.busy k idle.0
 
-looks_same : (s : Plain) (n k : ℕ) → k < n → MayLeap s n → speaker_level (leapt s k) ≡ speaker_level s → LooksSame s (leapt s k)
-unfolding leapt
-looks_same s n k before may_leap level = record {
+looks_same : (s : Plain) (n k : ℕ) → k < n → AreUneventful s n → speaker_level (after_leap s k) ≡ speaker_level s → LooksSame s (after_leap s k)
+unfolding after_leap
+looks_same s n k before are_uneventful level = record {
   cpu = refl;
-  free = free_by s n k before may_leap.idle;
-  bytes = bytes_stay s (leapt s k) _ refl (clocks_move_beam s.chips.mda k);
+  free = free_by s n k before are_uneventful.idle;
+  bytes = bytes_stay s (after_leap s k) _ refl (clocks_move_beam s.chips.mda k);
   level = level;
 }
 
-pub holding_stays : (stops : List Condition) (s : Plain) (n k : ℕ) → k < n → WiresHold s.chips → MayLeap s n → holding stops (after_clocks s k) ≡ holding stops s
-holding_stays stops s n k before wired may_leap =
-    let less : MayLeap s k = may_leap_for s n k (omega (arith, before)) may_leap in
-    let level : speaker_level (leapt s k) ≡ speaker_level s = level_with s k (out_2_stays s k less) in
-    ap (holding stops) (board_leaps k s wired less) ∙ holding_same stops s (leapt s k) (looks_same s n k before may_leap level)
+pub holding_stays : (stops : List Condition) (s : Plain) (n k : ℕ) → k < n → WiresHold s.chips → AreUneventful s n → holding stops (after_clocks s k) ≡ holding stops s
+holding_stays stops s n k before wired are_uneventful =
+    let less : AreUneventful s k = are_uneventful_for s n k (omega (arith, before)) are_uneventful in
+    let level : speaker_level (after_leap s k) ≡ speaker_level s = level_with s k (out_2_stays s k less) in
+    ap (holding stops) (board_leaps k s wired less) ∙ holding_same stops s (after_leap s k) (looks_same s n k before are_uneventful level)
 
 -- the parts after a leap
 
-pub leapt_by : (n : ℕ) (s : Plain) → WiresHold s.chips → MayLeap s n → leapt s n ≡ passed_by s n
-unfolding leapt passed_by
-leapt_by n s holds may_leap = ap (λ c. record s { busy = s.busy - n; chips = c }) (sym (clocks_leap n s.chips holds.settled may_leap.out_0))
+pub leap_by : (n : ℕ) (s : Plain) → WiresHold s.chips → AreUneventful s n → after_leap s n ≡ passed_by s n
+unfolding after_leap passed_by
+leap_by n s holds are_uneventful = ap (λ c. record s { busy = s.busy - n; chips = c }) (sym (clocks_leap n s.chips holds.settled are_uneventful.out_0))
 
 pub wires_later : (s t : ChipsState) (n : ℕ) → WiresHold s → t ≡ wires.after_clocks s n → WiresHold t
 wires_later s t n wired after = subst (λ (c : ChipsState). WiresHold c) (sym after) (holds_later n s wired)

@@ -13,7 +13,7 @@ pub mod BySlots
 pub mod Quiet
 pub mod Coded
 pub mod Steps
-pub mod Reach
+pub mod IpRange
 pub mod Rooms
 pub mod Ticking
 pub mod Search

@@ -11,7 +11,7 @@ use Rattle.board_plain.specs.declared.act.Act.{Act}
 use Rattle.decode.specs.declared.decoding.Decoding.{Decoding}
 use Rattle.decode.specs.declared.decoding.Decoding.TheVariants.{Found, NoRow}
 use Rattle.decode.specs.Decoding.{size_of, IsDecoded}
-use Rattle.decode.specs.Fields.{is_found}
+use Rattle.decode.specs.DecodingFields.{is_found}
 use Rattle.board.proofs.Entries.{found_size}
 use Rattle.board_plain.proofs.Clocks.{clock_goes_by}
 use Rattle.board_plain.proofs.Runs.{ran_none}
@@ -19,7 +19,7 @@ use Rattle.events.specs.Events.{unwired_next}
 use Rattle.board.specs.declared.one_turn.Begun.{Begun}
 use Rattle.board.specs.OneTurn.{begun_of, HaveSameWires, IsOneTurn, StartsStill}
 use Rattle.board.specs.Turns.{IsLeapOn, IsTickOn, IsTurnOn}
-use Rattle.board.specs.Alone.{PassesOver, WiresStay, WiresStayThen}
+use Rattle.board.specs.UnseenClocks.{PassesOver, WiresStay, WiresStayThen}
 use Rattle.board.proofs.Ticking.{first_clock, first_seen, first_unseen, ran_more}
 use Rattle.board.proofs.Turns.{before_rest, leap_runs, ran_leap}
 
@@ -59,8 +59,8 @@ unfolding trail_next
 begins_by s act begun next is = is ∙ ap (λ (a : Act). map begun_of (entry_at s (event_of s.cpu s.chips a))) next
 
 -- a turn that is a leap
-once_leapt : (edges : Bool) (within end : ℕ) (s u : BoardState) (begun : Option Begun) → length s.trail ≤ 32 → clock_of s.plain < end → IsLeapOn end 1 s u → (¬ (IsTrue edges) → WiresStayThen within s.plain u.plain) → option_to_list begun ≡ map begun_of (trail_next s.plain) → IfSome begun (λ b. b.clock ≡ clock_of s.plain) → IsOneTurn edges within end s u begun
-once_leapt edges within end s u begun few before on stay is clock =
+once_leap : (edges : Bool) (within end : ℕ) (s u : BoardState) (begun : Option Begun) → length s.trail ≤ 32 → clock_of s.plain < end → IsLeapOn end 1 s u → (¬ (IsTrue edges) → WiresStayThen within s.plain u.plain) → option_to_list begun ≡ map begun_of (trail_next s.plain) → IfSome begun (λ b. b.clock ≡ clock_of s.plain) → IsOneTurn edges within end s u begun
+once_leap edges within end s u begun few before on stay is clock =
     let leap = on.leap in
     let few_clocks = leap.within in
     let passed = leap.unseen.clock in
@@ -140,7 +140,7 @@ once_acted edges within end s b u begun few before order tick (inr rest) stay is
     }
 
 pub once_turned : (edges : Bool) (within end : ℕ) (s u : BoardState) (begun : Option Begun) → length s.trail ≤ 32 → clock_of s.plain < within → within ≤ end → IsTurnOn within end s u → (¬ (IsTrue edges) → WiresStayThen within s.plain u.plain) → option_to_list begun ≡ map begun_of (trail_next s.plain) → IfSome begun (λ b. b.clock ≡ clock_of s.plain) → IsOneTurn edges within end s u begun
-once_turned edges within end s u begun few before order (inl leap) stay is clock = once_leapt edges within end s u begun few (omega (arith, before, order)) leap stay is clock
+once_turned edges within end s u begun few before order (inl leap) stay is clock = once_leap edges within end s u begun few (omega (arith, before, order)) leap stay is clock
 once_turned edges within end s u begun few before order (inr act) stay is clock = once_acted edges within end s act.begun u begun few before order act.first act.rest stay is clock
 
 -- the wires after the first clock

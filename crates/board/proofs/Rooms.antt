@@ -19,8 +19,8 @@ use Rattle.wiring.specs.Chips.{ChipsState}
 use Rattle.wiring.specs.Edges.{ticks_between, IsEdgeOf, TurnsIn}
 use Rattle.board_plain.specs.declared.act.Act.TheVariants.{Nothing}
 use Rattle.board.specs.Arrivals.{Awaits, IsNextStamp}
-use Rattle.board_plain.specs.Laws.{NoKeyComes, WiresHold}
-use Rattle.board.specs.Leap.{AreDeadlines, IsFreeClock, IsLastToLeap, IsTight, MayLeap, StaysIdle, acts_before, last_of, leapt}
+use Rattle.board_plain.specs.BoardLaws.{NoKeyComes, WiresHold}
+use Rattle.board.specs.UneventfulClocks.{AreDeadlines, IsFreeClock, IsLastToLeap, IsMaximal, AreUneventful, StaysIdle, acts_before, last_of, after_leap}
 use Rattle.board_plain.specs.Plain.{Plain, act_at, clock_of, codes_at, is_free, next_act}
 use Rattle.board_plain.proofs.Codes.{codes_append, codes_more}
 use Rattle.board.proofs.KeyOrder.{past_at, to_come_at}
@@ -55,15 +55,15 @@ not_later End place at when some (inl sooner) few = sooner
 not_later End place at when some (inr tie) few = absurd (omega (arith, tie.1, few))
 
 before_it : (d : DeadlinesState) (last : ℕ) (other : Source) (when : ℕ) → IsLastToLeap d last → acts_before other ≡ true → deadline_of d other ≡ Some when → 1 ≤ when → last < when
-before_it d last other when may_leap acts due some =
-    subst (λ l. l < when) (sym may_leap.is)
-    (not_later may_leap.source (place_of other) may_leap.at when some (may_leap.next.first other when due) (early other acts))
+before_it d last other when are_uneventful acts due some =
+    subst (λ l. l < when) (sym are_uneventful.is)
+    (not_later are_uneventful.source (place_of other) are_uneventful.at when some (are_uneventful.next.first other when due) (early other acts))
 
 up_to_it : (d : DeadlinesState) (last : ℕ) (other : Source) (when : ℕ) → IsLastToLeap d last → deadline_of d other ≡ Some when → last ≤ when
-up_to_it d last other when may_leap due =
-    let small = not_after may_leap.source may_leap.at in
-    let is = may_leap.is in
-    elim (may_leap.next.first other when due) [
+up_to_it d last other when are_uneventful due =
+    let small = not_after are_uneventful.source are_uneventful.at in
+    let is = are_uneventful.is in
+    elim (are_uneventful.next.first other when due) [
       | inl sooner ↦ omega (arith, small, is, sooner)
       | inr tie ↦ omega (arith, small, is, tie.0)
     ]
@@ -137,28 +137,28 @@ from_now s end d End at deadlines within due =
 -- all that is said of the clocks up to the last one that may be leapt over
 pub record IsRoom (limit : ℕ) (s : Plain) (n : ℕ) : Type 0 where
   pub within : n ≤ limit
-  pub may_leap : MayLeap s n
-  pub tight : IsTight limit s n
+  pub are_uneventful : AreUneventful s n
+  pub maximal : IsMaximal limit s n
 
-keys_then : (s : Plain) (n at : ℕ) → at ≡ s.chips.clock + n + 1 → 1 ≤ length (codes_at s.keys at) → 1 ≤ length (codes_at (leapt s n).keys (clock_of (leapt s n) + 1))
-unfolding leapt clock_of
+keys_then : (s : Plain) (n at : ℕ) → at ≡ s.chips.clock + n + 1 → 1 ≤ length (codes_at s.keys at) → 1 ≤ length (codes_at (after_leap s n).keys (clock_of (after_leap s n) + 1))
+unfolding after_leap clock_of
 keys_then s n at is some = subst (λ c. 1 ≤ length (codes_at s.keys c)) is some
 
-tight_by : (s : Plain) (end : ℕ) (d : DeadlinesState) (source : Source) (at n : ℕ) → WiresHold s.chips → AreDeadlines s end d → deadline_of d source ≡ Some at → s.chips.clock + n ≡ last_of (acts_before source) at → MayLeap s n → IsTight (end - s.chips.clock) s n
-tight_by s end d Counter0 at n holds deadlines due is may_leap =
+maximal_by : (s : Plain) (end : ℕ) (d : DeadlinesState) (source : Source) (at n : ℕ) → WiresHold s.chips → AreDeadlines s end d → deadline_of d source ≡ Some at → s.chips.clock + n ≡ last_of (acts_before source) at → AreUneventful s n → IsMaximal (end - s.chips.clock) s n
+maximal_by s end d Counter0 at n holds deadlines due is are_uneventful =
     let edge : TurnsIn s.chips.pit.counter_0 s.chips.clock at = subst (λ p. IsEdgeOf s.chips.pit.counter_0 s.chips.clock p) due deadlines.counter_0 in
-    let first = edge.later in inr (inr (edge_0_works s n at holds may_leap (omega (arith, first, is)) edge))
-tight_by s end d Counter2 at n holds deadlines due is may_leap =
+    let first = edge.later in inr (inr (edge_0_works s n at holds are_uneventful (omega (arith, first, is)) edge))
+maximal_by s end d Counter2 at n holds deadlines due is are_uneventful =
     let edge : TurnsIn s.chips.pit.counter_2 s.chips.clock at = subst (λ p. IsEdgeOf s.chips.pit.counter_2 s.chips.clock p) due deadlines.counter_2 in
-    let first = edge.later in inr (inr (edge_2_works s n at holds may_leap (omega (arith, first, is)) edge))
-tight_by s end d Keys at n holds deadlines due is may_leap =
+    let first = edge.later in inr (inr (edge_2_works s n at holds are_uneventful (omega (arith, first, is)) edge))
+maximal_by s end d Keys at n holds deadlines due is are_uneventful =
     let next : IsNextStamp s.chips.clock s.keys (Some at) = subst (λ p. IsNextStamp s.chips.clock s.keys p) due deadlines.keys in
-    let first = next.0 in inr (inr (keys_come (leapt s n) (keys_then s n at (omega (arith, first, is)) next.2)))
-tight_by s end d Processor at n holds deadlines due is may_leap =
+    let first = next.0 in inr (inr (keys_come (after_leap s n) (keys_then s n at (omega (arith, first, is)) next.2)))
+maximal_by s end d Processor at n holds deadlines due is are_uneventful =
     let free : IsFreeClock s (Some at) = subst (λ p. IsFreeClock s p) due deadlines.processor in
     let some = free.0 in
     let when = free.1 in inr (inl (some, omega (arith, when, is)))
-tight_by s end d End at n holds deadlines due is may_leap =
+maximal_by s end d End at n holds deadlines due is are_uneventful =
     let same : Some end ≡ Some at = sym deadlines.end ∙ due in
     let when : end ≡ at = cc in inl (omega (arith, when, is))
 
@@ -167,7 +167,7 @@ room s end d last holds deadlines within limit nothing next =
     let from : s.chips.clock ≤ last = subst (λ l. s.chips.clock ≤ l) (sym next.is) (from_now s end d next.source next.at deadlines within next.next.due) in
     let upto : last ≤ end = up_to_it d last End end next deadlines.end in
     let most : last ≤ 2 ^ 40 = omega (arith, upto, limit) in
-    let may_leap : MayLeap s (last - s.chips.clock) = record {
+    let are_uneventful : AreUneventful s (last - s.chips.clock) = record {
       idle = idle_by s last d.processor deadlines.processor nothing (λ when due. up_to_it d last Processor when next due) most;
       no_key = no_key_of s last d.keys deadlines.keys (λ when due some. before_it d last Keys when next refl due some) from;
       out_0 = steady_by s.chips.pit.counter_0 s.chips.clock last d.counter_0 deadlines.counter_0 (λ when due some. before_it d last Counter0 when next refl due some) from most;
@@ -177,8 +177,8 @@ room s end d last holds deadlines within limit nothing next =
       from,
       record {
         within = omega (arith, upto);
-        may_leap = may_leap;
-        tight = tight_by s end d next.source next.at (last - s.chips.clock) holds deadlines next.next.due whole may_leap;
+        are_uneventful = are_uneventful;
+        maximal = maximal_by s end d next.source next.at (last - s.chips.clock) holds deadlines next.next.due whole are_uneventful;
       },
     )
 

@@ -11,14 +11,14 @@ use Rattle.board_plain.specs.Board.{BoardState, Ran}
 use Rattle.board.specs.HeldBack.{IsHeldBack}
 use Rattle.board_plain.specs.Plain.{Plain, after_clock, after_clocks, clock_of, is_free}
 use Rattle.board_plain.specs.Stops.{holding, holds, FitsRoom, NoStop, StopsAt}
-use Rattle.board.specs.QuietSteps.{AreQuietSteps, MayGoOn, Noted}
-use Rattle.board.specs.Reach.{PassesNone}
+use Rattle.board.specs.QuietSteps.{AreQuietSteps, MayGoOn, Traced}
+use Rattle.board.specs.IpRange.{StopsNowhere}
 use Rattle.board.specs.Turns.{AreStepsOn, IsLeapOn, IsTickOn, IsTurnOn}
 use Rattle.board_plain.specs.Work.{work_next}
 use Rattle.board_plain.proofs.Runs.{ran_none}
 use Rattle.board_plain.proofs.Stopping.{no_stop_more, no_stop_none}
 use Rattle.board.proofs.Stopped.{none_passed, none_there, not_held_before_stop, ran_to_stop, stops_here}
-use Rattle.board.proofs.Turns.{Counts, HeldRun, SoFar, before_rest, behind, counted, held_run, not_counted, ran_whole, so_far_first, so_far_leap, so_far_none, so_far_tick, steps_lead, act_alone, one_more, short_moves, turn_moves}
+use Rattle.board.proofs.Turns.{Counts, HeldRun, SoFar, before_rest, following, counted, held_run, not_counted, ran_whole, so_far_first, so_far_leap, so_far_none, so_far_tick, steps_lead, act_alone, one_more, short_moves, turn_moves}
 
 -- a run so far that passed no stop; at its clock it hasn't looked for one
 pub record Searched (stops : List Condition) (end : ℕ) (s t : BoardState) : Type 0 where
@@ -109,37 +109,37 @@ searched_over stops end s t u waits searched here before (inr act) =
     searched_rest stops end s act.begun u waits (searched_tick stops end s t act.begun searched here before act.first act.work) act.rest
 
 -- nothing holds between steps, at an IP that may be passed
-pub none_between : (passes : ℕ → Type 0) (stops : List Condition) (n end : ℕ) (t w : Noted) → PassesNone passes stops → holding stops t.plain ≡ None → AreQuietSteps passes n end t w → MayGoOn passes n w → holding stops w.plain ≡ None
+pub none_between : (unwatched : ℕ → Type 0) (stops : List Condition) (n end : ℕ) (t w : Traced) → StopsNowhere unwatched stops → holding stops t.plain ≡ None → AreQuietSteps unwatched n end t w → MayGoOn unwatched n w → holding stops w.plain ≡ None
 unfolding AreQuietSteps
-none_between passes stops zero end t w none here same goes_on = ap (λ (x : Noted). holding stops x.plain) same ∙ here
-none_between passes stops (suc n) end t w none here steps goes_on = none w.plain goes_on
+none_between unwatched stops zero end t w none here same goes_on = ap (λ (x : Traced). holding stops x.plain) same ∙ here
+none_between unwatched stops (suc n) end t w none here steps goes_on = none w.plain goes_on
 
-searched_each : (passes : ℕ → Type 0) (n : ℕ) (stops : List Condition) (end : ℕ) (s t : BoardState) (v : Noted) → AllAwaitFree stops → PassesNone passes stops → Searched stops end s t → holding stops t.plain ≡ None → AreQuietSteps passes n end (record { plain = t.plain; trail = t.trail }) v → Searched stops end s (behind t n v)
+searched_each : (unwatched : ℕ → Type 0) (n : ℕ) (stops : List Condition) (end : ℕ) (s t : BoardState) (v : Traced) → AllAwaitFree stops → StopsNowhere unwatched stops → Searched stops end s t → holding stops t.plain ≡ None → AreQuietSteps unwatched n end (record { plain = t.plain; trail = t.trail }) v → Searched stops end s (following t n v)
 unfolding AreQuietSteps
-searched_each passes zero stops end s t v waits none searched here same =
+searched_each unwatched zero stops end s t v waits none searched here same =
     let counted : t.turns ≡ t.turns + 0 = omega arith in
     subst (λ b. Searched stops end s b) (λ k. record t { plain = (sym same k).plain; trail = (sym same k).trail; turns = counted k }) searched
-searched_each passes (suc n) stops end s t v waits none searched here steps =
-    let w : Noted = steps.0 in
-    searched_over stops end s (behind t n w) (behind t (suc n) v) waits
-    (searched_each passes n stops end s t w waits none searched here steps.1)
-    (none_between passes stops n end (record { plain = t.plain; trail = t.trail }) w none here steps.1 steps.3) steps.2.before
+searched_each unwatched (suc n) stops end s t v waits none searched here steps =
+    let w : Traced = steps.0 in
+    searched_over stops end s (following t n w) (following t (suc n) v) waits
+    (searched_each unwatched n stops end s t w waits none searched here steps.1)
+    (none_between unwatched stops n end (record { plain = t.plain; trail = t.trail }) w none here steps.1 steps.3) steps.2.before
     (inr (one_more n end t w v steps.2))
 
-searched_steps : (passes : ℕ → Type 0) (stops : List Condition) (end : ℕ) (s t u : BoardState) → AllAwaitFree stops → PassesNone passes stops → Searched stops end s t → holding stops t.plain ≡ None → AreStepsOn passes end t u → Searched stops end s u
-searched_steps passes stops end s t u waits none searched here on =
-    subst (λ b. Searched stops end s b) (steps_lead passes end t u on)
-    (searched_each passes on.count stops end s t (record { plain = u.plain; trail = u.trail }) waits none searched here on.steps)
+searched_steps : (unwatched : ℕ → Type 0) (stops : List Condition) (end : ℕ) (s t u : BoardState) → AllAwaitFree stops → StopsNowhere unwatched stops → Searched stops end s t → holding stops t.plain ≡ None → AreStepsOn unwatched end t u → Searched stops end s u
+searched_steps unwatched stops end s t u waits none searched here on =
+    subst (λ b. Searched stops end s b) (steps_lead unwatched end t u on)
+    (searched_each unwatched on.count stops end s t (record { plain = u.plain; trail = u.trail }) waits none searched here on.steps)
 
-pub searched_between : (passes : ℕ → Type 0) (stops : List Condition) (end : ℕ) (whole : Bool) (s t u : BoardState) → (IsTrue whole → AllAwaitFree stops) → PassesNone passes stops → Searched stops end s t → holding stops t.plain ≡ None → clock_of t.plain < end → IsTurnBetween whole passes end t u → Searched stops end s u
-searched_between passes stops end true s t u waits none searched here before (inl on) = searched_steps passes stops end s t u (waits refl) none searched here on.0
-searched_between passes stops end true s t u waits none searched here before (inr on) = searched_over stops end s t u (waits refl) searched here before on
-searched_between passes stops end false s t u waits none searched here before on = searched_short stops end s t u searched here before on
+pub searched_between : (unwatched : ℕ → Type 0) (stops : List Condition) (end : ℕ) (whole : Bool) (s t u : BoardState) → (IsTrue whole → AllAwaitFree stops) → StopsNowhere unwatched stops → Searched stops end s t → holding stops t.plain ≡ None → clock_of t.plain < end → IsTurnBetween whole unwatched end t u → Searched stops end s u
+searched_between unwatched stops end true s t u waits none searched here before (inl on) = searched_steps unwatched stops end s t u (waits refl) none searched here on.0
+searched_between unwatched stops end true s t u waits none searched here before (inr on) = searched_over stops end s t u (waits refl) searched here before on
+searched_between unwatched stops end false s t u waits none searched here before on = searched_short stops end s t u searched here before on
 
-pub between_moves : (passes : ℕ → Type 0) (end : ℕ) (whole : Bool) (t u : BoardState) → clock_of t.plain < end → IsTurnBetween whole passes end t u → end - clock_of u.plain < end - clock_of t.plain
-between_moves passes end true t u before (inl on) = let moved = on.1 in omega (arith, before, moved)
-between_moves passes end true t u before (inr on) = turn_moves end t u before on
-between_moves passes end false t u before on = short_moves end t u before on
+pub between_moves : (unwatched : ℕ → Type 0) (end : ℕ) (whole : Bool) (t u : BoardState) → clock_of t.plain < end → IsTurnBetween whole unwatched end t u → end - clock_of u.plain < end - clock_of t.plain
+between_moves unwatched end true t u before (inl on) = let moved = on.1 in omega (arith, before, moved)
+between_moves unwatched end true t u before (inr on) = turn_moves end t u before on
+between_moves unwatched end false t u before on = short_moves end t u before on
 
 -- a condition holds at the clock at which it looks
 pub stop_found : (stops : List Condition) (end count : ℕ) (s t : BoardState) (number clock : ℕ) → Searched stops end s t → end ≡ clock_of s.plain + count → holding stops t.plain ≡ Some number → clock ≡ clock_of t.plain → StopsAt stops count s.plain (record { number = number; clock = clock })

@@ -9,7 +9,7 @@ use Rattle.board_types.specs.declared.line.Line.TheVariants.{Low, High}
 use Rattle.board_plain.specs.declared.speaker.SpeakerChange.{SpeakerChange}
 use Rattle.board_plain.specs.Board.{BoardState, Ran, StoppedEarly}
 use Rattle.board.specs.HeldBack.{IsHeldBack}
-use Rattle.board_types.specs.Lines.{from_bool, is_high}
+use Rattle.board_types.specs.LineLevel.{from_bool, is_high}
 use Rattle.board_plain.specs.Plain.{Plain, clock_of, after_clock, after_clocks, change_next, changes_in, speaker_level}
 use Rattle.board_plain.specs.Trail.{last, trail_in, trail_next}
 use Rattle.board.specs.Turns.{IsTickOn}

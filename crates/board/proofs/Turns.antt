@@ -4,11 +4,11 @@ use Rattle.std.specs.Prelude.{◌⊎◌, true, OnOk, Result, Ok, Err}
 use Rattle.board_types.proofs.Iterate.{iterate_zero, total_zero, total_more, total_add}
 use Rattle.board_plain.specs.Board.{BoardState, Ran, StoppedEarly}
 use Rattle.board.specs.HeldBack.{IsHeldBack}
-use Rattle.board.specs.Leap.{IsTightTo}
+use Rattle.board.specs.UneventfulClocks.{IsMaximalTo}
 use Rattle.board_plain.specs.Plain.{Plain, after_clock, after_clocks, change_next, changes_in, clock_of}
 use Rattle.board_plain.specs.Trail.{last, trail_next}
-use Rattle.board.specs.QuietSteps.{AreQuietSteps, IsQuietStep, Noted}
-use Rattle.board.specs.Alone.{IsLeap}
+use Rattle.board.specs.QuietSteps.{AreQuietSteps, IsQuietStep, Traced}
+use Rattle.board.specs.UnseenClocks.{IsLeap}
 use Rattle.board.specs.AwaitFree.{IsTurnBetween}
 use Rattle.board.specs.Turns.{AreStepsOn, IsActOn, IsLeapOn, IsTickOn, IsTurnOn}
 use Rattle.board_plain.specs.Work.{steps_in, steps_next, work_in, work_next}
@@ -129,12 +129,12 @@ so_far_tick spare end s t u so_far before on some =
     }
 
 -- what is owed and paid after a leap that ends before the run
-pub after_leap : (limit n : ℕ) (p q : Plain) → IsTightTo limit p n q → n < limit → 1 ≤ n → q.busy ≡ p.busy - n → owed q + 1 ≤ owed p + paid q
-after_leap limit n p q (inl all) less some busy = absurd (omega (arith, all, less))
-after_leap limit n p q (inr (inl ends)) less some busy =
+pub work_after_leap : (limit n : ℕ) (p q : Plain) → IsMaximalTo limit p n q → n < limit → 1 ≤ n → q.busy ≡ p.busy - n → owed q + 1 ≤ owed p + paid q
+work_after_leap limit n p q (inl all) less some busy = absurd (omega (arith, all, less))
+work_after_leap limit n p q (inr (inl ends)) less some busy =
     let first = ends.0 in
     let last = ends.1 in omega (arith, busy, first, last)
-after_leap limit n p q (inr (inr works)) less some busy = omega (arith, busy, works)
+work_after_leap limit n p q (inr (inr works)) less some busy = omega (arith, busy, works)
 
 unfoldable pub so_far_leap : (spare end count : ℕ) (s t u : BoardState) → count ≤ 1 → SoFar spare end s t → clock_of t.plain < end → IsLeapOn end count t u → SoFar spare end s u
 so_far_leap spare end count s t u one so_far before on =
@@ -151,7 +151,7 @@ so_far_leap spare end count s t u one so_far before on =
       ran = ran_leap n end count s t u so_far.ran on;
       within = omega (arith, clock, before, fits);
       before_end = λ early.
-          let then = after_leap (end - clock_of t.plain) m t.plain u.plain on.leap.tight (omega (arith, clock, early, before)) on.leap.some on.leap.unseen.busy in
+          let then = work_after_leap (end - clock_of t.plain) m t.plain u.plain on.leap.maximal (omega (arith, clock, early, before)) on.leap.some on.leap.unseen.busy in
           omega (arith, turns, work, spent, then, one);
       whole = omega (arith, turns, work, spent, one);
       least = omega (arith, turns, steps, least);
@@ -291,56 +291,56 @@ short_moves end t u before (inr act) = let clock = (act_alone t u act).0.clock i
 -- steps at once, while nothing comes
 
 -- the board after n steps
-abbrev pub behind : BoardState → ℕ → Noted → BoardState
-behind t n v = record t { plain = v.plain; trail = v.trail; turns = t.turns + n }
+abbrev pub following : BoardState → ℕ → Traced → BoardState
+following t n v = record t { plain = v.plain; trail = v.trail; turns = t.turns + n }
 
-pub one_more : (n end : ℕ) (t : BoardState) (w v : Noted) → IsQuietStep end w v → IsActOn end (behind t n w) (behind t (suc n) v)
+pub one_more : (n end : ℕ) (t : BoardState) (w v : Traced) → IsQuietStep end w v → IsActOn end (following t n w) (following t (suc n) v)
 one_more n end t w v step =
-    act_made end (behind t n w) (behind t (suc n) v) step.quietly step.passed refl step.entries refl (omega arith)
+    act_made end (following t n w) (following t (suc n) v) step.quietly step.passed refl step.entries refl (omega arith)
 
-so_far_each : (passes : ℕ → Type 0) (n spare end : ℕ) (s t : BoardState) (v : Noted) → AreQuietSteps passes n end (record { plain = t.plain; trail = t.trail }) v → SoFar spare end s t → SoFar spare end s (behind t n v)
+so_far_each : (unwatched : ℕ → Type 0) (n spare end : ℕ) (s t : BoardState) (v : Traced) → AreQuietSteps unwatched n end (record { plain = t.plain; trail = t.trail }) v → SoFar spare end s t → SoFar spare end s (following t n v)
 unfolding AreQuietSteps
-so_far_each passes zero spare end s t v same so_far =
+so_far_each unwatched zero spare end s t v same so_far =
     let counted : t.turns ≡ t.turns + 0 = omega arith in
     subst (λ b. SoFar spare end s b) (λ k. record t { plain = (sym same k).plain; trail = (sym same k).trail; turns = counted k }) so_far
-so_far_each passes (suc n) spare end s t v steps so_far =
-    let w : Noted = steps.0 in
-    let before = so_far_each passes n spare end s t w steps.1 so_far in
-    so_far_turn spare end s (behind t n w) (behind t (suc n) v) before steps.2.before
+so_far_each unwatched (suc n) spare end s t v steps so_far =
+    let w : Traced = steps.0 in
+    let before = so_far_each unwatched n spare end s t w steps.1 so_far in
+    so_far_turn spare end s (following t n w) (following t (suc n) v) before steps.2.before
     (inr (one_more n end t w v steps.2))
 
 -- the board to which steps lead
-pub steps_lead : (passes : ℕ → Type 0) (end : ℕ) (t u : BoardState) → (on : AreStepsOn passes end t u) → behind t on.count (record { plain = u.plain; trail = u.trail }) ≡ u
-steps_lead passes end t u on = λ k. record u { changes = sym on.changes k; room = sym on.room k; turns = sym on.turns k }
+pub steps_lead : (unwatched : ℕ → Type 0) (end : ℕ) (t u : BoardState) → (on : AreStepsOn unwatched end t u) → following t on.count (record { plain = u.plain; trail = u.trail }) ≡ u
+steps_lead unwatched end t u on = λ k. record u { changes = sym on.changes k; room = sym on.room k; turns = sym on.turns k }
 
-pub so_far_steps : (passes : ℕ → Type 0) (spare end : ℕ) (s t u : BoardState) → SoFar spare end s t → AreStepsOn passes end t u → SoFar spare end s u
-so_far_steps passes spare end s t u so_far on =
-    subst (λ b. SoFar spare end s b) (steps_lead passes end t u on)
-    (so_far_each passes on.count spare end s t (record { plain = u.plain; trail = u.trail }) on.steps so_far)
+pub so_far_steps : (unwatched : ℕ → Type 0) (spare end : ℕ) (s t u : BoardState) → SoFar spare end s t → AreStepsOn unwatched end t u → SoFar spare end s u
+so_far_steps unwatched spare end s t u so_far on =
+    subst (λ b. SoFar spare end s b) (steps_lead unwatched end t u on)
+    (so_far_each unwatched on.count spare end s t (record { plain = u.plain; trail = u.trail }) on.steps so_far)
 
-pub steps_move : (passes : ℕ → Type 0) (end : ℕ) (t u : BoardState) → AreStepsOn passes end t u → clock_of t.plain ≤ clock_of u.plain
-steps_move passes end t u on =
-    let gone = have_gone passes on.count end _ _ on.steps in
+pub steps_move : (unwatched : ℕ → Type 0) (end : ℕ) (t u : BoardState) → AreStepsOn unwatched end t u → clock_of t.plain ≤ clock_of u.plain
+steps_move unwatched end t u on =
+    let gone = have_gone unwatched on.count end _ _ on.steps in
     let some = gone.some in omega (arith, some)
 
 -- steps that end with the next clock are one
-one_alone : (passes : ℕ → Type 0) (n : ℕ) (t : BoardState) (v : Noted) → clock_of t.plain < clock_of v.plain → AreQuietSteps passes n (clock_of t.plain + 1) (record { plain = t.plain; trail = t.trail }) v → IsActOn (clock_of t.plain + 1) t (behind t n v)
+one_alone : (unwatched : ℕ → Type 0) (n : ℕ) (t : BoardState) (v : Traced) → clock_of t.plain < clock_of v.plain → AreQuietSteps unwatched n (clock_of t.plain + 1) (record { plain = t.plain; trail = t.trail }) v → IsActOn (clock_of t.plain + 1) t (following t n v)
 unfolding AreQuietSteps
-one_alone passes zero t v moved same =
-    let here : clock_of v.plain ≡ clock_of t.plain = ap (λ (x : Noted). clock_of x.plain) same in absurd (omega (arith, here, moved))
-one_alone passes (suc zero) t v moved steps =
+one_alone unwatched zero t v moved same =
+    let here : clock_of v.plain ≡ clock_of t.plain = ap (λ (x : Traced). clock_of x.plain) same in absurd (omega (arith, here, moved))
+one_alone unwatched (suc zero) t v moved steps =
     let first : steps.0 ≡ record { plain = t.plain; trail = t.trail } = steps.1 in
     let step = subst (λ w. IsQuietStep (clock_of t.plain + 1) w v) first steps.2 in
-    act_made (clock_of t.plain + 1) t (behind t 1 v) step.quietly step.passed refl step.entries refl refl
-one_alone passes (suc (suc n)) t v moved steps =
-    let gone = have_gone passes (suc n) (clock_of t.plain + 1) _ steps.0 steps.1 in
+    act_made (clock_of t.plain + 1) t (following t 1 v) step.quietly step.passed refl step.entries refl refl
+one_alone unwatched (suc (suc n)) t v moved steps =
+    let gone = have_gone unwatched (suc n) (clock_of t.plain + 1) _ steps.0 steps.1 in
     let some = gone.some in
     let before = steps.2.before in absurd (omega (arith, some, before))
 
-pub steps_alone : (passes : ℕ → Type 0) (t u : BoardState) → clock_of t.plain < clock_of u.plain → AreStepsOn passes (clock_of t.plain + 1) t u → IsActOn (clock_of t.plain + 1) t u
-steps_alone passes t u moved on =
-    subst (IsActOn (clock_of t.plain + 1) t) (steps_lead passes (clock_of t.plain + 1) t u on)
-    (one_alone passes on.count t (record { plain = u.plain; trail = u.trail }) moved on.steps)
+pub steps_alone : (unwatched : ℕ → Type 0) (t u : BoardState) → clock_of t.plain < clock_of u.plain → AreStepsOn unwatched (clock_of t.plain + 1) t u → IsActOn (clock_of t.plain + 1) t u
+steps_alone unwatched t u moved on =
+    subst (IsActOn (clock_of t.plain + 1) t) (steps_lead unwatched (clock_of t.plain + 1) t u on)
+    (one_alone unwatched on.count t (record { plain = u.plain; trail = u.trail }) moved on.steps)
 
 -- a leap, as a turn, from the view of the engine within
 pub board_leaps : (end : ℕ) (old seen new : BoardState) → old ≡ seen → IsLeap end old.plain new.plain → new.changes ≡ old.changes → new.trail ≡ old.trail → new.room ≡ old.room → new.turns ≡ old.turns + 1 → IsLeapOn end 1 seen new
@@ -348,9 +348,9 @@ board_leaps end old seen new same leap changes trail room turns =
     subst (λ b. IsLeapOn end 1 b new) same (record { leap = leap; changes = changes; trail = trail; room = room; turns = turns })
 
 -- a turn between two looks for a stop that may be whole
-pub if_whole : {E : Type 0} (passes : ℕ → Type 0) (end : ℕ) (old new : BoardState) (result : Result Unit E) → OnOk result (IsTurnOn end end old new) → OnOk result (IsTurnBetween true passes end old new)
-if_whole passes end old new (Ok x) turn = inr turn
-if_whole passes end old new (Err e) turn = turn
+pub if_whole : {E : Type 0} (unwatched : ℕ → Type 0) (end : ℕ) (old new : BoardState) (result : Result Unit E) → OnOk result (IsTurnOn end end old new) → OnOk result (IsTurnBetween true unwatched end old new)
+if_whole unwatched end old new (Ok x) turn = inr turn
+if_whole unwatched end old new (Err e) turn = turn
 
 -- an act is a turn
 pub if_act : {T E : Type 0} (within end : ℕ) (old left new : BoardState) (result : Result T E) → left ≡ old → OnOk result (IsActOn within left new) → OnOk result (IsTurnOn within end old new)

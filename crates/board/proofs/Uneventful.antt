@@ -1,5 +1,5 @@
 -- Clocks in which nothing happens but to the wires.
-use Rattle.keyboard.specs.Parts.{after_sending}
+use Rattle.keyboard.specs.QueueParts.{after_sending}
 use Rattle.std.proofs.Common.{◌≡◌, ℕ, ◌+◌, ◌<◌, Bool, true, false, if◌then◌else◌, List, [], ◌++◌, map, Option, None, Some, refl, sym, ap, ◌∙◌, arith}
 use Rattle.std.specs.Prelude.{◌&&◌, is_none, slice_get}
 use Rattle.board_types.specs.Bits.{has_bit}
@@ -11,18 +11,18 @@ use Rattle.keyboard.specs.Keyboard.{KeyboardState, after_clearing}
 use Rattle.ppi8255.specs.Ppi.{lines_b}
 use Rattle.wiring.proofs.Clocks.{clock_of_clocks}
 use Rattle.wiring.specs.Chips.{ChipsState}
-use Rattle.wiring.specs.Laws.{KeysSettled}
+use Rattle.wiring.specs.WiringLaws.{KeysSettled}
 use Rattle.wiring.specs.Wires as wires
 use Rattle.board_plain.specs.declared.act.Act.{Act}
 use Rattle.board_plain.specs.declared.act.Act.TheVariants.{Nothing}
-use Rattle.board_plain.specs.Laws.{NoKeyComes, WiresHold}
+use Rattle.board_plain.specs.BoardLaws.{NoKeyComes, WiresHold}
 use Rattle.board_plain.specs.Plain.{Plain, after_act, after_clock, after_clocks, clock_of, codes_at, next_act, state_of}
 use Rattle.board_plain.proofs.Quiet.{holds_later, none_comes}
 use Rattle.board_plain.proofs.Wires.{all_hold}
 use Rattle.events.specs.declared.event.Event.TheVariants.{Began, Reached}
 use Rattle.events.specs.Accesses.{accesses_next, after_noted}
 use Rattle.events.specs.Events.{chips_reached, code_latched, key_events, latch_events, state_events, unwired_next}
-use Rattle.board.specs.Alone.{passed_by}
+use Rattle.board.specs.UnseenClocks.{passed_by}
 use Rattle.board.proofs.Leap.{nothing_begins}
 
 -- a processor that does nothing makes no access, and stays as it is

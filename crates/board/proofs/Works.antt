@@ -23,11 +23,11 @@ use Rattle.wiring.specs.Wires.{after_arrival, after_arrivals, after_key_settling
 use Rattle.wiring.specs.EachWire.{after_gate_wire}
 use Rattle.board_plain.specs.declared.act.Act.{Act}
 use Rattle.board_plain.specs.declared.act.Act.TheVariants.{Nothing, Request, SingleStep, Iteration, Instruction}
-use Rattle.board_plain.specs.Laws.{NoKeyComes, WiresHold}
-use Rattle.board.specs.Leap.{MayLeap, is_idle, leapt}
+use Rattle.board_plain.specs.BoardLaws.{NoKeyComes, WiresHold}
+use Rattle.board.specs.UneventfulClocks.{AreUneventful, is_idle, after_leap}
 use Rattle.board_plain.specs.Plain.{Plain, act_at, after_act, after_clock, after_clocks, chips_after_clock, clock_of, codes_at, next_act}
 use Rattle.board_plain.specs.Work.{edges_next, edges_of, jams_of, keys_next, steps_in, steps_next, steps_of, work_in, work_next}
-use Rattle.board.proofs.Leap.{board_leaps, clock_of_leap, does_nothing, may_leap_for, out_0_stays, out_2_stays}
+use Rattle.board.proofs.Leap.{board_leaps, clock_of_leap, does_nothing, are_uneventful_for, out_0_stays, out_2_stays}
 use Rattle.board_plain.proofs.Quiet.{none_comes}
 
 -- none in a clock that may be leapt over
@@ -60,18 +60,18 @@ none_in_all step cost (suc n) s none =
     let last = none n (omega arith) in
     ap (λ k. total step cost k s) more ∙ total_more step cost n s ∙ omega (arith, before, last)
 
-out_0_at : (s : Plain) (n k : ℕ) → k ≤ n → WiresHold s.chips → MayLeap s n → (after_clocks s k).chips.pit.counter_0.out ≡ s.chips.pit.counter_0.out
-out_0_at s n k within holds may_leap =
-    let less = may_leap_for s n k within may_leap in
+out_0_at : (s : Plain) (n k : ℕ) → k ≤ n → WiresHold s.chips → AreUneventful s n → (after_clocks s k).chips.pit.counter_0.out ≡ s.chips.pit.counter_0.out
+out_0_at s n k within holds are_uneventful =
+    let less = are_uneventful_for s n k within are_uneventful in
     ap (λ (p : Plain). p.chips.pit.counter_0.out) (board_leaps k s holds less) ∙ out_0_stays s k less
 
-out_2_at : (s : Plain) (n k : ℕ) → k ≤ n → WiresHold s.chips → MayLeap s n → (after_clocks s k).chips.pit.counter_2.out ≡ s.chips.pit.counter_2.out
-out_2_at s n k within holds may_leap =
-    let less = may_leap_for s n k within may_leap in
+out_2_at : (s : Plain) (n k : ℕ) → k ≤ n → WiresHold s.chips → AreUneventful s n → (after_clocks s k).chips.pit.counter_2.out ≡ s.chips.pit.counter_2.out
+out_2_at s n k within holds are_uneventful =
+    let less = are_uneventful_for s n k within are_uneventful in
     ap (λ (p : Plain). p.chips.pit.counter_2.out) (board_leaps k s holds less) ∙ out_2_stays s k less
 
-keys_of_leap : (s : Plain) (n : ℕ) → (leapt s n).keys ≡ s.keys
-unfolding leapt
+keys_of_leap : (s : Plain) (n : ℕ) → (after_leap s n).keys ≡ s.keys
+unfolding after_leap
 keys_of_leap s n = refl
 
 codes_then : (p : Plain) (keys : List StampedKey) (clock : ℕ) → p.keys ≡ keys → clock_of p ≡ clock → codes_at keys (clock + 1) ≡ [] → codes_at p.keys (clock_of p + 1) ≡ []
@@ -81,28 +81,28 @@ no_codes : (s : Plain) (n i : ℕ) → i < n → NoKeyComes s n → codes_at s.k
 unfolding clock_of
 no_codes s n i before no_key = none_comes s.keys s.chips.clock n i before no_key
 
-codes_in_leap : (s : Plain) (n i : ℕ) → i < n → WiresHold s.chips → MayLeap s n → codes_at (after_clocks s i).keys (clock_of (after_clocks s i) + 1) ≡ []
-codes_in_leap s n i before holds may_leap =
-    let leap = board_leaps i s holds (may_leap_for s n i (omega (arith, before)) may_leap) in
+codes_in_leap : (s : Plain) (n i : ℕ) → i < n → WiresHold s.chips → AreUneventful s n → codes_at (after_clocks s i).keys (clock_of (after_clocks s i) + 1) ≡ []
+codes_in_leap s n i before holds are_uneventful =
+    let leap = board_leaps i s holds (are_uneventful_for s n i (omega (arith, before)) are_uneventful) in
     codes_then (after_clocks s i) s.keys (clock_of s + i)
-    (ap (λ (p : Plain). p.keys) leap ∙ keys_of_leap s i) (ap clock_of leap ∙ clock_of_leap s i) (no_codes s n i before may_leap.no_key)
+    (ap (λ (p : Plain). p.keys) leap ∙ keys_of_leap s i) (ap clock_of leap ∙ clock_of_leap s i) (no_codes s n i before are_uneventful.no_key)
 
-one_leapt : (s : Plain) (n i : ℕ) → WiresHold s.chips → MayLeap s n → i < n → work_next (after_clocks s i) ≡ 0
-one_leapt s n i holds may_leap before =
+one_leap : (s : Plain) (n i : ℕ) → WiresHold s.chips → AreUneventful s n → i < n → work_next (after_clocks s i) ≡ 0
+one_leap s n i holds are_uneventful before =
     let next = iterate_more after_clock i s in
-    no_work (after_clocks s i) (does_nothing s n i holds may_leap before)
-    (ap (λ (p : Plain). p.chips.pit.counter_0.out) (sym next) ∙ out_0_at s n (i + 1) (omega (arith, before)) holds may_leap ∙ sym (out_0_at s n i (omega (arith, before)) holds may_leap))
-    (ap (λ (p : Plain). p.chips.pit.counter_2.out) (sym next) ∙ out_2_at s n (i + 1) (omega (arith, before)) holds may_leap ∙ sym (out_2_at s n i (omega (arith, before)) holds may_leap))
-    (codes_in_leap s n i before holds may_leap)
+    no_work (after_clocks s i) (does_nothing s n i holds are_uneventful before)
+    (ap (λ (p : Plain). p.chips.pit.counter_0.out) (sym next) ∙ out_0_at s n (i + 1) (omega (arith, before)) holds are_uneventful ∙ sym (out_0_at s n i (omega (arith, before)) holds are_uneventful))
+    (ap (λ (p : Plain). p.chips.pit.counter_2.out) (sym next) ∙ out_2_at s n (i + 1) (omega (arith, before)) holds are_uneventful ∙ sym (out_2_at s n i (omega (arith, before)) holds are_uneventful))
+    (codes_in_leap s n i before holds are_uneventful)
 
-pub none_to_do : (s : Plain) (n : ℕ) → WiresHold s.chips → MayLeap s n → work_in s n ≡ 0
-none_to_do s n holds may_leap = none_in_all after_clock work_next n s (λ i before. one_leapt s n i holds may_leap before)
+pub none_to_do : (s : Plain) (n : ℕ) → WiresHold s.chips → AreUneventful s n → work_in s n ≡ 0
+none_to_do s n holds are_uneventful = none_in_all after_clock work_next n s (λ i before. one_leap s n i holds are_uneventful before)
 
-pub none_to_step : (s : Plain) (n : ℕ) → WiresHold s.chips → MayLeap s n → steps_in s n ≡ 0
-none_to_step s n holds may_leap = none_in_all after_clock steps_next n s (λ i before. no_step (after_clocks s i) (does_nothing s n i holds may_leap before))
+pub none_to_step : (s : Plain) (n : ℕ) → WiresHold s.chips → AreUneventful s n → steps_in s n ≡ 0
+none_to_step s n holds are_uneventful = none_in_all after_clock steps_next n s (λ i before. no_step (after_clocks s i) (does_nothing s n i holds are_uneventful before))
 
-pub first_has_none : (s : Plain) (n : ℕ) → 1 ≤ n → WiresHold s.chips → MayLeap s n → work_next s ≡ 0
-first_has_none s n some holds may_leap = ap work_next (sym (iterate_zero after_clock s)) ∙ one_leapt s n 0 holds may_leap (omega (arith, some))
+pub first_has_none : (s : Plain) (n : ℕ) → 1 ≤ n → WiresHold s.chips → AreUneventful s n → work_next s ≡ 0
+first_has_none s n some holds are_uneventful = ap work_next (sym (iterate_zero after_clock s)) ∙ one_leap s n 0 holds are_uneventful (omega (arith, some))
 
 -- what the processor does is work
 
@@ -206,34 +206,34 @@ ticks_add : (p : PitState) (a b c : ℕ) → a + b ≡ c → pit.after_ticks (pi
 ticks_add p a b c is = sym (iterate_add pit.after_tick a b p) ∙ ap (λ k. pit.after_ticks p k) is
 
 -- the timer at the end of the clock after those that may be leapt over
-pit_then : (s : Plain) (n : ℕ) → WiresHold s.chips → MayLeap s n → next_act (leapt s n) ≡ Nothing → (after_clock (leapt s n)).chips.pit ≡ pit.after_ticks s.chips.pit (ticks_between s.chips.clock (s.chips.clock + n + 1))
-unfolding leapt
-pit_then s n holds may_leap nothing =
-    let c : ChipsState = leaps.leapt s.chips n in
-    ap (λ (t : ChipsState). t.pit) (chips_next (leapt s n) nothing)
-    ∙ pit_of_clock c s.keys (settled_leap n s.chips holds.settled may_leap.out_0)
+pit_then : (s : Plain) (n : ℕ) → WiresHold s.chips → AreUneventful s n → next_act (after_leap s n) ≡ Nothing → (after_clock (after_leap s n)).chips.pit ≡ pit.after_ticks s.chips.pit (ticks_between s.chips.clock (s.chips.clock + n + 1))
+unfolding after_leap
+pit_then s n holds are_uneventful nothing =
+    let c : ChipsState = leaps.after_leap s.chips n in
+    ap (λ (t : ChipsState). t.pit) (chips_next (after_leap s n) nothing)
+    ∙ pit_of_clock c s.keys (settled_leap n s.chips holds.settled are_uneventful.out_0)
     ∙ ticks_add s.chips.pit (ticks_between s.chips.clock (s.chips.clock + n)) (ticks_between (s.chips.clock + n) (s.chips.clock + n + 1))
     (ticks_between s.chips.clock (s.chips.clock + n + 1)) (omega arith)
 
-pub edge_0_works : (s : Plain) (n at : ℕ) → WiresHold s.chips → MayLeap s n → at ≡ s.chips.clock + n + 1 → TurnsIn s.chips.pit.counter_0 s.chips.clock at → 1 ≤ work_next (leapt s n)
-edge_0_works s n at holds may_leap is edge =
-    unless_it_acts (leapt s n) (is_idle (next_act (leapt s n))) refl (λ nothing.
-    turn_0_works (leapt s n) (λ same.
+pub edge_0_works : (s : Plain) (n at : ℕ) → WiresHold s.chips → AreUneventful s n → at ≡ s.chips.clock + n + 1 → TurnsIn s.chips.pit.counter_0 s.chips.clock at → 1 ≤ work_next (after_leap s n)
+edge_0_works s n at holds are_uneventful is edge =
+    unless_it_acts (after_leap s n) (is_idle (next_act (after_leap s n))) refl (λ nothing.
+    turn_0_works (after_leap s n) (λ same.
     edge.turns.turns
     (ap (λ k. (one.after_ticks s.chips.pit.counter_0 (ticks_between s.chips.clock k)).out) is
     ∙ sym (ap (λ (q : PitState). q.counter_0.out) (each_counter (ticks_between s.chips.clock (s.chips.clock + n + 1)) s.chips.pit))
-    ∙ sym (ap (λ (q : PitState). q.counter_0.out) (pit_then s n holds may_leap nothing))
-    ∙ same ∙ out_0_stays s n may_leap)))
+    ∙ sym (ap (λ (q : PitState). q.counter_0.out) (pit_then s n holds are_uneventful nothing))
+    ∙ same ∙ out_0_stays s n are_uneventful)))
 
-pub edge_2_works : (s : Plain) (n at : ℕ) → WiresHold s.chips → MayLeap s n → at ≡ s.chips.clock + n + 1 → TurnsIn s.chips.pit.counter_2 s.chips.clock at → 1 ≤ work_next (leapt s n)
-edge_2_works s n at holds may_leap is edge =
-    unless_it_acts (leapt s n) (is_idle (next_act (leapt s n))) refl (λ nothing.
-    turn_2_works (leapt s n) (λ same.
+pub edge_2_works : (s : Plain) (n at : ℕ) → WiresHold s.chips → AreUneventful s n → at ≡ s.chips.clock + n + 1 → TurnsIn s.chips.pit.counter_2 s.chips.clock at → 1 ≤ work_next (after_leap s n)
+edge_2_works s n at holds are_uneventful is edge =
+    unless_it_acts (after_leap s n) (is_idle (next_act (after_leap s n))) refl (λ nothing.
+    turn_2_works (after_leap s n) (λ same.
     edge.turns.turns
     (ap (λ k. (one.after_ticks s.chips.pit.counter_2 (ticks_between s.chips.clock k)).out) is
     ∙ sym (ap (λ (q : PitState). q.counter_2.out) (each_counter (ticks_between s.chips.clock (s.chips.clock + n + 1)) s.chips.pit))
-    ∙ sym (ap (λ (q : PitState). q.counter_2.out) (pit_then s n holds may_leap nothing))
-    ∙ same ∙ out_2_stays s n may_leap)))
+    ∙ sym (ap (λ (q : PitState). q.counter_2.out) (pit_then s n holds are_uneventful nothing))
+    ∙ same ∙ out_2_stays s n are_uneventful)))
 
 -- a clock has one step at most
 one_of_act : (a : Act) → steps_of a ≤ 1
@@ -248,6 +248,6 @@ pub one_step_at_most : (p : Plain) → steps_next p ≤ 1
 unfolding steps_next
 one_step_at_most p = one_of_act (next_act p)
 
-pub busy_of_leap : (s : Plain) (n : ℕ) → (leapt s n).busy ≡ s.busy - n
-unfolding leapt
+pub busy_of_leap : (s : Plain) (n : ℕ) → (after_leap s n).busy ≡ s.busy - n
+unfolding after_leap
 busy_of_leap s n = refl

@@ -20,10 +20,10 @@ AllAwaitFree stops = (k : ℕ) → k < length stops → awaits_free (slice_index
 
 -- some steps at once, which take time
 abbrev pub ArePassedOn : (ℕ → Type 0) → ℕ → BoardState → BoardState → Type 0
-ArePassedOn passes end old new = AreStepsOn passes end old new × (clock_of old.plain < clock_of new.plain)
+ArePassedOn unwatched end old new = AreStepsOn unwatched end old new × (clock_of old.plain < clock_of new.plain)
 
 -- a turn between two looks for a stop: if all stops wait for a free processor, an act may have all its clocks, and
 -- there may be several steps, between which IP may be passed; otherwise an act has only its first clock
 abbrev pub IsTurnBetween : Bool → (ℕ → Type 0) → ℕ → BoardState → BoardState → Type 0
-IsTurnBetween true passes end old new = ArePassedOn passes end old new ⊎ IsTurnOn end end old new
-IsTurnBetween false passes end old new = IsTurnOn (clock_of old.plain + 1) end old new
+IsTurnBetween true unwatched end old new = ArePassedOn unwatched end old new ⊎ IsTurnOn end end old new
+IsTurnBetween false unwatched end old new = IsTurnOn (clock_of old.plain + 1) end old new

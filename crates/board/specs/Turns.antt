@@ -2,7 +2,7 @@
 -- For proofs alone: no public contract rests on it.
 use Rattle.std.specs.Prelude.{ℕ, ◌≡◌, ◌+◌, ◌≤◌, ◌⊎◌, ◌++◌, length}
 use Rattle.board_plain.specs.Board.{BoardState}
-use Rattle.board.specs.Alone.{IsLeap}
+use Rattle.board.specs.UnseenClocks.{IsLeap}
 use Rattle.board.specs.QuietSteps.{AreQuietSteps}
 use Rattle.board_plain.specs.Plain.{after_clock, change_next, clock_of}
 use Rattle.board_plain.specs.Trail.{last, trail_next}
@@ -38,9 +38,9 @@ abbrev pub IsTurnOn : ℕ → ℕ → BoardState → BoardState → Type 0
 IsTurnOn within end old new = IsLeapOn end 1 old new ⊎ IsActOn within old new
 
 -- `count` steps at once, while nothing comes
-pub record AreStepsOn (passes : ℕ → Type 0) (end : ℕ) (old new : BoardState) : Type 0 where
+pub record AreStepsOn (unwatched : ℕ → Type 0) (end : ℕ) (old new : BoardState) : Type 0 where
   pub count : ℕ
-  pub steps : AreQuietSteps passes count end (record { plain = old.plain; trail = old.trail })
+  pub steps : AreQuietSteps unwatched count end (record { plain = old.plain; trail = old.trail })
       (record { plain = new.plain; trail = new.trail })
   pub changes : new.changes ≡ old.changes
   pub room : new.room ≡ old.room

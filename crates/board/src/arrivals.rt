@@ -3,7 +3,7 @@ ghost use Rattle.std.specs.Prelude.{ℕ, ◌≡◌, ◌+◌, ◌<◌, ◌≤◌,
 ghost use Rattle.board_types.specs.Keys.{IsInOrder};
 ghost use Rattle.board.specs.Arrivals.{Awaits, HaveArrived, IsNextStamp};
 ghost use Rattle.wiring.specs.Wires.{after_arrivals};
-ghost use Rattle.board.specs.Leap.{ComesAfter};
+ghost use Rattle.board.specs.UneventfulClocks.{ComesAfter};
 ghost use Rattle.board_plain.specs.Plain.{chips_after_clock, codes_at};
 
 use board_types::clock::Clock;

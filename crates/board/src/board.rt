@@ -7,11 +7,11 @@ ghost use Rattle.memory.specs.Map.{IsRamSize, FitsRam};
 ghost use Rattle.board_plain.specs.declared.act.Act.TheVariants as acts;
 ghost use Rattle.board_plain.specs.declared.fault.BoardFault.TheVariants.{Memory};
 ghost use Rattle.board_plain.specs.Board.{Ran, StoppedEarly};
-ghost use Rattle.board.specs.Alone.{PassesOver, WiresStay, WiresStayThen};
+ghost use Rattle.board.specs.UnseenClocks.{PassesOver, WiresStay, WiresStayThen};
 ghost use Rattle.board.specs.HeldBack.{IsHeldBack};
-ghost use Rattle.board.specs.KeptAgain.{IsExact};
+ghost use Rattle.board.specs.TrailState.{IsExact};
 ghost use Rattle.board.specs.OneTurn.{begun_of};
-ghost use Rattle.board.specs.Reach.{AllWithin, may_pass};
+ghost use Rattle.board.specs.IpRange.{AllWithin, is_unwatched};
 ghost use Rattle.board_plain.specs.Plain.{act_at, after_clock, after_clocks, byte_of, change_next, changes_in, clock_of, lost_codes, next_act, power_on, registers_of, screen_of, speaker_level, state_of};
 ghost use Rattle.board_plain.specs.Stops.{FitsRoom, HasAddress, IsStopOf, NoStop, holding, holds, run_length};
 ghost use Rattle.board_plain.specs.Lasts.{IsLastOf};
@@ -20,12 +20,12 @@ ghost use Rattle.board_plain.specs.Trail.{last, trail_in, trail_next};
 ghost use Rattle.board.specs.AwaitFree.{IsTurnBetween};
 ghost use Rattle.board.specs.Turns.{AreStepsOn, IsActOn, IsLeapOn, IsTurnOn};
 ghost use Rattle.board_plain.specs.Work.{steps_in, work_in, work_next};
-ghost use Rattle.board_types.specs.Lines.{from_bool};
+ghost use Rattle.board_types.specs.LineLevel.{from_bool};
 ghost use Rattle.events.specs.Accesses.{accesses_next};
 
 use crate::engine::Engine;
 use crate::one_turn::Begun;
-use crate::stop::{Reach, all_await_free};
+use crate::stop::{IpRange, all_await_free};
 use crate::trail::Trail;
 use crate::watch::{Nothing, Watch};
 use board_plain::act::Act;
@@ -214,19 +214,19 @@ impl<A: Allocator> Board<A> {
         }
         let end = self.clock().get() + count;
         let whole = all_await_free(stops.as_slice());
-        let reach = Reach::of(stops.as_slice());
+        let ip_range = IpRange::of(stops.as_slice());
         // a stop that holds at the start doesn't count, so the first clock is a turn of its own
         let next = self.clock().get() + 1;
         self.turn(next, next)?;
         'turns: loop {
-            if let Some(number) = self.holding(stops, &reach) {
+            if let Some(number) = self.holding(stops, &ip_range) {
                 let clock = self.clock();
                 return Ok(Some(Stop { number, clock }));
             }
             if self.clock().get() == end {
                 return Ok(None);
             }
-            self.turn_between(end, whole, &reach)?;
+            self.turn_between(end, whole, &ip_range)?;
         }
     }
 
@@ -258,16 +258,16 @@ impl<A: Allocator> Board<A> {
         }
         let end = self.clock().get() + count;
         let whole = all_await_free(stops.as_slice());
-        let reach = Reach::of(stops.as_slice());
+        let ip_range = IpRange::of(stops.as_slice());
         let mut last = None;
         'turns: while self.clock().get() < end {
-            let here = self.holding(stops, &reach);
+            let here = self.holding(stops, &ip_range);
             // if none holds here, the other clocks of a step pass none that waits for a free processor
-            self.turn_between(end, passes_none(whole, here), &reach)?;
+            self.turn_between(end, stops_nowhere(whole, here), &ip_range)?;
             // what holds before a turn holds up to the last clock before the turn's end
             last = later(last, here, self.clock());
         }
-        Ok(latest(last, self.holding(stops, &reach), self.clock()))
+        Ok(latest(last, self.holding(stops, &ip_range), self.clock()))
     }
 
     /// Makes room for `n` more changes of the speaker's level. Refused as `Memory`, with nothing changed, if the list
@@ -287,14 +287,14 @@ impl<A: Allocator> Board<A> {
         Ok(())
     }
 
-    /// The least number of a stop that holds; `reach` is where IP has to be for that.
+    /// The least number of a stop that holds; `ip_range` is where IP has to be for that.
     #[inline(always)]
-    fn holding(&self, stops: &Stops, reach: &Reach) -> Option<usize>
+    fn holding(&self, stops: &Stops, ip_range: &IpRange) -> Option<usize>
         requires address { All HasAddress stops.now.items }
-        requires within { AllWithin reach.now stops.now.items }
+        requires within { AllWithin ip_range.now stops.now.items }
         ensures { result ≡ holding stops.now.items self.now.plain }
     {
-        self.engine.holding_within(stops.as_slice(), reach)
+        self.engine.holding_within(stops.as_slice(), ip_range)
     }
 
     /// Whether a run of `count` clocks would go past the last clock.
@@ -307,32 +307,32 @@ impl<A: Allocator> Board<A> {
     }
 
     /// A turn between two looks for a stop. If it may be `whole`, it is an act with all its clocks, or steps of the
-    /// run's loop, of which only the last may lead to an IP within `reach`; otherwise an act's first clock. Or it is a
+    /// run's loop, of which only the last may lead to an IP within `ip_range`; otherwise an act's first clock. Or it is a
     /// leap up to `end`, during which no condition changes before the last clock.
     #[inline(always)]
-    fn turn_between(&mut self, end: u64, whole: bool, reach: &Reach) -> Result<(), BoardFault>
+    fn turn_between(&mut self, end: u64, whole: bool, ip_range: &IpRange) -> Result<(), BoardFault>
         requires before_end { clock_of self.old.plain < end }
         requires within { end ≤ 2 ^ 40 }
-        ensures ok { OnOk result (IsTurnBetween whole (may_pass reach.now) end self.old self.new) }
+        ensures ok { OnOk result (IsTurnBetween whole (is_unwatched ip_range.now) end self.old self.new) }
         ensures err { OnErr result (IsHeldBack self.old self.new) }
         ensures fault { IfErr result (λ fault. fault ≡ BoardFault.Memory) }
     {
         if whole {
-            return self.whole_turn(end, reach);
+            return self.whole_turn(end, ip_range);
         }
         self.clock_turn(end)
     }
 
     /// A turn between two looks for stops that all wait for a free processor, so an act may have all its clocks.
     #[inline(always)]
-    fn whole_turn(&mut self, end: u64, reach: &Reach) -> Result<(), BoardFault>
+    fn whole_turn(&mut self, end: u64, ip_range: &IpRange) -> Result<(), BoardFault>
         requires before_end { clock_of self.old.plain < end }
         requires within { end ≤ 2 ^ 40 }
-        ensures ok { OnOk result (IsTurnBetween true (may_pass reach.now) end self.old self.new) }
+        ensures ok { OnOk result (IsTurnBetween true (is_unwatched ip_range.now) end self.old self.new) }
         ensures err { OnErr result (IsHeldBack self.old self.new) }
         ensures fault { IfErr result (λ fault. fault ≡ BoardFault.Memory) }
     {
-        if self.quiet_steps(end, reach) {
+        if self.quiet_steps(end, ip_range) {
             return Ok(());
         }
         self.turn(end, end)
@@ -509,7 +509,7 @@ impl<A: Allocator> Board<A> {
     fn quiet_steps<W: Watch>(&mut self, end: u64, watch: &W) -> bool
         requires before_end { clock_of self.old.plain < end }
         requires within { end ≤ 2 ^ 40 }
-        ensures steps { AreStepsOn (W.passes watch.now) end self.old self.new }
+        ensures steps { AreStepsOn (W.unwatched watch.now) end self.old self.new }
         ensures made { IsTrue result → clock_of self.old.plain < clock_of self.new.plain }
         ensures not_made { ¬ (IsTrue result) → self.new ≡ self.old }
     {
@@ -653,7 +653,7 @@ impl<A: Allocator> Board<A> {
 }
 
 /// Whether the other clocks of a step pass no stop: all stops wait for a free processor (`whole`), and none holds here.
-fn passes_none(whole: bool, here: Option<usize>) -> bool
+fn stops_nowhere(whole: bool, here: Option<usize>) -> bool
     ensures { IsTrue result → IsTrue whole × (here ≡ None) }
 {
     match here {

@@ -7,7 +7,7 @@ ghost use Rattle.board_plain.specs.Trail.{entry_at, event_of, start_of};
 ghost use Rattle.board_plain.specs.declared.act.Act.TheVariants.{Instruction};
 ghost use Rattle.events.specs.Accesses.{accesses_next};
 ghost use Rattle.board.specs.HeldBack.{IsHeldBack};
-ghost use Rattle.board.specs.KeptAgain.{IsExact};
+ghost use Rattle.board.specs.TrailState.{IsExact};
 ghost use Rattle.board.specs.OneTurn.{IsOneTurn, begun_of};
 
 use crate::board::Board;

@@ -1,10 +1,10 @@
 //! How clocks pass: keys arrive, and the chips go on.
 ghost use Rattle.std.specs.Prelude.{◌≡◌, ◌+◌, ◌<◌, ◌≤◌, ◌^◌, IsTrue};
-ghost use Rattle.cached_chips.specs.Quiet.{IsQuiet};
+ghost use Rattle.cached_chips.specs.QuietChips.{IsQuiet};
 ghost use Rattle.board_plain.specs.Plain.{chips_after_clock};
-ghost use Rattle.board_plain.specs.Laws.{WiresHold};
-ghost use Rattle.board.specs.Alone.{GoUnseen, PassBy, PassOver, WiresStay, last_before};
-ghost use Rattle.board.specs.Quiet.{IsKnownQuiet};
+ghost use Rattle.board_plain.specs.BoardLaws.{WiresHold};
+ghost use Rattle.board.specs.UnseenClocks.{GoUnseen, PassBy, PassOver, WiresStay, last_before};
+ghost use Rattle.board.specs.QuietBoard.{IsBoardQuietAhead};
 ghost use Rattle.board.specs.Arrivals.{HaveArrived};
 ghost use Rattle.board_types.specs.Keys.{IsInOrder};
 
@@ -25,23 +25,23 @@ pub(crate) fn before_stamp(stamp: Option<Clock>, end: u64) -> u64
 
 /// A clock up to which nothing comes to a processor that is busy for `busy` clocks, as far as that is known.
 #[inline(always)]
-pub(crate) fn known_quiet_to(busy: u16, chips: &CachedChips, arrived: &Arrived) -> u64
-    ensures { IsKnownQuiet result busy chips.now arrived.now.next }
+pub(crate) fn board_quiet_to(busy: u16, chips: &CachedChips, arrived: &Arrived) -> u64
+    ensures { IsBoardQuietAhead result busy chips.now arrived.now.next }
 {
     if busy != 0 {
         return 0;
     }
-    let unasked = chips.unasked_to();
+    let unrequested = chips.unrequested_to();
     match arrived.next {
-        Some(at) => unasked.min(at.get().saturating_sub(1)),
-        None => unasked,
+        Some(at) => unrequested.min(at.get().saturating_sub(1)),
+        None => unrequested,
     }
 }
 
 /// The chips' part of a step of `busy` clocks that may lead past the bound, up to `end`, over edges of the timer, too;
 /// sets `quiet_to` to what is known then. Answers how many clocks of the step are left.
 #[inline(never)]
-pub(crate) fn pass_behind(
+pub(crate) fn pass_beyond(
     chips: &mut CachedChips,
     keys: &[StampedKey],
     arrived: &mut Arrived,
@@ -56,10 +56,10 @@ pub(crate) fn pass_behind(
     requires wires { WiresHold (chips_after_clock chips.old keys.now) }
     ensures passed { PassOver end busy chips.old keys.now result chips.new }
     ensures arrived { HaveArrived arrived.new (chips.new.clock + 1) keys.now }
-    ensures quiet { IsKnownQuiet quiet_to.new result chips.new arrived.new.next }
+    ensures quiet { IsBoardQuietAhead quiet_to.new result chips.new arrived.new.next }
 {
     let left = pass_over(chips, keys, arrived, busy, true, end);
-    *quiet_to = known_quiet_to(left, chips, arrived);
+    *quiet_to = board_quiet_to(left, chips, arrived);
     left
 }
 

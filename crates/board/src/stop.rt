@@ -1,7 +1,7 @@
 //! What is known of stops beforehand: whether they wait for a free processor, and at which IP they may hold.
 ghost use Rattle.std.specs.Prelude.{◌≡◌, IsTrue};
 ghost use Rattle.board.specs.AwaitFree.{awaits_free, AllAwaitFree};
-ghost use Rattle.board.specs.Reach.{AllWithin};
+ghost use Rattle.board.specs.IpRange.{AllWithin};
 
 use crate::watch::Watch;
 use board_plain::stop::Condition;
@@ -30,41 +30,41 @@ pub(crate) fn all_await_free(conditions: &[Condition]) -> bool
 
 /// The least and the greatest IP at which one of some conditions may hold.
 #[derive(Clone, Copy)]
-pub(crate) struct Reach {
+pub(crate) struct IpRange {
     pub(crate) lowest: u16,
     pub(crate) highest: u16,
 }
 
-impl Reach {
+impl IpRange {
     /// Every IP.
-    const ALL: Reach = Reach {
+    const ALL: IpRange = IpRange {
         lowest: 0,
         highest: u16::MAX,
     };
 
     /// The IPs at which one of these conditions may hold.
-    pub(crate) fn of(conditions: &[Condition]) -> Reach
+    pub(crate) fn of(conditions: &[Condition]) -> IpRange
         ensures { AllWithin result conditions.now }
     {
-        let mut reach = Reach {
+        let mut ip_range = IpRange {
             lowest: u16::MAX,
             highest: 0,
         };
         for condition in conditions {
             let Condition::At(_, ip) = *condition else {
-                return Reach::ALL;
+                return IpRange::ALL;
             };
-            reach.lowest = reach.lowest.min(ip);
-            reach.highest = reach.highest.max(ip);
+            ip_range.lowest = ip_range.lowest.min(ip);
+            ip_range.highest = ip_range.highest.max(ip);
         }
-        reach
+        ip_range
     }
 }
 
-impl Watch for Reach {
-    ghost use Rattle.board.specs.Reach.{may_pass};
+impl Watch for IpRange {
+    ghost use Rattle.board.specs.IpRange.{is_unwatched};
 
-    ghost passes = { may_pass };
+    ghost unwatched = { is_unwatched };
 
     /// Whether one of the conditions may hold at this IP.
     #[inline(always)]

@@ -5,16 +5,16 @@ ghost use Rattle.board_types.specs.Address.{offset_after};
 /// What a run watches for.
 pub(crate) trait Watch {
     // nothing that is watched for is at this IP
-    ghost passes: { Self → ℕ → Type 0 };
+    ghost unwatched: { Self → ℕ → Type 0 };
 
     /// Whether something that is watched for may be at this IP.
     fn has(&self, ip: u16) -> bool
-        ensures { ¬ (IsTrue result) → passes self.now ip };
+        ensures { ¬ (IsTrue result) → unwatched self.now ip };
 
     /// Whether it is known that nothing is watched for at any of `size` IPs from `start` on.
     fn spares(&self, start: u16, size: u16) -> bool
         requires { start + size ≤ 65536 }
-        ensures { IsTrue result → (k : ℕ) → k < size → passes self.now (offset_after start k) };
+        ensures { IsTrue result → (k : ℕ) → k < size → unwatched self.now (offset_after start k) };
 }
 
 /// Watches for nothing: a run without stops.
@@ -22,9 +22,9 @@ pub(crate) trait Watch {
 pub(crate) struct Nothing;
 
 impl Watch for Nothing {
-    ghost use Rattle.board.specs.Reach.{all_pass};
+    ghost use Rattle.board.specs.IpRange.{all_unwatched};
 
-    ghost passes = { λ _. all_pass };
+    ghost unwatched = { λ _. all_unwatched };
 
     #[inline(always)]
     fn has(&self, _: u16) -> bool {

@@ -5,9 +5,9 @@ use Rattle.std.specs.Prelude.{ℕ, if◌then◌else◌, List, ◌++◌, codes, l
 use Rattle.std.specs.List.{flat_map}
 use Rattle.std.specs.Fmt.{decimal}
 use Rattle.board_types.specs.Digits.{hex_word}
-use Rattle.board_types.specs.Lines.{is_high}
+use Rattle.board_types.specs.LineLevel.{is_high}
 use Rattle.board_types.specs.declared.regs.Regs.{Regs}
-use Rattle.board_types.specs.Flags.{flags_word}
+use Rattle.board_types.specs.FlagsWord.{flags_word}
 use Rattle.board_types.specs.declared.state.State.{State}
 use Rattle.board_types.specs.declared.state.State.TheVariants.{Running, Halted, Jammed}
 use Rattle.board_plain.specs.declared.speaker.SpeakerChange.{SpeakerChange}

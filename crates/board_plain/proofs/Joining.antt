@@ -5,7 +5,7 @@ use Rattle.board_types.proofs.Iterate.{iterate_add}
 use Rattle.board_plain.specs.declared.stop.Condition.{Condition}
 use Rattle.board_plain.specs.declared.stop.Stop.{Stop}
 use Rattle.board_plain.specs.Board.{BoardState, Ran, StoppedEarly}
-use Rattle.board_plain.specs.Laws.{SearchesJoin}
+use Rattle.board_plain.specs.BoardLaws.{SearchesJoin}
 use Rattle.board_plain.specs.Plain.{Plain, after_clock, after_clocks, clock_of}
 use Rattle.board_plain.specs.Stops.{holding, run_length, IsStopOf, NoStop, StopsAt}
 use Rattle.board_plain.proofs.Runs.{runs_join}

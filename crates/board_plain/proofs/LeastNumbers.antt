@@ -4,7 +4,7 @@ use Rattle.std.specs.Prelude.{MatchOption}
 use Rattle.std.specs.List.{position_from}
 use Rattle.std.proofs.lemmas.List.Elements.{All-cons}
 use Rattle.board_plain.specs.declared.stop.Condition.{Condition}
-use Rattle.board_plain.specs.Laws.{IsFirstHolding, LeastNumberIsTold}
+use Rattle.board_plain.specs.BoardLaws.{IsFirstHolding, LeastNumberIsTold}
 use Rattle.board_plain.specs.Plain.{Plain}
 use Rattle.board_plain.specs.Stops.{holding, holds}
 

@@ -5,7 +5,7 @@ pub mod Stopping
 pub mod Clocks
 pub mod Quiet
 pub mod LeastNumbers
-pub mod Foreseen
+pub mod Predicted
 pub mod Writable
 pub mod Requests
 pub mod Wires

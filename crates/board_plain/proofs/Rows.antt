@@ -10,14 +10,14 @@ use Rattle.board_types.specs.declared.choice.TimerKind.TheVariants.{I8253}
 use Rattle.board_types.specs.Iterate.{iterate, total}
 use Rattle.isa.specs.Clocks.{clocks_of}
 use Rattle.isa.specs.Encoding.{encoding, form_length}
-use Rattle.isa.specs.Parts.{row_at}
+use Rattle.isa.specs.OpcodeBytes.{row_at}
 use Rattle.isa.specs.Table.{rows}
-use Rattle.isa.specs.Words.{clocks_in, data_words, whole_words}
+use Rattle.isa.specs.WordCounts.{clocks_in, data_words, whole_words}
 use Rattle.decode.specs.declared.decoding.Decoding.{Decoding as Decoded}
-use Rattle.decode.specs.Decoding.{decoded_behind, decoded_from, form_at, values_at}
+use Rattle.decode.specs.Decoding.{decoded_after, decoded_from, form_at, values_at}
 use Rattle.execute_meaning.specs.Boundaries.{boundary_of}
 use Rattle.execute_meaning.specs.Meaning.{StepResult, after_found, after_operation, after_step, after_whole, is_taken, lacks_quotient}
-use Rattle.execute_control.specs.Meaning.{after_flag_operation}
+use Rattle.execute_control.specs.ControlMeaning.{after_flag_operation}
 use Rattle.keyboard.specs.Keyboard as keyboard
 use Rattle.memory.specs.Map.{address_count}
 use Rattle.memory.proofs.Writes.{on_at_power_on}
@@ -63,7 +63,7 @@ work_by s act n is told = ap (work_acting s) is ∙ told
 
 -- what a row unfolds
 unfoldable on_clocks : ⊤
-unfolding rows row_at form_at values_at decoded_behind decoded_from form_length encoding clocks_of clocks_in data_words whole_words boundary_of popped_flags after_found after_operation after_step after_whole is_taken lacks_quotient after_flag_operation keyboard.after_settling pic.level_to_take pic.after_line counter.after_tick counter.after_gate pit.power_on pit.after_tick pit.after_gate chips.power_on wires.after_settling wires.after_clock wires.after_key_settling chips_after_clock clock_of keys_next power_on next_act after_acting work_acting
+unfolding rows row_at form_at values_at decoded_after decoded_from form_length encoding clocks_of clocks_in data_words whole_words boundary_of popped_flags after_found after_operation after_step after_whole is_taken lacks_quotient after_flag_operation keyboard.after_settling pic.level_to_take pic.after_line counter.after_tick counter.after_gate pit.power_on pit.after_tick pit.after_gate chips.power_on wires.after_settling wires.after_clock wires.after_key_settling chips_after_clock clock_of keys_next power_on next_act after_acting work_acting
 on_clocks = tt
 
 abbrev image : List (ℕ × ℕ)
@@ -117,22 +117,22 @@ unfolding on_clocks byte_at at_0 at_1 at_2 cli
 hlt_byte = on_at_power_on image 65536 0xFFFF1 has_both.1
 
 -- the bytes after the one at FFFF:IP
-behind : ChipsState → ℕ → List ℕ
-behind chips ip = map (λ k. byte_at chips (physical 0xFFFF (offset_after ip k))) (range_with_len 1 14)
+following : ChipsState → ℕ → List ℕ
+following chips ip = map (λ k. byte_at chips (physical 0xFFFF (offset_after ip k))) (range_with_len 1 14)
 
 act_0 : next_act at_0 ≡ Instruction cli
-unfolding on_clocks at_0 behind
+unfolding on_clocks at_0 following
 act_0 =
-    ap (λ byte. Instruction (decoded_from (byte ∷ behind at_0.chips 0))) cli_byte ∙ ap Instruction (is_cli (behind at_0.chips 0))
+    ap (λ byte. Instruction (decoded_from (byte ∷ following at_0.chips 0))) cli_byte ∙ ap Instruction (is_cli (following at_0.chips 0))
 
 act_1 : next_act at_1 ≡ Nothing
 unfolding on_clocks at_0 at_1 cli
 act_1 = refl
 
 act_2 : next_act at_2 ≡ Instruction hlt
-unfolding on_clocks at_0 at_1 at_2 cli behind
+unfolding on_clocks at_0 at_1 at_2 cli following
 act_2 =
-    ap (λ byte. Instruction (decoded_from (byte ∷ behind at_2.chips 1))) hlt_byte ∙ ap Instruction (is_hlt (behind at_2.chips 1))
+    ap (λ byte. Instruction (decoded_from (byte ∷ following at_2.chips 1))) hlt_byte ∙ ap Instruction (is_hlt (following at_2.chips 1))
 
 act_3 : next_act at_3 ≡ Nothing
 unfolding on_clocks at_0 at_1 at_2 at_3 cli hlt

@@ -2,7 +2,7 @@
 use Rattle.std.proofs.Common.{◌+◌, ◌-◌, ◌≤◌, ◌++◌, length, sym, ap, ◌∙◌, arith, append_assoc, append-nil}
 use Rattle.board_types.proofs.Iterate.{iterate_zero, iterate_add, gathered_zero, gathered_add}
 use Rattle.board_plain.specs.Board.{BoardState, Ran}
-use Rattle.board_plain.specs.Laws.{RunsJoin}
+use Rattle.board_plain.specs.BoardLaws.{RunsJoin}
 use Rattle.board_plain.specs.Plain.{after_clock, after_clocks, change_next, changes_in}
 use Rattle.board_plain.specs.Trail.{last, trail_in, trail_next}
 use Rattle.board_plain.proofs.LastEntries.{last_again, nothing_added}

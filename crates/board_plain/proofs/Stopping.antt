@@ -4,7 +4,7 @@ use Rattle.board_plain.specs.declared.stop.Condition.{Condition}
 use Rattle.board_plain.specs.declared.stop.Stop.{Stop}
 use Rattle.board_plain.specs.Plain.{Plain, after_clocks, clock_of}
 use Rattle.board_plain.specs.Stops.{holding, IsStopOf, NoStop, StopsAt}
-use Rattle.board_plain.specs.Laws.{RunsHaveOneEnd}
+use Rattle.board_plain.specs.BoardLaws.{RunsHaveOneEnd}
 
 -- nothing holds after no clocks
 pub no_stop_none : (stops : List Condition) (s : Plain) → NoStop stops 0 s

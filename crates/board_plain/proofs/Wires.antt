@@ -16,14 +16,14 @@ use Rattle.wiring.proofs.PowerOn.{power_on_settled, power_on_keys_settled}
 use Rattle.wiring.proofs.Settling.{settles_once, keys_settle_once}
 use Rattle.wiring.specs.Chips as chips
 use Rattle.wiring.specs.Chips.{ChipsState}
-use Rattle.wiring.specs.Laws.{FixedWires, KeysSettled}
+use Rattle.wiring.specs.WiringLaws.{FixedWires, KeysSettled}
 use Rattle.wiring.specs.Ports.{chips_bus}
 use Rattle.wiring.specs.Wires as wires
 use Rattle.wiring.specs.Wires.{after_settling, after_arrival, after_arrivals, after_key_settling, after_acknowledge}
 use Rattle.board_plain.specs.declared.act.Act.{Act}
 use Rattle.board_plain.specs.declared.act.Act.TheVariants.{Nothing, Request, SingleStep, Iteration, Instruction}
 use Rattle.board_plain.specs.declared.config.Config.{Config}
-use Rattle.board_plain.specs.Laws.{WiresHold, WiresAlwaysHold}
+use Rattle.board_plain.specs.BoardLaws.{WiresHold, WiresAlwaysHold}
 use Rattle.board_plain.specs.Plain.{Plain, after_act, after_clock, after_clocks, chips_after_clock, codes_at, next_act, power_on}
 
 -- the wires that nothing drives

@@ -8,7 +8,7 @@ use Rattle.board_types.specs.declared.line.Line.TheVariants.{Low, High}
 use Rattle.decode.specs.declared.decoding.Decoding.TheVariants.{Found, NoRow}
 use Rattle.board_plain.specs.declared.act.Act.{Act}
 use Rattle.board_plain.specs.declared.act.Act.TheVariants.{Nothing, Request, SingleStep, Iteration, Instruction}
-use Rattle.board_plain.specs.Laws.{AtMostOneStep, AtMostTwoEdges, IdleHasNoWork, IsIdle}
+use Rattle.board_plain.specs.BoardLaws.{AtMostOneStep, AtMostTwoEdges, IdleHasNoWork, IsIdle}
 use Rattle.board_plain.specs.Plain.{Plain, after_clock, clock_of, codes_at, next_act}
 use Rattle.board_plain.specs.Work.{edges_next, edges_of, jams_of, keys_next, steps_next, steps_of, work_next}
 use Rattle.board_plain.proofs.Codes.{none_due}

@@ -28,7 +28,7 @@ use Rattle.wiring.specs.Wires.{after_arrival, after_arrivals, after_key_settling
 use Rattle.board_plain.specs.declared.act.Act.{Act}
 use Rattle.board_plain.specs.declared.act.Act.TheVariants.{Nothing, Request, SingleStep, Iteration, Instruction}
 use Rattle.board_plain.specs.declared.config.Config.{Config}
-use Rattle.board_plain.specs.Laws.{MemoryTakesBytes}
+use Rattle.board_plain.specs.BoardLaws.{MemoryTakesBytes}
 use Rattle.board_plain.specs.Plain.{Plain, after_act, after_clock, after_clocks, chips_after_clock, codes_at, next_act, power_on}
 
 -- an address that takes bytes goes on taking them

@@ -1,9 +1,9 @@
 pub mod Reset
 pub mod Plain
 pub mod Trail
-pub mod Parts
+pub mod CodeAtIp
 pub mod Board
 pub mod Stops
 pub mod Lasts
 pub mod Work
-pub mod Laws
+pub mod BoardLaws

@@ -4,7 +4,7 @@ use Rattle.std.specs.Prelude.{ℕ, ◌+◌, ◌-◌, ◌*◌, ◌==◌, Bool, if
 use Rattle.std.specs.Bool.{beq}
 use Rattle.board_types.specs.declared.choice.ClockTable.{ClockTable}
 use Rattle.board_types.specs.Iterate.{iterate, gathered}
-use Rattle.board_types.specs.Lines.{from_bool, is_high}
+use Rattle.board_types.specs.LineLevel.{from_bool, is_high}
 use Rattle.board_types.specs.declared.keys.StampedKey.{StampedKey}
 use Rattle.board_types.specs.declared.line.Line.{Line}
 use Rattle.board_types.specs.declared.regs.Regs.{Regs}

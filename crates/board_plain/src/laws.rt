@@ -1,10 +1,10 @@
 //! What holds of every plain board, over the definitions alone.
-ghost use Rattle.board_plain.specs.Laws.{AtMostOneStep, AtMostTwoEdges, HaltIsQuiet, IdleHasNoWork, JamIsQuiet, LeastNumberIsTold, LevelIsForeseen, MemoryTakesBytes, NoRequestWithoutIf, RequestIsTaken, RunsHaveOneEnd, RunsJoin, SearchesJoin, StayingRequestIsTaken, WiresAlwaysHold};
+ghost use Rattle.board_plain.specs.BoardLaws.{AtMostOneStep, AtMostTwoEdges, HaltIsQuiet, IdleHasNoWork, JamIsQuiet, LeastNumberIsTold, LevelIsPredicted, MemoryTakesBytes, NoRequestWithoutIf, RequestIsTaken, RunsHaveOneEnd, RunsJoin, SearchesJoin, StayingRequestIsTaken, WiresAlwaysHold};
 
 /// If the wires hold, the speaker's level at the next clock is known from the port writes that the processor is about
 /// to make: no read, entry, iteration or key touches it.
-pub fn level_is_foreseen()
-    ensures { LevelIsForeseen }
+pub fn level_is_predicted()
+    ensures { LevelIsPredicted }
 {}
 
 /// At every clock of every board the wires have settled, and the keyboard, gates 0 and 1 are high, and IR2 to IR7 are

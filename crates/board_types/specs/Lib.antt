@@ -2,9 +2,9 @@ pub mod Address
 pub mod Iterate
 pub mod Image
 pub mod Keys
-pub mod Flags
+pub mod FlagsWord
 pub mod Bits
-pub mod Lines
+pub mod LineLevel
 pub mod TextLines
 pub mod Digits
 pub mod Timed

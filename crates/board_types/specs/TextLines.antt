@@ -23,5 +23,5 @@ text_lines (b ∷ bs) =
 
 -- how many bytes come before the first byte with this value, or before the end if there is none
 abbrev pub size_before : ℕ → List ℕ → ℕ
-size_before mark [] = 0
-size_before mark (b ∷ bs) = if b == mark then 0 else 1 + size_before mark bs
+size_before delimiter [] = 0
+size_before delimiter (b ∷ bs) = if b == delimiter then 0 else 1 + size_before delimiter bs

@@ -1,6 +1,6 @@
 //! The level of a wire.
 ghost use Rattle.std.specs.Prelude.{◌≡◌};
-ghost use Rattle.board_types.specs.Lines.{from_bool, is_high, opposite};
+ghost use Rattle.board_types.specs.LineLevel.{from_bool, is_high, opposite};
 
 /// A wire's level.
 #[derive(Clone, Copy, Debug, PartialEq, Eq)]

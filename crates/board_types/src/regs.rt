@@ -1,6 +1,6 @@
 //! The 8086's register file (8086 Family User's Manual, "General Registers" to "Flags").
 ghost use Rattle.std.specs.Prelude.{◌≡◌, ◌≤◌};
-ghost use Rattle.board_types.specs.Flags.{flag_bit, flags_word};
+ghost use Rattle.board_types.specs.FlagsWord.{flag_bit, flags_word};
 
 /// The nine flags.
 #[derive(Clone, Copy, Debug, PartialEq, Eq, Default)]

@@ -23,15 +23,15 @@ pub fn next_line(text: &[u8]) -> Option<(&[u8], &[u8])>
     }
 }
 
-/// How many bytes of the text come before the first `mark`; all of them if it has none.
-pub fn length_before(mark: u8, text: &[u8]) -> usize
-    ensures size { result ≡ size_before mark text.now }
+/// How many bytes of the text come before the first `delimiter`; all of them if it has none.
+pub fn length_before(delimiter: u8, text: &[u8]) -> usize
+    ensures size { result ≡ size_before delimiter text.now }
     ensures within { result ≤ length text.now }
 {
     let mut length = 0;
     let mut rest = text;
     while let [first, after @ ..] = rest {
-        if *first == mark {
+        if *first == delimiter {
             break;
         }
         length += 1;

@@ -1,3 +1,3 @@
 pub mod Bus
-pub mod PortWrites
-pub mod Kept
+pub mod PortWriteBus
+pub mod BusPromises

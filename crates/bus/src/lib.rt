@@ -4,7 +4,7 @@
 
 ghost use Rattle.std.specs.Prelude.{◌≡◌, ◌<◌, ◌^◌, ℕ};
 ghost use Rattle.bus.specs.Bus.{BusMeaning, with_word_at, word_at};
-ghost use Rattle.bus.specs.Kept.{IsBus};
+ghost use Rattle.bus.specs.BusPromises.{IsBus};
 
 use board_types::address::physical;
 

@@ -1,7 +1,7 @@
 pub mod Kept
 pub mod Quiet
 pub mod Lag
-pub mod AtPresent
+pub mod AtSeenClock
 pub mod Controller
 mod SameBytes
 mod Guarded

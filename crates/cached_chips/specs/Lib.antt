@@ -1,2 +1,2 @@
-pub mod Quiet
+pub mod QuietChips
 pub mod Lag

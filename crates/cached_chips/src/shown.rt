@@ -22,7 +22,7 @@ impl CachedChips {
         ensures { result ≡ self.now.pit }
     {
         let mut pit = self.chips.timer();
-        pit.advance(self.present.get() / 4 - self.chips.clock().get() / 4);
+        pit.advance(self.seen_clock.get() / 4 - self.chips.clock().get() / 4);
         pit
     }
 
@@ -44,7 +44,7 @@ impl CachedChips {
     pub fn adapter(&self) -> Registers
         ensures { result ≡ registers_of self.now.mda }
     {
-        let behind = self.present.get() - self.chips.clock().get();
-        self.chips.adapter_after(behind)
+        let lag = self.seen_clock.get() - self.chips.clock().get();
+        self.chips.adapter_after(lag)
     }
 }

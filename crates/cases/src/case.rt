@@ -21,7 +21,7 @@ impl Case {
 
     /// Adds the line of this number, unless it is a blank one or a remark between cases. Answers whether the case is whole
     /// then.
-    pub fn is_whole_with(&mut self, number: usize, line: &str) -> Result<bool, AllocError> {
+    pub fn add_line(&mut self, number: usize, line: &str) -> Result<bool, AllocError> {
         let mut line = line;
         if self.text.is_empty() {
             if line.trim().is_empty() || line.starts_with('#') {

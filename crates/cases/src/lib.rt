@@ -71,7 +71,7 @@ where
     let mut case = Case::new(alloc);
     for (i, line) in cases.lines(alloc).enumerate() {
         let line = line?;
-        if !case.is_whole_with(i + 1, &line)? {
+        if !case.add_line(i + 1, &line)? {
             continue;
         }
         let answer = judge(alloc, &case.text).map(A::into);

@@ -11,9 +11,9 @@ use Rattle.board_plain.specs.Trail.{last, trail_in}
 use Rattle.board_plain.specs.declared.speaker.SpeakerChange.{SpeakerChange}
 use Rattle.board_plain.specs.declared.stop.Condition.{Condition}
 use Rattle.board_plain.specs.declared.trail.TrailEntry.{TrailEntry}
-use Rattle.debugger_meaning.specs.Kept.{IsSession}
+use Rattle.debugger_meaning.specs.SessionInvariant.{IsSession}
 use Rattle.debugger_meaning.specs.Stands.{SessionState, Shown, shown_of, Stands, StandsAfter, StandsAt}
-use Rattle.debugger.specs.WithKey.{board_with, HasKey, HaveKey}
+use Rattle.debugger.specs.CopiesWithKey.{board_with, HasKey, HaveKey}
 use Rattle.events_laws.specs.WithKey.{inserted, with_key}
 use Rattle.events_laws.proofs.KeyToCome.{changes_stay, entries_stay, key_waits}
 
@@ -114,10 +114,10 @@ adds_less key old now mid next index got made left adds =
     let parts : next ≡ take index now ++ drop (index + 1) now = left ∙ joined in
     let least = length-take index now in
     let size_front : length (take index now) ≡ index = omega (arith, least, long) in
-    let behind = length-drop (index + 1) now in
+    let following = length-drop (index + 1) now in
     let both : length next ≡ length (take index now) + length (drop (index + 1) now) = ap length parts ∙ length-append (take index now) (drop (index + 1) now) in record {
       within = omega (arith, both, size_front);
-      fewer = omega (arith, both, size_front, behind, few, long);
+      fewer = omega (arith, both, size_front, following, few, long);
       before = ap (take index) parts ∙ take_at (take index now) (drop (index + 1) now) index size_front ∙ fewer_same index now old adds.before;
       after = All-same (HasKey key old) (drop index next) (drop (index + 1) now) (ap (drop index) parts ∙ drop_at (take index now) (drop (index + 1) now) index size_front) adds.after;
     }

@@ -1,1 +1,1 @@
-pub mod WithKey
+pub mod CopiesWithKey

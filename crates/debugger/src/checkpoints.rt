@@ -2,9 +2,9 @@
 ghost use Rattle.std.specs.Prelude.{◌≡◌, ◌+◌, ◌<◌, ◌≤◌, [], All, Contains, IfOk, IfSome, IsTrue, length, take, None};
 ghost use Rattle.std.specs.Result.{IfErr};
 ghost use Rattle.board_plain.specs.Plain.{clock_of};
-ghost use Rattle.debugger_meaning.specs.Kept.{AreKept};
+ghost use Rattle.debugger_meaning.specs.SessionInvariant.{AreKept};
 ghost use Rattle.debugger_meaning.specs.Stands.{shown_of};
-ghost use Rattle.debugger.specs.WithKey.{board_with, HaveKey};
+ghost use Rattle.debugger.specs.CopiesWithKey.{board_with, HaveKey};
 
 use crate::typed::keys_with;
 use board::board::Board;

@@ -15,7 +15,7 @@ ghost use Rattle.board_lines.specs.Text.{register_lines};
 ghost use Rattle.debugger_meaning.specs.Back.{GoesBack, GoesBackTo, RefusesBack, RefusesBackTo, tell_clock};
 ghost use Rattle.debugger_meaning.specs.Commands.{IsWithin, command_of};
 ghost use Rattle.debugger_meaning.specs.Dump.{dump_text};
-ghost use Rattle.debugger_meaning.specs.Kept.{FindsNone, LacksMemory, StandsNow};
+ghost use Rattle.debugger_meaning.specs.SessionInvariant.{FindsNone, LacksMemory, StandsNow};
 ghost use Rattle.debugger_meaning.specs.Session.{Answers, AnswersLine, AnswersStop, Goes, RefusesGo, RefusesRun, RefusesStep, Runs, Shows, Steps};
 ghost use Rattle.debugger_meaning.specs.Stands.{Stands, StandsAfter, gone, session_about, shown_of};
 ghost use Rattle.debugger_meaning.specs.TrailText.{entry_line};
@@ -54,7 +54,7 @@ pub struct Session<A: Allocator = Global> {
 }
 
 impl<A: Allocator> Model for Session<A> {
-    ghost use Rattle.debugger_meaning.specs.Kept.{IsSession};
+    ghost use Rattle.debugger_meaning.specs.SessionInvariant.{IsSession};
     ghost use Rattle.debugger_meaning.specs.Stands.{SessionState, shown_of};
 
     ghost Value = { SessionState };

@@ -4,7 +4,7 @@ use Rattle.std.proofs.Math.Nat.{min-eq_left, min-eq_right, pow-succ', pow-le-pow
 use Rattle.std.proofs.lemmas.Bool.{ltb-true}
 use Rattle.std.proofs.lemmas.Bool.Decides.{nat_tests}
 use Rattle.board_types.specs.Digits.{digit_of, spelled}
-use Rattle.debugger_meaning.specs.Words.{at_most_greatest}
+use Rattle.debugger_meaning.specs.CommandWords.{at_most_greatest}
 
 more : (base n d m : ℕ) → 1 ≤ base → m ≤ n → m ≤ n * base + d
 more base n d m some large = grind arith

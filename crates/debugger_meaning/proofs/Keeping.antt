@@ -3,7 +3,7 @@ use Rattle.std.proofs.Common.{◌≡◌, ℕ, ◌+◌, inl, inr, Bool, true, fal
 use Rattle.std.specs.Prelude.{◌⊎◌, Contains, insert}
 use Rattle.std.proofs.lemmas.List.Elements.{All-append, All-cons, All-contains_itself, All-drop, All-same, All-take, All-weaker}
 use Rattle.board_plain.specs.Board.{BoardState}
-use Rattle.debugger_meaning.specs.Kept.{AreKept}
+use Rattle.debugger_meaning.specs.SessionInvariant.{AreKept}
 use Rattle.debugger_meaning.specs.Stands.{shown_of}
 
 abbrev IsKept : List BoardState → BoardState → BoardState → Type 0

@@ -8,6 +8,6 @@ mod SpelledCommands
 pub mod Keeping
 pub mod Standing
 pub mod Pieces
-pub mod Behind
+pub mod Following
 pub mod Returning
 pub mod Walking

@@ -17,12 +17,12 @@ range_more n =
     ∙ map-range_with_len_more (λ (x : ℕ). x) 0 n n (from_zero n)
     ∙ ap (λ (r : List ℕ). r ++ n ∷ []) (map-id (range_with_len 0 n))
 
-nothing_behind : (xs : List ℕ) → xs ++ [] ≡ xs
-nothing_behind [] = refl
-nothing_behind (x ∷ xs) = ap (λ (r : List ℕ). x ∷ r) (nothing_behind xs)
+nothing_after : (xs : List ℕ) → xs ++ [] ≡ xs
+nothing_after [] = refl
+nothing_after (x ∷ xs) = ap (λ (r : List ℕ). x ∷ r) (nothing_after xs)
 
 one_more : {X : Type 0} (f : X → List ℕ) (xs : List X) (x : X) → flat_map f (xs ++ x ∷ []) ≡ flat_map f xs ++ f x
-one_more f xs x = flat_map-append f xs (x ∷ []) ∙ ap (λ (r : List ℕ). flat_map f xs ++ r) (flat_map-cons f x [] ∙ nothing_behind (f x))
+one_more f xs x = flat_map-append f xs (x ∷ []) ∙ ap (λ (r : List ℕ). flat_map f xs ++ r) (flat_map-cons f x [] ∙ nothing_after (f x))
 
 -- one more line
 pub line_more : (f : ℕ → List ℕ) (n : ℕ) → flat_map f (range_with_len 0 (n + 1)) ≡ flat_map f (range_with_len 0 n) ++ f n

@@ -4,9 +4,9 @@ use Rattle.std.specs.Bool.{Decides}
 use Rattle.std.specs.List.{AllByRecursion}
 use Rattle.std.proofs.lemmas.Bool.Decides.{Decides-eqb}
 use Rattle.board_types.specs.TextLines.{onto_first}
-use Rattle.debugger_meaning.specs.Words.{is_space, begins_word, words_from, words_of}
+use Rattle.debugger_meaning.specs.CommandWords.{is_space, begins_word, words_from, words_of}
 use Rattle.debugger_meaning.specs.Spellings.{AreSpaces, HasWords, IsApart, IsWord}
-use Rattle.debugger_meaning.specs.Laws.{WordsAreRead}
+use Rattle.debugger_meaning.specs.DebuggerLaws.{WordsAreRead}
 use Rattle.debugger_meaning.proofs.Scanning.{space_first}
 use Rattle.debugger_meaning.proofs.Reading.{word_end, word_step}
 
@@ -68,9 +68,9 @@ words_read : (ws : List (List ℕ)) (line : List ℕ) → HasWords ws line → w
 words_read [] line is = no_words line is
 words_read (w ∷ ws) line is =
     ap words_from is.are
-    ∙ skipped is.spaces (w ++ is.behind) is.are_spaces
-    ∙ first_word w is.behind is.is_word is.is_apart
-    ∙ ap (λ (more : List (List ℕ)). w ∷ more) (words_read ws is.behind is.is_behind)
+    ∙ skipped is.spaces (w ++ is.following) is.are_spaces
+    ∙ first_word w is.following is.is_word is.is_apart
+    ∙ ap (λ (more : List (List ℕ)). w ∷ more) (words_read ws is.following is.is_following)
 
 -- ---- words that are read are those of the line
 some_word : (b : ℕ) (w : List ℕ) → b ∷ w ≢ []
@@ -80,12 +80,12 @@ more_space : (b : ℕ) (bs : List ℕ) (ws : List (List ℕ)) → b ≡ 32 → H
 more_space b bs [] is more = (is, more)
 more_space b bs (w ∷ ws) is more = record {
   spaces = b ∷ more.spaces;
-  behind = more.behind;
+  following = more.following;
   are = ap (λ (cs : List ℕ). b ∷ cs) more.are;
   are_spaces = (is, more.are_spaces);
   is_word = more.is_word;
   is_apart = more.is_apart;
-  is_behind = more.is_behind;
+  is_following = more.is_following;
 }
 
 apart : (bs : List ℕ) → begins_word bs ≡ false → IsApart bs
@@ -93,36 +93,36 @@ apart [] at = tt
 apart (c ∷ cs) at = space_is c (not_false (is_space c) at)
 
 -- a word that is longer by its first byte
-longer_by : (b c : ℕ) (cs w : List ℕ) (ws : List (List ℕ)) (spaces behind : List ℕ) → b ≢ 32 → c ≢ 32 → c ∷ cs ≡ spaces ++ (w ++ behind) → AreSpaces spaces
-    → IsWord w → IsApart behind → HasWords ws behind → HasWords ((b ∷ w) ∷ ws) (b ∷ c ∷ cs)
-longer_by b c cs w ws [] behind other not_space are spaces word ends more = record {
+longer_by : (b c : ℕ) (cs w : List ℕ) (ws : List (List ℕ)) (spaces following : List ℕ) → b ≢ 32 → c ≢ 32 → c ∷ cs ≡ spaces ++ (w ++ following) → AreSpaces spaces
+    → IsWord w → IsApart following → HasWords ws following → HasWords ((b ∷ w) ∷ ws) (b ∷ c ∷ cs)
+longer_by b c cs w ws [] following other not_space are spaces word ends more = record {
   spaces = [];
-  behind = behind;
+  following = following;
   are = ap (λ (ds : List ℕ). b ∷ ds) are;
   are_spaces = tt;
   is_word = record { some = some_word b w; no_space = (other, word.no_space) };
   is_apart = ends;
-  is_behind = more;
+  is_following = more;
 }
-longer_by b c cs w ws (d ∷ ds) behind other not_space are spaces word ends more = absurd (let same : c ≡ d = cc in not_space (same ∙ spaces.0))
+longer_by b c cs w ws (d ∷ ds) following other not_space are spaces word ends more = absurd (let same : c ≡ d = cc in not_space (same ∙ spaces.0))
 
 longer : (b : ℕ) (bs : List ℕ) (ws : List (List ℕ)) → begins_word bs ≡ true → b ≢ 32 → HasWords ws bs → HasWords (onto_first b ws) (b ∷ bs)
 longer b [] ws at other more = absurd (cc)
 longer b (c ∷ cs) [] at other more = absurd (other_is c (not_true (is_space c) at) more.0)
 longer b (c ∷ cs) (w ∷ ws) at other more =
-    longer_by b c cs w ws more.spaces more.behind other (other_is c (not_true (is_space c) at)) more.are more.are_spaces more.is_word more.is_apart more.is_behind
+    longer_by b c cs w ws more.spaces more.following other (other_is c (not_true (is_space c) at)) more.are more.are_spaces more.is_word more.is_apart more.is_following
 
 begun : (b : ℕ) (bs : List ℕ) (begins : Bool) → begins_word bs ≡ begins → b ≢ 32 → HasWords (words_from bs) bs
     → HasWords (if begins then onto_first b (words_from bs) else (b ∷ []) ∷ words_from bs) (b ∷ bs)
 begun b bs true at other more = longer b bs (words_from bs) at other more
 begun b bs false at other more = record {
   spaces = [];
-  behind = bs;
+  following = bs;
   are = refl;
   are_spaces = tt;
   is_word = record { some = some_word b []; no_space = (other, tt) };
   is_apart = apart bs at;
-  is_behind = more;
+  is_following = more;
 }
 
 one_more : (b : ℕ) (bs : List ℕ) (space : Bool) → is_space b ≡ space → HasWords (words_from bs) bs

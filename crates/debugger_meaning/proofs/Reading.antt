@@ -9,12 +9,12 @@ use Rattle.std.proofs.lemmas.Slice.Eq.{bytes_eq-Decides}
 use Rattle.std.proofs.Math.Nat.{min-eq_left}
 use Rattle.board_types.specs.Digits.{hex_byte_text, hex_word, spelled}
 use Rattle.board_types.specs.TextLines.{onto_first}
-use Rattle.debugger_meaning.specs.Words.{words_from, words_of, is_space, hex_number, count_of}
+use Rattle.debugger_meaning.specs.CommandWords.{words_from, words_of, is_space, hex_number, count_of}
 use Rattle.debugger_meaning.specs.Dump.{address_text}
 use Rattle.debugger_meaning.specs.Commands.{back_command, is_colon, break_command, break_round, break_of, byte_command, command_in, command_of, command_with, command_with_two, dump_command, plain_command}
 use Rattle.debugger_meaning.specs.declared.command.Command.{Command}
 use Rattle.debugger_meaning.specs.declared.command.Command.TheVariants.{Break, Byte, Sound, Halted, Go, Step, Regs, Screen, Dump, Trail, Back, BackStep, BackStop}
-use Rattle.debugger_meaning.specs.Laws.{CommandsReadBack}
+use Rattle.debugger_meaning.specs.DebuggerLaws.{CommandsReadBack}
 use Rattle.debugger_meaning.proofs.Spelling.{byte_spelled, word_spelled, decimal_spelled, digit_spelled}
 
 -- no byte of the word is a space

@@ -11,7 +11,7 @@ use Rattle.debugger_meaning.specs.declared.answer.Answer.{Answer}
 use Rattle.debugger_meaning.specs.declared.answer.Answer.TheVariants.{Clock}
 use Rattle.debugger_meaning.specs.declared.fault.DebugFault.{DebugFault}
 use Rattle.debugger_meaning.specs.declared.fault.DebugFault.TheVariants.{BadScan, StampsFall, ClockLimit, BadCommand, TooManyStops, Memory, BeforeStart}
-use Rattle.debugger_meaning.specs.Kept.{FindsNone, StandsNow}
+use Rattle.debugger_meaning.specs.SessionInvariant.{FindsNone, StandsNow}
 use Rattle.debugger_meaning.specs.Stands.{SessionState, StandsAt, gone}
 
 pub goes_back : (n clock told : ℕ) (old new : SessionState) → 1 ≤ n → clock_of old.first.plain + n ≤ clock_of old.board.plain → clock ≡ clock_of old.board.plain - n → StandsNow clock old new

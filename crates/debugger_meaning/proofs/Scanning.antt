@@ -1,7 +1,7 @@
 -- How words stand at the front of a line.
 use Rattle.std.proofs.Common.{◌≡◌, ℕ, ◌+◌, ◌-◌, ◌≤◌, List, [], ◌∷◌, length, take, drop, refl, ap, arith, Bool, true, false, not, if◌then◌else◌, suc}
 use Rattle.board_types.specs.TextLines.{onto_first, size_before}
-use Rattle.debugger_meaning.specs.Words.{is_space, begins_word, words_from}
+use Rattle.debugger_meaning.specs.CommandWords.{is_space, begins_word, words_from}
 
 one_more : (n : ℕ) → 1 + n ≡ suc n
 one_more n = omega arith

@@ -8,10 +8,10 @@ use Rattle.std.proofs.lemmas.Bool.Decides.{Decides-eqb, nat_tests}
 use Rattle.std.proofs.lemmas.List.{take_at}
 use Rattle.std.proofs.lemmas.Slice.Eq.{bytes_eq-Decides}
 use Rattle.board_types.specs.Digits.{digit_of, spelled}
-use Rattle.debugger_meaning.specs.Words.{words_of, hex_number, at_most_greatest, count_of}
+use Rattle.debugger_meaning.specs.CommandWords.{words_of, hex_number, at_most_greatest, count_of}
 use Rattle.debugger_meaning.specs.Commands.{back_by, back_command, plain_command, is_colon, break_of, break_round, break_command, go_command, command_with, byte_of, byte_command, dump_of, dump_command, command_with_two, command_in, command_of}
 use Rattle.debugger_meaning.specs.Spellings.{IsShown, Says, SpellsCommand, SpellsCount, SpellsHex, SpellsPlace}
-use Rattle.debugger_meaning.specs.Laws.{CommandsAreSaid}
+use Rattle.debugger_meaning.specs.DebuggerLaws.{CommandsAreSaid}
 use Rattle.debugger_meaning.specs.declared.command.Command.{Command}
 use Rattle.debugger_meaning.specs.declared.command.Command.TheVariants.{Break, Byte, Sound, Halted, Go, Step, Regs, Screen, Dump, Trail, Back, BackStep, BackStop}
 use Rattle.debugger_meaning.proofs.Parting.{words_are}
@@ -133,16 +133,16 @@ no_colon : (front n : ℕ) (bs : List ℕ) → spelled 16 front bs ≡ Some n �
 no_colon front n [] is = refl
 no_colon front n (b ∷ bs) is = digits_step b front n bs (nat_lt (digit_of b) 16) refl (λ m. no_colon m n bs) is
 
-place_behind : (xs ys : List ℕ) → NoColon xs → position_or_len is_colon (xs ++ 58 ∷ ys) ≡ length xs
-place_behind [] ys none = refl
-place_behind (x ∷ xs) ys none =
+place_following : (xs ys : List ℕ) → NoColon xs → position_or_len is_colon (xs ++ 58 ∷ ys) ≡ length xs
+place_following [] ys none = refl
+place_following (x ∷ xs) ys none =
     let both = and_parts (not (is_colon x)) (list_all (λ b. not (is_colon b)) xs) none in
-    let rest = place_behind xs ys both.1 in
+    let rest = place_following xs ys both.1 in
     rw (both.0, rest) (omega arith)
 
-drop_behind : (xs : List ℕ) (b : ℕ) (ys : List ℕ) → drop (length xs + 1) (xs ++ b ∷ ys) ≡ ys
-drop_behind [] b ys = refl
-drop_behind (x ∷ xs) b ys = let more : suc (length xs) + 1 ≡ suc (length xs + 1) = omega arith in rw more (drop_behind xs b ys)
+drop_after : (xs : List ℕ) (b : ℕ) (ys : List ℕ) → drop (length xs + 1) (xs ++ b ∷ ys) ≡ ys
+drop_after [] b ys = refl
+drop_after (x ∷ xs) b ys = let more : suc (length xs) + 1 ≡ suc (length xs + 1) = omega arith in rw more (drop_after xs b ys)
 
 is_within : (m n : ℕ) → m < n → nat_lt m n ≡ true
 is_within m n less = grind (arith, nat_tests)
@@ -150,12 +150,12 @@ is_within m n less = grind (arith, nat_tests)
 break_parts : (front back : List ℕ) → NoColon front → break_command (front ++ 58 ∷ back) ≡ break_of (hex_number 4 front) (hex_number 4 back)
 unfolding break_command
 break_parts front back none =
-    let place = place_behind front back none in
+    let place = place_following front back none in
     let size : length front < length (front ++ 58 ∷ back) = simp length-append (omega arith) in
     let within = is_within (length front) (length (front ++ 58 ∷ back)) size in
     let before : take (length front) (front ++ 58 ∷ back) ≡ front = take_at front (58 ∷ back) (length front) refl in
-    let behind = drop_behind front 58 back in
-    rw (place, within, before, behind) refl
+    let following = drop_after front 58 back in
+    rw (place, within, before, following) refl
 
 break_read : (segment offset : ℕ) (place : List ℕ) → SpellsPlace segment offset place → break_command place ≡ Some (Break segment offset)
 break_read segment offset place is =

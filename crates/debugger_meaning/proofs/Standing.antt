@@ -13,7 +13,7 @@ use Rattle.board_plain.proofs.LastEntries.{last_within}
 use Rattle.board_plain.proofs.Runs.{ran_none, runs_join}
 use Rattle.debugger_meaning.specs.declared.fault.DebugFault.{DebugFault}
 use Rattle.debugger_meaning.specs.declared.fault.DebugFault.TheVariants.{BadScan, StampsFall, ClockLimit, BadCommand, TooManyStops, Memory, BeforeStart}
-use Rattle.debugger_meaning.specs.Kept.{AreKept, IsSession, StandsNow}
+use Rattle.debugger_meaning.specs.SessionInvariant.{AreKept, IsSession, StandsNow}
 use Rattle.debugger_meaning.specs.Session.{RefusesRun, Runs}
 use Rattle.debugger_meaning.specs.Stands.{SessionState, Shown, shown_of, Stands, StandsAfter, StandsAt}
 

@@ -12,7 +12,7 @@ use Rattle.debugger_meaning.specs.declared.command.Command.{Command}
 use Rattle.debugger_meaning.specs.declared.command.Command.TheVariants as commands
 use Rattle.debugger_meaning.specs.declared.fault.DebugFault.{DebugFault}
 use Rattle.debugger_meaning.specs.declared.fault.DebugFault.TheVariants.{BadScan, StampsFall, ClockLimit, BadCommand, TooManyStops, Memory, BeforeStart}
-use Rattle.debugger_meaning.specs.Laws.{SessionsStand, Walk}
+use Rattle.debugger_meaning.specs.DebuggerLaws.{SessionsStand, Walk}
 use Rattle.debugger_meaning.specs.Session.{Answers, AnswersStop, RefusesStep, Runs}
 use Rattle.debugger_meaning.specs.Stands.{SessionState, Shown, StandsAfter, session_about, shown_of}
 use Rattle.debugger_meaning.proofs.Standing.{stands_early, stands_later, stands_none, stands_refused}
@@ -107,7 +107,7 @@ still_stands first commands.BackStop old new result at is = of_back_stop first o
 
 stands_through : (first : Shown) (commands : List Command) (old new : SessionState) → StandsFrom first old → Walk commands old new → StandsFrom first new
 stands_through first [] old new at walk = same_state first old new at walk
-stands_through first (command ∷ rest) old new at walk = stands_through first rest walk.next new (still_stands first command old walk.next walk.result at walk.answers) walk.behind
+stands_through first (command ∷ rest) old new at walk = stands_through first rest walk.next new (still_stands first command old walk.next walk.result at walk.answers) walk.following
 
 pub sessions_stand : SessionsStand
 sessions_stand commands board new few walk = (stands_through (shown_of board) commands (session_about board) new (refl, stands_none (shown_of board) board refl few) walk).1

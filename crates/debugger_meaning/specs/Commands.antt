@@ -4,7 +4,7 @@ use Rattle.std.specs.Prelude.{ℕ, ◌+◌, ◌^◌, ◌<◌, ◌≤◌, ⊤, Bo
 use Rattle.std.specs.Str.{bytes_eq}
 use Rattle.debugger_meaning.specs.declared.command.Command.{Command}
 use Rattle.debugger_meaning.specs.declared.command.Command.TheVariants.{Break, Byte, Sound, Halted, Go, Step, Regs, Screen, Dump, Trail, Back, BackStep, BackStop}
-use Rattle.debugger_meaning.specs.Words.{words_of, hex_number, count_of}
+use Rattle.debugger_meaning.specs.CommandWords.{words_of, hex_number, count_of}
 
 -- the command that one word is
 unfoldable pub plain_command : List ℕ → Option Command

@@ -1,11 +1,11 @@
-pub mod Words
+pub mod CommandWords
 pub mod Commands
 pub mod Answers
 pub mod Dump
 pub mod TrailText
 pub mod Stands
 pub mod Back
-pub mod Kept
+pub mod SessionInvariant
 pub mod Session
-pub mod Laws
+pub mod DebuggerLaws
 pub mod Spellings

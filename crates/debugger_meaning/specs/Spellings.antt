@@ -21,14 +21,14 @@ IsApart [] = Unit {0}
 IsApart (b ∷ bs) = b ≡ 32
 
 -- a word, perhaps with spaces before it, and what follows it
-pub record WordThen (word : List ℕ) (Behind : List ℕ → Type 0) (line : List ℕ) : Type 0 where
+pub record WordThen (word : List ℕ) (Following : List ℕ → Type 0) (line : List ℕ) : Type 0 where
   pub spaces : List ℕ
-  pub behind : List ℕ
-  pub are : line ≡ spaces ++ (word ++ behind)
+  pub following : List ℕ
+  pub are : line ≡ spaces ++ (word ++ following)
   pub are_spaces : AreSpaces spaces
   pub is_word : IsWord word
-  pub is_apart : IsApart behind
-  pub is_behind : Behind behind
+  pub is_apart : IsApart following
+  pub is_following : Following following
 
 -- a line of these words
 abbrev pub HasWords : List (List ℕ) → List ℕ → Type 0

@@ -1,5 +1,5 @@
 //! What holds of lines, commands and sessions, over the definitions alone.
-ghost use Rattle.debugger_meaning.specs.Laws.{CommandsAreSaid, CommandsReadBack, SessionsStand, WordsAreRead};
+ghost use Rattle.debugger_meaning.specs.DebuggerLaws.{CommandsAreSaid, CommandsReadBack, SessionsStand, WordsAreRead};
 
 /// Every command has a line that is read as that command.
 pub fn commands_read_back()

@@ -11,11 +11,11 @@ use Rattle.isa.specs.declared.form.Instr.{Instr}
 use Rattle.isa.specs.Table.{rows}
 use Rattle.isa.specs.Layout.{field_part, field_size, second_part, second_size}
 use Rattle.isa.specs.Encoding.{displacement_field, form_length}
-use Rattle.isa.specs.Parts.{begins, row_at}
+use Rattle.isa.specs.OpcodeBytes.{begins, row_at}
 use Rattle.isa.proofs.Rows.{each}
 use Rattle.decode.specs.declared.decoding.Decoding.{Decoding}
 use Rattle.decode.specs.declared.decoding.Decoding.TheVariants.{Found, NoRow}
-use Rattle.decode.specs.Decoding.{and_then, decoded_behind, decoded_from, form_at, found_or_none, place_at, prefix_of, prefixes_at, size_of, IsDecoded, StandsIn}
+use Rattle.decode.specs.Decoding.{and_then, decoded_after, decoded_from, form_at, found_or_none, place_at, prefix_of, prefixes_at, size_of, IsDecoded, StandsIn}
 use Rattle.decode.proofs.Exact.{complete}
 use Rattle.decode.proofs.Lists.{find_within}
 use Rattle.decode.proofs.Pieces.{displacement_few}
@@ -52,9 +52,9 @@ no_prefixes : (bytes : List ℕ) → prefix_of (slice_index bytes 0) ≡ None �
 no_prefixes [] bare = refl
 no_prefixes (b ∷ bs) bare = ap (λ o. and_then o (prefixes_at 6 bs)) bare
 
-pub bare_from : (bytes : List ℕ) → prefix_of (slice_index bytes 0) ≡ None → decoded_from bytes ≡ decoded_behind [] bytes
+pub bare_from : (bytes : List ℕ) → prefix_of (slice_index bytes 0) ≡ None → decoded_from bytes ≡ decoded_after [] bytes
 unfolding decoded_from
-bare_from bytes bare = ap (λ ps. decoded_behind ps (drop (length ps) bytes)) (no_prefixes bytes bare)
+bare_from bytes bare = ap (λ ps. decoded_after ps (drop (length ps) bytes)) (no_prefixes bytes bare)
 
 -- an instruction that ends within some first bytes stands in all bytes that begin with those
 stands_again : (front bytes : List ℕ) (i : Instr) (size n : ℕ) → size ≤ n → take n front ≡ take n bytes → StandsIn front i size → StandsIn bytes i size
@@ -111,7 +111,7 @@ same_byte front bytes k within same =
     sym (get_or-take 6 front k 0 within) ∙ ap (λ xs. slice_index xs k) same ∙ get_or-take 6 bytes k 0 within
 
 none_again : (front bytes : List ℕ) (d : Decoding) → take 6 front ≡ take 6 bytes → prefix_of (slice_index front 0) ≡ None → row_at (slice_index front 0) (slice_index front 1) ≡ None → d ≡ NoRow → Again bytes d
-unfolding decoded_behind
+unfolding decoded_after
 none_again front bytes d same bare row found =
     let first = same_byte front bytes 0 (omega arith) same in
     let second = same_byte front bytes 1 (omega arith) same in
@@ -123,8 +123,8 @@ none_again front bytes d same bare row found =
       exact = rw found (λ other n stands. let stood = complete bytes other n stands in absurd (cc));
     }
 
-pub bare_again : (front bytes : List ℕ) (d : Decoding) → take 6 front ≡ take 6 bytes → prefix_of (slice_index front 0) ≡ None → d ≡ decoded_behind [] front → IsDecoded front d → Again bytes d
-unfolding decoded_behind
+pub bare_again : (front bytes : List ℕ) (d : Decoding) → take 6 front ≡ take 6 bytes → prefix_of (slice_index front 0) ≡ None → d ≡ decoded_after [] front → IsDecoded front d → Again bytes d
+unfolding decoded_after
 bare_again front bytes d same bare found is =
     elim (row_at (slice_index front 0) (slice_index front 1)) as (λ o. row_at (slice_index front 0) (slice_index front 1) ≡ o → d ≡ found_or_none [] front o → Again bytes d) [
       | None ↦ λ row here. none_again front bytes d same bare row here

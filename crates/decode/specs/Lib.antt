@@ -1,5 +1,5 @@
 pub mod Decoding
-pub mod Parts
-pub mod Laws
-pub mod Fields
-pub mod FieldsAgain
+pub mod DecodingParts
+pub mod DecodeLaws
+pub mod DecodingFields
+pub mod DecodingOfFields

@@ -2,7 +2,7 @@
 ghost use Rattle.std.specs.Prelude.{◌≡◌, ◌≤◌, ◌<◌, ◌+◌, ◌^◌, length, take, drop, slice_index, None, Some, []};
 ghost use Rattle.board_types.specs.Address.{physical, offset_after};
 ghost use Rattle.isa.specs.Layout.{second_part};
-ghost use Rattle.decode.specs.Decoding.{code_at, decoded_behind, decoded_from, form_at, found_or_none, prefix_of, prefixes_at, values_at, IsDecoded};
+ghost use Rattle.decode.specs.Decoding.{code_at, decoded_after, decoded_from, form_at, found_or_none, prefix_of, prefixes_at, values_at, IsDecoded};
 
 use crate::decoded::Decoded;
 use crate::parts::{code_of, number_at, place_at, prefix_of, reg_at, segment_at};
@@ -88,10 +88,10 @@ fn code_byte<B: Bytes>(bytes: &B, cs: u16, ip: u16, index: u16) -> u8
 /// The instruction at the front of `code`, which begins with no prefix.
 fn decode_bare(code: &[u8; LONGEST]) -> Decoded
     requires { prefix_of (slice_index code.now 0) ≡ None }
-    ensures value { result ≡ decoded_behind [] code.now }
+    ensures value { result ≡ decoded_after [] code.now }
     ensures exact { IsDecoded code.now result }
 {
-    decode_behind(ArrayVec::new(), code)
+    decode_after(ArrayVec::new(), code)
 }
 
 /// The instruction whose bytes stand at the front of `code`, and no other.
@@ -109,7 +109,7 @@ fn decode_prefixed(code: &[u8; LONGEST]) -> Decoded
 {
     let prefixes = prefixes_at(code);
     let count = prefixes.len();
-    decode_behind(prefixes, &code[count..])
+    decode_after(prefixes, &code[count..])
 }
 
 /// The prefixes at the front of `code`, at most seven.
@@ -127,10 +127,10 @@ fn prefixes_at(code: &[u8; LONGEST]) -> ArrayVec<Prefix, 7>
 }
 
 /// The instruction at the front of `code`, which comes after these prefixes.
-#[tactic(auto, unfolding(crate::specs::Decoding::decoded_behind))]
-fn decode_behind(prefixes: ArrayVec<Prefix, 7>, code: &[u8]) -> Decoded
+#[tactic(auto, unfolding(crate::specs::Decoding::decoded_after))]
+fn decode_after(prefixes: ArrayVec<Prefix, 7>, code: &[u8]) -> Decoded
     requires { 8 ≤ length code.now }
-    ensures { result ≡ decoded_behind prefixes.items code.now }
+    ensures { result ≡ decoded_after prefixes.items code.now }
 {
     match row_at(code[0], code[1]) {
         Some(row) => decode_row(prefixes, row, code),

@@ -1,5 +1,5 @@
 //! The laws of decoding.
-ghost use Rattle.decode.specs.Laws.{DecodingIsExact, NoneIsLonger};
+ghost use Rattle.decode.specs.DecodeLaws.{DecodingIsExact, NoneIsLonger};
 
 /// What stands at the front of some bytes is the one instruction whose bytes, as the encoding table gives them,
 /// stand there.

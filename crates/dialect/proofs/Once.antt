@@ -7,7 +7,7 @@ use Rattle.std.specs.Char.{to_ascii_lowercase}
 use Rattle.std.specs.Str.{bytes_eq}
 use Rattle.std.proofs.lemmas.Slice.Eq.{bytes_eq-Decides}
 use Rattle.dialect.specs.Words.{Entry, words, spells, meaning_of}
-use Rattle.dialect.specs.Laws.{OneMeaning, CaseDoesNotCount}
+use Rattle.dialect.specs.DialectLaws.{OneMeaning, CaseDoesNotCount}
 
 lower_same : (v w : List ℕ) → spells v w ≡ true → map to_ascii_lowercase v ≡ map to_ascii_lowercase w
 unfolding spells

@@ -36,7 +36,7 @@ use Rattle.dialect.specs.declared.keyword.Keyword.TheVariants as keywords
 use Rattle.dialect.specs.declared.meaning.Meaning.TheVariants as meanings
 use Rattle.dialect.specs.Words.{words, spells, meaning_of}
 use Rattle.dialect.specs.Names.{operation_name}
-use Rattle.dialect.specs.Laws.{OperationsAreRead, RegistersAreRead, PrefixesAreRead, KeywordsAreRead, StandsFor}
+use Rattle.dialect.specs.DialectLaws.{OperationsAreRead, RegistersAreRead, PrefixesAreRead, KeywordsAreRead, StandsFor}
 
 abbrev Plain : List ℕ → Operation → Type 0
 Plain name operation = meaning_of name ≡ Some (meanings.Mnemonic (mnemonics.Plain operation))

@@ -1,4 +1,4 @@
 pub mod Mnemonics
 pub mod Words
 pub mod Names
-pub mod Laws
+pub mod DialectLaws

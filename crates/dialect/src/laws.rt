@@ -1,5 +1,5 @@
 //! The laws of the words.
-ghost use Rattle.dialect.specs.Laws.{CaseDoesNotCount, KeywordsAreRead, OneMeaning, OperationsAreRead, PrefixesAreRead, RegistersAreRead};
+ghost use Rattle.dialect.specs.DialectLaws.{CaseDoesNotCount, KeywordsAreRead, OneMeaning, OperationsAreRead, PrefixesAreRead, RegistersAreRead};
 
 /// An operation's first mnemonic stands for that operation when it is read.
 pub fn operations_are_read()

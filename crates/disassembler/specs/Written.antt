@@ -15,7 +15,7 @@ use Rattle.isa.specs.declared.form.Values.{Values}
 use Rattle.isa.specs.declared.row.Kind.{Kind}
 use Rattle.isa.specs.declared.row.Kind.TheVariants as kinds
 use Rattle.isa.specs.Row.{operation_of}
-use Rattle.isa.specs.Registers.{byte_register_of, segment_register_of, word_register_of}
+use Rattle.isa.specs.RegisterNumbers.{byte_register_of, segment_register_of, word_register_of}
 use Rattle.isa.specs.Encoding.{sign_extended}
 use Rattle.dialect.specs.declared.keyword.Keyword.{Keyword}
 use Rattle.dialect.specs.declared.keyword.Keyword.TheVariants as keywords

@@ -9,7 +9,7 @@ use Rattle.execute_meaning.specs.Meaning.{StepResult}
 use Rattle.events.specs.declared.access.Access.{Access}
 use Rattle.events.specs.declared.access.Access.TheVariants.{Write, In, Out}
 use Rattle.events.specs.Noting.{Noted, after_access, noting, unnoted, with_access}
-use Rattle.events.specs.Laws.{AreOwn, IsNoted, IsOwn, MakesAccesses}
+use Rattle.events.specs.EventLaws.{AreOwn, IsNoted, IsOwn, MakesAccesses}
 
 made_more : {S : Type 0} (bus : BusMeaning S) (s : S) (xs : List Access) (a : Access) → fold (after_access bus) s (xs ++ a ∷ []) ≡ after_access bus (fold (after_access bus) s xs) a
 made_more bus s [] a = refl

@@ -2,13 +2,13 @@
 -- processor's new state; then the keys and the wires. Events of the processor have the clock at which the board stands,
 -- as in the trail; those of the chips have the clock that is reached, as a key's stamp and the speaker's changes do.
 -- To be believed by callers of this crate: the headline does not rest on it.
-use Rattle.keyboard.specs.Parts.{has_room, sends}
+use Rattle.keyboard.specs.QueueParts.{has_room, sends}
 use Rattle.std.specs.Prelude.{ℕ, ◌+◌, Bool, ◌&&◌, if◌then◌else◌, List, [], ◌∷◌, ◌++◌, map, Option, None, Some, slice_get}
 use Rattle.std.specs.Bool.{beq}
 use Rattle.std.specs.List.{flat_map}
 use Rattle.board_types.specs.Bits.{has_bit}
 use Rattle.board_types.specs.Iterate.{gathered}
-use Rattle.board_types.specs.Lines.{is_high}
+use Rattle.board_types.specs.LineLevel.{is_high}
 use Rattle.board_types.specs.declared.state.State.{State}
 use Rattle.execute_meaning.specs.Boundaries.{is_halted, is_jammed}
 use Rattle.keyboard.specs.Keyboard as keys

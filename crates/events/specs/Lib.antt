@@ -1,4 +1,4 @@
 pub mod Noting
 pub mod Accesses
 pub mod Events
-pub mod Laws
+pub mod EventLaws

@@ -1,5 +1,5 @@
 //! What holds of the events of a plain board's clocks.
-ghost use Rattle.events.specs.Laws.{MakesAccesses, MakesFewAccesses};
+ghost use Rattle.events.specs.EventLaws.{MakesAccesses, MakesFewAccesses};
 
 use bus::Bus;
 

@@ -4,7 +4,7 @@ use Rattle.std.specs.Prelude.{nat_le, nat_eq, filter, cond, ◌==◌}
 use Rattle.std.specs.Bool.{beq}
 use Rattle.std.proofs.lemmas.Bool.Decides.{nat_tests}
 use Rattle.board_types.specs.Iterate.{iterate, gathered}
-use Rattle.board_types.specs.Lines.{is_high}
+use Rattle.board_types.specs.LineLevel.{is_high}
 use Rattle.board_types.specs.declared.keys.StampedKey.{StampedKey}
 use Rattle.execute_meaning.specs.Meaning.{StepResult}
 use Rattle.wiring.specs.Chips.{ChipsState}
@@ -16,7 +16,7 @@ use Rattle.board_plain.specs.Plain.{Plain, after_act, after_clock, after_clocks,
 use Rattle.board_plain.specs.Trail.{trail_in, trail_next}
 use Rattle.board_plain.proofs.Clocks.{clock_of_act, clocks_go_by}
 use Rattle.wiring.proofs.Clocks.{clock_of_arrivals}
-use Rattle.events_laws.specs.Keys.{KeyToComeWaits, KeyWasThere, ListsStay}
+use Rattle.events_laws.specs.KeyLaws.{KeyToComeWaits, KeyWasThere, ListsStay}
 use Rattle.events_laws.specs.WithKey.{inserted, with_key}
 
 -- the codes of other clocks are the same
@@ -28,12 +28,12 @@ passed_over : (key : StampedKey) (ks : List StampedKey) (clock : ℕ) → nat_eq
 passed_over key ks clock is =
     ap (λ (due : Bool). map (λ (k : StampedKey). k.code) (cond due (key ∷ filter (λ (k : StampedKey). k.stamp == clock) ks) (filter (λ (k : StampedKey). k.stamp == clock) ks))) is
 
-same_behind : (k : StampedKey) (xs ys : List StampedKey) (clock : ℕ) (due : Bool) → codes_at xs clock ≡ codes_at ys clock → map (λ (k : StampedKey). k.code) (cond due (k ∷ filter (λ (k : StampedKey). k.stamp == clock) xs) (filter (λ (k : StampedKey). k.stamp == clock) xs)) ≡ map (λ (k : StampedKey). k.code) (cond due (k ∷ filter (λ (k : StampedKey). k.stamp == clock) ys) (filter (λ (k : StampedKey). k.stamp == clock) ys))
-same_behind k xs ys clock true same = ap (λ cs. k.code ∷ cs) same
-same_behind k xs ys clock false same = same
+same_following : (k : StampedKey) (xs ys : List StampedKey) (clock : ℕ) (due : Bool) → codes_at xs clock ≡ codes_at ys clock → map (λ (k : StampedKey). k.code) (cond due (k ∷ filter (λ (k : StampedKey). k.stamp == clock) xs) (filter (λ (k : StampedKey). k.stamp == clock) xs)) ≡ map (λ (k : StampedKey). k.code) (cond due (k ∷ filter (λ (k : StampedKey). k.stamp == clock) ys) (filter (λ (k : StampedKey). k.stamp == clock) ys))
+same_following k xs ys clock true same = ap (λ cs. k.code ∷ cs) same
+same_following k xs ys clock false same = same
 
 inserted_by : (b : Bool) (k key : StampedKey) (ks : List StampedKey) (clock : ℕ) → nat_eq key.stamp clock ≡ false → codes_at (inserted ks key) clock ≡ codes_at ks clock → codes_at (if b then k ∷ inserted ks key else key ∷ k ∷ ks) clock ≡ codes_at (k ∷ ks) clock
-inserted_by true k key ks clock is same = same_behind k (inserted ks key) ks clock (nat_eq k.stamp clock) same
+inserted_by true k key ks clock is same = same_following k (inserted ks key) ks clock (nat_eq k.stamp clock) same
 inserted_by false k key ks clock is same = passed_over key (k ∷ ks) clock is
 
 other_codes : (keys : List StampedKey) (key : StampedKey) (clock : ℕ) → nat_eq key.stamp clock ≡ false → codes_at (inserted keys key) clock ≡ codes_at keys clock

@@ -1,5 +1,5 @@
 -- What becomes of keys' codes, against the keyboard.
-use Rattle.keyboard.specs.Parts.{after_sending, count_after_loss, has_room, sends}
+use Rattle.keyboard.specs.QueueParts.{after_sending, count_after_loss, has_room, sends}
 use Rattle.std.proofs.Common.{◌≡◌, ℕ, zero, suc, ◌+◌, Bool, true, false, if◌then◌else◌, List, [], ◌∷◌, ◌++◌, None, refl, sym, ap, ◌∙◌, subst, append_assoc, append-nil}
 use Rattle.std.specs.Prelude.{drop, fold, slice_get}
 use Rattle.std.specs.List.{flat_map}
@@ -32,7 +32,7 @@ use Rattle.events.specs.declared.event.KeyEvent.TheVariants.{Arrives, IsLost}
 use Rattle.events.specs.Accesses.{accesses_next}
 use Rattle.events.specs.Events.{all_wires, arrival_events, chips_reached, code_latched, codes_next, events_next, latch_events}
 use Rattle.events.proofs.Queue.{arrived_keyboard, gathered_in, next_queue, reached_queue}
-use Rattle.events_laws.specs.Told.{come_by, latched_by, lost_by, queued_by, CodesAreTold, LossesAreTold, QueueIsTold}
+use Rattle.events_laws.specs.ClockLaws.{come_by, latched_by, lost_by, queued_by, CodesAreTold, LossesAreTold, QueueIsTold}
 use Rattle.events_laws.proofs.Parts.{arrived_of, joined, none_if, none_in, none_latched, none_wired, settled_of, told_in}
 use Rattle.events_laws.proofs.Told.{keeps_state, latched_next}
 

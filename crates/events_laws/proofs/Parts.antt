@@ -1,5 +1,5 @@
 -- What a function of events gives for a clock, part by part, and for consecutive clocks.
-use Rattle.keyboard.specs.Parts.{has_room}
+use Rattle.keyboard.specs.QueueParts.{has_room}
 use Rattle.std.proofs.Common.{◌≡◌, ℕ, zero, suc, ◌+◌, Bool, true, false, if◌then◌else◌, List, [], ◌∷◌, ◌++◌, map, Option, None, Some, refl, ap, ◌∙◌, append-nil}
 use Rattle.std.specs.Bool.{beq}
 use Rattle.std.specs.List.{flat_map}

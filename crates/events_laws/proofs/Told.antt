@@ -8,7 +8,7 @@ use Rattle.std.proofs.lemmas.Bool.Decides.{nat_tests}
 use Rattle.std.proofs.lemmas.List.Concat.{flat_map-append}
 use Rattle.std.proofs.lemmas.List.Sums.{fold-append}
 use Rattle.board_types.specs.Iterate.{iterate, gathered}
-use Rattle.board_types.specs.Lines.{is_high}
+use Rattle.board_types.specs.LineLevel.{is_high}
 use Rattle.board_types.specs.declared.choice.ClockTable.{ClockTable}
 use Rattle.board_types.specs.declared.keys.StampedKey.{StampedKey}
 use Rattle.board_types.specs.declared.line.Line.{Line}
@@ -36,7 +36,7 @@ use Rattle.events.specs.Accesses.{accesses_next, after_noted}
 use Rattle.events.specs.Events.{all_wires, chips_reached, code_latched, codes_next, events_next, is_same_state, level_of, wire_event}
 use Rattle.events.specs.Noting.{after_access}
 use Rattle.events.proofs.Noted.{makes_accesses}
-use Rattle.events_laws.specs.Told.{begun_by, byte_after, changed_by, MemoryIsWritten, SpeakerIsTold, TrailIsTold, written_by}
+use Rattle.events_laws.specs.ClockLaws.{begun_by, byte_after, changed_by, MemoryIsWritten, SpeakerIsTold, TrailIsTold, written_by}
 use Rattle.events_laws.proofs.Parts.{joined, none_arrives, none_if, none_in, none_latched, none_wired, reached_of, told_in, wired_of}
 
 -- whether the processor's state stays, and the code that moves into the latch, in the next clock

@@ -1,3 +1,3 @@
-pub mod Told
+pub mod ClockLaws
 pub mod WithKey
-pub mod Keys
+pub mod KeyLaws

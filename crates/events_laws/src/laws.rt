@@ -1,6 +1,6 @@
 //! What holds of the events of a plain board's clocks.
-ghost use Rattle.events_laws.specs.Keys.{KeyToComeWaits, KeyWasThere, ListsStay};
-ghost use Rattle.events_laws.specs.Told.{CodesAreTold, LossesAreTold, MemoryIsWritten, QueueIsTold, SpeakerIsTold, TrailIsTold};
+ghost use Rattle.events_laws.specs.KeyLaws.{KeyToComeWaits, KeyWasThere, ListsStay};
+ghost use Rattle.events_laws.specs.ClockLaws.{CodesAreTold, LossesAreTold, MemoryIsWritten, QueueIsTold, SpeakerIsTold, TrailIsTold};
 
 /// Memory after some clocks is memory before, with the bytes that were written in them, in order, as far as their
 /// addresses take bytes: nothing else changes a byte.

@@ -1,10 +1,10 @@
 pub mod Store
-pub mod Iterations
-pub mod Iterating
+pub mod IterationIp
+pub mod RepeatInProgress
 pub mod BySlot
 pub mod SlotOperands
 pub mod Made
-pub mod Ready
+pub mod ReadyProcessor
 pub mod Effects
 pub mod Compared
 pub mod Still

@@ -13,8 +13,8 @@ use Rattle.execute_machine.specs.Locations.{Machine, location_of, operand_at, va
 use Rattle.execute_machine.specs.Registers.{byte_register, with_byte_register}
 use Rattle.execute_machine.specs.Flags.{forgetting, keeping}
 use Rattle.execute_machine.specs.Sums.{difference_of, sum_of, with_difference, with_sum}
-use Rattle.execute_arith.specs.Meaning.{after_arithmetic, al_of, keeps_result, result_of, with_flags, with_flags_of}
-use Rattle.execute_arith.specs.Laws.{HasDifference, HasSum, SumsStandInAl}
+use Rattle.execute_arith.specs.ArithmeticMeaning.{after_arithmetic, al_of, keeps_result, result_of, with_flags, with_flags_of}
+use Rattle.execute_arith.specs.ArithmeticLaws.{HasDifference, HasSum, SumsStandInAl}
 
 -- an arithmetic operation on operands at two locations
 abbrev after_at : {S : Type 0} → BusMeaning S → Machine S → Arithmetic → OperandLocation → OperandLocation → Machine S

@@ -11,7 +11,7 @@ use Rattle.bus.specs.Bus.{BusMeaning}
 use Rattle.execute_machine.specs.Locations.{Machine}
 use Rattle.execute_machine.proofs.Kept.{Kept, kept_by_entry, kept_by_put}
 use Rattle.execute_machine.specs.declared.width.Width.{Width}
-use Rattle.execute_arith.specs.Meaning.{after_arithmetic, after_unary}
+use Rattle.execute_arith.specs.ArithmeticMeaning.{after_arithmetic, after_unary}
 use Rattle.execute_arith.specs.Shifts.{after_shift}
 use Rattle.execute_arith.specs.declared.numbers.Division.{Division}
 use Rattle.execute_arith.specs.Products.{after_division, after_operation, after_product}

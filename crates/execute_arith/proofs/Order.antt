@@ -8,8 +8,8 @@ use Rattle.execute_machine.specs.declared.width.Width.{Width}
 use Rattle.execute_machine.specs.declared.width.Width.TheVariants.{Byte, Word}
 use Rattle.execute_machine.specs.Widths.{size_of}
 use Rattle.execute_machine.specs.Sums.{with_difference}
-use Rattle.execute_arith.specs.Meaning.{after_arithmetic, with_flags_of, unary_result_of, after_adjust}
-use Rattle.execute_arith.specs.Laws.{CmpTells, ComparisonTells, NotInverts, SignsExtend}
+use Rattle.execute_arith.specs.ArithmeticMeaning.{after_arithmetic, with_flags_of, unary_result_of, after_adjust}
+use Rattle.execute_arith.specs.ArithmeticLaws.{CmpTells, ComparisonTells, NotInverts, SignsExtend}
 
 pub comparison_tells : ComparisonTells
 unfolding with_difference

@@ -16,7 +16,7 @@ use Rattle.execute_machine.specs.declared.width.Width.{Width}
 use Rattle.execute_machine.specs.declared.location.OperandLocation.{OperandLocation}
 use Rattle.execute_machine.specs.Locations.{Machine, machine, location_of, operand_at, width_at, with_value_at}
 use Rattle.execute_machine.proofs.Related.{Alike, Same, both, same_by_entry, same_by_put, same_operand, same_value}
-use Rattle.execute_arith.specs.Meaning.{after_arithmetic, after_unary, result_of, unary_result_of, with_flags, with_flags_of, with_unary_flags_of}
+use Rattle.execute_arith.specs.ArithmeticMeaning.{after_arithmetic, after_unary, result_of, unary_result_of, with_flags, with_flags_of, with_unary_flags_of}
 use Rattle.execute_arith.specs.declared.single.Shifted.{Shifted}
 use Rattle.execute_arith.specs.Shifts.{after_shift, after_shifts, shifted_operand, with_shifted}
 use Rattle.execute_arith.specs.declared.numbers.Division.{Division}

@@ -1,10 +1,10 @@
-pub mod Meaning
+pub mod ArithmeticMeaning
 pub mod Single
 pub mod Places
 pub mod Shifts
 pub mod Numbers
 pub mod Products
 pub mod Calculated
-pub mod Laws
+pub mod ArithmeticLaws
 pub mod ShiftLaws
 pub mod ProductLaws

@@ -3,7 +3,7 @@
 -- To be believed: the headline rests on it.
 use Rattle.execute_machine.specs.Flags.{differ}
 use Rattle.std.specs.Prelude.{ℕ, ◌+◌, ◌*◌, ◌/◌, ◌%◌, ◌==◌, nat_le, Bool, false}
-use Rattle.board_types.specs.Flags.{flag_bit}
+use Rattle.board_types.specs.FlagsWord.{flag_bit}
 use Rattle.isa.specs.declared.operation.Shift.{Shift}
 use Rattle.isa.specs.declared.operation.Shift.TheVariants.{Rol, Ror, Rcl, Rcr, Shl, Shr, Sar}
 use Rattle.execute_machine.specs.declared.width.Width.{Width}

@@ -1,7 +1,7 @@
 //! Adjustments of AL and AX: decimal and ASCII digits, and signs.
 ghost use Rattle.isa.specs.declared.operation.Adjust.TheVariants.{Daa, Das, Aaa, Aas, Aam, Aad, Cbw, Cwd};
 ghost use Rattle.std.specs.Prelude.{◌≡◌, ◌<◌};
-ghost use Rattle.execute_arith.specs.Meaning.{adjusts_high, adjusts_low, after_adjust, decimal_change, with_packed, with_unpacked};
+ghost use Rattle.execute_arith.specs.ArithmeticMeaning.{adjusts_high, adjusts_low, after_adjust, decimal_change, with_packed, with_unpacked};
 ghost use Rattle.execute_machine.specs.Flags.{flag_state};
 
 use board_types::regs::Flags;
@@ -12,7 +12,7 @@ use isa::operation::Adjust;
 
 /// Performs DAA, DAS, AAA, AAS, AAM, AAD, CBW or CWD.
 #[inline(never)]
-#[tactic(auto, unfolding(crate::specs::Meaning::after_adjust))]
+#[tactic(auto, unfolding(crate::specs::ArithmeticMeaning::after_adjust))]
 pub fn perform_adjust(registers: &mut Registers, operation: Adjust)
     ensures { registers.new ≡ after_adjust registers.old operation }
 {
@@ -67,7 +67,7 @@ fn set_packed(registers: &mut Registers, al: u16)
     });
 }
 
-#[tactic(auto, unfolding(crate::specs::Meaning::after_adjust))]
+#[tactic(auto, unfolding(crate::specs::ArithmeticMeaning::after_adjust))]
 fn daa(registers: &mut Registers)
     ensures { registers.new ≡ after_adjust registers.old Daa }
 {
@@ -76,7 +76,7 @@ fn daa(registers: &mut Registers)
     set_packed(registers, (al + change) % 256);
 }
 
-#[tactic(auto, unfolding(crate::specs::Meaning::after_adjust))]
+#[tactic(auto, unfolding(crate::specs::ArithmeticMeaning::after_adjust))]
 fn das(registers: &mut Registers)
     ensures { registers.new ≡ after_adjust registers.old Das }
 {
@@ -99,7 +99,7 @@ fn set_unpacked(registers: &mut Registers, ah: u16, digit: u16, adjusted: bool)
     });
 }
 
-#[tactic(auto, unfolding(crate::specs::Meaning::after_adjust))]
+#[tactic(auto, unfolding(crate::specs::ArithmeticMeaning::after_adjust))]
 fn aaa(registers: &mut Registers)
     ensures { registers.new ≡ after_adjust registers.old Aaa }
 {
@@ -111,7 +111,7 @@ fn aaa(registers: &mut Registers)
     }
 }
 
-#[tactic(auto, unfolding(crate::specs::Meaning::after_adjust))]
+#[tactic(auto, unfolding(crate::specs::ArithmeticMeaning::after_adjust))]
 fn aas(registers: &mut Registers)
     ensures { registers.new ≡ after_adjust registers.old Aas }
 {
@@ -123,7 +123,7 @@ fn aas(registers: &mut Registers)
     }
 }
 
-#[tactic(auto, unfolding(crate::specs::Meaning::after_adjust))]
+#[tactic(auto, unfolding(crate::specs::ArithmeticMeaning::after_adjust))]
 fn aam(registers: &mut Registers)
     ensures { registers.new ≡ after_adjust registers.old Aam }
 {
@@ -134,7 +134,7 @@ fn aam(registers: &mut Registers)
         .set(with_result(registers.flags.get(), Width::Byte, al % 10));
 }
 
-#[tactic(auto, unfolding(crate::specs::Meaning::after_adjust))]
+#[tactic(auto, unfolding(crate::specs::ArithmeticMeaning::after_adjust))]
 fn aad(registers: &mut Registers)
     ensures { registers.new ≡ after_adjust registers.old Aad }
 {
@@ -145,7 +145,7 @@ fn aad(registers: &mut Registers)
         .set(with_result(registers.flags.get(), Width::Byte, al));
 }
 
-#[tactic(auto, unfolding(crate::specs::Meaning::after_adjust))]
+#[tactic(auto, unfolding(crate::specs::ArithmeticMeaning::after_adjust))]
 fn cbw(registers: &mut Registers)
     ensures { registers.new ≡ after_adjust registers.old Cbw }
 {
@@ -153,7 +153,7 @@ fn cbw(registers: &mut Registers)
     registers.set_ax(if al < 128 { al } else { 0xFF00 + al });
 }
 
-#[tactic(auto, unfolding(crate::specs::Meaning::after_adjust))]
+#[tactic(auto, unfolding(crate::specs::ArithmeticMeaning::after_adjust))]
 fn cwd(registers: &mut Registers)
     ensures { registers.new ≡ after_adjust registers.old Cwd }
 {

@@ -1,6 +1,6 @@
 //! Arithmetic and logic on two operands.
 ghost use Rattle.std.specs.Prelude.{◌≡◌, ◌<◌};
-ghost use Rattle.execute_arith.specs.Meaning.{after_arithmetic, keeps_result, result_of, with_flags_of};
+ghost use Rattle.execute_arith.specs.ArithmeticMeaning.{after_arithmetic, keeps_result, result_of, with_flags_of};
 ghost use Rattle.execute_machine.specs.Flags.{forgetting};
 ghost use Rattle.execute_machine.specs.Locations.{location_of, machine, operand_at, width_at};
 ghost use Rattle.isa.specs.Row.{second_of};
@@ -18,7 +18,7 @@ use isa::operation::Arithmetic;
 
 /// Performs ADD, OR, ADC, SBB, AND, SUB, XOR, CMP or TEST on the instruction's operands.
 #[inline(always)]
-#[tactic(auto, unfolding(crate::specs::Meaning::after_arithmetic))]
+#[tactic(auto, unfolding(crate::specs::ArithmeticMeaning::after_arithmetic))]
 pub fn perform_arithmetic<B: Bus>(
     bus: &mut B,
     registers: &mut Registers,
@@ -64,7 +64,7 @@ fn combine<B: Bus>(
 
 /// What the operation makes of two numbers of this width. The flags are set.
 #[inline(always)]
-#[tactic(auto, unfolding(crate::specs::Meaning::result_of, crate::specs::Meaning::with_flags_of))]
+#[tactic(auto, unfolding(crate::specs::ArithmeticMeaning::result_of, crate::specs::ArithmeticMeaning::with_flags_of))]
 pub fn calculate(
     flags: &mut FlagRegister,
     operation: Arithmetic,

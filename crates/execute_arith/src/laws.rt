@@ -1,5 +1,5 @@
 //! What arithmetic, the adjustments, shifts, products and quotients mean for numbers.
-ghost use Rattle.execute_arith.specs.Laws.{AaaAdds, AadJoins, AadUndoesAam, AamParts, AasSubtracts, CmpTells, ComparisonTells, DaaAdds, DasSubtracts, NotInverts, SignsExtend, SumsStandInAl};
+ghost use Rattle.execute_arith.specs.ArithmeticLaws.{AaaAdds, AadJoins, AadUndoesAam, AamParts, AasSubtracts, CmpTells, ComparisonTells, DaaAdds, DasSubtracts, NotInverts, SignsExtend, SumsStandInAl};
 ghost use Rattle.execute_arith.specs.ShiftLaws.{RotatesThroughCarryTurnRound, RotatesTurnRound, SarDivides, ShlMultiplies, ShrDivides};
 ghost use Rattle.execute_arith.specs.ProductLaws.{DivDivides, IdivDivides, ImulMultiplies, MulMultiplies};
 

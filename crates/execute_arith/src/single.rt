@@ -1,5 +1,5 @@
 //! One shift by one place, and several in turn.
-ghost use Rattle.board_types.specs.Flags.{flag_bit};
+ghost use Rattle.board_types.specs.FlagsWord.{flag_bit};
 ghost use Rattle.std.specs.Prelude.{◌≡◌, ◌<◌, ◌≤◌, ◌*◌, ◌/◌, ◌%◌, ◌^◌, ◌+◌};
 ghost use Rattle.execute_machine.specs.Widths.{is_negative, size_of};
 ghost use Rattle.execute_arith.specs.Single.{after_left, after_right, after_right_rotation, after_single, right_value, second_bit};

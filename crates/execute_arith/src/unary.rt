@@ -1,6 +1,6 @@
 //! Arithmetic and logic on one operand.
 ghost use Rattle.std.specs.Prelude.{◌≡◌, ◌<◌, ◌-◌};
-ghost use Rattle.execute_arith.specs.Meaning.{after_unary, unary_result_of, with_unary_flags_of};
+ghost use Rattle.execute_arith.specs.ArithmeticMeaning.{after_unary, unary_result_of, with_unary_flags_of};
 ghost use Rattle.execute_machine.specs.Locations.{machine};
 ghost use Rattle.execute_machine.specs.Widths.{size_of};
 
@@ -15,7 +15,7 @@ use isa::operation::Unary;
 
 /// Performs INC, DEC, NOT or NEG on the instruction's operand.
 #[inline(always)]
-#[tactic(auto, unfolding(crate::specs::Meaning::after_unary))]
+#[tactic(auto, unfolding(crate::specs::ArithmeticMeaning::after_unary))]
 pub fn perform_unary<B: Bus>(
     bus: &mut B,
     registers: &mut Registers,
@@ -33,7 +33,7 @@ pub fn perform_unary<B: Bus>(
 }
 
 /// What the operation makes of a number of this width. The flags are set.
-#[tactic(auto, unfolding(crate::specs::Meaning::unary_result_of, crate::specs::Meaning::with_unary_flags_of))]
+#[tactic(auto, unfolding(crate::specs::ArithmeticMeaning::unary_result_of, crate::specs::ArithmeticMeaning::with_unary_flags_of))]
 pub fn calculate_unary(flags: &mut FlagRegister, operation: Unary, width: Width, a: u16) -> u16
     requires { a < size_of width }
     ensures value { result ≡ unary_result_of operation width a }

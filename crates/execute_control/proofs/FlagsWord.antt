@@ -1,6 +1,6 @@
 -- Flags that are pushed and popped are the same.
 use Rattle.std.proofs.Common.{◌≡◌, ℕ, ◌+◌, ◌*◌, ◌/◌, ◌%◌, ◌^◌, ◌==◌, ◌≤◌, Bool, true, false, None, refl, ap, ◌∙◌, arith}
-use Rattle.board_types.specs.Flags.{flag_bit}
+use Rattle.board_types.specs.FlagsWord.{flag_bit}
 use Rattle.execute_machine.specs.FlagState.{FlagState}
 use Rattle.execute_machine.specs.Flags.{forgetting, pushed_word, popped_flags}
 

@@ -7,7 +7,7 @@ use Rattle.isa.specs.declared.form.Instr.{Instr}
 use Rattle.execute_machine.specs.Locations.{Machine}
 use Rattle.execute_machine.specs.Stack.{after_pop, after_entry}
 use Rattle.execute_machine.proofs.Kept.{Kept, kept_by_push, kept_by_entry}
-use Rattle.execute_control.specs.Meaning.{after_call, after_control, after_far_pop, after_interrupt_return, after_ip_pop, after_return}
+use Rattle.execute_control.specs.ControlMeaning.{after_call, after_control, after_far_pop, after_interrupt_return, after_ip_pop, after_return}
 
 kept_if : {S : Type 0} (bus : BusMeaning S) (P : S → Type 0) → Kept bus P → (m : Machine S) (kind : ℕ) (taken : Bool) → P m.bus → P (if taken then after_entry bus m kind else m).bus
 kept_if bus P kept m kind true holds = kept_by_entry bus P kept m kind holds

@@ -6,8 +6,8 @@ use Rattle.board_types.specs.Iterate.{iterate}
 use Rattle.isa.specs.declared.operation.Looping.TheVariants.{Loop}
 use Rattle.isa.specs.declared.form.Instr.{Instr}
 use Rattle.execute_machine.specs.RegisterFile.{Registers}
-use Rattle.execute_control.specs.Meaning.{after_looping, is_loop_taken, lowered_cx, with_target, relative_target}
-use Rattle.execute_control.specs.Laws.{loop_rounds, after_round, LoopRunsCxTimes}
+use Rattle.execute_control.specs.ControlMeaning.{after_looping, is_loop_taken, lowered_cx, with_target, relative_target}
+use Rattle.execute_control.specs.ControlLaws.{loop_rounds, after_round, LoopRunsCxTimes}
 
 -- a jump leaves CX, taken or not
 cx_stays : (r : Registers) (taken : Bool) (target : ℕ) → (with_target r taken target).cx ≡ r.cx

@@ -3,13 +3,13 @@ use Rattle.std.proofs.Common.{◌≡◌, ℕ, ◌+◌, ◌*◌, ◌<◌, refl, s
 use Rattle.board_types.specs.Address.{physical, offset_after}
 use Rattle.isa.specs.declared.operation.Control.TheVariants.{Call, CallFar}
 use Rattle.bus.specs.Bus.{BusMeaning}
-use Rattle.bus.specs.Kept.{IsBus}
+use Rattle.bus.specs.BusPromises.{IsBus}
 use Rattle.execute_machine.specs.FlagState.{FlagState}
 use Rattle.execute_machine.specs.Flags.{pushed_word, popped_flags}
 use Rattle.execute_machine.specs.Locations.{Machine, machine, word_at}
 use Rattle.execute_machine.specs.Stack.{after_push, top_word, after_pop, after_entry_pushes, after_vector, after_entry}
-use Rattle.execute_control.specs.Meaning.{after_control, after_call, after_return, after_far_pop, after_interrupt_return, after_ip_pop, control_operand}
-use Rattle.execute_control.specs.Laws.{TakesPushes, KeepsStack, CallReturns, FarCallReturns, InterruptReturns}
+use Rattle.execute_control.specs.ControlMeaning.{after_control, after_call, after_return, after_far_pop, after_interrupt_return, after_ip_pop, control_operand}
+use Rattle.execute_control.specs.ControlLaws.{TakesPushes, KeepsStack, CallReturns, FarCallReturns, InterruptReturns}
 use Rattle.execute_control.proofs.FlagsWord.{popped_again}
 use Rattle.execute_control.proofs.StackWords.{next, below, back_up, TakesWord, takes_at, first_of_one, first_of_two, second_of_two, first_of_three, second_of_three, third_of_three}
 

@@ -5,7 +5,7 @@ use Rattle.isa.specs.declared.operation.JumpCondition.TheVariants.{BelowOrZero, 
 use Rattle.isa.specs.declared.operation.Looping.TheVariants.{Loopne, Loope, Loop, Jcxz}
 use Rattle.execute_machine.specs.RegisterFile.{Registers}
 use Rattle.execute_machine.specs.FlagState.{FlagState}
-use Rattle.execute_control.specs.Meaning.{cx_after, holds, is_loop_taken}
+use Rattle.execute_control.specs.ControlMeaning.{cx_after, holds, is_loop_taken}
 
 -- LOOPE goes on while ZF is 1, LOOPNE while it is 0, and both while CX isn't 1
 loope_equal : (r : Registers) → is_loop_taken (record r { cx = 2; flags = record r.flags { zero = true } }) Loope ≡ true

@@ -2,7 +2,7 @@
 use Rattle.std.proofs.Common.{◌≡◌, ℕ, ◌+◌, ◌*◌, ◌/◌, ◌%◌, ◌<◌, ◌≢◌, true, ap, ◌∙◌, arith}
 use Rattle.board_types.specs.Address.{physical, offset_after}
 use Rattle.bus.specs.Bus.{BusMeaning, with_word_at}
-use Rattle.bus.specs.Kept.{IsBus}
+use Rattle.bus.specs.BusPromises.{IsBus}
 use Rattle.execute_machine.specs.Locations.{word_at}
 
 -- different offsets of one segment have different addresses

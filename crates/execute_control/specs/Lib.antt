@@ -1,2 +1,2 @@
-pub mod Meaning
-pub mod Laws
+pub mod ControlMeaning
+pub mod ControlLaws

@@ -1,12 +1,12 @@
 //! The operations on single flags.
 ghost use Rattle.std.specs.Prelude.{◌≡◌};
-ghost use Rattle.execute_control.specs.Meaning.{after_flag_operation};
+ghost use Rattle.execute_control.specs.ControlMeaning.{after_flag_operation};
 
 use execute_machine::flags::FlagRegister;
 use isa::operation::Processor;
 
 /// Sets, clears or turns the operation's flag; HLT, WAIT and ESC have none.
-#[tactic(auto, unfolding(crate::specs::Meaning::after_flag_operation))]
+#[tactic(auto, unfolding(crate::specs::ControlMeaning::after_flag_operation))]
 pub fn perform_flag_operation(flags: &mut FlagRegister, operation: Processor)
     ensures { flags.new ≡ after_flag_operation flags.old operation }
 {

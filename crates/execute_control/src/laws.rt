@@ -1,5 +1,5 @@
 //! What holds of conditions, loops, calls and interrupts.
-ghost use Rattle.execute_control.specs.Laws.{CallReturns, ConditionsAreContrary, FarCallReturns, InterruptReturns, LoopRunsCxTimes};
+ghost use Rattle.execute_control.specs.ControlLaws.{CallReturns, ConditionsAreContrary, FarCallReturns, InterruptReturns, LoopRunsCxTimes};
 
 use bus::Bus;
 

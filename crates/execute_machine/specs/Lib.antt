@@ -3,7 +3,7 @@ pub mod Widths
 pub mod Flags
 pub mod Sums
 pub mod LastOperation
-pub mod Operands
+pub mod KeptOperands
 pub mod RegisterFile
 pub mod NumberedRegisters
 pub mod Registers

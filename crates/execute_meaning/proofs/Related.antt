@@ -11,13 +11,13 @@ use Rattle.isa.specs.declared.form.Instr.{Instr}
 use Rattle.isa.specs.declared.operation.Transfer.TheVariants.{In}
 use Rattle.isa.specs.Row.{first_of, operation_of, second_of}
 use Rattle.isa.specs.Clocks.{is_repeated}
-use Rattle.isa.specs.Words.{clocks_in}
+use Rattle.isa.specs.WordCounts.{clocks_in}
 use Rattle.decode.specs.declared.decoding.Decoding.{Decoding as Decoded}
 use Rattle.decode.specs.declared.decoding.Decoding.TheVariants.{Found, NoRow}
 use Rattle.bus.specs.Bus.{BusMeaning}
 use Rattle.execute_machine.specs.RegisterFile.{Registers}
 use Rattle.execute_machine.specs.Locations.{machine}
-use Rattle.execute_strings.specs.Meaning.{goes_on}
+use Rattle.execute_strings.specs.StringMeaning.{goes_on}
 use Rattle.execute_meaning.specs.declared.boundary.Cause.{Cause}
 use Rattle.execute_meaning.specs.declared.repeating.Repeating.{Repeating}
 use Rattle.execute_meaning.specs.declared.shadow.Shadow.TheVariants.{Nothing}
@@ -28,7 +28,7 @@ use Rattle.execute_meaning.specs.Meaning.{StepResult, after_again, after_again_o
 use Rattle.execute_machine.proofs.Related.{Alike, Same, same_by_entry}
 use Rattle.execute_arith.proofs.Related.{same_by_arithmetic, same_by_product, same_by_shift, same_by_unary, same_fault}
 use Rattle.execute_strings.proofs.Related.{same_by_element, same_by_iteration}
-use Rattle.execute_transfer.specs.Meaning.{after_byte_input, after_in, after_transfer, after_word_input, is_ax, port_of}
+use Rattle.execute_transfer.specs.TransferMeaning.{after_byte_input, after_in, after_transfer, after_word_input, is_ax, port_of}
 use Rattle.execute_transfer.proofs.Related.{PortsAlike, inputs_at, inputs_of, same_by_transfer, transfer_inputs}
 use Rattle.execute_control.proofs.Related.{same_by_control}
 use Rattle.execute_meaning.specs.PortReads.{port_reads_of, reading_bus}

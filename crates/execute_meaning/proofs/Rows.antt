@@ -19,7 +19,7 @@ use Rattle.isa.specs.Encoding.{form_length}
 use Rattle.isa.specs.Prefixes.{repeat_of}
 use Rattle.bus.specs.Bus.{BusMeaning}
 use Rattle.execute_machine.specs.RegisterFile.{Registers}
-use Rattle.execute_strings.specs.Meaning.{goes_on}
+use Rattle.execute_strings.specs.StringMeaning.{goes_on}
 use Rattle.execute_meaning.specs.declared.boundary.Boundary.TheVariants as boundaries
 use Rattle.execute_meaning.specs.declared.boundary.Cause.TheVariants.{Request, SingleStep}
 use Rattle.execute_meaning.specs.declared.shadow.Shadow.{Shadow}
@@ -66,17 +66,17 @@ unfolding boundary_of
 step_without_if r = refl
 
 -- after STI a request is kept off, and a single step isn't; after MOV to a segment register both are
-behind_sti : (r : Registers) → boundary_of (cpu r true Running shadows.Requests false None) true ≡ boundaries.Instruction
+after_sti : (r : Registers) → boundary_of (cpu r true Running shadows.Requests false None) true ≡ boundaries.Instruction
 unfolding boundary_of
-behind_sti r = refl
+after_sti r = refl
 
-step_behind_sti : (r : Registers) → boundary_of (cpu r true Running shadows.Requests true None) true ≡ boundaries.SingleStep
+step_after_sti : (r : Registers) → boundary_of (cpu r true Running shadows.Requests true None) true ≡ boundaries.SingleStep
 unfolding boundary_of
-step_behind_sti r = refl
+step_after_sti r = refl
 
-behind_mov_ss : (r : Registers) → boundary_of (cpu r true Running shadows.Interrupts true None) true ≡ boundaries.Instruction
+after_mov_ss : (r : Registers) → boundary_of (cpu r true Running shadows.Interrupts true None) true ≡ boundaries.Instruction
 unfolding boundary_of
-behind_mov_ss r = refl
+after_mov_ss r = refl
 
 -- a halted processor takes a request or a single step, and does nothing else
 ends_a_halt : (r : Registers) → boundary_of (cpu r true Halted shadows.Nothing false None) true ≡ boundaries.Request
@@ -125,9 +125,9 @@ iret : shadow_of (operations.Control Iret) kinds.Nothing ≡ shadows.Nothing
 iret = refl
 
 -- a single step is due after a step that began with TF set, and not after one that began without
-due_behind_tf : (p : CpuState) (r : Registers)
+due_after_tf : (p : CpuState) (r : Registers)
     → (after_fetch (record p { registers = record r { flags = record r.flags { trap = true } }; step_due = false }) 2).step_due ≡ true
-due_behind_tf p r = refl
+due_after_tf p r = refl
 
 not_due : (p : CpuState) (r : Registers)
     → (after_fetch (record p { registers = record r { flags = record r.flags { trap = false } }; step_due = true }) 2).step_due ≡ false
@@ -137,11 +137,11 @@ ip_goes_on : (p : CpuState) (r : Registers) → (after_fetch (record p { registe
 ip_goes_on p r = refl
 
 -- an entry by request leaves a due single step due, and the single step's own entry doesn't
-due_behind_a_request : still_due true Request ≡ true
-due_behind_a_request = refl
+due_after_a_request : still_due true Request ≡ true
+due_after_a_request = refl
 
-done_behind_its_own : still_due true SingleStep ≡ false
-done_behind_its_own = refl
+done_after_its_own : still_due true SingleStep ≡ false
+done_after_its_own = refl
 
 request_clocks : entry_clocks C1 Request ≡ 61
 request_clocks = refl

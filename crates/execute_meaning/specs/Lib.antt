@@ -4,7 +4,7 @@ pub mod Boundaries
 pub mod Takes
 pub mod PortWrites
 pub mod PortReads
-pub mod Laws
-pub mod Plain
-pub mod Accesses
+pub mod ProcessorLaws
+pub mod PlainProcessor
+pub mod AccessCounts
 pub mod Commutes

@@ -15,7 +15,7 @@ use Rattle.execute_meaning.proofs.Related.{SameStep, same_by_again, same_by_ente
 use Rattle.events.specs.declared.access.Access.{Access}
 use Rattle.events.specs.declared.access.Access.TheVariants.{Write, In, Out}
 use Rattle.events.specs.Noting.{Noted, noting, unnoted, with_access}
-use Rattle.events.specs.Laws.{IsNoted}
+use Rattle.events.specs.EventLaws.{IsNoted}
 use Rattle.events.proofs.Few.{makes_few}
 use Rattle.events.proofs.Noted.{makes_accesses}
 use Rattle.execute_noted.specs.Held.{Held, held_after, holding, is_full}
@@ -62,10 +62,10 @@ keeps_ports bus name = record {
 }
 
 -- nothing is noted yet
-abbrev pub fresh : {S : Type 0} → ℕ → S → Held S
-fresh name s = record { name = name; reached = s; accesses = [] }
+abbrev pub unheld : {S : Type 0} → ℕ → S → Held S
+unheld name s = record { name = name; reached = s; accesses = [] }
 
-keeps_none : {S : Type 0} (name : ℕ) (s : S) → Keeps name (unnoted s) (fresh name s)
+keeps_none : {S : Type 0} (name : ℕ) (s : S) → Keeps name (unnoted s) (unheld name s)
 keeps_none name s = record { same = refl; reached = refl; few = λ more. refl }
 
 -- what is done over a bus that notes is what is done over the bus within; the reference stays, and all accesses are
@@ -85,20 +85,20 @@ is_kept bus s name done noted held is few same = record {
   all = same.bus.few few;
 }
 
-pub step_is_kept : {S : Type 0} (bus : BusMeaning S) (table : ClockTable) (p : CpuState) (s : S) (decoded : Decoded) (name : ℕ) (held : StepResult (Held S)) → held ≡ after_step (holding bus) table p (fresh name s) decoded → IsKept name (after_step bus table p s decoded) (after_step (noting bus) table p (unnoted s) decoded) held
+pub step_is_kept : {S : Type 0} (bus : BusMeaning S) (table : ClockTable) (p : CpuState) (s : S) (decoded : Decoded) (name : ℕ) (held : StepResult (Held S)) → held ≡ after_step (holding bus) table p (unheld name s) decoded → IsKept name (after_step bus table p s decoded) (after_step (noting bus) table p (unnoted s) decoded) held
 step_is_kept bus table p s decoded name held is =
     subst (IsKept name (after_step bus table p s decoded) (after_step (noting bus) table p (unnoted s) decoded)) (sym is)
     (is_kept bus s name _ _ _ ((makes_accesses bus).step table p s decoded) ((makes_few bus).step table p s decoded)
-    (same_by_step (noting bus) (holding bus) table (λ port. true) (λ port. true) (Keeps name) (keeps_alike bus name) (keeps_ports bus name) p (unnoted s) (fresh name s) decoded (λ k d within. refl) (λ k d within. refl) (keeps_none name s)))
+    (same_by_step (noting bus) (holding bus) table (λ port. true) (λ port. true) (Keeps name) (keeps_alike bus name) (keeps_ports bus name) p (unnoted s) (unheld name s) decoded (λ k d within. refl) (λ k d within. refl) (keeps_none name s)))
 
-pub again_is_kept : {S : Type 0} (bus : BusMeaning S) (table : ClockTable) (p : CpuState) (s : S) (name : ℕ) (held : StepResult (Held S)) → held ≡ after_again (holding bus) table p (fresh name s) → IsKept name (after_again bus table p s) (after_again (noting bus) table p (unnoted s)) held
+pub again_is_kept : {S : Type 0} (bus : BusMeaning S) (table : ClockTable) (p : CpuState) (s : S) (name : ℕ) (held : StepResult (Held S)) → held ≡ after_again (holding bus) table p (unheld name s) → IsKept name (after_again bus table p s) (after_again (noting bus) table p (unnoted s)) held
 again_is_kept bus table p s name held is =
     subst (IsKept name (after_again bus table p s) (after_again (noting bus) table p (unnoted s))) (sym is)
     (is_kept bus s name _ _ _ ((makes_accesses bus).again table p s) ((makes_few bus).again table p s)
-    (same_by_again (noting bus) (holding bus) table (Keeps name) (keeps_alike bus name) p (unnoted s) (fresh name s) (keeps_none name s)))
+    (same_by_again (noting bus) (holding bus) table (Keeps name) (keeps_alike bus name) p (unnoted s) (unheld name s) (keeps_none name s)))
 
-pub enter_is_kept : {S : Type 0} (bus : BusMeaning S) (table : ClockTable) (p : CpuState) (s : S) (kind : ℕ) (cause : Cause) (name : ℕ) (held : StepResult (Held S)) → held ≡ after_enter (holding bus) table p (fresh name s) kind cause → IsKept name (after_enter bus table p s kind cause) (after_enter (noting bus) table p (unnoted s) kind cause) held
+pub enter_is_kept : {S : Type 0} (bus : BusMeaning S) (table : ClockTable) (p : CpuState) (s : S) (kind : ℕ) (cause : Cause) (name : ℕ) (held : StepResult (Held S)) → held ≡ after_enter (holding bus) table p (unheld name s) kind cause → IsKept name (after_enter bus table p s kind cause) (after_enter (noting bus) table p (unnoted s) kind cause) held
 enter_is_kept bus table p s kind cause name held is =
     subst (IsKept name (after_enter bus table p s kind cause) (after_enter (noting bus) table p (unnoted s) kind cause)) (sym is)
     (is_kept bus s name _ _ _ ((makes_accesses bus).enter table p s kind cause) ((makes_few bus).enter table p s kind cause)
-    (same_by_enter (noting bus) (holding bus) table (Keeps name) (keeps_alike bus name) p (unnoted s) (fresh name s) kind cause (keeps_none name s)))
+    (same_by_enter (noting bus) (holding bus) table (Keeps name) (keeps_alike bus name) p (unnoted s) (unheld name s) kind cause (keeps_none name s)))

@@ -1,7 +1,7 @@
 -- A bus that notes accesses keeps its bytes as the bus within does.
 -- For proofs alone: no public contract rests on it.
 use Rattle.bus.specs.Bus.{BusMeaning}
-use Rattle.bus.specs.Kept.{IsBus}
+use Rattle.bus.specs.BusPromises.{IsBus}
 use Rattle.execute_noted.specs.Held.{Held, holding}
 
 pub holding_keeps_bytes : {S : Type 0} (bus : BusMeaning S) → IsBus bus → IsBus (holding bus)

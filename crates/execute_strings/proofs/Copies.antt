@@ -11,7 +11,7 @@ use Rattle.isa.specs.declared.register.WordRegister.TheVariants.{Cx, Si, Di}
 use Rattle.isa.specs.declared.form.Instr.{Instr}
 use Rattle.isa.specs.Prefixes.{chosen_segment}
 use Rattle.bus.specs.Bus.{BusMeaning, with_word_at}
-use Rattle.bus.specs.Kept.{IsBus}
+use Rattle.bus.specs.BusPromises.{IsBus}
 use Rattle.execute_machine.specs.declared.width.Width.{Width}
 use Rattle.execute_machine.specs.declared.width.Width.TheVariants as widths
 use Rattle.execute_machine.specs.RegisterFile.{Registers}
@@ -20,9 +20,9 @@ use Rattle.execute_machine.specs.declared.location.OperandLocation.{OperandLocat
 use Rattle.execute_machine.specs.Locations.{Machine, segment_for, value_at, with_value_at, word_at}
 use Rattle.execute_machine.specs.Memory.{HoldsBytes, HoldsWords}
 use Rattle.execute_machine.proofs.Memory.{word_fixed, word_leaves, word_reads_back}
-use Rattle.execute_strings.specs.Meaning.{after_iteration, after_movs, after_element, destination, element_at, element_size, source}
+use Rattle.execute_strings.specs.StringMeaning.{after_iteration, after_movs, after_element, destination, element_at, element_size, source}
 use Rattle.execute_strings.specs.Elements.{movs_of}
-use Rattle.execute_strings.specs.Laws.{CopiesInOrder, IsOutside, TakesElement, after_copies, destination_element, element_offset, source_element}
+use Rattle.execute_strings.specs.StringLaws.{CopiesInOrder, IsOutside, TakesElement, after_copies, destination_element, element_offset, source_element}
 
 -- one iteration
 

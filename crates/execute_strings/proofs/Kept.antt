@@ -7,7 +7,7 @@ use Rattle.execute_machine.specs.declared.width.Width.{Width}
 use Rattle.execute_machine.specs.declared.width.Width.TheVariants.{Byte, Word}
 use Rattle.execute_machine.specs.Locations.{Machine}
 use Rattle.execute_machine.proofs.Kept.{Kept, kept_by_put}
-use Rattle.execute_strings.specs.Meaning.{after_cmps, after_iteration, after_lods, after_movs, after_scas, after_stos, after_element}
+use Rattle.execute_strings.specs.StringMeaning.{after_cmps, after_iteration, after_lods, after_movs, after_scas, after_stos, after_element}
 
 kept_by_movs : {S : Type 0} (bus : BusMeaning S) (P : S → Type 0) → Kept bus P → (m : Machine S) (width : Width) (i : Instr) → P m.bus → P (after_movs bus m width i).bus
 unfolding after_movs

@@ -11,7 +11,7 @@ use Rattle.execute_machine.specs.declared.width.Width.TheVariants.{Byte, Word}
 use Rattle.execute_machine.specs.Locations.{Machine, machine, value_at, word_at}
 use Rattle.execute_machine.specs.Registers.{byte_register, segment_register, word_register}
 use Rattle.execute_machine.specs.Sums.{with_difference}
-use Rattle.execute_strings.specs.Meaning.{after_cmps, after_scas, allows}
+use Rattle.execute_strings.specs.StringMeaning.{after_cmps, after_scas, allows}
 
 -- REPE goes on while the elements are equal, REPNE while they differ, and MOVS, LODS and STOS under either
 repe_equal : allows (Some Rep) true true ≡ true

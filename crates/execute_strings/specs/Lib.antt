@@ -1,3 +1,3 @@
-pub mod Meaning
+pub mod StringMeaning
 pub mod Elements
-pub mod Laws
+pub mod StringLaws

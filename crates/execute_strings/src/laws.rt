@@ -1,5 +1,5 @@
 //! What holds of string instructions over any bus.
-ghost use Rattle.execute_strings.specs.Laws.{CopiesInOrder};
+ghost use Rattle.execute_strings.specs.StringLaws.{CopiesInOrder};
 
 use bus::Bus;
 

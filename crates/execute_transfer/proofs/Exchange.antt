@@ -13,7 +13,7 @@ use Rattle.isa.specs.declared.form.Place.TheVariants.{Register}
 use Rattle.isa.specs.declared.form.Instr.{Instr}
 use Rattle.isa.specs.Row.{first_of, second_of}
 use Rattle.bus.specs.Bus.{BusMeaning, with_word_at}
-use Rattle.bus.specs.Kept.{IsBus}
+use Rattle.bus.specs.BusPromises.{IsBus}
 use Rattle.execute_machine.specs.RegisterFile.{Registers}
 use Rattle.execute_machine.specs.Registers.{byte_register, with_byte_register, word_register, with_word_register}
 use Rattle.execute_machine.specs.declared.location.OperandLocation.{OperandLocation}
@@ -22,8 +22,8 @@ use Rattle.execute_machine.specs.Locations.{Machine, machine, byte_place, locati
 use Rattle.execute_machine.specs.Memory.{HoldsBytes, HoldsWords, TakesWord}
 use Rattle.execute_machine.proofs.Memory.{high_of, high_reads_back, low_of, low_reads_back, word_fixed, word_leaves, word_reads_back}
 use Rattle.execute_transfer.proofs.Halves.{byte_back, word_back}
-use Rattle.execute_transfer.specs.Meaning.{after_transfer, after_xchg, first_place, second_place}
-use Rattle.execute_transfer.specs.Laws.{AreRegisters, IsAsBefore, IsMemoryAndRegister, MemoryExchangesBack, RegistersExchangeBack}
+use Rattle.execute_transfer.specs.TransferMeaning.{after_transfer, after_xchg, first_place, second_place}
+use Rattle.execute_transfer.specs.TransferLaws.{AreRegisters, IsAsBefore, IsMemoryAndRegister, MemoryExchangesBack, RegistersExchangeBack}
 
 abbrev exchanged : {S : Type 0} → BusMeaning S → Machine S → OperandLocation → OperandLocation → Machine S
 exchanged bus m first second = with_value_at bus (with_value_at bus m first (value_at bus m second)) second (value_at bus m first)

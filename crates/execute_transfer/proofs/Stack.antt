@@ -14,7 +14,7 @@ use Rattle.isa.specs.declared.form.Instr.{Instr}
 use Rattle.isa.specs.Prefixes.{chosen_segment}
 use Rattle.isa.specs.Row.{first_of}
 use Rattle.bus.specs.Bus.{BusMeaning}
-use Rattle.bus.specs.Kept.{IsBus}
+use Rattle.bus.specs.BusPromises.{IsBus}
 use Rattle.execute_machine.specs.RegisterFile.{Registers}
 use Rattle.execute_machine.specs.Registers.{segment_register}
 use Rattle.execute_machine.specs.declared.location.OperandLocation.{OperandLocation}
@@ -24,8 +24,8 @@ use Rattle.execute_machine.specs.Locations.{Machine, base_offset, byte_place, lo
 use Rattle.execute_machine.specs.Memory.{TakesWord}
 use Rattle.execute_machine.specs.Stack.{after_pop, after_push, top_word}
 use Rattle.execute_machine.proofs.Memory.{word_reads_back}
-use Rattle.execute_transfer.specs.Meaning.{after_pop_operand, after_push_operand, after_transfer, first_place, pushed_operand}
-use Rattle.execute_transfer.specs.Laws.{PopGivesBack, PushSpStoresTheLowered}
+use Rattle.execute_transfer.specs.TransferMeaning.{after_pop_operand, after_push_operand, after_transfer, first_place, pushed_operand}
+use Rattle.execute_transfer.specs.TransferLaws.{PopGivesBack, PushSpStoresTheLowered}
 
 -- no address uses SP
 

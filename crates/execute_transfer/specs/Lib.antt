@@ -1,2 +1,2 @@
-pub mod Meaning
-pub mod Laws
+pub mod TransferMeaning
+pub mod TransferLaws

@@ -5,7 +5,7 @@ ghost use Rattle.execute_machine.specs.Registers.{with_byte_register};
 ghost use Rattle.std.specs.Prelude.{◌≡◌, ◌/◌, ◌%◌};
 ghost use Rattle.execute_machine.specs.Flags.{flag_state, popped_flags, pushed_word};
 ghost use Rattle.execute_machine.specs.Locations.{machine};
-ghost use Rattle.execute_transfer.specs.Meaning.{after_popf, with_low_flags};
+ghost use Rattle.execute_transfer.specs.TransferMeaning.{after_popf, with_low_flags};
 
 use board_types::regs::Flags;
 use bus::Bus;
@@ -24,7 +24,7 @@ pub(crate) fn perform_pushf<B: Bus>(bus: &mut B, registers: &mut Registers)
 }
 
 #[inline(never)]
-#[tactic(auto, unfolding(crate::specs::Meaning::after_popf))]
+#[tactic(auto, unfolding(crate::specs::TransferMeaning::after_popf))]
 pub(crate) fn perform_popf<B: Bus>(bus: &B, registers: &mut Registers)
     ensures { machine registers.new (B.state bus.now) ≡ after_popf B.meaning (machine registers.old (B.state bus.now)) }
 {

@@ -1,6 +1,6 @@
 //! Where operands stand.
 ghost use Rattle.std.specs.Prelude.{◌≡◌};
-ghost use Rattle.execute_transfer.specs.Meaning.{first_place, is_sp, offset_of, second_place};
+ghost use Rattle.execute_transfer.specs.TransferMeaning.{first_place, is_sp, offset_of, second_place};
 
 use digest::digest::Digest;
 use execute_machine::location::{OperandLocation, locate_first, locate_second};

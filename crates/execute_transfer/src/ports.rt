@@ -1,7 +1,7 @@
 //! IN and OUT.
 ghost use Rattle.std.specs.Prelude.{◌≡◌};
 ghost use Rattle.execute_machine.specs.Locations.{machine};
-ghost use Rattle.execute_transfer.specs.Meaning.{after_byte_input, after_in, after_out, after_word_input, is_ax, outputs_of, port_of};
+ghost use Rattle.execute_transfer.specs.TransferMeaning.{after_byte_input, after_in, after_out, after_word_input, is_ax, outputs_of, port_of};
 
 use arrayvec::ArrayVec;
 use bus::Bus;
@@ -27,7 +27,7 @@ fn is_ax(kind: Kind) -> bool
     matches!(kind, Kind::Ax)
 }
 
-#[tactic(auto, unfolding(crate::specs::Meaning::after_byte_input))]
+#[tactic(auto, unfolding(crate::specs::TransferMeaning::after_byte_input))]
 fn input_byte<B: Bus>(bus: &mut B, registers: &mut Registers, port: u16)
     ensures { machine registers.new (B.state bus.new)
         ≡ after_byte_input B.meaning (machine registers.old (B.state bus.old)) port }
@@ -35,7 +35,7 @@ fn input_byte<B: Bus>(bus: &mut B, registers: &mut Registers, port: u16)
     set_byte(registers, ByteRegister::Al, bus.in8(port));
 }
 
-#[tactic(auto, unfolding(crate::specs::Meaning::after_word_input))]
+#[tactic(auto, unfolding(crate::specs::TransferMeaning::after_word_input))]
 fn input_word<B: Bus>(bus: &mut B, registers: &mut Registers, port: u16)
     ensures { machine registers.new (B.state bus.new)
         ≡ after_word_input B.meaning (machine registers.old (B.state bus.old)) port }
@@ -46,7 +46,7 @@ fn input_word<B: Bus>(bus: &mut B, registers: &mut Registers, port: u16)
 }
 
 #[inline(never)]
-#[tactic(auto, unfolding(crate::specs::Meaning::after_in))]
+#[tactic(auto, unfolding(crate::specs::TransferMeaning::after_in))]
 pub(crate) fn perform_in<B: Bus>(bus: &mut B, registers: &mut Registers, instr: &Digest)
     ensures { machine registers.new (B.state bus.new)
         ≡ after_in B.meaning (machine registers.old (B.state bus.old)) instr.now }
@@ -60,7 +60,7 @@ pub(crate) fn perform_in<B: Bus>(bus: &mut B, registers: &mut Registers, instr: 
 }
 
 #[inline(never)]
-#[tactic(auto, unfolding(crate::specs::Meaning::after_out, crate::specs::Meaning::outputs_of))]
+#[tactic(auto, unfolding(crate::specs::TransferMeaning::after_out, crate::specs::TransferMeaning::outputs_of))]
 pub(crate) fn perform_out<B: Bus>(bus: &mut B, registers: &Registers, instr: &Digest)
     ensures { machine registers.now (B.state bus.new)
         ≡ after_out B.meaning (machine registers.now (B.state bus.old)) instr.now }
@@ -73,7 +73,7 @@ pub(crate) fn perform_out<B: Bus>(bus: &mut B, registers: &Registers, instr: &Di
 }
 
 /// The port writes of an OUT, in order: each a port and a byte.
-#[tactic(auto, unfolding(crate::specs::Meaning::outputs_of))]
+#[tactic(auto, unfolding(crate::specs::TransferMeaning::outputs_of))]
 pub fn outputs(registers: &Registers, instr: &Digest) -> ArrayVec<(u16, u8), 2>
     ensures { result.items ≡ outputs_of registers.now instr.now }
 {

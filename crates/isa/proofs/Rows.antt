@@ -21,9 +21,9 @@ use Rattle.isa.specs.declared.form.Prefix.TheVariants.{Segment, Lock, Repeat}
 use Rattle.isa.specs.Table.{rows}
 use Rattle.isa.specs.Layout.{code_part, field_part, field_size, second_part, second_size}
 use Rattle.isa.specs.Encoding.{code_number, displacement_field, encoding, field_bytes, form_length, prefix_byte, second_bytes, FitsCode, IsForm}
-use Rattle.isa.specs.Parts.{begins, is_named, is_second}
-use Rattle.isa.specs.Rows.{has_opcode, is_before, HasDigit}
-use Rattle.isa.specs.Laws.{LengthIsTheForms, NoPrefixIsARow, OneRowFits}
+use Rattle.isa.specs.OpcodeBytes.{begins, is_named, is_second}
+use Rattle.isa.specs.RowSearch.{has_opcode, is_before, HasDigit}
+use Rattle.isa.specs.IsaLaws.{LengthIsTheForms, NoPrefixIsARow, OneRowFits}
 
 left_true : (s t : Bool) → (s && t) ≡ true → s ≡ true
 left_true true t e = refl
@@ -224,12 +224,12 @@ not_so : (b : Bool) → not b ≡ true → b ≡ false
 not_so true e = absurd (cc)
 not_so false e = refl
 
-find_behind : (q s : Row → Bool) (k : ℕ) (xs : List Row) → list_all (λ r. not (q r)) (take k xs) ≡ true → find (λ r. q r && s r) (drop k xs) ≡ find (λ r. q r && s r) xs
-find_behind q s zero xs all = refl
-find_behind q s (suc k) [] all = refl
-find_behind q s (suc k) (x ∷ xs) all =
+find_after : (q s : Row → Bool) (k : ℕ) (xs : List Row) → list_all (λ r. not (q r)) (take k xs) ≡ true → find (λ r. q r && s r) (drop k xs) ≡ find (λ r. q r && s r) xs
+find_after q s zero xs all = refl
+find_after q s (suc k) [] all = refl
+find_after q s (suc k) (x ∷ xs) all =
     let fails = not_so (q x) (left_true (not (q x)) (list_all (λ r. not (q r)) (take k xs)) all) in
-    find_behind q s k xs (right_true (not (q x)) (list_all (λ r. not (q r)) (take k xs)) all)
+    find_after q s k xs (right_true (not (q x)) (list_all (λ r. not (q r)) (take k xs)) all)
     ∙ sym (ap (λ b. cond (b && s x) (Some x) (find (λ r. q r && s r) xs)) fails)
 
 pub within_rows : (opcode count : ℕ) → is_before opcode count ≡ true → count ≤ length rows
@@ -241,7 +241,7 @@ within_rows opcode count e =
 
 pub find_before : (opcode next count : ℕ) → is_before opcode count ≡ true → find (λ r. begins r opcode next) (drop count rows) ≡ find (λ r. begins r opcode next) rows
 find_before opcode next count e =
-    find_behind (has_opcode opcode) (λ r. is_second (second_part r) next) count rows (right_true (nat_le count (length rows)) (list_all (λ r. not (has_opcode opcode r)) (take count rows)) e)
+    find_after (has_opcode opcode) (λ r. is_second (second_part r) next) count rows (right_true (nat_le count (length rows)) (list_all (λ r. not (has_opcode opcode r)) (take count rows)) e)
 
 all_before : all_below (λ opcode. is_before opcode (get_or FIRST opcode 0)) 256 ≡ true
 unfolding rows

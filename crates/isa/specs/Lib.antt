@@ -1,11 +1,11 @@
-pub mod Registers
+pub mod RegisterNumbers
 pub mod Row
 pub mod Table
 pub mod Layout
 pub mod Encoding
 pub mod Prefixes
-pub mod Parts
+pub mod OpcodeBytes
 pub mod Clocks
-pub mod Laws
-pub mod Rows
-pub mod Words
+pub mod IsaLaws
+pub mod RowSearch
+pub mod WordCounts

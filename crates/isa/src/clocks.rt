@@ -1,6 +1,6 @@
 //! How many processor clocks an instruction takes.
 ghost use Rattle.std.specs.Prelude.{◌≡◌, ◌≤◌, ◌+◌};
-ghost use Rattle.isa.specs.Words.{clocks_in};
+ghost use Rattle.isa.specs.WordCounts.{clocks_in};
 ghost use Rattle.isa.specs.Clocks.{address_clocks, base_clocks, can_repeat, clocks_of, first_clocks, is_counted, is_repeated, place_clocks, row_clocks};
 
 use crate::form::{Base, Instr, Place};
@@ -10,7 +10,7 @@ use crate::words::word_clocks;
 use board_types::choice::ClockTable;
 
 /// The clocks that a step of `instr` with this outcome takes, by either table.
-#[tactic(auto, unfolding(crate::specs::Words::clocks_in))]
+#[tactic(auto, unfolding(crate::specs::WordCounts::clocks_in))]
 pub fn cost(instr: &Instr, outcome: &Outcome, table: ClockTable) -> Cost
     ensures value { result.0 ≡ clocks_in table instr.now outcome.now }
     ensures bound { result.0 ≤ 1414 }

@@ -3,7 +3,7 @@ ghost use Rattle.std.specs.Prelude.{◌≡◌, ◌≤◌, ◌<◌, ◌+◌, ◌/
 ghost use Rattle.arrayvec.specs.ArrayVec.{array_vec_len};
 ghost use Rattle.isa.specs.Encoding.{addressing, code_number, encoding, field_bytes, reg_number, second_bytes, FitsCode, FitsField, FitsForm, FitsReg, FitsSecond, IsForm, IsPlace};
 ghost use Rattle.isa.specs.Layout.{code_part};
-ghost use Rattle.isa.specs.Rows.{HasDigit};
+ghost use Rattle.isa.specs.RowSearch.{HasDigit};
 
 use crate::form::{Form, Place, Values};
 use crate::layout::{CodePart, Field, RegPart, Second};

@@ -1,5 +1,5 @@
 //! The laws of the encoding table.
-ghost use Rattle.isa.specs.Laws.{LengthIsTheForms, NoPrefixIsARow, OneRowFits};
+ghost use Rattle.isa.specs.IsaLaws.{LengthIsTheForms, NoPrefixIsARow, OneRowFits};
 
 /// No bytes fit two rows of the table.
 pub fn one_row_fits()

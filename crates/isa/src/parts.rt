@@ -1,7 +1,7 @@
 //! The row that bytes begin with.
 ghost use Rattle.std.specs.Prelude.{◌≡◌, IsTrue, find};
-ghost use Rattle.isa.specs.Parts.{begins, is_code, is_named, is_reg, is_second, is_segment_not_cs, row_at};
-ghost use Rattle.isa.specs.Rows.{is_before};
+ghost use Rattle.isa.specs.OpcodeBytes.{begins, is_code, is_named, is_reg, is_second, is_segment_not_cs, row_at};
+ghost use Rattle.isa.specs.RowSearch.{is_before};
 
 use crate::layout::{CodePart, PlacePart, RegPart, Second};
 use crate::row::Row;
@@ -32,7 +32,7 @@ fn rows_before(opcode: u8) -> usize
 }
 
 /// The row of the table that an opcode begins, with the byte after it; no two rows fit. `None` if no row does.
-#[tactic(auto, unfolding(crate::specs::Parts::row_at))]
+#[tactic(auto, unfolding(crate::specs::OpcodeBytes::row_at))]
 pub fn row_at(opcode: u8, next: u8) -> Option<Row>
     ensures { result ≡ row_at opcode next }
 {

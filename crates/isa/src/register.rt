@@ -1,6 +1,6 @@
 //! The registers that an instruction can name (8086 Family User's Manual, "REG field encoding").
 ghost use Rattle.std.specs.Prelude.{◌≡◌, ◌<◌};
-ghost use Rattle.isa.specs.Registers.{byte_register_number, byte_register_of, segment_register_number, segment_register_of, word_register_number, word_register_of};
+ghost use Rattle.isa.specs.RegisterNumbers.{byte_register_number, byte_register_of, segment_register_number, segment_register_of, word_register_number, word_register_of};
 
 /// A byte register, numbered 0 to 7 in this order.
 #[derive(Clone, Copy)]

@@ -1,6 +1,6 @@
 //! How many words of data an instruction reads and writes in memory.
 ghost use Rattle.std.specs.Prelude.{◌≡◌, ◌≤◌};
-ghost use Rattle.isa.specs.Words.{arithmetic_words, control_words, data_words, element_words, pointer_words, transfer_words, whole_words, word_at, word_at_place, word_clocks, words_of};
+ghost use Rattle.isa.specs.WordCounts.{arithmetic_words, control_words, data_words, element_words, pointer_words, transfer_words, whole_words, word_at, word_at_place, word_clocks, words_of};
 
 use crate::form::{Instr, Place};
 use crate::operation::{Arithmetic, Control, Operation, Strings, Transfer};
@@ -25,7 +25,7 @@ pub fn word_clocks(table: ClockTable, words: u16) -> u16
 
 impl Instr {
     /// The words of a step with this outcome.
-    #[tactic(auto, unfolding(crate::specs::Words::data_words))]
+    #[tactic(auto, unfolding(crate::specs::WordCounts::data_words))]
     pub fn data_words(&self, outcome: &Outcome) -> u16
         ensures value { result ≡ data_words self.now outcome.now }
         ensures bound { result ≤ 10 }
@@ -37,7 +37,7 @@ impl Instr {
     }
 
     /// The words of a step that completes the instruction, or of an iteration of its repeat.
-    #[tactic(auto, unfolding(crate::specs::Words::whole_words))]
+    #[tactic(auto, unfolding(crate::specs::WordCounts::whole_words))]
     pub fn whole_words(&self, taken: bool) -> u16
         ensures value { result ≡ whole_words self.now taken }
         ensures bound { result ≤ 5 }

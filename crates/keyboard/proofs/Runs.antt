@@ -1,5 +1,5 @@
 -- Every run of arrivals and settlings accounts for its codes.
-use Rattle.keyboard.specs.Parts.{has_room, after_sending}
+use Rattle.keyboard.specs.QueueParts.{has_room, after_sending}
 use Rattle.std.proofs.Common.{◌≡◌, ℕ, zero, suc, Option, Some, ◌+◌, ◌-◌, ◌^◌, ◌<◌, ◌≤◌, min, if◌then◌else◌, true, false, None, List, [], ◌∷◌, ◌++◌, length, drop, slice_get, refl, sym, ap, ◌∙◌, arith, append_assoc, append-nil, length-append}
 use Rattle.std.specs.Option.{option_to_list}
 use Rattle.std.proofs.Math.Seq.{take-nil}

@@ -1,3 +1,3 @@
 pub mod Keyboard
-pub mod Parts
+pub mod QueueParts
 pub mod Runs

@@ -40,16 +40,16 @@ last_pushed keys key =
     ∙ ap (λ (k : StampedKey). k.stamp) (get_or-append_seam keys key [] key))
 
 -- the keys so far, and after them those of the rest, or the first fault of the rest
-abbrev pub keys_behind : List StampedKey → List KeyEntry → Result (List StampedKey) RunFault
-keys_behind keys rest = unless (keys_fault (last_stamp keys) rest) (keys ++ map key_of rest)
+abbrev pub keys_after : List StampedKey → List KeyEntry → Result (List StampedKey) RunFault
+keys_after keys rest = unless (keys_fault (last_stamp keys) rest) (keys ++ map key_of rest)
 
 pub keys_step : (keys more : List StampedKey) (entry : KeyEntry) (rest : List KeyEntry) → more ≡ keys ++ key_of entry ∷ [] → entry_fault (last_stamp keys) entry ≡ None
-    → keys_behind more rest ≡ keys_behind keys (entry ∷ rest)
+    → keys_after more rest ≡ keys_after keys (entry ∷ rest)
 keys_step keys more entry rest pushed taken =
     rw (pushed, taken, last_pushed keys (key_of entry), append_assoc keys (key_of entry ∷ []) (map key_of rest)) refl
 
 pub keys_refused : (keys : List StampedKey) (entry : KeyEntry) (rest entries : List KeyEntry) (fault : RunFault) → FaultAnswer fault (entry_fault (last_stamp keys) entry)
-    → keys_behind keys (entry ∷ rest) ≡ keys_behind [] entries → Answers (Err fault) (keys_of entries)
+    → keys_after keys (entry ∷ rest) ≡ keys_after [] entries → Answers (Err fault) (keys_of entries)
 unfolding keys_of
 keys_refused keys entry rest entries Memory found same = tt
 keys_refused keys entry rest entries NotJson found same = rw found at same
@@ -58,7 +58,7 @@ keys_refused keys entry rest entries BadScan found same = rw found at same
 keys_refused keys entry rest entries StampsFall found same = rw found at same
 keys_refused keys entry rest entries BudgetTooLarge found same = rw found at same
 
-pub keys_whole : (keys : List StampedKey) (entries : List KeyEntry) → keys_behind keys [] ≡ keys_behind [] entries → Ok keys ≡ keys_of entries
+pub keys_whole : (keys : List StampedKey) (entries : List KeyEntry) → keys_after keys [] ≡ keys_after [] entries → Ok keys ≡ keys_of entries
 unfolding keys_of
 keys_whole keys entries same = ap (λ all. Ok all) (sym (append-nil keys)) ∙ same
 

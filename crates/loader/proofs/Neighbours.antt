@@ -8,7 +8,7 @@ use Rattle.board_types.proofs.ImageBytes.{eq_not}
 use Rattle.loader.specs.declared.hex_fault.RecordFault.{RecordFault}
 use Rattle.loader.specs.declared.hex_record.Extension.{Extension}
 use Rattle.loader.specs.declared.hex_record.Extension.TheVariants.{Segment}
-use Rattle.loader.specs.Laws.{AreApart, bytes_of, extension_behind, filled_lines, is_end, last_byte, LinesChangePlaces}
+use Rattle.loader.specs.Laws.{AreApart, bytes_of, extension_after, filled_lines, is_end, last_byte, LinesChangePlaces}
 use Rattle.loader.specs.Lines.{without_spaces}
 use Rattle.loader.specs.Reading.{is_blank}
 use Rattle.loader.specs.Records.{HexRecord, bytes_at, end_of_file, extension_at, start_at, are_loadable, placed_bytes, record_of}
@@ -107,7 +107,7 @@ load_swap e (extension_at next ∷ rs) others m n xs ys = load_swap next rs othe
 load_swap e (start_at ∷ rs) others m n xs ys = load_swap e rs others m n xs ys
 
 byte_swap : (records others : List HexRecord) (m n : ℕ) (xs ys : List ℕ)
-    → AreApart (placed_bytes (extension_behind (Segment 0) records) m xs) (placed_bytes (extension_behind (Segment 0) records) n ys)
+    → AreApart (placed_bytes (extension_after (Segment 0) records) m xs) (placed_bytes (extension_after (Segment 0) records) n ys)
     → (address : ℕ) → last_byte (bytes_of (Segment 0) (records ++ bytes_at m xs ∷ bytes_at n ys ∷ others)) address ≡ last_byte (bytes_of (Segment 0) (records ++ bytes_at n ys ∷ bytes_at m xs ∷ others)) address
 byte_swap records others m n xs ys apart address =
     sym (put_byte (bytes_of (Segment 0) (records ++ bytes_at m xs ∷ bytes_at n ys ∷ others)) address)

@@ -120,19 +120,19 @@ BytesChangePlaces =
     → with_bytes (with_bytes image one) two ≡ with_bytes (with_bytes image two) one
 
 -- the extension in force after records
-abbrev pub extension_behind : Extension → List HexRecord → Extension
-extension_behind extension [] = extension
-extension_behind extension (bytes_at offset content ∷ records) = extension_behind extension records
-extension_behind extension (end_of_file ∷ records) = extension_behind extension records
-extension_behind extension (extension_at next ∷ records) = extension_behind next records
-extension_behind extension (start_at ∷ records) = extension_behind extension records
+abbrev pub extension_after : Extension → List HexRecord → Extension
+extension_after extension [] = extension
+extension_after extension (bytes_at offset content ∷ records) = extension_after extension records
+extension_after extension (end_of_file ∷ records) = extension_after extension records
+extension_after extension (extension_at next ∷ records) = extension_after next records
+extension_after extension (start_at ∷ records) = extension_after extension records
 
 -- two neighbouring data records that share no address may change places: the records give the same image
 abbrev pub RecordsChangePlaces : Type 0
 RecordsChangePlaces =
     (extension : Extension) (image : List (ℕ × ℕ)) (before after : List HexRecord) (m n : ℕ) (one two : List ℕ)
-    → AreApart (placed_bytes (extension_behind extension before) m one)
-    (placed_bytes (extension_behind extension before) n two)
+    → AreApart (placed_bytes (extension_after extension before) m one)
+    (placed_bytes (extension_after extension before) n two)
     → with_bytes image (bytes_of extension (before ++ bytes_at m one ∷ bytes_at n two ∷ after))
     ≡ with_bytes image (bytes_of extension (before ++ bytes_at n two ∷ bytes_at m one ∷ after))
 
@@ -145,6 +145,6 @@ LinesChangePlaces =
     → text_lines text ≡ before ++ one ∷ two ∷ after → text_lines other ≡ before ++ two ∷ one ∷ after
     → map record_of (filled_lines before) ≡ map Ok records
     → record_of (without_spaces one) ≡ Ok (bytes_at m xs) → record_of (without_spaces two) ≡ Ok (bytes_at n ys)
-    → AreApart (placed_bytes (extension_behind (Segment 0) records) m xs)
-    (placed_bytes (extension_behind (Segment 0) records) n ys)
+    → AreApart (placed_bytes (extension_after (Segment 0) records) m xs)
+    (placed_bytes (extension_after (Segment 0) records) n ys)
     → (image : List (ℕ × ℕ)) → Loads text image → Loads other image

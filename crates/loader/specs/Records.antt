@@ -33,7 +33,7 @@ whole (Err e) = Err BadRecord
 -- the bytes of a record: a colon, and for each byte two hexadecimal digits in either case
 abbrev pub record_bytes : List ℕ → Result (List ℕ) RecordFault
 record_bytes [] = Err BadRecord
-record_bytes (mark ∷ digits) = if mark == 58 then whole (decode_of digits) else Err BadRecord
+record_bytes (colon ∷ digits) = if colon == 58 then whole (decode_of digits) else Err BadRecord
 
 abbrev pub record_of_size : ℕ → List ℕ → HexRecord → Result HexRecord RecordFault
 record_of_size n content found = if length content == n then Ok found else Err BadRecord

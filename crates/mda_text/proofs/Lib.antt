@@ -2,7 +2,7 @@ pub mod Sizes
 pub mod Raster
 pub mod Text
 pub mod Walk
-pub mod Blocks
+pub mod Sections
 pub mod Lanes
 pub mod Keeping
 pub mod ScreenLaws

@@ -11,7 +11,7 @@ use Rattle.board_types.proofs.Iterate.{iterate_zero, iterate_more}
 use Rattle.mda_text.specs.Mda.{MdaState, cell_count, power_on, with_text_byte}
 use Rattle.mda_text.specs.Screen.{place, cell, nth_character, characters}
 use Rattle.mda_text.specs.Marks.{after_mark, number_after, is_last, is_changed, changed_among, changed_cells}
-use Rattle.mda_text.specs.Laws.{IsCell, Event, WritesMemory, WritesPort, PassesClocks, after_event, after_events, since_mark, TellsChanges, NumbersMarks}
+use Rattle.mda_text.specs.MdaLaws.{IsCell, Event, WritesMemory, WritesPort, PassesClocks, after_event, after_events, since_mark, TellsChanges, NumbersMarks}
 use Rattle.mda_text.proofs.Sizes.{cell_count_is}
 use Rattle.mda_text.proofs.Raster.{clocks_move_beam}
 use Rattle.mda_text.proofs.ScreenLaws.{write_keeps}

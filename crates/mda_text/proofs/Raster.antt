@@ -3,7 +3,7 @@ use Rattle.std.proofs.Common.{◌≡◌, ℕ, zero, suc, ◌+◌, ◌-◌, ◌%�
 use Rattle.std.proofs.lemmas.Bool.Decides.{nat_tests}
 use Rattle.board_types.specs.Bits.{has_bit}
 use Rattle.board_types.specs.Iterate.{iterate}
-use Rattle.board_types.specs.Lines.{from_bool}
+use Rattle.board_types.specs.LineLevel.{from_bool}
 use Rattle.board_types.specs.Timed.{TurnsFirst}
 use Rattle.board_types.specs.declared.line.Line.{Line}
 use Rattle.board_types.specs.declared.line.Line.TheVariants.{Low, High}

@@ -6,7 +6,7 @@ use Rattle.std.proofs.lemmas.List.{get_or-set_same, get_or-set_other, length-set
 use Rattle.mda_text.specs.Mda.{MdaState, text_size, power_on, text_byte, with_text_byte, byte_at, with_high, with_low, with_register, after_write, after_clocks, status}
 use Rattle.mda_text.specs.Screen.{character_of, character_at, cell}
 use Rattle.mda_text.specs.Marks.{after_mark}
-use Rattle.mda_text.specs.Laws.{with_start, StartsAt, ShowsOnce, ShowsAlike, Scrolls, ChangesOneCell, IsMemory, IsBlank, TellsBeam}
+use Rattle.mda_text.specs.MdaLaws.{with_start, StartsAt, ShowsOnce, ShowsAlike, Scrolls, ChangesOneCell, IsMemory, IsBlank, TellsBeam}
 use Rattle.mda_text.proofs.Sizes.{text_size_is}
 use Rattle.mda_text.proofs.Raster.{clocks_move_beam, raster_after}
 

@@ -4,4 +4,4 @@ pub mod Screen
 pub mod Marks
 pub mod Snapshot
 pub mod Difference
-pub mod Laws
+pub mod MdaLaws

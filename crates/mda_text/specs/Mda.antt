@@ -6,7 +6,7 @@
 use Rattle.std.specs.Prelude.{ℕ, ◌+◌, ◌*◌, ◌/◌, ◌%◌, ◌==◌, Bool, false, if◌then◌else◌, nat_le, List, replicate, slice_index, slice_set}
 use Rattle.board_types.specs.Bits.{has_bit}
 use Rattle.board_types.specs.Iterate.{iterate}
-use Rattle.board_types.specs.Lines.{from_bool}
+use Rattle.board_types.specs.LineLevel.{from_bool}
 use Rattle.board_types.specs.declared.line.Line.{Line}
 
 pub record MdaState : Type 0 where

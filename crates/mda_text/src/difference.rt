@@ -9,7 +9,7 @@ const LANES: usize = 32;
 
 /// Whether the 32 bytes from `at` on are the same in both.
 #[inline(always)]
-fn same_block(a: &[u8], b: &[u8], at: usize) -> bool
+fn same_section(a: &[u8], b: &[u8], at: usize) -> bool
     requires first { at + 32 ≤ length a.now }
     requires second { at + 32 ≤ length b.now }
     ensures { IsTrue result → (k : ℕ) → at ≤ k → k < at + 32 → slice_index a.now k ≡ slice_index b.now k }
@@ -19,13 +19,13 @@ fn same_block(a: &[u8], b: &[u8], at: usize) -> bool
 }
 
 /// How many bytes at the front are the same, counted in whole blocks.
-fn same_blocks(a: &[u8], b: &[u8]) -> usize
+fn same_sections(a: &[u8], b: &[u8]) -> usize
     requires { length a.now ≡ length b.now }
     ensures within { result ≤ length a.now }
     ensures same { (k : ℕ) → k < result → slice_index a.now k ≡ slice_index b.now k }
 {
     let mut at = 0;
-    while a.len() - at >= LANES && same_block(a, b, at) {
+    while a.len() - at >= LANES && same_section(a, b, at) {
         at += LANES;
     }
     at
@@ -36,7 +36,7 @@ pub fn first_difference(a: &[u8], b: &[u8]) -> Option<usize>
     requires { length a.now ≡ length b.now }
     ensures { MatchOption result (a.now ≡ b.now) (DiffersFirstAt a.now b.now) }
 {
-    for at in same_blocks(a, b)..a.len() {
+    for at in same_sections(a, b)..a.len() {
         if a[at] != b[at] {
             return Some(at);
         }

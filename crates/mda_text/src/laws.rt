@@ -1,7 +1,7 @@
 //! What holds of every text adapter, over the definitions alone.
 ghost use Rattle.std.specs.Prelude.{ℕ, List};
 ghost use Rattle.mda_text.specs.Mda.{MdaState, power_on};
-ghost use Rattle.mda_text.specs.Laws.{Event, StartsAt, ShowsOnce, ShowsAlike, Scrolls, ChangesOneCell, IsMemory, IsBlank, TellsBeam, TellsChanges, NumbersMarks};
+ghost use Rattle.mda_text.specs.MdaLaws.{Event, StartsAt, ShowsOnce, ShowsAlike, Scrolls, ChangesOneCell, IsMemory, IsBlank, TellsBeam, TellsChanges, NumbersMarks};
 
 /// A start address that is written to the MC6845 is the word of the first cell, and the cell `80 r + c` further on
 /// shows the word as much further on, round the 2,048 words.

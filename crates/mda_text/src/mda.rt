@@ -11,7 +11,7 @@ ghost use Rattle.mda_text.specs.Marks.{after_mark, number_after, is_changed, cha
 
 use crate::changes::ChangedCells;
 use crate::registers::Registers;
-use crate::snapshot::{BLOCK_BYTES, Snapshot};
+use crate::snapshot::{SECTION_BYTES, Snapshot};
 use board_types::address::TEXT_SIZE;
 use board_types::timed::Timed;
 use std::alloc::{AllocError, Global};
@@ -197,7 +197,7 @@ impl Mda {
         ensures { self.new ≡ with_text_byte self.old offset value }
     {
         self.bytes[offset as usize] = value;
-        self.snapshot.written[offset as usize / BLOCK_BYTES] = true;
+        self.snapshot.written[offset as usize / SECTION_BYTES] = true;
     }
 
     /// The character that the cell at `row`, below 25, and `column`, below 80, shows, an ASCII code.

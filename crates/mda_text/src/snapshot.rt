@@ -8,10 +8,10 @@ use crate::difference::first_difference;
 use crate::mda::{CELL_COUNT, Mda, WORD_COUNT};
 
 /// How many bytes of text memory are marked as written at once.
-pub(crate) const BLOCK_BYTES: usize = 32;
+pub(crate) const SECTION_BYTES: usize = 32;
 
 /// How many words a block has.
-const BLOCK_WORDS: usize = BLOCK_BYTES / 2;
+const SECTION_WORDS: usize = SECTION_BYTES / 2;
 
 /// What the last mark found.
 #[derive(Drop)]
@@ -68,9 +68,9 @@ fn same_words(bytes: &[u8], snapshot: &Snapshot, word: usize) -> usize
     ensures within { word + result ≤ 2048 }
     ensures same { (k : ℕ) → word ≤ k → k < word + result → SameWord bytes.now snapshot.now.bytes.items k }
 {
-    let block = word / BLOCK_WORDS;
-    let end = (block + 1) * BLOCK_WORDS;
-    if !snapshot.written[block] {
+    let section = word / SECTION_WORDS;
+    let end = (section + 1) * SECTION_WORDS;
+    if !snapshot.written[section] {
         return end - word;
     }
     let (from, to) = (2 * word, 2 * end);

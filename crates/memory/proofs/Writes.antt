@@ -3,7 +3,7 @@ use Rattle.std.proofs.Common.{◌≡◌, ◌≤◌, ◌∙◌, ℕ, List, refl, 
 use Rattle.std.proofs.lemmas.Grind.{common_steps}
 use Rattle.std.proofs.lemmas.List.FromFn.{get_or-map-range_with_len, length-map-range_with_len}
 use Rattle.memory.specs.Map.{IsMap, address_count, byte_at, is_writable, with_byte, power_on, power_on_byte}
-use Rattle.memory.specs.Laws.{PowerOnBytes, RamIsWritable, WriteChangesRamAlone}
+use Rattle.memory.specs.MemoryLaws.{PowerOnBytes, RamIsWritable, WriteChangesRamAlone}
 
 pub write_changes : WriteChangesRamAlone
 unfolding byte_at with_byte is_writable

@@ -1,3 +1,3 @@
 pub mod Regions
 pub mod Map
-pub mod Laws
+pub mod MemoryLaws

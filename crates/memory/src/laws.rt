@@ -1,5 +1,5 @@
 //! What holds of every memory map. Each is an empty function whose contract states it.
-ghost use Rattle.memory.specs.Laws.{WriteChangesRamAlone, RamIsWritable, PowerOnBytes};
+ghost use Rattle.memory.specs.MemoryLaws.{WriteChangesRamAlone, RamIsWritable, PowerOnBytes};
 
 /// A write changes the byte of a RAM address and no other; an address at which nothing answers, or one in the ROM,
 /// keeps its byte.

@@ -3,7 +3,7 @@ use denote.Enum.Bare.{sameb}
 use Rattle.std.specs.Bool.{beq}
 use Rattle.std.proofs.Common.{◌≡◌, ℕ, Bool, not, [], ◌∷◌, ◌++◌, zero, suc, ◌+◌, ◌*◌, ◌/◌, ◌%◌, ◌<◌, nat_lt, if◌then◌else◌, refl, ap, ◌∙◌, sym, arith}
 use Rattle.board_types.specs.Iterate.{iterate}
-use Rattle.board_types.specs.Lines.{is_high}
+use Rattle.board_types.specs.LineLevel.{is_high}
 use Rattle.board_types.specs.contracts.line.Line.{the_type}
 use Rattle.board_types.specs.declared.choice.TimerKind.TheVariants.{I8253}
 use Rattle.board_types.specs.declared.line.Line.{Line}
@@ -12,7 +12,7 @@ use Rattle.pit8253.specs.declared.program.Radix.TheVariants.{Binary}
 use Rattle.pit8253.specs.Counter as one
 use Rattle.pit8253.specs.Counter.{CounterState}
 use Rattle.pit8253.specs.Pit.{PitState, power_on, after_gate, after_write, after_ticks}
-use Rattle.pit8253.specs.Laws.{after_setup, ticks_of}
+use Rattle.pit8253.specs.PitLaws.{after_setup, ticks_of}
 use Rattle.pit8253.proofs.Counts.{length_some}
 use Rattle.pit8253.proofs.PitTicks.{each_counter}
 use Rattle.pit8253.proofs.Told.{makes_squares_as_told}

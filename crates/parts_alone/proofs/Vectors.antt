@@ -2,7 +2,7 @@
 use Rattle.std.proofs.Common.{◌≡◌, ℕ, ◌+◌, ◌*◌, ◌/◌, ◌<◌, [], ◌∷◌, false, refl, arith}
 use Rattle.board_types.specs.declared.line.Line.TheVariants.{High}
 use Rattle.pic8259.specs.Pic.{PicState, power_on, level_to_take, vector, after_taking, after_acknowledge, after_line, after_icw1, after_word, after_command, after_ocw2, after_end, highest_served, after_write}
-use Rattle.pic8259.specs.Laws.{after_words}
+use Rattle.pic8259.specs.PicLaws.{after_words}
 use Rattle.pic8259.proofs.Order.{by_level}
 
 -- both lines rise after the words of the initialisation

@@ -2,7 +2,7 @@
 //! vectors that the bench gets.
 ghost use Rattle.std.specs.Prelude.{◌≡◌, ◌+◌, ◌*◌, ◌/◌, ◌<◌, ◌∷◌, [], false};
 ghost use Rattle.pic8259.specs.Pic.{power_on, after_write};
-ghost use Rattle.pic8259.specs.Laws.{after_words, HasEnded};
+ghost use Rattle.pic8259.specs.PicLaws.{after_words, HasEnded};
 
 use board_types::line::Line;
 use pic8259::controller::Pic;

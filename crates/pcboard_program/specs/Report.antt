@@ -6,7 +6,7 @@ use Rattle.std.specs.String.{string_bytes}
 use Rattle.board_plain.specs.Plain.{byte_of, changes_in, clock_of, power_on, registers_of, screen_of, state_of}
 use Rattle.assembler.specs.Gives.{Gives}
 use Rattle.loader.specs.declared.run_file.RunFile.{RunFile}
-use Rattle.pcboard_texts.specs.Report.{config_of, plain_of, report_of}
+use Rattle.pcboard_texts.specs.ImageReport.{config_of, plain_of, report_of}
 use Rattle.pcboard_program.specs.declared.report.Report.{Report}
 
 -- The report's board is the plain board of an image at the budget: its registers, its state, the byte at each

@@ -7,10 +7,10 @@ ghost use Rattle.assembler.specs.Gives.{Gives};
 ghost use Rattle.loader.specs.declared.run_file.RunFile.{RunFile};
 ghost use Rattle.loader.specs.RunFile.{Answers, run_of_text};
 ghost use Rattle.pcboard_texts.specs.Answer.{GivesImage, IsReport, IsTrueRefusal};
-ghost use Rattle.pcboard_texts.specs.Ready.{IsAtPowerOn};
-ghost use Rattle.pcboard_texts.specs.Report.{FitsBoard};
+ghost use Rattle.pcboard_texts.specs.ReadyBoard.{IsAtPowerOn};
+ghost use Rattle.pcboard_texts.specs.ImageReport.{FitsBoard};
 ghost use Rattle.pcboard_program.specs.Report.{ReportsImage, ReportsSource};
-ghost use Rattle.pcboard_texts.specs.Faults.{IsTrueOfImage, IsTrueOfSource, IsWantOfMemory};
+ghost use Rattle.pcboard_texts.specs.RunFaults.{IsTrueOfImage, IsTrueOfSource, IsWantOfMemory};
 
 use crate::report::Report;
 use assembler::assembly::assemble;

@@ -5,7 +5,7 @@ use Rattle.std.specs.Io.KnownBytes.{Appends}
 use Rattle.pcboard_words.specs.Files.{hex_of}
 use Rattle.pcboard_words.specs.declared.task.Task.{Task}
 use Rattle.pcboard_texts.specs.declared.fault.Fault.{Fault}
-use Rattle.pcboard_texts.specs.Faults.{fault_text}
+use Rattle.pcboard_texts.specs.RunFaults.{fault_text}
 use Rattle.pcboard_texts.specs.Refusal.{EndsUnjudged, want_of_board, want_of_file}
 
 -- how want of memory is printed, if nothing was judged

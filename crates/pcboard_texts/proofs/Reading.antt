@@ -7,7 +7,7 @@ use Rattle.loader.specs.HexText.{hex_text}
 use Rattle.loader.specs.RunFile.{Answers, run_of_text}
 use Rattle.board_plain.specs.Board.{BoardState}
 use Rattle.pcboard_texts.specs.Answer.{AppendsA, GivesImage, IsBoardOf, IsHexOf, IsListingOf, IsReport}
-use Rattle.pcboard_texts.specs.Ready.{seen_of}
+use Rattle.pcboard_texts.specs.ReadyBoard.{seen_of}
 
 pub shorter : (limit : ℕ) (bytes : List ℕ) → length (take limit bytes) < limit → take limit bytes ≡ bytes
 shorter limit bytes within = take_all limit bytes (omega (arith, length-take limit bytes))

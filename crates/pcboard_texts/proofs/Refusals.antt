@@ -9,7 +9,7 @@ use Rattle.pcboard_texts.specs.declared.fault.Fault.TheVariants.{Source, Hex, Ru
 use Rattle.pcboard_texts.specs.declared.unanswered.Unanswered.{Unanswered}
 use Rattle.pcboard_texts.specs.declared.unanswered.Unanswered.TheVariants.{Failed, Refused}
 use Rattle.pcboard_texts.specs.Answer.{IsTrueRefusal, run_text_of, source_of}
-use Rattle.pcboard_texts.specs.Ready.{seen_of}
+use Rattle.pcboard_texts.specs.ReadyBoard.{seen_of}
 use Rattle.pcboard_texts.specs.Refusal.{IsTrueOfFiles, IsTrueOfText}
 use Rattle.pcboard_texts.specs.Unanswered.{EndsFor, IsUnjudged}
 use Rattle.pcboard_texts.proofs.Reading.{seen_whole, shorter}

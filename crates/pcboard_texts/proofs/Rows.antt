@@ -8,8 +8,8 @@ use Rattle.debugger_meaning.specs.declared.command.Command.TheVariants.{Go}
 use Rattle.debugger_meaning.specs.declared.fault.DebugFault.TheVariants.{BadCommand, Memory}
 use Rattle.debugger_meaning.specs.Commands.{command_of, command_with, is_quit, plain_command}
 use Rattle.debugger_meaning.specs.Stands.{SessionState}
-use Rattle.debugger_meaning.specs.Words.{count_of, words_of}
-use Rattle.pcboard_texts.specs.Faults.{fault_text}
+use Rattle.debugger_meaning.specs.CommandWords.{count_of, words_of}
+use Rattle.pcboard_texts.specs.RunFaults.{fault_text}
 use Rattle.pcboard_texts.specs.Refusal.{want_of_board, want_of_file, want_of_run_file, want_of_session}
 use Rattle.pcboard_texts.specs.Transcript.{AnswersCommand, Transcript, ends_session, input_lines, refusal_text}
 

@@ -4,7 +4,7 @@ use Rattle.std.specs.Prelude.{ℕ, ◌≡◌, ◌==◌, Bool, true, false, List,
 use Rattle.std.specs.List.{after_first, before_first}
 use Rattle.std.specs.Io.KnownBytes.{Appends}
 use Rattle.board_types.specs.TextLines.{text_lines}
-use Rattle.assembler.specs.Rows.{Row, names_of}
+use Rattle.assembler.specs.LocatedLines.{LocatedLine, names_of}
 use Rattle.assembler.specs.Listing.{Names, listed}
 use Rattle.assembler.specs.Gives.{Gives}
 use Rattle.assembler.specs.FirstFault.{IsFirst}
@@ -20,9 +20,9 @@ use Rattle.loader.specs.declared.run_file.RunFile.{RunFile}
 use Rattle.loader.specs.RunFile.{Answers, run_of_text}
 use Rattle.pcboard_texts.specs.declared.fault.Fault.{Fault}
 use Rattle.pcboard_texts.specs.declared.fault.Fault.TheVariants.{Source, Hex, Run, Board}
-use Rattle.pcboard_texts.specs.Report.{config_of, report_of}
+use Rattle.pcboard_texts.specs.ImageReport.{config_of, report_of}
 use Rattle.pcboard_texts.specs.Transcript.{Answering, AnswersCommand, Transcript, input_lines}
-use Rattle.pcboard_texts.specs.Faults.{IsTrueOfBoard}
+use Rattle.pcboard_texts.specs.RunFaults.{IsTrueOfBoard}
 
 -- the run file of a stored run: its first line
 abbrev pub run_text_of : List ℕ → List ℕ
@@ -69,7 +69,7 @@ pub record IsHexOf (source text : List ℕ) : Type 0 where
   pub is_text : text ≡ hex_text image
 
 -- the lines of a listing, each ended by a line feed
-abbrev pub listing_text : Names → List (List ℕ) → List Row → List ℕ
+abbrev pub listing_text : Names → List (List ℕ) → List LocatedLine → List ℕ
 listing_text names (text ∷ texts) (row ∷ rows) = listed names text row ++ (10 ∷ listing_text names texts rows)
 listing_text names texts rows = []
 

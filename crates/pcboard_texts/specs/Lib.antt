@@ -1,8 +1,8 @@
-pub mod Report
-pub mod Faults
+pub mod ImageReport
+pub mod RunFaults
 pub mod Transcript
 pub mod Taking
 pub mod Answer
-pub mod Ready
+pub mod ReadyBoard
 pub mod Refusal
 pub mod Unanswered

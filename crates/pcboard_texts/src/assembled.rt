@@ -3,7 +3,7 @@ ghost use Rattle.std.specs.Prelude.{◌≡◌, List, [], length, IfErr, IfSome, 
 ghost use Rattle.std.specs.Io.KnownBytes.{Appends};
 ghost use Rattle.board_types.specs.TextLines.{text_lines};
 ghost use Rattle.assembler.specs.Gives.{Gives};
-ghost use Rattle.assembler.specs.Rows.{AreRows, Row, names_of};
+ghost use Rattle.assembler.specs.LocatedLines.{AreLocatedLines, LocatedLine, names_of};
 ghost use Rattle.loader.specs.HexText.{hex_text};
 ghost use Rattle.pcboard_texts.specs.Answer.{AppendsA, IsAssembled, IsListingOf};
 ghost use Rattle.pcboard_texts.specs.Refusal.{IsTrueOfText, want_of_file};
@@ -54,7 +54,7 @@ fn print_listing<O: Write>(
 ) -> Result<(), Unanswered>
     requires size { size ≡ length listing.now.source }
     requires gives { Gives listing.now.source listing.now.image }
-    requires names { (rows : List Row) → AreRows [] (text_lines listing.now.source) rows
+    requires names { (rows : List LocatedLine) → AreLocatedLines [] (text_lines listing.now.source) rows
         → listing.now.names ≡ names_of rows }
     ensures printed { OnOk result (AppendsA (IsListingOf listing.now.source) (O.contents out.old) (O.contents out.new)) }
     ensures kept { IfErr result (WhereRefused (O.contents out.new ≡ O.contents out.old)) }

@@ -4,7 +4,7 @@ ghost use Rattle.std.specs.Fmt.{decimal};
 ghost use Rattle.std.specs.Io.KnownBytes.{Appends};
 ghost use Rattle.board_plain.specs.declared.fault.BoardFault.TheVariants.{Memory};
 ghost use Rattle.pcboard_texts.specs.declared.fault.Fault.TheVariants.{Board, Hex, Run, Source};
-ghost use Rattle.pcboard_texts.specs.Faults.{fault_text, line_of, name_of, number_of};
+ghost use Rattle.pcboard_texts.specs.RunFaults.{fault_text, line_of, name_of, number_of};
 
 use assembler::fault::AsmFault;
 use board_plain::fault::BoardFault;
@@ -108,7 +108,7 @@ impl Fault {
 
 /// Writes the line of a fault, which has its number and name, and the number of its line if there is one, and flushes
 /// it.
-#[tactic(auto, unfolding(crate::specs::Faults::fault_text))]
+#[tactic(auto, unfolding(crate::specs::RunFaults::fault_text))]
 pub fn write_fault<W: Write>(fault: &Fault, to: &mut W) -> io::Result<()>
     ensures { OnOk result (Appends (W.contents to.old) (W.contents to.new) (fault_text fault.now)) }
 {

@@ -3,7 +3,7 @@ ghost use Rattle.std.specs.Prelude.{◌≡◌, ◌⊎◌, take, IfErr, IfOk, IfS
 ghost use Rattle.loader.specs.ByteInput.{CountsNone};
 ghost use Rattle.pcboard_texts.specs.Refusal.{want_of_file, want_of_run_file};
 ghost use Rattle.pcboard_texts.specs.Unanswered.{IsUnjudged, UnlessFailed};
-ghost use Rattle.pcboard_texts.specs.Ready.{seen_of};
+ghost use Rattle.pcboard_texts.specs.ReadyBoard.{seen_of};
 ghost use Rattle.pcboard_texts.specs.Taking.{TakesByte};
 
 use crate::fault::Fault;

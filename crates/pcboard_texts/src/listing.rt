@@ -2,7 +2,7 @@
 ghost use Rattle.std.specs.Prelude.{◌≡◌, ◌++◌, [], ◌∷◌, List, length, IfErr, IfOk, OnOk, string_bytes};
 ghost use Rattle.board_types.specs.TextLines.{text_lines};
 ghost use Rattle.assembler.specs.Gives.{Gives};
-ghost use Rattle.assembler.specs.Rows.{AreRows, Row, names_of};
+ghost use Rattle.assembler.specs.LocatedLines.{AreLocatedLines, LocatedLine, names_of};
 ghost use Rattle.pcboard_texts.specs.Answer.{IsListingOf};
 
 use assembler::fault::AsmFault;
@@ -17,7 +17,7 @@ pub(crate) fn listing_text(
 ) -> Result<String, AsmFault>
     requires size { size ≡ length listing.now.source }
     requires gives { Gives listing.now.source listing.now.image }
-    requires names { (rows : List Row) → AreRows [] (text_lines listing.now.source) rows
+    requires names { (rows : List LocatedLine) → AreLocatedLines [] (text_lines listing.now.source) rows
         → listing.now.names ≡ names_of rows }
     ensures listing { IfOk result (λ text. IsListingOf listing.now.source (string_bytes text)) }
     ensures fault { IfErr result (λ fault. fault ≡ AsmFault.Memory) }

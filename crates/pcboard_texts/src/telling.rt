@@ -1,7 +1,7 @@
 //! Texts that are printed, on standard output or standard error, and the exit status after them.
 ghost use Rattle.std.specs.Prelude.{◌≡◌, ◌≢◌, ◌≤◌, ◌<◌, ◌⊎◌, MatchResult, OnOk};
 ghost use Rattle.std.specs.Io.KnownBytes.{Appends};
-ghost use Rattle.pcboard_texts.specs.Faults.{fault_text};
+ghost use Rattle.pcboard_texts.specs.RunFaults.{fault_text};
 ghost use Rattle.pcboard_texts.specs.Refusal.{unreadable_text, want_of_board};
 
 use crate::fault::{Fault, write_fault};

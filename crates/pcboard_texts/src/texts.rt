@@ -3,7 +3,7 @@ ghost use Rattle.std.specs.Prelude.{◌≡◌, ◌<◌, ◌==◌, position, ℕ,
 ghost use Rattle.loader.specs.declared.run_file.RunFile.{RunFile};
 ghost use Rattle.loader.specs.RunFile.{Answers, run_of_text};
 ghost use Rattle.pcboard_texts.specs.Answer.{GivesImage, IsTrueRefusal, run_text_of, source_of};
-ghost use Rattle.pcboard_texts.specs.Faults.{IsWantOfMemory};
+ghost use Rattle.pcboard_texts.specs.RunFaults.{IsWantOfMemory};
 
 use crate::fault::Fault;
 use assembler::assembly::assemble;

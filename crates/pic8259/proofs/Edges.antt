@@ -10,8 +10,8 @@ use Rattle.pic8259.specs.declared.controller.Expected.{Expected}
 use Rattle.pic8259.specs.declared.controller.Expected.TheVariants.{Icw2, Icw3, Icw4, Operation}
 use Rattle.pic8259.specs.Levels.{no_levels, Levels, contains, with_level, without_level}
 use Rattle.pic8259.specs.Pic.{PicState, is_operating, asks, level_to_take, after_taking, after_acknowledge, after_read, after_line, after_icw1, after_word, after_end, after_lowering, highest_served, after_ocw2, after_ocw3, after_command, after_write}
-use Rattle.pic8259.specs.Laws.{Event, line_change, read, write, acknowledge, after_event, after_events}
-use Rattle.pic8259.specs.Edges.{keeps_line, all_keep_line, AsksOnceARise}
+use Rattle.pic8259.specs.PicLaws.{Event, line_change, read, write, acknowledge, after_event, after_events}
+use Rattle.pic8259.specs.EdgeLaws.{keeps_line, all_keep_line, AsksOnceARise}
 use Rattle.pic8259.proofs.Order.{by_level}
 use Rattle.pic8259.proofs.Taking.{gone}
 

@@ -9,7 +9,7 @@ use Rattle.pic8259.specs.declared.controller.Expected.{Expected}
 use Rattle.pic8259.specs.declared.controller.Expected.TheVariants.{Icw2, Icw3, Icw4, Operation}
 use Rattle.pic8259.specs.Levels.{all_levels, with_lowest, order_with_lowest}
 use Rattle.pic8259.specs.Pic.{PicState, power_on, is_operating, is_ready, blocks, may_be_taken, level_to_take, after_taking, after_acknowledge, after_read, after_line, after_icw1, after_word, after_end, after_lowering, highest_served, after_ocw2, after_ocw3, after_command, after_write}
-use Rattle.pic8259.specs.Laws.{Event, line_change, read, write, acknowledge, after_event, after_events, HoldsEachLevelOnce, IsTurn, OrderIsWhole, RotationTurns}
+use Rattle.pic8259.specs.PicLaws.{Event, line_change, read, write, acknowledge, after_event, after_events, HoldsEachLevelOnce, IsTurn, OrderIsWhole, RotationTurns}
 use Rattle.pic8259.proofs.Order.{by_level, turned_to_lowest}
 use Rattle.pic8259.proofs.Places.{found_at, all_right}
 

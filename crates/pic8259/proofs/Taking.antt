@@ -1,5 +1,5 @@
 -- What an acknowledge takes, what blocks it, and what a plain end of interrupt ends.
-use Rattle.pic8259.specs.Parts.{is_pending}
+use Rattle.pic8259.specs.AskingLevels.{is_pending}
 use Rattle.std.proofs.Common.{◌≡◌, ℕ, ◌+◌, ◌%◌, ◌<◌, ◌==◌, Bool, true, false, not, ◌&&◌, cond, if◌then◌else◌, List, [], ◌∷◌, ◌++◌, length, get_or, find, count_by, All, Option, MatchOption, None, Some, unwrap_or, refl, sym, ap, ◌∙◌, arith, inl, inr, append_assoc, subst}
 use Rattle.std.specs.Option.{option_map_or}
 use Rattle.std.specs.List.{list_any, before_first}
@@ -11,7 +11,7 @@ use Rattle.std.proofs.lemmas.List.Elements.{All-cons, All-tail, All-same, All-we
 use Rattle.board_types.specs.Bits.{has_bit}
 use Rattle.pic8259.specs.Levels.{Levels, contains, without_level, up_to}
 use Rattle.pic8259.specs.Pic.{PicState, is_operating, is_ready, asks, blocks, may_be_taken, level_to_take, after_taking, after_acknowledge, after_end, highest_served, power_on, after_ocw2, after_ocw3, after_icw1, after_command, after_write}
-use Rattle.pic8259.specs.Laws.{HoldsEachLevelOnce, IsFirstToTake, Takes, TakesNone, AcknowledgeTakesFirst, ServiceBlocks, SpecialMaskExcepts, Ends, EndsNone, EndsFirstInService, BeginsAnew, WaitsForSequence}
+use Rattle.pic8259.specs.PicLaws.{HoldsEachLevelOnce, IsFirstToTake, Takes, TakesNone, AcknowledgeTakesFirst, ServiceBlocks, SpecialMaskExcepts, Ends, EndsNone, EndsFirstInService, BeginsAnew, WaitsForSequence}
 use Rattle.pic8259.proofs.Places.{found_at, none_found, before_first_past, before_first_here, any_here, none_where_any_fails, none_counted, counted_here, count_at_place, all_right}
 
 -- a level that may not be taken is another than one that may
@@ -29,11 +29,11 @@ first_to_take s level is =
     let pending = and_parts (asks s level) (not (contains s.masked level)) parts.0 in
     let others : All (λ other. (other == level) ≡ false) at.before =
     All-weaker (λ other. may_be_taken s other ≡ false) (λ other. (other == level) ≡ false) (λ other. other_level s level other at.passes) at.before at.none_before in
-    let reach : up_to s.order level ≡ at.before ++ level ∷ [] =
+    let until_level : up_to s.order level ≡ at.before ++ level ∷ [] =
     ap (λ xs. up_to xs level) at.placed
     ∙ ap (λ xs. xs ++ level ∷ []) (before_first_here (λ other. other == level) at.before level at.after others (eq-eqb level level refl)) in
     let unblocked : list_any (blocks s) (at.before ++ level ∷ []) ≡ false =
-    ap (list_any (blocks s)) (sym reach) ∙ not-true _ parts.1 in
+    ap (list_any (blocks s)) (sym until_level) ∙ not-true _ parts.1 in
     record {
       before = at.before;
       after = at.after;
@@ -75,8 +75,8 @@ acknowledge_takes_first s = taking s (level_to_take s) refl
 
 -- a level at or before which one stands that blocks may not be taken
 blocked : (s : PicState) (level other : ℕ) (before between : List ℕ) → blocks s level ≡ true → up_to s.order other ≡ before ++ level ∷ between → may_be_taken s other ≡ false
-blocked s level other before between here reach =
-    let some : list_any (blocks s) (up_to s.order other) ≡ true = ap (list_any (blocks s)) reach ∙ any_here (blocks s) before level between here in
+blocked s level other before between here until_level =
+    let some : list_any (blocks s) (up_to s.order other) ≡ true = ap (list_any (blocks s)) until_level ∙ any_here (blocks s) before level between here in
     ap (λ b. is_pending s other && not b) some ∙ and-false (is_pending s other)
 
 -- a level after one that blocks, in an order that holds each level once, may not be taken
@@ -95,11 +95,11 @@ blocked_after s level other before after whole placed here within later =
       | inr differ ↦ differ
     ]
     in
-    let reach : up_to s.order other ≡ before ++ level ∷ (before_first p after ++ other ∷ []) =
+    let until_level : up_to s.order other ≡ before ++ level ∷ (before_first p after ++ other ∷ []) =
     ap (λ xs. before_first p xs ++ other ∷ []) placed
     ∙ ap (λ xs. xs ++ other ∷ []) (before_first_past p before (level ∷ after) fails ∙ ap (λ xs. before ++ xs) (before_first_past p (level ∷ []) after (All-cons (λ n. p n ≡ false) level [] differs (none_counted p [] 0 refl))))
     ∙ append_assoc before (level ∷ before_first p after) (other ∷ []) in
-    blocked s level other before (before_first p after ++ other ∷ []) here reach
+    blocked s level other before (before_first p after ++ other ∷ []) here until_level
 
 pub service_blocks : ServiceBlocks
 service_blocks s level before after whole placed served unexcepted =

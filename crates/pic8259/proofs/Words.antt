@@ -10,7 +10,7 @@ use Rattle.pic8259.specs.declared.controller.Expected.TheVariants.{Icw2, Icw3, I
 use Rattle.pic8259.specs.Levels.{no_levels, contains, with_level, byte_of, levels_of, up_to, with_lowest}
 use Rattle.pic8259.specs.Masks.{byte_of-levels_of}
 use Rattle.pic8259.specs.Pic.{PicState, is_operating, asks, blocks, level_to_take, after_taking, after_acknowledge, byte_at, after_read, after_icw1, after_ocw2, after_ocw3, after_word, after_command, after_write}
-use Rattle.pic8259.specs.Laws.{after_words, SequenceEnds, ServesTaken, HoldsMask, MaskHolds, Reads, PollTakes}
+use Rattle.pic8259.specs.PicLaws.{after_words, SequenceEnds, ServesTaken, HoldsMask, MaskHolds, Reads, PollTakes}
 use Rattle.pic8259.proofs.Masks.{contains_levels}
 use Rattle.pic8259.proofs.OrderWhole.{lowest_turned}
 

@@ -1,8 +1,8 @@
 pub mod Levels
 pub mod Masks
 pub mod Pic
-pub mod Parts
-pub mod Laws
-pub mod Edges
+pub mod AskingLevels
+pub mod PicLaws
+pub mod EdgeLaws
 pub mod Inhibited
-pub mod Image
+pub mod PicNumbers

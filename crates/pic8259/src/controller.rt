@@ -100,13 +100,13 @@ impl Model for Pic {
 }
 
 impl Pic {
-    ghost use Rattle.pic8259.specs.Image.{pic_of};
+    ghost use Rattle.pic8259.specs.PicNumbers.{pic_of};
     ghost use Rattle.pic8259.specs.Inhibited.{is_inhibited};
     ghost use Rattle.std.specs.List.{list_any};
     ghost use Rattle.std.specs.Option.{option_map_or};
     ghost use Rattle.pic8259.specs.declared.controller.Expected.TheVariants.{Icw2, Icw3, Icw4, Operation};
     ghost use Rattle.pic8259.specs.Levels.{all_levels, contains, no_levels, up_to};
-    ghost use Rattle.pic8259.specs.Parts.{is_pending, requests};
+    ghost use Rattle.pic8259.specs.AskingLevels.{is_pending, requests};
     ghost use Rattle.pic8259.specs.Pic.{power_on, is_requesting, is_ready, asks, blocks, may_be_taken, level_to_take, after_taking, after_acknowledge, vector, byte_at, after_read, after_line, after_icw1, after_word, after_end, after_lowering, highest_served, after_ocw2, after_ocw3, after_command, after_write, is_operating, expected_after_icw3};
 
     /// A controller at power-on: every line low, nothing masked or in service, edge mode, no initialisation
@@ -138,7 +138,7 @@ impl Pic {
     }
 
     /// The controller that an image stands for; any numbers stand for some controller.
-    #[tactic(auto, unfolding(crate::specs::Image::pic_of))]
+    #[tactic(auto, unfolding(crate::specs::PicNumbers::pic_of))]
     pub fn from_image(image: &PicImage) -> Pic
         ensures { result ≡ pic_of image.now }
     {
@@ -165,7 +165,7 @@ impl Pic {
     }
 
     /// The controller as numbers, of which `from_image` makes it again.
-    #[tactic(auto, unfolding(crate::specs::Image::pic_of))]
+    #[tactic(auto, unfolding(crate::specs::PicNumbers::pic_of))]
     pub fn image(&self) -> PicImage
         ensures { pic_of result ≡ self.now }
     {

@@ -1,6 +1,6 @@
 //! A controller as plain numbers, laid out as C lays them out: for callers that know no enums, such as benches in C.
 ghost use Rattle.std.specs.Prelude.{◌≡◌, ◌≤◌};
-ghost use Rattle.pic8259.specs.Image.{flag_of, expected_of, base_of};
+ghost use Rattle.pic8259.specs.PicNumbers.{flag_of, expected_of, base_of};
 
 use crate::controller::{Expected, Pic};
 

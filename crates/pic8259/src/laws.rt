@@ -1,6 +1,6 @@
 //! Laws of the controller, proved over its definition. Each is an empty function whose contract states it.
-ghost use Rattle.pic8259.specs.Laws.{OrderIsWhole, RotationTurns, BeginsAnew, SequenceEnds, WaitsForSequence, AcknowledgeTakesFirst, ServiceBlocks, SpecialMaskExcepts, EndsFirstInService, ServesTaken, MaskHolds, PollTakes};
-ghost use Rattle.pic8259.specs.Edges.{AsksOnceARise};
+ghost use Rattle.pic8259.specs.PicLaws.{OrderIsWhole, RotationTurns, BeginsAnew, SequenceEnds, WaitsForSequence, AcknowledgeTakesFirst, ServiceBlocks, SpecialMaskExcepts, EndsFirstInService, ServesTaken, MaskHolds, PollTakes};
+ghost use Rattle.pic8259.specs.EdgeLaws.{AsksOnceARise};
 ghost use Rattle.pic8259.specs.Inhibited.{InhibitedRequestNothing};
 
 /// At any time the order of priority holds each of the eight levels once, and is a turn of their circle.

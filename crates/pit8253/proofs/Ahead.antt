@@ -4,7 +4,7 @@ use Rattle.std.specs.Prelude.{◌==◌, is_none}
 use Rattle.std.proofs.lemmas.Bool.{cases_lt}
 use Rattle.std.proofs.lemmas.Nat.{mod_below}
 use Rattle.board_types.proofs.Iterate.{iterate_zero, iterate_more, iterate_add, iterate_fixed}
-use Rattle.board_types.specs.Lines.{is_high, opposite}
+use Rattle.board_types.specs.LineLevel.{is_high, opposite}
 use Rattle.board_types.specs.declared.line.Line.{Line}
 use Rattle.board_types.specs.declared.line.Line.TheVariants.{Low, High}
 use Rattle.pit8253.specs.declared.program.Mode.{Mode}
@@ -12,8 +12,8 @@ use Rattle.pit8253.specs.declared.program.Mode.TheVariants.{TerminalCount, OneSh
 use Rattle.pit8253.specs.declared.program.Progress.{Progress}
 use Rattle.pit8253.specs.declared.program.Progress.TheVariants.{Awaited, Written, Loaded}
 use Rattle.pit8253.specs.Program.{modulus}
-use Rattle.pit8253.specs.Counter.{CounterState, is_loaded, after_load, loads_less, after_square_load, after_due_load, after_count, after_countdown, after_rate_count, after_square_count, after_strobe_count, after_rest, after_tick, after_ticks}
-use Rattle.pit8253.specs.Laws.{size, ticks_left, Runs, after_fall, after_strobe_fall, after_rate_fall, half_left, after_half_fall}
+use Rattle.pit8253.specs.Counter.{CounterState, is_loaded, after_load, loads_less, after_square_load, after_due_load, after_count, after_decrement, after_rate_count, after_square_count, after_strobe_count, after_rest, after_tick, after_ticks}
+use Rattle.pit8253.specs.PitLaws.{size, ticks_left, Runs, after_fall, after_strobe_fall, after_rate_fall, half_left, after_half_fall}
 use Rattle.pit8253.specs.Ahead.{is_counting, after_rests, after_rate, half_ticks, after_turn, after_halves, after_square, after_counting, after_run}
 use Rattle.pit8253.proofs.Falls.{round_again, if_yes, if_no}
 use Rattle.pit8253.proofs.Counts.{differs, same, below, not_below, lengths}
@@ -70,14 +70,14 @@ runs_terminal c sound due mode n true counts =
     counts_down c (runs_of c sound due tests.loaded) (inl (mode, tests.gate, tests.first)) n
 runs_terminal c sound due mode n false rests =
     iterate_fixed after_tick n c
-    (tick_counts c c due refl ∙ ap (λ m. after_count c m) mode ∙ if_no (is_counting c TerminalCount) (after_countdown c) c rests)
+    (tick_counts c c due refl ∙ ap (λ m. after_count c m) mode ∙ if_no (is_counting c TerminalCount) (after_decrement c) c rests)
 
 pub runs_one_shot : (c : CounterState) → Sound c → c.load_due ≡ false → c.mode ≡ OneShot → (n : ℕ) (b : Bool) → is_counting c OneShot ≡ b → after_ticks c n ≡ (if b then after_fall c n else c)
 runs_one_shot c sound due mode n true counts =
     counts_down c (runs_of c sound due (is_loaded_one c.progress counts)) (inr mode) n
 runs_one_shot c sound due mode n false rests =
     iterate_fixed after_tick n c
-    (tick_counts c c due refl ∙ ap (λ m. after_count c m) mode ∙ if_no (is_counting c OneShot) (after_countdown c) c rests)
+    (tick_counts c c due refl ∙ ap (λ m. after_count c m) mode ∙ if_no (is_counting c OneShot) (after_decrement c) c rests)
 
 -- mode 2
 

@@ -8,7 +8,7 @@ use Rattle.std.proofs.Math.Nat.{mod-eq_of_lt, mod_self, add-mod_right, mod-add-m
 use Rattle.pit8253.specs.declared.program.Radix.{Radix}
 use Rattle.pit8253.specs.declared.program.Radix.TheVariants.{Binary, Decimal}
 use Rattle.pit8253.specs.Program.{modulus, count_minus}
-use Rattle.pit8253.specs.Laws.{length_of, count_after}
+use Rattle.pit8253.specs.PitLaws.{length_of, count_after}
 use Rattle.pit8253.proofs.Falls.{if_yes, if_no}
 
 -- tests of numbers

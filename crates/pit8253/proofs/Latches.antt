@@ -7,10 +7,10 @@ use Rattle.pit8253.specs.declared.program.Mode.{Mode}
 use Rattle.pit8253.specs.declared.program.Mode.TheVariants.{TerminalCount, OneShot, RateGenerator, SquareWave, SoftwareStrobe, HardwareStrobe}
 use Rattle.pit8253.specs.declared.program.Access.{Access}
 use Rattle.pit8253.specs.declared.program.Access.TheVariants.{LowThenHigh}
-use Rattle.board_types.specs.Lines.{is_high, opposite}
+use Rattle.board_types.specs.LineLevel.{is_high, opposite}
 use Rattle.pit8253.specs.Program.{digits_of, count_minus}
-use Rattle.pit8253.specs.Counter.{CounterState, after_load, after_square_load, after_due_load, is_loaded, after_count, after_countdown, after_rate_count, half_step, after_square_count, after_strobe_count, after_rest, after_tick, after_ticks, reading, after_latch, reads_high, next_byte, after_read_by, after_read}
-use Rattle.pit8253.specs.Laws.{LatchHolds, LatchHoldsBoth, LatchIsHeld, ReadsBoth, CountsInDecimal}
+use Rattle.pit8253.specs.Counter.{CounterState, after_load, after_square_load, after_due_load, is_loaded, after_count, after_decrement, after_rate_count, half_step, after_square_count, after_strobe_count, after_rest, after_tick, after_ticks, reading, after_latch, reads_high, next_byte, after_read_by, after_read}
+use Rattle.pit8253.specs.PitLaws.{LatchHolds, LatchHoldsBoth, LatchIsHeld, ReadsBoth, CountsInDecimal}
 use Rattle.pit8253.proofs.Falls.{keeping}
 
 -- what ticks leave alone
@@ -60,7 +60,7 @@ square_keeps c =
     choose (c.count == 1) c (after_square_load c High) (if ends then after_square_load c turn else record c { count = count }) (square_loaded_keeps High c)
     (choose ends c (after_square_load c turn) (record c { count = count }) (square_loaded_keeps turn c) (moved_keeps c count c.strobe_due c.out))
 
-out_keeps : (c : CounterState) → Kept c (after_countdown c)
+out_keeps : (c : CounterState) → Kept c (after_decrement c)
 out_keeps c = record { kind = refl; latch = refl; status = refl; access = refl; high_next = refl }
 
 strobed_keeps : (c : CounterState) → Kept c (after_strobe_count c)
@@ -70,8 +70,8 @@ rested_keeps : (c : CounterState) → Kept c (after_rest c)
 rested_keeps c = record { kind = refl; latch = refl; status = refl; access = refl; high_next = refl }
 
 counted_keeps : (mode : Mode) (c : CounterState) → Kept c (after_count c mode)
-counted_keeps TerminalCount c = choose (is_loaded c.progress && is_high c.gate && is_none c.first_byte) c (after_countdown c) c (out_keeps c) (none_changed c)
-counted_keeps OneShot c = choose (is_loaded c.progress) c (after_countdown c) c (out_keeps c) (none_changed c)
+counted_keeps TerminalCount c = choose (is_loaded c.progress && is_high c.gate && is_none c.first_byte) c (after_decrement c) c (out_keeps c) (none_changed c)
+counted_keeps OneShot c = choose (is_loaded c.progress) c (after_decrement c) c (out_keeps c) (none_changed c)
 counted_keeps RateGenerator c = choose (is_loaded c.progress && is_high c.gate) c (after_rate_count c) c (rate_keeps c) (none_changed c)
 counted_keeps SquareWave c = choose (is_loaded c.progress && is_high c.gate) c (after_square_count c) c (square_keeps c) (none_changed c)
 counted_keeps SoftwareStrobe c = choose (is_loaded c.progress && is_high c.gate) c (after_strobe_count c) (after_rest c) (strobed_keeps c) (rested_keeps c)

@@ -4,7 +4,7 @@ use Rattle.pit8253.specs.declared.program.Radix.{Radix}
 use Rattle.pit8253.specs.declared.program.Radix.TheVariants.{Binary, Decimal}
 use Rattle.pit8253.specs.declared.image.CounterImage.{CounterImage}
 use Rattle.pit8253.specs.Program.{modulus, radix_of}
-use Rattle.pit8253.specs.Image.{counter_of, pit_of, IsCounter, AnyNumbersAreATimer}
+use Rattle.pit8253.specs.PitNumbers.{counter_of, pit_of, IsCounter, AnyNumbersAreATimer}
 
 within : (radix : Radix) (n : ℕ) → n % modulus radix < modulus radix
 within Binary n = omega arith

@@ -1,7 +1,7 @@
 -- What an 8254 shows when it is read back.
 use Rattle.std.proofs.Common.{◌≡◌, ◌≢◌, ℕ, ◌/◌, ◌%◌, Bool, true, false, not, if◌then◌else◌, ◌&&◌, ◌||◌, refl, sym, ap, ◌∙◌, subst, arith, Option, None, Some, unwrap_or}
 use Rattle.std.specs.Prelude.{◌==◌, is_none, is_some}
-use Rattle.board_types.specs.Lines.{is_high, opposite}
+use Rattle.board_types.specs.LineLevel.{is_high, opposite}
 use Rattle.board_types.specs.declared.choice.TimerKind.{TimerKind}
 use Rattle.board_types.specs.declared.choice.TimerKind.TheVariants.{I8253, I8254}
 use Rattle.board_types.specs.declared.line.Line.TheVariants.{Low, High}
@@ -9,8 +9,8 @@ use Rattle.pit8253.specs.declared.program.Mode.{Mode}
 use Rattle.pit8253.specs.declared.program.Mode.TheVariants.{TerminalCount, OneShot, RateGenerator, SquareWave, SoftwareStrobe, HardwareStrobe}
 use Rattle.pit8253.specs.declared.program.Access.TheVariants.{LowThenHigh}
 use Rattle.pit8253.specs.Program.{mode_of, access_of, radix_of, digits_of, count_minus}
-use Rattle.pit8253.specs.Counter.{CounterState, is_8254, is_loaded, after_load, after_square_load, after_due_load, after_count, after_countdown, after_rate_count, half_step, after_square_count, after_strobe_count, after_rest, after_tick, after_ticks, reading, after_latch, after_program, after_control_word, next_byte, after_read_by, after_read, status_of, after_status_latch, after_read_back}
-use Rattle.pit8253.specs.Laws.{ends_half}
+use Rattle.pit8253.specs.Counter.{CounterState, is_8254, is_loaded, after_load, after_square_load, after_due_load, after_count, after_decrement, after_rate_count, half_step, after_square_count, after_strobe_count, after_rest, after_tick, after_ticks, reading, after_latch, after_program, after_control_word, next_byte, after_read_by, after_read, status_of, after_status_latch, after_read_back}
+use Rattle.pit8253.specs.PitLaws.{ends_half}
 use Rattle.pit8253.specs.Laws8254.{ReadsBack, StatusComesFirst, ProgramEndsLatches, ReadBackIsHeld, ends_in, loads_next, NullTillLoaded, KnowsNoReadBack}
 use Rattle.pit8253.specs.Pit as pit
 use Rattle.pit8253.specs.Pit.{PitState}
@@ -217,9 +217,9 @@ counted_null false x y false e counted rest = rest
 
 count_null : (c : CounterState) (mode : Mode) → (after_count c mode).is_null ≡ (c.is_null && not (is_loaded c.progress && is_high c.gate && ends_in c mode))
 count_null c TerminalCount =
-    null_kept (is_loaded c.progress && is_high c.gate && is_none c.first_byte) (after_countdown c) c c.is_null refl refl
+    null_kept (is_loaded c.progress && is_high c.gate && is_none c.first_byte) (after_decrement c) c c.is_null refl refl
     ∙ no_load_null c.is_null (is_loaded c.progress && is_high c.gate)
-count_null c OneShot = null_kept (is_loaded c.progress) (after_countdown c) c c.is_null refl refl ∙ no_load_null c.is_null (is_loaded c.progress && is_high c.gate)
+count_null c OneShot = null_kept (is_loaded c.progress) (after_decrement c) c c.is_null refl refl ∙ no_load_null c.is_null (is_loaded c.progress && is_high c.gate)
 count_null c RateGenerator = counted_null (is_loaded c.progress && is_high c.gate) (after_rate_count c) c c.is_null (c.count == 1) (rate_null c) refl
 count_null c SquareWave = counted_null (is_loaded c.progress && is_high c.gate) (after_square_count c) c c.is_null (ends_half c) (square_null c) refl
 count_null c SoftwareStrobe =

@@ -3,13 +3,13 @@ use Rattle.std.proofs.Common.{◌≡◌, ℕ, ◌+◌, ◌-◌, ◌*◌, ◌/◌
 use Rattle.std.specs.Prelude.{◌==◌}
 use Rattle.std.proofs.lemmas.Bool.{cases_lt}
 use Rattle.std.proofs.Math.Nat.{mod-eq_of_lt}
-use Rattle.board_types.specs.Lines.{is_high}
+use Rattle.board_types.specs.LineLevel.{is_high}
 use Rattle.board_types.specs.declared.line.Line.{Line}
 use Rattle.board_types.specs.declared.line.Line.TheVariants.{Low, High}
 use Rattle.pit8253.specs.declared.program.Radix.{Radix}
 use Rattle.pit8253.specs.Program.{modulus}
 use Rattle.pit8253.specs.Counter.{CounterState}
-use Rattle.pit8253.specs.Laws.{count_after, ticks_left, after_fall, after_strobe_fall, after_rate_fall, falls_left, half_left, after_half_fall}
+use Rattle.pit8253.specs.PitLaws.{count_after, ticks_left, after_fall, after_strobe_fall, after_rate_fall, falls_left, half_left, after_half_fall}
 use Rattle.pit8253.specs.Ahead.{after_rate, half_ticks, after_square}
 use Rattle.pit8253.proofs.Falls.{if_yes, if_no}
 use Rattle.pit8253.proofs.Counts.{differs, below, length_some, high_part}

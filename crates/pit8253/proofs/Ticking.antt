@@ -1,13 +1,13 @@
 -- What one tick makes of a counter that counts, in each mode.
 use Rattle.std.proofs.Common.{◌≡◌, ◌≢◌, ℕ, Bool, true, false, if◌then◌else◌, not, ◌&&◌, refl, ap, ◌∙◌, None}
 use Rattle.std.specs.Prelude.{◌==◌, is_none}
-use Rattle.board_types.specs.Lines.{is_high, opposite}
+use Rattle.board_types.specs.LineLevel.{is_high, opposite}
 use Rattle.board_types.specs.declared.line.Line.{Line}
 use Rattle.board_types.specs.declared.line.Line.TheVariants.{Low, High}
 use Rattle.pit8253.specs.declared.program.Mode.TheVariants.{TerminalCount, OneShot, RateGenerator, SquareWave, SoftwareStrobe, HardwareStrobe}
 use Rattle.pit8253.specs.Program.{count_minus}
-use Rattle.pit8253.specs.Counter.{CounterState, after_load, after_square_load, after_due_load, is_loaded, after_count, after_countdown, after_rate_count, half_step, after_square_count, after_strobe_count, after_rest, after_tick}
-use Rattle.pit8253.specs.Laws.{Runs}
+use Rattle.pit8253.specs.Counter.{CounterState, after_load, after_square_load, after_due_load, is_loaded, after_count, after_decrement, after_rate_count, half_step, after_square_count, after_strobe_count, after_rest, after_tick}
+use Rattle.pit8253.specs.PitLaws.{Runs}
 use Rattle.pit8253.proofs.Counts.{differs}
 use Rattle.pit8253.proofs.Falls.{if_yes, if_no}
 
@@ -22,19 +22,19 @@ tick_counts c d none same = ap (λ b. if b then after_due_load d d.mode else aft
 
 -- which rule a tick follows, by the mode
 
-pub tick_terminal_count : (c : CounterState) → Runs c → c.mode ≡ TerminalCount → c.gate ≡ High → c.first_byte ≡ None → (n : ℕ) (due : Bool) (out : Line) → after_tick (with_count c n due out) ≡ after_countdown (with_count c n due out)
+pub tick_terminal_count : (c : CounterState) → Runs c → c.mode ≡ TerminalCount → c.gate ≡ High → c.first_byte ≡ None → (n : ℕ) (due : Bool) (out : Line) → after_tick (with_count c n due out) ≡ after_decrement (with_count c n due out)
 tick_terminal_count c runs mode gate first n due out =
     let d : CounterState = with_count c n due out in
     tick_counts c d runs.none_due refl ∙ ap (λ m. after_count d m) mode
-    ∙ ap (λ p. if is_loaded p && is_high c.gate && is_none c.first_byte then after_countdown d else d) runs.loaded
-    ∙ ap (λ g. if is_high g && is_none c.first_byte then after_countdown d else d) gate
-    ∙ ap (λ f. if is_none f then after_countdown d else d) first
+    ∙ ap (λ p. if is_loaded p && is_high c.gate && is_none c.first_byte then after_decrement d else d) runs.loaded
+    ∙ ap (λ g. if is_high g && is_none c.first_byte then after_decrement d else d) gate
+    ∙ ap (λ f. if is_none f then after_decrement d else d) first
 
-pub tick_one_shot : (c : CounterState) → Runs c → c.mode ≡ OneShot → (n : ℕ) (due : Bool) (out : Line) → after_tick (with_count c n due out) ≡ after_countdown (with_count c n due out)
+pub tick_one_shot : (c : CounterState) → Runs c → c.mode ≡ OneShot → (n : ℕ) (due : Bool) (out : Line) → after_tick (with_count c n due out) ≡ after_decrement (with_count c n due out)
 tick_one_shot c runs mode n due out =
     let d : CounterState = with_count c n due out in
     tick_counts c d runs.none_due refl ∙ ap (λ m. after_count d m) mode
-    ∙ ap (λ p. if is_loaded p then after_countdown d else d) runs.loaded
+    ∙ ap (λ p. if is_loaded p then after_decrement d else d) runs.loaded
 
 pub tick_rate : (c : CounterState) → Runs c → c.mode ≡ RateGenerator → c.gate ≡ High → (n : ℕ) (due : Bool) (out : Line) → after_tick (with_count c n due out) ≡ after_rate_count (with_count c n due out)
 tick_rate c runs mode gate n due out =
@@ -65,8 +65,8 @@ tick_hardware_strobe c runs mode n due out =
 
 -- what the rules make of a counter whose count falls to m
 
-pub countdown : (c : CounterState) (n m : ℕ) (due : Bool) (out : Line) → count_minus c.count_radix n 1 ≡ m → after_countdown (with_count c n due out) ≡ with_count c m due (if m == 0 then High else out)
-countdown c n m due out is = ap (λ k. with_count c k due (if k == 0 then High else out)) is
+pub decrement : (c : CounterState) (n m : ℕ) (due : Bool) (out : Line) → count_minus c.count_radix n 1 ≡ m → after_decrement (with_count c n due out) ≡ with_count c m due (if m == 0 then High else out)
+decrement c n m due out is = ap (λ k. with_count c k due (if k == 0 then High else out)) is
 
 pub rate_falls : (c : CounterState) (n m : ℕ) (due : Bool) (out : Line) → n ≢ 1 → count_minus c.count_radix n 1 ≡ m → after_rate_count (with_count c n due out) ≡ with_count c m due (if m == 1 then Low else out)
 rate_falls c n m due out other is =

@@ -2,7 +2,7 @@
 use Rattle.std.proofs.Common.{◌≡◌, ◌≢◌, ℕ, zero, suc, ◌+◌, ◌-◌, ◌*◌, ◌/◌, ◌%◌, ◌<◌, Bool, true, false, not, if◌then◌else◌, ◌&&◌, refl, sym, ap, ◌∙◌, subst, arith, inl, inr, nat_lt}
 use Rattle.std.specs.Prelude.{◌==◌}
 use Rattle.board_types.proofs.Iterate.{iterate_zero, iterate_fixed}
-use Rattle.board_types.specs.Lines.{is_high}
+use Rattle.board_types.specs.LineLevel.{is_high}
 use Rattle.board_types.specs.declared.choice.TimerKind.{TimerKind}
 use Rattle.board_types.specs.declared.choice.TimerKind.TheVariants.{I8253, I8254}
 use Rattle.board_types.specs.declared.line.Line.{Line}
@@ -11,7 +11,7 @@ use Rattle.pit8253.specs.declared.program.Mode.{Mode}
 use Rattle.pit8253.specs.declared.program.Mode.TheVariants.{TerminalCount, OneShot, RateGenerator, SquareWave, SoftwareStrobe, HardwareStrobe}
 use Rattle.pit8253.specs.Program.{modulus}
 use Rattle.pit8253.specs.Counter.{CounterState, is_8254, loads_less, after_square_load, after_due_load, after_count, after_square_count, after_tick, after_ticks}
-use Rattle.pit8253.specs.Laws.{size, ticks_left, length_of, falls_left, half_left}
+use Rattle.pit8253.specs.PitLaws.{size, ticks_left, length_of, falls_left, half_left}
 use Rattle.pit8253.specs.Laws8254.{CountsEven, MakesTheSameWave}
 use Rattle.pit8253.specs.Ahead.{is_counting, after_counting, after_rests, after_rate}
 use Rattle.pit8253.proofs.Counts.{differs, same, length_some}

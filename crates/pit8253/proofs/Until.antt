@@ -4,7 +4,7 @@ use Rattle.std.specs.Prelude.{◌==◌}
 use Rattle.std.proofs.lemmas.Bool.{cases_lt}
 use Rattle.std.proofs.Math.Nat.{mod-eq_of_lt}
 use Rattle.board_types.proofs.Iterate.{iterate_zero, iterate_add}
-use Rattle.board_types.specs.Lines.{is_high, opposite}
+use Rattle.board_types.specs.LineLevel.{is_high, opposite}
 use Rattle.board_types.specs.Timed.{TurnsFirst, IsUntilTurn}
 use Rattle.board_types.specs.declared.line.Line.{Line}
 use Rattle.board_types.specs.declared.line.Line.TheVariants.{Low, High}
@@ -12,7 +12,7 @@ use Rattle.pit8253.specs.declared.program.Mode.{Mode}
 use Rattle.pit8253.specs.declared.program.Mode.TheVariants.{TerminalCount, OneShot, RateGenerator, SquareWave, SoftwareStrobe, HardwareStrobe}
 use Rattle.pit8253.specs.Program.{modulus}
 use Rattle.pit8253.specs.Counter.{CounterState, after_load, after_square_load, after_due_load, after_rest, after_tick, after_ticks, out_of}
-use Rattle.pit8253.specs.Laws.{size, ticks_left, Runs, after_fall, after_strobe_fall, half_left}
+use Rattle.pit8253.specs.PitLaws.{size, ticks_left, Runs, after_fall, after_strobe_fall, half_left}
 use Rattle.pit8253.specs.Ahead.{is_counting, half_ticks, after_turn, until_end, until_pulse, until_half, until_strobe, until_counting, until_rest, until_turn, a_tick_later, differ}
 use Rattle.pit8253.proofs.Falls.{if_yes, if_no}
 use Rattle.pit8253.proofs.Counts.{differs, same, below, not_below, modulus_large, lengths}

@@ -7,10 +7,10 @@ use Rattle.board_types.specs.declared.line.Line.TheVariants.{Low, High}
 use Rattle.pit8253.specs.declared.program.Mode.{Mode}
 use Rattle.pit8253.specs.declared.program.Mode.TheVariants.{TerminalCount, OneShot, RateGenerator, SquareWave, SoftwareStrobe, HardwareStrobe}
 use Rattle.pit8253.specs.declared.program.Progress.TheVariants.{Loaded}
-use Rattle.board_types.specs.Lines.{is_high, opposite}
+use Rattle.board_types.specs.LineLevel.{is_high, opposite}
 use Rattle.pit8253.specs.Program.{count_minus}
-use Rattle.pit8253.specs.Counter.{CounterState, after_load, after_square_load, after_due_load, is_loaded, after_count, after_countdown, after_rate_count, half_step, after_square_count, after_strobe_count, after_rest, after_tick, reading, after_full_count, is_awaited, rises, is_triggered, out_at_gate, after_gate}
-use Rattle.pit8253.specs.Laws.{GateStops, GateSetsHigh, RiseReloads, GateStopsStrobe, FirstByteStops, ends_half, NewCountWaits, WaitsForLoad}
+use Rattle.pit8253.specs.Counter.{CounterState, after_load, after_square_load, after_due_load, is_loaded, after_count, after_decrement, after_rate_count, half_step, after_square_count, after_strobe_count, after_rest, after_tick, reading, after_full_count, is_awaited, rises, is_triggered, out_at_gate, after_gate}
+use Rattle.pit8253.specs.PitLaws.{GateStops, GateSetsHigh, RiseReloads, GateStopsStrobe, FirstByteStops, ends_half, NewCountWaits, WaitsForLoad}
 use Rattle.pit8253.proofs.Falls.{keeping, if_no}
 use Rattle.pit8253.proofs.Counts.{differs}
 
@@ -26,8 +26,8 @@ pub gate_stops : GateStops
 gate_stops c none low (inl terminal) n =
     iterate_fixed after_tick n c
     (no_load c none ∙ ap (λ m. after_count c m) terminal
-    ∙ ap (λ g. if is_loaded c.progress && is_high g && is_none c.first_byte then after_countdown c else c) low
-    ∙ ap (λ b. if b && is_none c.first_byte then after_countdown c else c) (stopped (is_loaded c.progress)))
+    ∙ ap (λ g. if is_loaded c.progress && is_high g && is_none c.first_byte then after_decrement c else c) low
+    ∙ ap (λ b. if b && is_none c.first_byte then after_decrement c else c) (stopped (is_loaded c.progress)))
 gate_stops c none low (inr (inl rate)) n =
     iterate_fixed after_tick n c
     (no_load c none ∙ ap (λ m. after_count c m) rate
@@ -43,8 +43,8 @@ pub first_byte_stops : FirstByteStops
 first_byte_stops c byte none terminal first n =
     iterate_fixed after_tick n c
     (no_load c none ∙ ap (λ m. after_count c m) terminal
-    ∙ ap (λ f. if is_loaded c.progress && is_high c.gate && is_none f then after_countdown c else c) first
-    ∙ ap (λ b. if b then after_countdown c else c) (stopped (is_loaded c.progress && is_high c.gate)))
+    ∙ ap (λ f. if is_loaded c.progress && is_high c.gate && is_none f then after_decrement c else c) first
+    ∙ ap (λ b. if b then after_decrement c else c) (stopped (is_loaded c.progress && is_high c.gate)))
 
 -- what a strobe counter with a low gate keeps
 record Stands (c d : CounterState) : Type 0 where
@@ -129,8 +129,8 @@ idle HardwareStrobe c = after_rest c
 
 idle_is : (mode : Mode) (c : CounterState) → is_loaded c.progress ≡ false → after_count c mode ≡ idle mode c
 unfolding idle
-idle_is TerminalCount c unloaded = ap (λ b. if b && is_high c.gate && is_none c.first_byte then after_countdown c else c) unloaded
-idle_is OneShot c unloaded = ap (λ b. if b then after_countdown c else c) unloaded
+idle_is TerminalCount c unloaded = ap (λ b. if b && is_high c.gate && is_none c.first_byte then after_decrement c else c) unloaded
+idle_is OneShot c unloaded = ap (λ b. if b then after_decrement c else c) unloaded
 idle_is RateGenerator c unloaded = ap (λ b. if b && is_high c.gate then after_rate_count c else c) unloaded
 idle_is SquareWave c unloaded = ap (λ b. if b && is_high c.gate then after_square_count c else c) unloaded
 idle_is SoftwareStrobe c unloaded = ap (λ b. if b && is_high c.gate then after_strobe_count c else after_rest c) unloaded

@@ -5,17 +5,17 @@ use Rattle.std.proofs.lemmas.Bool.{cases_lt}
 use Rattle.std.proofs.lemmas.Bool.Decides.{nat_tests}
 use Rattle.std.proofs.lemmas.Nat.{mod_below}
 use Rattle.board_types.proofs.Iterate.{iterate_more, iterate_add, iterate_fixed}
-use Rattle.board_types.specs.Lines.{is_high, opposite}
+use Rattle.board_types.specs.LineLevel.{is_high, opposite}
 use Rattle.board_types.specs.declared.line.Line.{Line}
 use Rattle.board_types.specs.declared.line.Line.TheVariants.{Low, High}
 use Rattle.pit8253.specs.declared.program.Mode.TheVariants.{RateGenerator, SquareWave}
 use Rattle.pit8253.specs.declared.program.Radix.{Radix}
 use Rattle.pit8253.specs.Program.{modulus, count_minus}
-use Rattle.pit8253.specs.Counter.{CounterState, is_8254, after_load, loads_less, after_square_load, after_count, after_countdown, after_rate_count, half_step, after_square_count, after_strobe_count, after_tick, after_ticks}
-use Rattle.pit8253.specs.Laws.{length_of, size, ticks_left, Runs, count_after, after_fall, after_strobe_fall, after_rate_fall, falls_left, half_left, after_half_fall, TicksAdd, CountsDown, CountsToStrobe, CountsPeriod, CountsHalf, ReloadsAtOne, CountsPeriods, CountsHalves, CountsOut, ShootsOnce, Divides, MakesSquares, StaysHigh, StrobesOnce, StrobesOnTrigger}
+use Rattle.pit8253.specs.Counter.{CounterState, is_8254, after_load, loads_less, after_square_load, after_count, after_decrement, after_rate_count, half_step, after_square_count, after_strobe_count, after_tick, after_ticks}
+use Rattle.pit8253.specs.PitLaws.{length_of, size, ticks_left, Runs, count_after, after_fall, after_strobe_fall, after_rate_fall, falls_left, half_left, after_half_fall, TicksAdd, CountsDown, CountsToStrobe, CountsPeriod, CountsHalf, ReloadsAtOne, CountsPeriods, CountsHalves, CountsOut, ShootsOnce, Divides, MakesSquares, StaysHigh, StrobesOnce, StrobesOnTrigger}
 use Rattle.pit8253.proofs.Falls.{by_steps, round_again, if_yes, if_no}
 use Rattle.pit8253.proofs.Counts.{differs, same, below, not_below, modulus_even, modulus_large, minus_within, minus_around, length_some, after_none, after_more, after_within, after_end, Lengths, lengths}
-use Rattle.pit8253.proofs.Ticking.{with_count, tick_terminal_count, tick_one_shot, tick_rate, tick_square, tick_software_strobe, tick_hardware_strobe, countdown, rate_falls, rate_reloads, ends_at, square_falls, square_turns, strobe_count}
+use Rattle.pit8253.proofs.Ticking.{with_count, tick_terminal_count, tick_one_shot, tick_rate, tick_square, tick_software_strobe, tick_hardware_strobe, decrement, rate_falls, rate_reloads, ends_at, square_falls, square_turns, strobe_count}
 
 pub ticks_add : TicksAdd
 ticks_add k m c = sym (iterate_add after_tick k m c)
@@ -58,7 +58,7 @@ fall_out radix count n out within =
           ∙ sym (if_no (nat_lt (n + 1) long) out High (not_below (n + 1) long after))
     ]
 
-falls : (c : CounterState) → Runs c → ((n : ℕ) (due : Bool) (out : Line) → after_tick (with_count c n due out) ≡ after_countdown (with_count c n due out)) → (n : ℕ) → after_ticks c n ≡ after_fall c n
+falls : (c : CounterState) → Runs c → ((n : ℕ) (due : Bool) (out : Line) → after_tick (with_count c n due out) ≡ after_decrement (with_count c n due out)) → (n : ℕ) → after_ticks c n ≡ after_fall c n
 falls c runs rule n =
     let start : after_fall c 0 ≡ c =
     unmoved c (count_after c.count_radix c.count 0) c.strobe_due (if nat_lt 0 (ticks_left c) then c.out else High)
@@ -66,7 +66,7 @@ falls c runs rule n =
     (if_yes (nat_lt 0 (ticks_left c)) c.out High (below 0 (ticks_left c) (lengths c.count_radix c.count runs.within).some)) in
     by_steps after_tick (after_fall c) c n start
     (λ k _. rule (count_after c.count_radix c.count k) c.strobe_due (if nat_lt k (ticks_left c) then c.out else High)
-    ∙ countdown c (count_after c.count_radix c.count k) (count_after c.count_radix c.count (k + 1)) c.strobe_due (if nat_lt k (ticks_left c) then c.out else High) (after_more c.count_radix c.count k runs.within)
+    ∙ decrement c (count_after c.count_radix c.count k) (count_after c.count_radix c.count (k + 1)) c.strobe_due (if nat_lt k (ticks_left c) then c.out else High) (after_more c.count_radix c.count k runs.within)
     ∙ ap (λ o. with_count c (count_after c.count_radix c.count (k + 1)) c.strobe_due o) (fall_out c.count_radix c.count k c.out runs.within))
     n (omega arith)
 

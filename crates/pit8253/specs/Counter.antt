@@ -16,7 +16,7 @@ use Rattle.pit8253.specs.declared.program.Radix.{Radix}
 use Rattle.pit8253.specs.declared.program.Radix.TheVariants.{Binary}
 use Rattle.pit8253.specs.declared.program.Progress.{Progress}
 use Rattle.pit8253.specs.declared.program.Progress.TheVariants.{Awaited, Written, Loaded}
-use Rattle.board_types.specs.Lines.{is_high, opposite}
+use Rattle.board_types.specs.LineLevel.{is_high, opposite}
 use Rattle.pit8253.specs.Program.{mode_of, access_of, radix_of, mode_number, access_number, radix_number, count_of, digits_of, count_minus}
 
 pub record CounterState : Type 0 where
@@ -126,8 +126,8 @@ after_due_load c SquareWave = after_square_load c (out_at_load SquareWave c.out)
 after_due_load c mode = after_load c (out_at_load mode c.out)
 
 -- modes 0 and 1: the count falls by 1, and at 0 OUT goes high
-abbrev pub after_countdown : CounterState → CounterState
-after_countdown c =
+abbrev pub after_decrement : CounterState → CounterState
+after_decrement c =
     let count : ℕ = count_minus c.count_radix c.count 1 in
     record c { count = count; out = (if count == 0 then High else c.out) }
 
@@ -168,8 +168,8 @@ after_rest c = record c { out = High }
 -- and 4, and in mode 0 the first byte of two does.
 abbrev pub after_count : CounterState → Mode → CounterState
 after_count c TerminalCount =
-    if is_loaded c.progress && is_high c.gate && is_none c.first_byte then after_countdown c else c
-after_count c OneShot = if is_loaded c.progress then after_countdown c else c
+    if is_loaded c.progress && is_high c.gate && is_none c.first_byte then after_decrement c else c
+after_count c OneShot = if is_loaded c.progress then after_decrement c else c
 after_count c RateGenerator = if is_loaded c.progress && is_high c.gate then after_rate_count c else c
 after_count c SquareWave = if is_loaded c.progress && is_high c.gate then after_square_count c else c
 after_count c SoftwareStrobe = if is_loaded c.progress && is_high c.gate then after_strobe_count c else after_rest c

@@ -1,7 +1,7 @@
 pub mod Program
 pub mod Counter
 pub mod Pit
-pub mod Laws
+pub mod PitLaws
 pub mod Ahead
-pub mod Image
+pub mod PitNumbers
 pub mod Laws8254

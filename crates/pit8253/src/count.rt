@@ -1,8 +1,8 @@
 //! Counts: how they are written, how long they are and how they fall (Intel 8253 data sheet, "Programming the 8253").
 ghost use Rattle.std.specs.Prelude.{◌≡◌, ◌+◌, ◌*◌, ◌/◌, ◌%◌, ◌-◌, ◌<◌, ◌≤◌, if◌then◌else◌};
-ghost use Rattle.board_types.specs.Lines.{is_high};
+ghost use Rattle.board_types.specs.LineLevel.{is_high};
 ghost use Rattle.pit8253.specs.Program.{modulus, count_of, digits_of};
-ghost use Rattle.pit8253.specs.Laws.{length_of, count_after};
+ghost use Rattle.pit8253.specs.PitLaws.{length_of, count_after};
 
 use crate::program::Radix;
 use board_types::line::Line;

@@ -3,9 +3,9 @@ ghost use Rattle.std.specs.Prelude.{◌≡◌, ◌≤◌, ◌<◌, ◌/◌, ◌%
 ghost use Rattle.board_types.specs.declared.choice.TimerKind.{TimerKind};
 ghost use Rattle.board_types.specs.declared.line.Line.{Line};
 ghost use Rattle.pit8253.specs.Program.{mode_of, access_of, radix_of, modulus, count_of, digits_of};
-ghost use Rattle.pit8253.specs.Laws.{size, ticks_left, after_fall, after_strobe_fall, after_rate_fall, falls_left, half_left, after_half_fall};
+ghost use Rattle.pit8253.specs.PitLaws.{size, ticks_left, after_fall, after_strobe_fall, after_rate_fall, falls_left, half_left, after_half_fall};
 ghost use Rattle.pit8253.specs.Ahead.{after_rests, after_rate, half_ticks, after_turn, after_halves, after_square, after_run, until_end, until_pulse, until_half, until_strobe, until_rest, until_turn, differ, a_tick_later};
-ghost use Rattle.pit8253.specs.Image.{counter_of};
+ghost use Rattle.pit8253.specs.PitNumbers.{counter_of};
 ghost use Rattle.pit8253.specs.Counter.{power_on, is_awaited, out_at_load, after_load, loads_less, after_square_load, after_due_load, out_at_control, reading, after_latch, after_program, after_control_word, loads_when_written, after_full_count, out_at_write, after_write, next_byte, after_read, status_of, after_status_latch, after_read_back, rises, is_triggered, out_at_gate, after_gate};
 
 use crate::count::{
@@ -122,7 +122,7 @@ impl Counter {
     }
 
     /// The counter that an image stands for; any numbers stand for some counter.
-    #[tactic(auto, unfolding(crate::specs::Image::counter_of))]
+    #[tactic(auto, unfolding(crate::specs::PitNumbers::counter_of))]
     pub fn from_image(image: &CounterImage) -> Self
         ensures { result ≡ counter_of image.now }
     {
@@ -151,7 +151,7 @@ impl Counter {
     }
 
     /// The counter as numbers, of which `from_image` makes it again.
-    #[tactic(auto, unfolding(crate::specs::Image::counter_of))]
+    #[tactic(auto, unfolding(crate::specs::PitNumbers::counter_of))]
     pub fn image(&self) -> CounterImage
         ensures { counter_of result ≡ self.now }
     {

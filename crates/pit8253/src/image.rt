@@ -1,9 +1,9 @@
 //! A timer as plain numbers, laid out as C lays them out: for callers that know no enums, such as benches in C.
 ghost use Rattle.std.specs.Prelude.{◌≡◌, ◌<◌, ◌≤◌, ◌%◌, if◌then◌else◌};
 ghost use Rattle.board_types.specs.declared.line.Line.{Line};
-ghost use Rattle.board_types.specs.Lines.{is_high};
+ghost use Rattle.board_types.specs.LineLevel.{is_high};
 ghost use Rattle.pit8253.specs.Program.{mode_of, access_of, radix_of, mode_number, access_number, radix_number, modulus};
-ghost use Rattle.pit8253.specs.Image.{flag_of, kind_of, line_of, option_of, progress_of};
+ghost use Rattle.pit8253.specs.PitNumbers.{flag_of, kind_of, line_of, option_of, progress_of};
 
 use crate::pit::Pit;
 use crate::program::{Access, Mode, Progress, Radix};

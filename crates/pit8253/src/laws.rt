@@ -1,7 +1,7 @@
 //! What the definition of a counter means over time, in the data sheet's terms. Each law is a function that
 //! does nothing: its contract speaks of the definition alone.
-ghost use Rattle.pit8253.specs.Image.{AnyNumbersAreATimer};
-ghost use Rattle.pit8253.specs.Laws.{TicksAdd, CountsDown, CountsToStrobe, CountsPeriod, CountsHalf, ReloadsAtOne, CountsPeriods, CountsHalves, CountsOut, ShootsOnce, Divides, MakesSquares, StaysHigh, StrobesOnce, StrobesOnTrigger, LatchHolds, LatchHoldsBoth, LatchIsHeld, ReadsBoth, CountsInDecimal, GateSetsHigh, RiseReloads, GateStops, GateStopsStrobe, FirstByteStops, NewCountWaits, WaitsForLoad, CountsOutAsTold, ShootsAsTriggered, DividesAsTold, MakesSquaresAsTold, StrobesAsTold, StrobesAsTriggered, CountersTickAlike};
+ghost use Rattle.pit8253.specs.PitNumbers.{AnyNumbersAreATimer};
+ghost use Rattle.pit8253.specs.PitLaws.{TicksAdd, CountsDown, CountsToStrobe, CountsPeriod, CountsHalf, ReloadsAtOne, CountsPeriods, CountsHalves, CountsOut, ShootsOnce, Divides, MakesSquares, StaysHigh, StrobesOnce, StrobesOnTrigger, LatchHolds, LatchHoldsBoth, LatchIsHeld, ReadsBoth, CountsInDecimal, GateSetsHigh, RiseReloads, GateStops, GateStopsStrobe, FirstByteStops, NewCountWaits, WaitsForLoad, CountsOutAsTold, ShootsAsTriggered, DividesAsTold, MakesSquaresAsTold, StrobesAsTold, StrobesAsTriggered, CountersTickAlike};
 ghost use Rattle.pit8253.specs.Laws8254.{ReadsBack, StatusComesFirst, ProgramEndsLatches, ReadBackIsHeld, NullTillLoaded, CountsEven, KnowsNoReadBack, MakesTheSameWave};
 
 /// Ticks, and then more ticks, are as many ticks together.

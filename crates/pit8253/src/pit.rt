@@ -5,7 +5,7 @@ ghost use Rattle.board_types.specs.Timed.{IsUntilTurn};
 ghost use Rattle.board_types.specs.declared.choice.TimerKind.{TimerKind};
 ghost use Rattle.board_types.specs.declared.choice.TimerKind.TheVariants.{I8253};
 ghost use Rattle.board_types.specs.declared.line.Line.{Line};
-ghost use Rattle.pit8253.specs.Image.{pit_of};
+ghost use Rattle.pit8253.specs.PitNumbers.{pit_of};
 ghost use Rattle.pit8253.specs.Counter as one;
 ghost use Rattle.pit8253.specs.Counter.{CounterState, out_of};
 ghost use Rattle.pit8253.specs.Pit.{power_on, counter, after_ticks, after_read_back, after_control_word, after_write, byte_at, after_read, after_gate};
@@ -56,7 +56,7 @@ impl Pit {
     }
 
     /// The timer that an image stands for; any numbers stand for some timer.
-    #[tactic(auto, unfolding(crate::specs::Image::pit_of))]
+    #[tactic(auto, unfolding(crate::specs::PitNumbers::pit_of))]
     pub fn from_image(image: &PitImage) -> Self
         ensures { result ≡ pit_of image.now }
     {
@@ -68,7 +68,7 @@ impl Pit {
     }
 
     /// The timer as numbers, of which `from_image` makes it again.
-    #[tactic(auto, unfolding(crate::specs::Image::pit_of))]
+    #[tactic(auto, unfolding(crate::specs::PitNumbers::pit_of))]
     pub fn image(&self) -> PitImage
         ensures { pit_of result ≡ self.now }
     {

@@ -6,12 +6,12 @@ use Rattle.std.proofs.lemmas.Nat.{and_shr, or_shr, and_mod, or_mod}
 use Rattle.std.proofs.lemmas.Nat.Bits.{bit_at_set_same, bit_at_set_other, bit_at_clear_same, bit_at_clear_other}
 use Rattle.std.proofs.lemmas.Grind.{common_steps}
 use Rattle.board_types.specs.Bits.{has_bit}
-use Rattle.board_types.specs.Lines.{is_high}
+use Rattle.board_types.specs.LineLevel.{is_high}
 use Rattle.ppi8255.specs.declared.ppi.Direction.{Direction}
 use Rattle.ppi8255.specs.declared.ppi.Direction.TheVariants.{Input, Output}
 use Rattle.ppi8255.specs.declared.ppi.Inputs.{Inputs}
 use Rattle.ppi8255.specs.Ppi.{PpiState, port_byte, lines_b, pins_a, switches_c, pins_c, port_c_byte, byte_at, after_mode_word, with_bit, after_write}
-use Rattle.ppi8255.specs.Laws.{ReadsBack, BeginsAnew, SetsOneBit, ShowsSwitches, after_writes, LooksAlike, DiffersUnseen}
+use Rattle.ppi8255.specs.PpiLaws.{ReadsBack, BeginsAnew, SetsOneBit, ShowsSwitches, after_writes, LooksAlike, DiffersUnseen}
 
 output_shows : (direction : Direction) (latch pins : ℕ) → direction ≡ Output → port_byte direction latch pins ≡ latch
 output_shows Input latch pins is = cc

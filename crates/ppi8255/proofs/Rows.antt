@@ -3,7 +3,7 @@ use Rattle.std.proofs.Common.{◌≡◌, ℕ, Some, [], ◌∷◌, refl}
 use Rattle.board_types.specs.declared.line.Line.TheVariants.{High}
 use Rattle.ppi8255.specs.declared.ppi.Inputs.{Inputs}
 use Rattle.ppi8255.specs.Ppi.{PpiState, power_on, lines_b, byte_at, after_write}
-use Rattle.ppi8255.specs.Laws.{after_writes}
+use Rattle.ppi8255.specs.PpiLaws.{after_writes}
 
 abbrev key_and_tone : Inputs
 key_and_tone = record { latch = Some 0x1E; out2 = High }

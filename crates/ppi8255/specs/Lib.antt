@@ -1,3 +1,3 @@
 pub mod Ppi
-pub mod Laws
-pub mod Image
+pub mod PpiLaws
+pub mod PpiNumbers

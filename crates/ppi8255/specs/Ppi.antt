@@ -6,7 +6,7 @@ use Rattle.std.specs.Prelude.{ℕ, ◌+◌, ◌-◌, ◌*◌, ◌/◌, ◌%◌, 
 use Rattle.std.specs.Int.{bit_at}
 use Rattle.std.specs.Int.Bits.{bit_and, bit_or}
 use Rattle.board_types.specs.Bits.{has_bit}
-use Rattle.board_types.specs.Lines.{is_high}
+use Rattle.board_types.specs.LineLevel.{is_high}
 use Rattle.ppi8255.specs.declared.ppi.Direction.{Direction}
 use Rattle.ppi8255.specs.declared.ppi.Direction.TheVariants.{Input, Output}
 use Rattle.ppi8255.specs.declared.ppi.Inputs.{Inputs}

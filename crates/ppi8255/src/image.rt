@@ -1,6 +1,6 @@
 //! A parallel port as plain numbers, laid out as C lays them out: for callers that know no enums, such as benches in C.
 ghost use Rattle.std.specs.Prelude.{◌≡◌};
-ghost use Rattle.ppi8255.specs.Image.{direction_by};
+ghost use Rattle.ppi8255.specs.PpiNumbers.{direction_by};
 
 use crate::ppi::{Direction, Ppi};
 

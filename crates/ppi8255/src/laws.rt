@@ -3,7 +3,7 @@ ghost use Rattle.std.specs.Prelude.{◌≡◌, ℕ, false, List};
 ghost use Rattle.board_types.specs.Bits.{has_bit};
 ghost use Rattle.ppi8255.specs.declared.ppi.Inputs.{Inputs};
 ghost use Rattle.ppi8255.specs.Ppi.{PpiState};
-ghost use Rattle.ppi8255.specs.Laws.{ReadsBack, BeginsAnew, SetsOneBit, ShowsSwitches, DiffersUnseen, LooksAlike};
+ghost use Rattle.ppi8255.specs.PpiLaws.{ReadsBack, BeginsAnew, SetsOneBit, ShowsSwitches, DiffersUnseen, LooksAlike};
 
 /// An output port reads what was last written to it.
 pub fn reads_back()

@@ -2,7 +2,7 @@
 //! counter 2's output on their pins (Intel 8255A data sheet; IBM PC Technical Reference, "System Board I/O").
 ghost use Rattle.std.specs.Prelude.{◌≡◌, ◌<◌, ◌/◌, ◌%◌};
 ghost use Rattle.board_types.specs.Bits.{has_bit};
-ghost use Rattle.ppi8255.specs.Image.{ppi_of};
+ghost use Rattle.ppi8255.specs.PpiNumbers.{ppi_of};
 ghost use Rattle.ppi8255.specs.Ppi.{power_on, port_byte, lines_b, pins_a, pins_c, port_c_byte, byte_at, direction_of, after_mode_word, with_bit, after_write};
 
 use crate::image;
@@ -91,7 +91,7 @@ impl Ppi {
     }
 
     /// The parallel port that an image stands for; any numbers stand for some parallel port.
-    #[tactic(auto, unfolding(crate::specs::Image::ppi_of))]
+    #[tactic(auto, unfolding(crate::specs::PpiNumbers::ppi_of))]
     pub fn from_image(image: &PpiImage) -> Self
         ensures { result ≡ ppi_of image.now }
     {
@@ -109,7 +109,7 @@ impl Ppi {
     }
 
     /// The parallel port as numbers, of which `from_image` makes it again.
-    #[tactic(auto, unfolding(crate::specs::Image::ppi_of))]
+    #[tactic(auto, unfolding(crate::specs::PpiNumbers::ppi_of))]
     pub fn image(&self) -> PpiImage
         ensures { ppi_of result ≡ self.now }
     {

@@ -17,7 +17,7 @@ use Rattle.board_plain.specs.Plain.{Plain, after_clock, after_clocks, clock_of, 
 use Rattle.board_plain.specs.Trail.{entry_at, event_of, trail_in, trail_next}
 use Rattle.board_types.proofs.Iterate.{gathered_more, gathered_zero}
 use Rattle.probe.specs.Counts.{clocks_from, is_number, next_clock, numbers_of, place_of, place_unless, type_of, with_number}
-use Rattle.probe.specs.Laws.{clocks_of_lines, CountsAddUp}
+use Rattle.probe.specs.ProbeLaws.{clocks_of_lines, CountsAddUp}
 use Rattle.probe.specs.Tallied.{has}
 use Rattle.probe.proofs.Numbers.{above_less, equal_numbers, in_numbers, is_in, numbers_rise, AreAbove}
 use Rattle.probe.proofs.Tallying.{no_clocks}

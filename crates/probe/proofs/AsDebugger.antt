@@ -21,11 +21,11 @@ use Rattle.probe.specs.declared.inquiry.Inquiry.{Inquiry}
 use Rattle.probe.specs.declared.stops.Stop.{Stop}
 use Rattle.probe.specs.declared.stops.Stop.TheVariants.{Standing}
 use Rattle.probe.specs.Inquiry.{inquiry_of}
-use Rattle.probe.specs.Laws.{AnswersAsDebugger, OnlyStand}
+use Rattle.probe.specs.ProbeLaws.{AnswersAsDebugger, OnlyStand}
 use Rattle.probe.specs.Probe.{AddsStop, AnswersUnless, conditions_of, GoesBackToStop, GoesOn, ProbeState, RefusesBackToStop, RefusesGoing, RefusesStop, session_of}
 use Rattle.probe.specs.Requests.{request_by, request_in, request_of, request_with, stop_of, trial_of}
-use Rattle.probe.specs.Session.{AnswersOr}
-use Rattle.probe.specs.Stops.{IsEndOf, met_from, NoneMet}
+use Rattle.probe.specs.InquirySession.{AnswersOr}
+use Rattle.probe.specs.ProbeStops.{IsEndOf, met_from, NoneMet}
 use Rattle.probe.proofs.Probes.{conditions_more}
 use Rattle.probe.proofs.Standing.{met_alike, none_there, there}
 

@@ -18,7 +18,7 @@ use Rattle.probe.specs.declared.counts.Counts.{Counts}
 use Rattle.probe.specs.Counted.{IsCounted}
 use Rattle.probe.specs.Counts.{counts_of, counts_text}
 use Rattle.probe.specs.Making.{RefusesMaking}
-use Rattle.probe.specs.Tallied.{HasNoted, IsBefore}
+use Rattle.probe.specs.Tallied.{HasCounted, IsBefore}
 
 -- no memory, after some of the clocks have passed
 pub stands_short : (n k : ℕ) (s t : SessionState) (fault : DebugFault) → clock_of s.board.plain + n ≤ 2 ^ 40 → k ≤ n → Ran k s.board t.board → t.stops ≡ s.stops → t.first ≡ s.first → fault ≡ Memory (Some (clock_of t.board.plain)) → RefusesMaking n s t fault
@@ -39,14 +39,14 @@ begun_on p k s t begun at is =
     ∙ map-append begun_of (trail_in s p) (trail_in (after_clocks s p) k)
     ∙ ap (λ xs. begun_in s p ++ xs) (ap (λ q. begun_in q k) (sym at) ∙ is)
 
-pub none_counted : (end : ℕ) (s : SessionState) (c : Counts) → length s.board.trail ≤ 32 → clock_of s.board.plain ≤ end → HasNoted [] c → ((clock : ℕ) → IsBefore clock c) → c.first ≡ clock_of s.board.plain → IsCounted end s s c
+pub none_counted : (end : ℕ) (s : SessionState) (c : Counts) → length s.board.trail ≤ 32 → clock_of s.board.plain ≤ end → HasCounted [] c → ((clock : ℕ) → IsBefore clock c) → c.first ≡ clock_of s.board.plain → IsCounted end s s c
 none_counted end s c few within noted before from = record {
   passed = 0;
   ran = ran_none s.board few;
   stops = refl;
   first = refl;
   within = within;
-  noted = subst (λ xs. HasNoted xs c) (sym (ap (map begun_of) (gathered_zero after_clock trail_next s.board.plain))) noted;
+  noted = subst (λ xs. HasCounted xs c) (sym (ap (map begun_of) (gathered_zero after_clock trail_next s.board.plain))) noted;
   before = before (clock_of s.board.plain);
   started = omega (arith, from);
 }
@@ -65,11 +65,11 @@ before_later clock later c less before = record {
 }
 
 -- what begins in a turn comes after what began before it
-pub begins_behind : {edges : Bool} (end clock : ℕ) (s t u : SessionState) (c : Counts) (begun : Option Begun) → IsCounted end s t c → IsOneTurn edges end end t.board u.board begun → IfSome begun (λ b. IsBefore b.clock c)
-begins_behind end clock s t u c begun counted turn = if_some begun turn.clock (λ b is. subst (λ n. IsBefore n c) (sym is) counted.before)
+pub begins_after : {edges : Bool} (end clock : ℕ) (s t u : SessionState) (c : Counts) (begun : Option Begun) → IsCounted end s t c → IsOneTurn edges end end t.board u.board begun → IfSome begun (λ b. IsBefore b.clock c)
+begins_after end clock s t u c begun counted turn = if_some begun turn.clock (λ b is. subst (λ n. IsBefore n c) (sym is) counted.before)
 
 pub more_counted : {edges : Bool} (end : ℕ) (s t u : SessionState) (c d : Counts) (begun : Option Begun) → IsCounted end s t c → IsOneTurn edges end end t.board u.board begun → u.stops ≡ t.stops → u.first ≡ t.first
-    → ((all : List Begun) → HasNoted all c → HasNoted (all ++ option_to_list begun) d)
+    → ((all : List Begun) → HasCounted all c → HasCounted (all ++ option_to_list begun) d)
     → ((clock : ℕ) → IfSome begun (λ b. b.clock < clock) → IsBefore clock c → IsBefore clock d)
     → ((start : ℕ) → IfSome begun (λ b. start ≤ b.clock) → start ≤ c.first → start ≤ d.first)
     → IsCounted end s u d
@@ -86,7 +86,7 @@ more_counted end s t u c d begun counted turn stops first notes before starts =
       stops = stops ∙ counted.stops;
       first = first ∙ counted.first;
       within = omega (arith, clock, within);
-      noted = subst (λ xs. HasNoted xs d) (sym (begun_on n k s.board.plain t.board.plain (option_to_list begun) counted.ran.plain turn.begins)) (notes _ counted.noted);
+      noted = subst (λ xs. HasCounted xs d) (sym (begun_on n k s.board.plain t.board.plain (option_to_list begun) counted.ran.plain turn.begins)) (notes _ counted.noted);
       before = before (clock_of u.board.plain) (if_some begun turn.clock (λ b is. omega (arith, is, clock, some))) (before_later (clock_of t.board.plain) (clock_of u.board.plain) c (omega (arith, clock)) counted.before);
       started = starts (clock_of s.board.plain) (if_some begun turn.clock (λ b is. omega (arith, is, so_far))) counted.started;
     }

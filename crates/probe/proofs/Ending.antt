@@ -8,7 +8,7 @@ use Rattle.board_plain.specs.Plain.{Plain, after_clock, after_clocks, clock_of}
 use Rattle.events_laws.proofs.KeyToCome.{key_waits}
 use Rattle.events_laws.specs.WithKey.{with_key}
 use Rattle.probe.specs.declared.stops.Stop.{Stop}
-use Rattle.probe.specs.Stops.{EndsAt, IsEndOf, meeting, meeting_at, NoneMet}
+use Rattle.probe.specs.ProbeStops.{EndsAt, IsEndOf, meeting, meeting_at, NoneMet}
 use Rattle.probe.proofs.Waiting.{clock_same, meeting_waits, none_waited, none_waits}
 use Rattle.probe.proofs.Meeting.{met_on, none_on}
 

@@ -1,5 +1,5 @@
 -- What some kinds list of a clock, by what is seen of it.
-use Rattle.keyboard.specs.Parts.{after_sending, sends}
+use Rattle.keyboard.specs.QueueParts.{after_sending, sends}
 use Rattle.std.proofs.Common.{◌≡◌, ◌≢◌, ℕ, zero, suc, ◌+◌, ◌<◌, ◌≤◌, Bool, true, false, if◌then◌else◌, not, List, [], ◌∷◌, ◌++◌, drop, length, map, Option, None, Some, refl, sym, ap, ◌∙◌, subst, arith}
 use Rattle.std.specs.Prelude.{◌||◌, ◌&&◌, ◌==◌, IsTrue, nat_eq, fold, slice_get}
 use Rattle.std.specs.Bool.{beq}
@@ -8,7 +8,7 @@ use Rattle.std.specs.Option.{option_to_list}
 use Rattle.std.proofs.lemmas.Bool.Decides.{nat_tests}
 use Rattle.std.proofs.lemmas.List.Folds.{list_any-append}
 use Rattle.board_types.specs.Bits.{has_bit}
-use Rattle.board_types.specs.Lines.{is_high}
+use Rattle.board_types.specs.LineLevel.{is_high}
 use Rattle.pic8259.specs.Levels.{contains}
 use Rattle.pic8259.specs.Pic.{is_requesting}
 use Rattle.board_types.specs.declared.state.State.{State}
@@ -41,8 +41,8 @@ use Rattle.probe.specs.declared.signals.Levels.{Levels}
 use Rattle.probe.specs.Listed.{is_listed, lists, lists_access, lists_begun, lists_keys, lists_states, lists_wires}
 use Rattle.probe.specs.Signalled.{levels_of}
 use Rattle.probe.specs.Met.{happened, is_entries, is_starts, keys_moved, lists_entered, lists_some, lists_type, same_levels, wires_moved}
-use Rattle.probe.specs.Stops.{happens}
-use Rattle.probe.specs.Told.{levels_seen, seen_of, waiting_seen}
+use Rattle.probe.specs.ProbeStops.{happens}
+use Rattle.probe.specs.ListedEvents.{levels_seen, seen_of, waiting_seen}
 
 keys_stay : (s : Plain) → (after_clock s).keys ≡ s.keys
 unfolding after_clock

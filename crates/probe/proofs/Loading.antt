@@ -2,17 +2,17 @@
 use Rattle.std.proofs.Common.{◌≡◌, ℕ, ◌==◌, Bool, true, false, if◌then◌else◌, ◌&&◌, refl, ap, ◌∙◌}
 use Rattle.std.specs.Prelude.{not, is_none}
 use Rattle.board_types.specs.Iterate.{iterate}
-use Rattle.board_types.specs.Lines.{is_high, opposite}
+use Rattle.board_types.specs.LineLevel.{is_high, opposite}
 use Rattle.board_types.specs.declared.line.Line.{Line}
 use Rattle.board_types.specs.declared.line.Line.TheVariants.{Low, High}
 use Rattle.pit8253.specs.declared.program.Mode.{Mode}
 use Rattle.pit8253.specs.declared.program.Mode.TheVariants.{TerminalCount, OneShot, RateGenerator, SquareWave, SoftwareStrobe, HardwareStrobe}
-use Rattle.pit8253.specs.Counter.{CounterState, after_count, after_countdown, after_due_load, after_load, after_rate_count, after_rest, after_square_count, after_square_load, after_strobe_count, after_tick, after_ticks, half_step, is_loaded}
+use Rattle.pit8253.specs.Counter.{CounterState, after_count, after_decrement, after_due_load, after_load, after_rate_count, after_rest, after_square_count, after_square_load, after_strobe_count, after_tick, after_ticks, half_step, is_loaded}
 use Rattle.pit8253.specs.declared.image.CounterImage.{CounterImage}
-use Rattle.pit8253.specs.Image.{counter_of, flag_of}
+use Rattle.pit8253.specs.PitNumbers.{counter_of, flag_of}
 use Rattle.pit8253.specs.Program.{count_minus}
 use Rattle.probe.specs.ChipLaws.{LoadsAsTold, counted_to, loaded_in}
-use Rattle.probe.specs.Counter.{loads_next}
+use Rattle.probe.specs.CounterText.{loads_next}
 
 -- a counter with a null count
 abbrev null_of : CounterState → CounterState
@@ -59,10 +59,10 @@ square c =
 count : (mode : Mode) (c : CounterState) → Told mode c (after_count c mode) (after_count (null_of c) mode)
 count TerminalCount c =
     let n : CounterState = null_of c in
-    choose (is_loaded c.progress && is_high c.gate && is_none c.first_byte) TerminalCount c (after_countdown c) (after_countdown n) c n (record { is = refl }) (record { is = refl })
+    choose (is_loaded c.progress && is_high c.gate && is_none c.first_byte) TerminalCount c (after_decrement c) (after_decrement n) c n (record { is = refl }) (record { is = refl })
 count OneShot c =
     let n : CounterState = null_of c in
-    choose (is_loaded c.progress) OneShot c (after_countdown c) (after_countdown n) c n (record { is = refl }) (record { is = refl })
+    choose (is_loaded c.progress) OneShot c (after_decrement c) (after_decrement n) c n (record { is = refl }) (record { is = refl })
 count RateGenerator c =
     let n : CounterState = null_of c in
     choose (is_loaded c.progress && is_high c.gate) RateGenerator c (after_rate_count c) (after_rate_count n) c n (rate c) (record { is = refl })

@@ -30,8 +30,8 @@ use Rattle.probe.specs.declared.watched.Watched.{Watched}
 use Rattle.probe.specs.Listed.{is_listed, lists_keys, lists_wires}
 use Rattle.probe.specs.Looked.{HasEnded, LooksOn, RanShort, RanToStop}
 use Rattle.probe.specs.Met.{asked_by, asks_keys, asks_wires, IsCopy, IsCovered, is_met, is_stop_met, met, writes_to}
-use Rattle.probe.specs.Stops.{happens, meeting, meeting_at, meets, NoneMet, standing, stands}
-use Rattle.probe.specs.Told.{seen_of}
+use Rattle.probe.specs.ProbeStops.{happens, meeting, meeting_at, meets, NoneMet, standing, stands}
+use Rattle.probe.specs.ListedEvents.{seen_of}
 use Rattle.probe.specs.Watched.{AreCopies, IsWatched, KeepsStops, stops_of}
 use Rattle.probe.proofs.Changing.{byte_stays, changes_seen, copy_renewed, nothing_changes}
 use Rattle.probe.proofs.Happening.{happens_seen, no_access, nothing_happens}

@@ -22,7 +22,7 @@ use Rattle.probe.specs.Inquiry.{inquiry_of}
 use Rattle.probe.specs.Making.{AnswersMaking, RefusesMaking}
 use Rattle.probe.specs.Probe.{AnswersUnless, conditions_of}
 use Rattle.probe.specs.Requests.{request_by, request_of, request_with, stop_of, trial_of}
-use Rattle.probe.specs.Session.{AnswersInquiry, AnswersOr, AnswersProbe}
+use Rattle.probe.specs.InquirySession.{AnswersInquiry, AnswersOr, AnswersProbe}
 
 abbrev same : SessionState → SessionState → Type 0
 same s t = t.stops ≡ s.stops

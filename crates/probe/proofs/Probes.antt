@@ -20,7 +20,7 @@ use Rattle.probe.specs.declared.stops.Stop.TheVariants.{Standing, When, Changes}
 use Rattle.probe.specs.Looked.{answer_at, FindsNoStop, HasEnded, RanShort, RanToStop, ShortOfMemory, with_number}
 use Rattle.probe.specs.Probe.{AddsStop, conditions_of, gone_by, GoesBackToStop, GoesOn, ProbeState, RefusesBackToStop, RefusesGoing, session_of, StopsShort}
 use Rattle.probe.specs.Requests.{is_standing}
-use Rattle.probe.specs.Stops.{EndsAt, IsEndOf, meeting_at, met_from, MetLast, NoneMet, NoneMetFrom}
+use Rattle.probe.specs.ProbeStops.{EndsAt, IsEndOf, meeting_at, met_from, MetLast, NoneMet, NoneMetFrom}
 use Rattle.std.proofs.lemmas.List.{length-map, map-append}
 use Rattle.std.proofs.lemmas.List.Elements.{All-push}
 use Rattle.probe.specs.declared.watched.Watched.{Watched}

@@ -1,10 +1,10 @@
 -- The controller's registers, from the bytes of an image.
-use Rattle.pic8259.specs.Parts.{requests}
+use Rattle.pic8259.specs.AskingLevels.{requests}
 use Rattle.std.proofs.Common.{◌≡◌, ℕ, ◌==◌, ◌%◌, ◌<◌, Bool, true, false, ◌&&◌, bit_and, map, if◌then◌else◌, refl, ap, ◌∙◌, sym, arith}
 use Rattle.std.specs.Prelude.{◌||◌, slice_index}
 use Rattle.std.proofs.lemmas.Bool.Decides.{nat_tests}
 use Rattle.pic8259.proofs.Masks.{levels_in_both}
-use Rattle.pic8259.specs.Image.{flag_of, pic_of}
+use Rattle.pic8259.specs.PicNumbers.{flag_of, pic_of}
 use Rattle.pic8259.specs.Levels.{all_levels, byte_of, contains, levels_of, order_with_lowest}
 use Rattle.pic8259.specs.Masks.{byte_of-levels_of, last-order_with_lowest}
 use Rattle.pic8259.specs.declared.image.PicImage.{PicImage}

@@ -12,7 +12,7 @@ use Rattle.probe.specs.declared.stops.Stop.{Stop}
 use Rattle.probe.specs.declared.watched.Watched.{Watched}
 use Rattle.board.specs.Found.{found_at}
 use Rattle.probe.specs.Looked.{from_of, FoundLast, IsFoundIn, met_after, NoneAfter}
-use Rattle.probe.specs.Stops.{meeting_at, met_from, MetLast, NoneMetFrom, standing}
+use Rattle.probe.specs.ProbeStops.{meeting_at, met_from, MetLast, NoneMetFrom, standing}
 use Rattle.probe.specs.Watched.{AreCopies, IsWatched, KeepsStops, stops_of}
 use Rattle.probe.proofs.Meeting.{met_on, none_stands, Turned}
 

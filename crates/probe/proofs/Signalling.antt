@@ -14,7 +14,7 @@ use Rattle.board_plain.specs.declared.trail.TrailEntry.{TrailEntry}
 use Rattle.board_types.specs.declared.state.State.{State}
 use Rattle.board_types.proofs.Iterate.{gathered_add, gathered_more, gathered_zero, iterate_add, iterate_more, iterate_zero}
 use Rattle.board_types.specs.Iterate.{gathered}
-use Rattle.board_types.specs.Lines.{is_high}
+use Rattle.board_types.specs.LineLevel.{is_high}
 use Rattle.debugger_meaning.specs.Stands.{SessionState}
 use Rattle.events.specs.Accesses.{accesses_next}
 use Rattle.events.specs.declared.event.Event.{Event}

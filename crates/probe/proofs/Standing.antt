@@ -8,8 +8,8 @@ use Rattle.board_plain.specs.Plain.{Plain, after_clock, after_clocks}
 use Rattle.board_plain.specs.Stops.{holding, holds, IsStopOf, NoStop, StopsAt}
 use Rattle.probe.specs.declared.stops.Stop.{Stop}
 use Rattle.probe.specs.declared.stops.Stop.TheVariants.{Standing}
-use Rattle.probe.specs.Laws.{StandingEndsAlike, StandingMetAlike}
-use Rattle.probe.specs.Stops.{EndsAt, IsEndOf, meeting, meeting_at, meets, NoneMet, standing, stands}
+use Rattle.probe.specs.ProbeLaws.{StandingEndsAlike, StandingMetAlike}
+use Rattle.probe.specs.ProbeStops.{EndsAt, IsEndOf, meeting, meeting_at, meets, NoneMet, standing, stands}
 
 standing_from : (conditions : List Condition) (i : ℕ) (before now : Plain) → position_from (λ (stop : Stop). meets stop before now) i (map Standing conditions) ≡ position_from (λ condition. holds condition now) i conditions
 unfolding meets

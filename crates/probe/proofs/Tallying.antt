@@ -10,7 +10,7 @@ use Rattle.board.specs.declared.one_turn.Begun.{Begun}
 use Rattle.probe.specs.declared.counts.Counts.{Counts}
 use Rattle.probe.specs.declared.counts.Tally.{Tally}
 use Rattle.probe.specs.Counts.{clocks_from, is_number, next_clock, place_of, type_of}
-use Rattle.probe.specs.Tallied.{has, one_more, tallied_to, tally_at, tally_of, AreTallies, HasNoted, HasTallied}
+use Rattle.probe.specs.Tallied.{has, one_more, tallied_to, tally_at, tally_of, AreTallies, HasCounted, HasTallied}
 
 -- one more beginning
 
@@ -92,7 +92,7 @@ if_ok (Err e) a f = a
 
 -- the latest is tallied, an instruction or an entry
 
-pub tallied_place : (all : List Begun) (old : Counts) (b : Begun) (n end : ℕ) (new : BTreeMap ℕ Tally) → old.latest ≡ Some b → place_of b ≡ Some n → type_of b ≡ None → ((k : ℕ) → get nat_cmp new k ≡ (if k == n then Some (one_more (get nat_cmp old.places n) (end - b.clock)) else get nat_cmp old.places k)) → HasNoted all old → HasTallied all end (record old { places = new })
+pub tallied_place : (all : List Begun) (old : Counts) (b : Begun) (n end : ℕ) (new : BTreeMap ℕ Tally) → old.latest ≡ Some b → place_of b ≡ Some n → type_of b ≡ None → ((k : ℕ) → get nat_cmp new k ≡ (if k == n then Some (one_more (get nat_cmp old.places n) (end - b.clock)) else get nat_cmp old.places k)) → HasCounted all old → HasTallied all end (record old { places = new })
 tallied_place all old b n end new latest is none added noted =
     let whole : noted.earlier ++ b ∷ [] ≡ all = sym (noted.all ∙ ap (λ l. noted.earlier ++ option_to_list l) latest) in
     let places : AreTallies place_of noted.earlier b.clock old.places = subst (λ l. AreTallies place_of noted.earlier (tallied_to l) old.places) latest noted.tallied.places in
@@ -102,7 +102,7 @@ tallied_place all old b n end new latest is none added noted =
       types = subst (λ xs. AreTallies type_of xs end old.types) whole (add_numberless type_of noted.earlier b end old.types none types);
     }
 
-pub tallied_type : (all : List Begun) (old : Counts) (b : Begun) (n end : ℕ) (new : BTreeMap ℕ Tally) → old.latest ≡ Some b → place_of b ≡ None → type_of b ≡ Some n → ((k : ℕ) → get nat_cmp new k ≡ (if k == n then Some (one_more (get nat_cmp old.types n) (end - b.clock)) else get nat_cmp old.types k)) → HasNoted all old → HasTallied all end (record old { types = new })
+pub tallied_type : (all : List Begun) (old : Counts) (b : Begun) (n end : ℕ) (new : BTreeMap ℕ Tally) → old.latest ≡ Some b → place_of b ≡ None → type_of b ≡ Some n → ((k : ℕ) → get nat_cmp new k ≡ (if k == n then Some (one_more (get nat_cmp old.types n) (end - b.clock)) else get nat_cmp old.types k)) → HasCounted all old → HasTallied all end (record old { types = new })
 tallied_type all old b n end new latest none is added noted =
     let whole : noted.earlier ++ b ∷ [] ≡ all = sym (noted.all ∙ ap (λ l. noted.earlier ++ option_to_list l) latest) in
     let places : AreTallies place_of noted.earlier b.clock old.places = subst (λ l. AreTallies place_of noted.earlier (tallied_to l) old.places) latest noted.tallied.places in
@@ -118,13 +118,13 @@ if_text (Err e) p f = p
 
 -- the clocks before the first beginning
 
-pub first_stays : (all : List Begun) (old : Counts) (b : Begun) (end : ℕ) → old.latest ≡ Some b → HasNoted all old → old.first ≡ next_clock all end
+pub first_stays : (all : List Begun) (old : Counts) (b : Begun) (end : ℕ) → old.latest ≡ Some b → HasCounted all old → old.first ≡ next_clock all end
 first_stays all old b end latest noted =
     let first : old.first ≡ next_clock noted.earlier b.clock = subst (λ (l : Option Begun). IfSome l (λ b. old.first ≡ next_clock noted.earlier b.clock)) latest noted.first in
     let whole : noted.earlier ++ b ∷ [] ≡ all = sym (noted.all ∙ ap (λ l. noted.earlier ++ option_to_list l) latest) in
     first ∙ sym (next_more noted.earlier b end) ∙ ap (λ bs. next_clock bs end) whole
 
-pub first_comes : (all : List Begun) (old : Counts) (end : ℕ) → old.latest ≡ None → HasNoted all old → end ≡ next_clock all end
+pub first_comes : (all : List Begun) (old : Counts) (end : ℕ) → old.latest ≡ None → HasCounted all old → end ≡ next_clock all end
 first_comes all old end latest noted =
     let none : all ≡ [] = noted.all ∙ (λ i. noted.none latest i ++ option_to_list (latest i)) in
     sym (ap (λ bs. next_clock bs end) none)

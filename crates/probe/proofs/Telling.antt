@@ -1,5 +1,5 @@
 -- Clocks whose events are listed.
-use Rattle.keyboard.specs.Parts.{after_sending, count_after_loss, has_room, sends}
+use Rattle.keyboard.specs.QueueParts.{after_sending, count_after_loss, has_room, sends}
 use Rattle.std.proofs.Common.{◌≡◌, ◌≢◌, ℕ, zero, suc, ◌+◌, ◌-◌, ◌<◌, ◌≤◌, Bool, true, false, cond, if◌then◌else◌, not, List, [], ◌∷◌, ◌++◌, length, map, drop, take, get_or, Option, None, Some, refl, sym, ap, ◌∙◌, arith, append_assoc, append-nil}
 use Rattle.std.specs.Prelude.{◌||◌, ◌==◌, IsTrue, OnOk, Result, Ok, Err, codes, fold, nat_eq, nat_lt, slice_get}
 use Rattle.std.specs.Bool.{beq}
@@ -13,7 +13,7 @@ use Rattle.std.proofs.Math.Seq.{get_or-append_seam}
 use Rattle.board_types.proofs.Iterate.{gathered_add, gathered_more, gathered_zero, iterate_add, iterate_more, iterate_zero}
 use Rattle.board_types.specs.Bits.{has_bit}
 use Rattle.board_types.specs.Iterate.{gathered}
-use Rattle.board_types.specs.Lines.{is_high}
+use Rattle.board_types.specs.LineLevel.{is_high}
 use Rattle.board_types.specs.declared.keys.StampedKey.{StampedKey}
 use Rattle.pic8259.specs.Levels.{contains}
 use Rattle.pic8259.specs.Pic.{is_requesting}
@@ -50,7 +50,7 @@ use Rattle.probe.specs.declared.kinds.Kind.TheVariants.{Starts, Entries, Writes,
 use Rattle.probe.specs.declared.signals.Levels.{Levels}
 use Rattle.probe.specs.Listed.{event_line, events_text, listed_lines, lists_begun, lists_keys, lists_wires}
 use Rattle.probe.specs.Signalled.{levels_of}
-use Rattle.probe.specs.Told.{arrivals_from, change_events, clock_lines, held_from, IsTold, key_lines, keys_seen, latched_from, levels_seen, lines_between, lines_seen, lists_beginning, seen_of, waits_among, waiting_seen}
+use Rattle.probe.specs.ListedEvents.{arrivals_from, change_events, clock_lines, held_from, IsTold, key_lines, keys_seen, latched_from, levels_seen, lines_between, lines_seen, lists_beginning, seen_of, waits_among, waiting_seen}
 use Rattle.probe.proofs.Listing.{listed_append, listed_none, listed_one, nothing_told, told_more}
 
 -- what began last

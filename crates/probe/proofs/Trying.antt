@@ -21,7 +21,7 @@ use Rattle.probe.specs.declared.moments.Trial.{Trial}
 use Rattle.probe.specs.MomentLaws.{IsAnswerOf, MomentsAreRuns}
 use Rattle.probe.specs.Moments.{AreAlike, AreRanges, IsAmong, key_tried}
 use Rattle.probe.specs.Probe.{conditions_of}
-use Rattle.probe.specs.Stops.{HasBytes, IsEndOf, NoneMet}
+use Rattle.probe.specs.ProbeStops.{HasBytes, IsEndOf, NoneMet}
 use Rattle.board_plain.specs.Plain.{Plain, after_clock, after_clocks, clock_of}
 use Rattle.probe.specs.declared.stops.Stop.{Stop}
 use Rattle.probe.specs.declared.stops.Stop.TheVariants.{Standing, When, Changes}

@@ -24,7 +24,7 @@ use Rattle.probe.specs.declared.kinds.Kind.{Kind}
 use Rattle.probe.specs.declared.stops.Stop.{Stop}
 use Rattle.probe.specs.declared.stops.Stop.TheVariants.{Standing, When, Changes}
 use Rattle.probe.specs.Listed.{is_listed}
-use Rattle.probe.specs.Stops.{any_differs, happens, meeting, meeting_at, meets, NoneMet}
+use Rattle.probe.specs.ProbeStops.{any_differs, happens, meeting, meeting_at, meets, NoneMet}
 
 -- the codes of other clocks are the same
 

@@ -22,11 +22,11 @@ use Rattle.probe.specs.declared.stops.Request.{Request}
 use Rattle.probe.specs.declared.stops.Request.TheVariants.{Add, Go, BackStop, Try}
 use Rattle.probe.specs.declared.stops.Stop.{Stop}
 use Rattle.probe.specs.Inquiry.{inquiry_of}
-use Rattle.probe.specs.Laws.{key_typed, ProbesStand, shown_with, Walk}
+use Rattle.probe.specs.ProbeLaws.{key_typed, ProbesStand, shown_with, Walk}
 use Rattle.probe.specs.Making.{AnswersMaking, RefusesMaking}
 use Rattle.probe.specs.Probe.{AnswersRequest, AnswersUnless, probe_about, ProbeState, RefusesBackToStop, RefusesGoing, RefusesStop, session_of}
 use Rattle.probe.specs.Requests.{request_of}
-use Rattle.probe.specs.Session.{AnswersInquiry, AnswersOr}
+use Rattle.probe.specs.InquirySession.{AnswersInquiry, AnswersOr}
 use Rattle.probe.specs.Typed.{Takes}
 
 -- clocks that are made

@@ -5,7 +5,7 @@ use Rattle.board_types.specs.declared.line.Line.{Line}
 use Rattle.pit8253.specs.declared.program.Mode.{Mode}
 use Rattle.pit8253.specs.declared.program.Mode.TheVariants.{TerminalCount, OneShot, RateGenerator, SquareWave, SoftwareStrobe, HardwareStrobe}
 use Rattle.pit8253.specs.Counter.{CounterState, after_load, after_square_load, after_tick}
-use Rattle.probe.specs.Counter.{loads_next}
+use Rattle.probe.specs.CounterText.{loads_next}
 
 -- a counter that has loaded its newest count, with this level of OUT: in mode 3 by what is loaded there
 abbrev pub loaded_in : Mode → CounterState → Line → CounterState

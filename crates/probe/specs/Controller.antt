@@ -2,7 +2,7 @@
 -- (ISR)", "Interrupt Mask Register (IMR)", "Priority Resolver", "Interrupt Sequence", "Initialization Command Words",
 -- "Operation Control Words").
 -- To be believed by callers of this crate: the headline does not rest on it.
-use Rattle.pic8259.specs.Parts.{requests}
+use Rattle.pic8259.specs.AskingLevels.{requests}
 use Rattle.std.specs.Prelude.{ℕ, not, List, ◌++◌, codes, slice_index}
 use Rattle.std.specs.Fmt.{decimal}
 use Rattle.board_types.specs.Digits.{hex_byte_text}

@@ -6,7 +6,7 @@ use Rattle.board_plain.specs.Board.{Ran}
 use Rattle.board_plain.specs.Plain.{clock_of}
 use Rattle.debugger_meaning.specs.Stands.{SessionState}
 use Rattle.probe.specs.declared.counts.Counts.{Counts}
-use Rattle.probe.specs.Tallied.{HasNoted, IsBefore}
+use Rattle.probe.specs.Tallied.{HasCounted, IsBefore}
 
 -- some clocks have passed, at most up to the clock `end`, and what began in them is noted
 pub record IsCounted (end : ℕ) (old new : SessionState) (c : Counts) : Type 0 where
@@ -15,6 +15,6 @@ pub record IsCounted (end : ℕ) (old new : SessionState) (c : Counts) : Type 0 
   pub stops : new.stops ≡ old.stops
   pub first : new.first ≡ old.first
   pub within : clock_of new.board.plain ≤ end
-  pub noted : HasNoted (begun_in old.board.plain passed) c
+  pub noted : HasCounted (begun_in old.board.plain passed) c
   pub before : IsBefore (clock_of new.board.plain) c
   pub started : clock_of old.board.plain ≤ c.first

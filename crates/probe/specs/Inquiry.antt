@@ -5,7 +5,7 @@ use Rattle.std.specs.Str.{bytes_eq}
 use Rattle.debugger_meaning.specs.declared.command.Command.{Command}
 use Rattle.debugger_meaning.specs.declared.command.Command.TheVariants.{Break}
 use Rattle.debugger_meaning.specs.Commands.{break_command, is_colon}
-use Rattle.debugger_meaning.specs.Words.{count_of, hex_number, words_of}
+use Rattle.debugger_meaning.specs.CommandWords.{count_of, hex_number, words_of}
 use Rattle.probe.specs.declared.inquiry.Inquiry.{Inquiry}
 use Rattle.probe.specs.declared.inquiry.Inquiry.TheVariants.{Chips, List as Listing, Counts, Signals, Events, Key}
 use Rattle.probe.specs.declared.inquiry.Place.{Place}

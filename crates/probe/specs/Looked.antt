@@ -15,7 +15,7 @@ use Rattle.probe.specs.declared.event_lines.Seen.{Seen}
 use Rattle.probe.specs.declared.stops.Stop.{Stop}
 use Rattle.probe.specs.declared.watched.Watched.{Watched}
 use Rattle.probe.specs.Met.{met}
-use Rattle.probe.specs.Stops.{meeting_at, NoneMet, NoneMetFrom, standing}
+use Rattle.probe.specs.ProbeStops.{meeting_at, NoneMet, NoneMetFrom, standing}
 use Rattle.probe.specs.Watched.{StaysCopied}
 
 -- a clock is looked at

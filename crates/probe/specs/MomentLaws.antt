@@ -11,7 +11,7 @@ use Rattle.probe.specs.declared.moments.Trial.{Trial}
 use Rattle.probe.specs.declared.stops.Stop.{Stop as ProbeStop}
 use Rattle.probe.specs.Moments.{AreRanges, EndsWith, key_tried}
 use Rattle.probe.specs.Probe.{GoesOn, ProbeState, session_of}
-use Rattle.probe.specs.Stops.{IsEndOf}
+use Rattle.probe.specs.ProbeStops.{IsEndOf}
 use Rattle.probe.specs.Typed.{Takes}
 
 -- a clock is in a range

@@ -17,7 +17,7 @@ use Rattle.probe.specs.declared.moments.Ends.{Ends}
 use Rattle.probe.specs.declared.moments.Moments.{Moments}
 use Rattle.probe.specs.declared.moments.Trial.{Trial}
 use Rattle.probe.specs.declared.stops.Stop.{Stop}
-use Rattle.probe.specs.Stops.{IsEndOf}
+use Rattle.probe.specs.ProbeStops.{IsEndOf}
 
 -- the key, if it comes at this clock
 abbrev pub key_tried : Trial → ℕ → StampedKey

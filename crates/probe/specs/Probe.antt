@@ -18,8 +18,8 @@ use Rattle.probe.specs.declared.stops.Stop.{Stop}
 use Rattle.probe.specs.declared.stops.Stop.TheVariants.{Standing, When, Changes}
 use Rattle.probe.specs.Moments.{AnswersTrial}
 use Rattle.probe.specs.Requests.{asks_changes, request_of}
-use Rattle.probe.specs.Session.{AnswersProbe}
-use Rattle.probe.specs.Stops.{IsEndOf, MetLast, NoneMet, NoneMetFrom}
+use Rattle.probe.specs.InquirySession.{AnswersProbe}
+use Rattle.probe.specs.ProbeStops.{IsEndOf, MetLast, NoneMet, NoneMetFrom}
 
 -- a probe: what its first board showed, the board as it stands now, and the stops
 pub record ProbeState : Type 0 where

@@ -6,7 +6,7 @@ use Rattle.board_plain.specs.declared.stop.Condition.TheVariants as conditions
 use Rattle.debugger_meaning.specs.declared.command.Command.{Command}
 use Rattle.debugger_meaning.specs.declared.command.Command.TheVariants as commands
 use Rattle.debugger_meaning.specs.Commands.{command_of}
-use Rattle.debugger_meaning.specs.Words.{count_of, hex_number, words_of}
+use Rattle.debugger_meaning.specs.CommandWords.{count_of, hex_number, words_of}
 use Rattle.probe.specs.declared.kinds.Kind.{Kind}
 use Rattle.probe.specs.declared.moments.Trial.{Trial}
 use Rattle.probe.specs.declared.stops.Request.{Request}
@@ -14,7 +14,7 @@ use Rattle.probe.specs.declared.stops.Request.TheVariants.{Add, Go, BackStop, Tr
 use Rattle.probe.specs.declared.stops.Stop.{Stop}
 use Rattle.probe.specs.declared.stops.Stop.TheVariants.{Standing, When, Changes}
 use Rattle.probe.specs.Kinds.{kinds_from}
-use Rattle.probe.specs.Stops.{HasBytes}
+use Rattle.probe.specs.ProbeStops.{HasBytes}
 
 -- 1 to 65,536 bytes, all of them below 100000h
 abbrev pub changes_within : ℕ → ℕ → Option Stop

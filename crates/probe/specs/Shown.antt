@@ -3,7 +3,7 @@
 use Rattle.std.specs.Prelude.{ℕ, Bool, if◌then◌else◌, List, codes, Option, None, Some}
 use Rattle.std.specs.Fmt.{decimal}
 use Rattle.board_types.specs.Digits.{hex_byte_text, hex_word}
-use Rattle.board_types.specs.Lines.{is_high}
+use Rattle.board_types.specs.LineLevel.{is_high}
 use Rattle.board_types.specs.declared.line.Line.{Line}
 
 -- 1 for yes and 0 for no

@@ -5,7 +5,7 @@ use Rattle.std.specs.Bool.{beq}
 use Rattle.board_plain.specs.Board.{Ran}
 use Rattle.board_plain.specs.Plain.{Plain, after_clock, clock_of, speaker_level}
 use Rattle.board_types.specs.Iterate.{gathered}
-use Rattle.board_types.specs.Lines.{is_high}
+use Rattle.board_types.specs.LineLevel.{is_high}
 use Rattle.debugger_meaning.specs.Stands.{SessionState}
 use Rattle.pic8259.specs.Levels.{contains}
 use Rattle.pic8259.specs.Pic.{is_requesting}

@@ -47,7 +47,7 @@ pub record HasTallied (begun : List Begun) (end : ℕ) (c : Counts) : Type 0 whe
   pub types : AreTallies type_of begun end c.types
 
 -- these have begun; the latest one isn't tallied yet
-pub record HasNoted (begun : List Begun) (c : Counts) : Type 0 where
+pub record HasCounted (begun : List Begun) (c : Counts) : Type 0 where
   pub earlier : List Begun
   pub all : begun ≡ earlier ++ option_to_list c.latest
   pub tallied : HasTallied earlier (tallied_to c.latest) c

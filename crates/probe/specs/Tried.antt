@@ -10,7 +10,7 @@ use Rattle.probe.specs.declared.moments.Trial.{Trial}
 use Rattle.probe.specs.declared.stops.Stop.{Stop}
 use Rattle.probe.specs.declared.watched.Watched.{Watched}
 use Rattle.probe.specs.Moments.{AreRanges}
-use Rattle.probe.specs.Stops.{IsEndOf, NoneMet}
+use Rattle.probe.specs.ProbeStops.{IsEndOf, NoneMet}
 use Rattle.probe.specs.Watched.{IsWatched, stops_of}
 
 -- a run from a board to the clock `end`, or up to the first clock after the start at which a stop is met
@@ -39,8 +39,8 @@ abbrev pub moments_of : ℕ → ℕ → Option End → Moments
 moments_of first last end = record { first = first; last = last; ends = ends_of end }
 
 abbrev pub joined : Moments → Moments → Option (Option Ends) → List Moments
-joined m fresh None = m ∷ fresh ∷ []
-joined m fresh (Some ends) = record m { last = fresh.last; ends = ends } ∷ []
+joined m coming None = m ∷ coming ∷ []
+joined m coming (Some ends) = record m { last = coming.last; ends = ends } ∷ []
 
 abbrev pub added : List Moments → ℕ → ℕ → Option End → List Moments
 added [] first last end = moments_of first last end ∷ []

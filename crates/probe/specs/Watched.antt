@@ -12,7 +12,7 @@ use Rattle.probe.specs.declared.watched.Watched.{Watched}
 use Rattle.probe.specs.Met.{asks_keys, asks_wires, HasRoom, IsCopy, IsCovered}
 use Rattle.probe.specs.Probe.{conditions_of}
 use Rattle.probe.specs.Requests.{is_standing}
-use Rattle.probe.specs.Stops.{HasBytes}
+use Rattle.probe.specs.ProbeStops.{HasBytes}
 
 -- the stops without their copies
 abbrev pub stops_of : List Watched → List Stop

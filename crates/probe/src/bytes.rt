@@ -2,7 +2,7 @@
 ghost use Rattle.std.specs.Prelude.{◌≡◌, ◌<◌, ◌^◌, IfOk, IsTrue, OnErr, length};
 ghost use Rattle.probe.specs.Met.{AreRenewed, HasRoom, IsCopy, IsCovered, IsOneRenewed, IsRecopied, differs_copied};
 ghost use Rattle.probe.specs.Requests.{asks_changes};
-ghost use Rattle.probe.specs.Stops.{HasBytes};
+ghost use Rattle.probe.specs.ProbeStops.{HasBytes};
 
 use crate::stops::Stop;
 use board::board::Board;

@@ -4,8 +4,8 @@ ghost use Rattle.std.specs.Prelude.{◌≡◌, ◌++◌, IfOk, OnOk, codes};
 ghost use Rattle.std.specs.List.{flat_map};
 ghost use Rattle.std.specs.String.{string_bytes};
 ghost use Rattle.debugger_meaning.specs.Dump.{spaced_byte};
-ghost use Rattle.ppi8255.specs.Image.{direction_by};
-ghost use Rattle.probe.specs.Chips.{adapter_line, chips_text, direction_text, inhibited_text, keyboard_line, ports_line, processor_boundary, processor_line, processor_state, speaker_line, timer_lines};
+ghost use Rattle.ppi8255.specs.PpiNumbers.{direction_by};
+ghost use Rattle.probe.specs.ChipsText.{adapter_line, chips_text, direction_text, inhibited_text, keyboard_line, ports_line, processor_boundary, processor_line, processor_state, speaker_line, timer_lines};
 
 use crate::controller_text::controller_line;
 use crate::counter_text::counter_line;
@@ -22,7 +22,7 @@ use ppi8255::ppi::{Direction, Inputs, Ppi};
 use std::alloc::{AllocError, Global};
 
 /// What the board's chips hold: a line for each chip and counter, and the processor's last.
-#[tactic(auto, unfolding(crate::specs::Chips::chips_text))]
+#[tactic(auto, unfolding(crate::specs::ChipsText::chips_text))]
 pub(crate) fn chips_text(alloc: Global, board: &Board) -> Result<String, AllocError>
     ensures { IfOk result (λ text. string_bytes text ≡ chips_text board.now.plain) }
 {
@@ -42,7 +42,7 @@ pub(crate) fn chips_text(alloc: Global, board: &Board) -> Result<String, AllocEr
     Ok(text)
 }
 
-#[tactic(auto, unfolding(crate::specs::Chips::timer_lines, pit8253::specs::Image::pit_of))]
+#[tactic(auto, unfolding(crate::specs::ChipsText::timer_lines, pit8253::specs::PitNumbers::pit_of))]
 fn timer_lines(alloc: Global, pit: &Pit) -> Result<String, AllocError>
     ensures { IfOk result (λ text. string_bytes text ≡ timer_lines pit.now) }
 {
@@ -65,7 +65,7 @@ fn inputs(board: &Board) -> Inputs
     }
 }
 
-#[tactic(auto, unfolding(crate::specs::Chips::ports_line, ppi8255::specs::Image::ppi_of))]
+#[tactic(auto, unfolding(crate::specs::ChipsText::ports_line, ppi8255::specs::PpiNumbers::ppi_of))]
 fn ports_line(alloc: Global, ppi: &Ppi, inputs: Inputs) -> Result<String, AllocError>
     ensures { IfOk result (λ text. string_bytes text ≡ ports_line ppi.now inputs) }
 {
@@ -86,7 +86,7 @@ fn direction_text(number: u8) -> &'static str
     if number == 0 { "out" } else { "in" }
 }
 
-#[tactic(auto, unfolding(crate::specs::Chips::keyboard_line))]
+#[tactic(auto, unfolding(crate::specs::ChipsText::keyboard_line))]
 fn keyboard_line(alloc: Global, keyboard: &Keyboard) -> Result<String, AllocError>
     ensures { IfOk result (λ text. string_bytes text ≡ keyboard_line keyboard.now) }
 {
@@ -118,7 +118,7 @@ fn spaced_byte(alloc: Global, byte: u8) -> Result<String, AllocError>
     format!(in alloc; " {byte}")
 }
 
-#[tactic(auto, unfolding(crate::specs::Chips::speaker_line))]
+#[tactic(auto, unfolding(crate::specs::ChipsText::speaker_line))]
 fn speaker_line(alloc: Global, level: Line) -> Result<String, AllocError>
     ensures { IfOk result (λ text. string_bytes text ≡ speaker_line level) }
 {
@@ -126,7 +126,7 @@ fn speaker_line(alloc: Global, level: Line) -> Result<String, AllocError>
     format!(in alloc; "speaker {level}\n")
 }
 
-#[tactic(auto, unfolding(crate::specs::Chips::adapter_line))]
+#[tactic(auto, unfolding(crate::specs::ChipsText::adapter_line))]
 fn adapter_line(alloc: Global, registers: Registers) -> Result<String, AllocError>
     ensures { IfOk result (λ text. string_bytes text ≡ adapter_line registers) }
 {
@@ -140,7 +140,7 @@ fn adapter_line(alloc: Global, registers: Registers) -> Result<String, AllocErro
     )
 }
 
-#[tactic(auto, unfolding(crate::specs::Chips::processor_line))]
+#[tactic(auto, unfolding(crate::specs::ChipsText::processor_line))]
 fn processor_line(alloc: Global, board: &Board) -> Result<String, AllocError>
     ensures { IfOk result (λ text. string_bytes text ≡ processor_line board.now.plain) }
 {
@@ -150,7 +150,7 @@ fn processor_line(alloc: Global, board: &Board) -> Result<String, AllocError>
     Ok(text)
 }
 
-#[tactic(auto, unfolding(crate::specs::Chips::processor_state))]
+#[tactic(auto, unfolding(crate::specs::ChipsText::processor_state))]
 fn processor_state(alloc: Global, board: &Board) -> Result<String, AllocError>
     ensures { IfOk result (λ text. string_bytes text ≡ processor_state board.now.plain) }
 {
@@ -160,7 +160,7 @@ fn processor_state(alloc: Global, board: &Board) -> Result<String, AllocError>
     format!(in alloc; "processor {state} busy {busy} IF {enabled}")
 }
 
-#[tactic(auto, unfolding(crate::specs::Chips::processor_boundary))]
+#[tactic(auto, unfolding(crate::specs::ChipsText::processor_boundary))]
 fn processor_boundary(alloc: Global, board: &Board) -> Result<String, AllocError>
     ensures { IfOk result (λ text. string_bytes text ≡ processor_boundary board.now.plain) }
 {

@@ -1,8 +1,8 @@
 //! The interrupt controller as text.
-ghost use Rattle.pic8259.specs.Parts.{requests};
+ghost use Rattle.pic8259.specs.AskingLevels.{requests};
 ghost use Rattle.std.specs.Prelude.{◌≡◌, ◌<◌, IfOk, if◌then◌else◌, not, slice_index};
 ghost use Rattle.std.specs.String.{string_bytes};
-ghost use Rattle.pic8259.specs.Image.{expected_of, flag_of, pic_of};
+ghost use Rattle.pic8259.specs.PicNumbers.{expected_of, flag_of, pic_of};
 ghost use Rattle.pic8259.specs.Levels.{byte_of};
 ghost use Rattle.pic8259.specs.Pic.{is_requesting, vector};
 ghost use Rattle.probe.specs.Controller.{awaited_text, controller_kept, controller_line, controller_modes, controller_output, controller_reads, controller_registers};
@@ -53,7 +53,7 @@ fn controller_output(alloc: Global, image: &PicImage) -> Result<String, AllocErr
     format!(in alloc; " lowest {lowest} INT {int} vector {vector} awaits {awaited}")
 }
 
-#[tactic(auto, unfolding(crate::specs::Controller::controller_modes, pic8259::specs::Image::pic_of))]
+#[tactic(auto, unfolding(crate::specs::Controller::controller_modes, pic8259::specs::PicNumbers::pic_of))]
 fn controller_modes(alloc: Global, image: &PicImage) -> Result<String, AllocError>
     ensures { IfOk result (λ text. string_bytes text ≡ controller_modes (pic_of image.now)) }
 {
@@ -64,7 +64,7 @@ fn controller_modes(alloc: Global, image: &PicImage) -> Result<String, AllocErro
     format!(in alloc; " LTIM {ltim} uPM {upm} AEOI {aeoi} rotates {rotates}")
 }
 
-#[tactic(auto, unfolding(crate::specs::Controller::controller_reads, pic8259::specs::Image::pic_of))]
+#[tactic(auto, unfolding(crate::specs::Controller::controller_reads, pic8259::specs::PicNumbers::pic_of))]
 fn controller_reads(alloc: Global, image: &PicImage) -> Result<String, AllocError>
     ensures { IfOk result (λ text. string_bytes text ≡ controller_reads (pic_of image.now)) }
 {
@@ -74,7 +74,7 @@ fn controller_reads(alloc: Global, image: &PicImage) -> Result<String, AllocErro
     format!(in alloc; " SMM {smm} P {poll} RIS {ris}")
 }
 
-#[tactic(auto, unfolding(crate::specs::Controller::controller_kept, pic8259::specs::Image::pic_of))]
+#[tactic(auto, unfolding(crate::specs::Controller::controller_kept, pic8259::specs::PicNumbers::pic_of))]
 fn controller_kept(alloc: Global, image: &PicImage) -> Result<String, AllocError>
     ensures { IfOk result (λ text. string_bytes text ≡ controller_kept (pic_of image.now)) }
 {
@@ -85,7 +85,7 @@ fn controller_kept(alloc: Global, image: &PicImage) -> Result<String, AllocError
 }
 
 /// The request lines that are high, a bit for each level, as in the registers.
-#[tactic(auto, using(crate::proofs::Registers::byte_of_set), unfolding(pic8259::specs::Image::pic_of))]
+#[tactic(auto, using(crate::proofs::Registers::byte_of_set), unfolding(pic8259::specs::PicNumbers::pic_of))]
 fn line_register(image: &PicImage) -> u8
     ensures { result ≡ byte_of (pic_of image.now).high }
 {
@@ -103,14 +103,14 @@ fn request_register(image: &PicImage) -> u8
     }
 }
 
-#[tactic(auto, using(crate::proofs::Registers::byte_of_set), unfolding(pic8259::specs::Image::pic_of))]
+#[tactic(auto, using(crate::proofs::Registers::byte_of_set), unfolding(pic8259::specs::PicNumbers::pic_of))]
 fn service_register(image: &PicImage) -> u8
     ensures { result ≡ byte_of (pic_of image.now).served }
 {
     image.served
 }
 
-#[tactic(auto, using(crate::proofs::Registers::byte_of_set), unfolding(pic8259::specs::Image::pic_of))]
+#[tactic(auto, using(crate::proofs::Registers::byte_of_set), unfolding(pic8259::specs::PicNumbers::pic_of))]
 fn mask_register(image: &PicImage) -> u8
     ensures { result ≡ byte_of (pic_of image.now).masked }
 {
@@ -118,7 +118,7 @@ fn mask_register(image: &PicImage) -> u8
 }
 
 /// The levels whose line has risen since they were last taken.
-#[tactic(auto, using(crate::proofs::Registers::byte_of_set), unfolding(pic8259::specs::Image::pic_of))]
+#[tactic(auto, using(crate::proofs::Registers::byte_of_set), unfolding(pic8259::specs::PicNumbers::pic_of))]
 fn risen_register(image: &PicImage) -> u8
     ensures { result ≡ byte_of (pic_of image.now).risen }
 {
@@ -126,7 +126,7 @@ fn risen_register(image: &PicImage) -> u8
 }
 
 /// 1 where no ICW3 belongs to the sequence (SNGL of ICW1).
-#[tactic(auto, unfolding(pic8259::specs::Image::pic_of))]
+#[tactic(auto, unfolding(pic8259::specs::PicNumbers::pic_of))]
 fn is_single(image: &PicImage) -> u8
     ensures { result ≡ (if not (pic_of image.now).is_cascaded then 1 else 0) }
 {
@@ -134,7 +134,7 @@ fn is_single(image: &PicImage) -> u8
 }
 
 /// The level with the lowest priority.
-#[tactic(auto, using(crate::proofs::Registers::last_of_order), unfolding(pic8259::specs::Image::pic_of))]
+#[tactic(auto, using(crate::proofs::Registers::last_of_order), unfolding(pic8259::specs::PicNumbers::pic_of))]
 fn lowest(image: &PicImage) -> u8
     ensures { result ≡ slice_index (pic_of image.now).order 7 }
 {
@@ -156,7 +156,7 @@ fn vector(image: &PicImage) -> u8
     pic.acknowledge()
 }
 
-#[tactic(auto, unfolding(pic8259::specs::Image::pic_of))]
+#[tactic(auto, unfolding(pic8259::specs::PicNumbers::pic_of))]
 fn awaited(image: &PicImage) -> &'static str
     ensures { result.now ≡ awaited_text (pic_of image.now).expected }
 {

@@ -1,11 +1,11 @@
 //! A counter of the timer as text.
 ghost use Rattle.std.specs.Prelude.{◌≡◌, ◌%◌, ◌<◌, ◌≤◌, IfOk, if◌then◌else◌, [], ◌++◌, OnOk};
 ghost use Rattle.std.specs.String.{string_bytes};
-ghost use Rattle.board_types.specs.Lines.{is_high};
+ghost use Rattle.board_types.specs.LineLevel.{is_high};
 ghost use Rattle.pit8253.specs.Counter.{after_ticks, is_8254, reads_high, status_of};
-ghost use Rattle.pit8253.specs.Image.{counter_of, flag_of, kind_of, line_of, option_of, progress_of};
+ghost use Rattle.pit8253.specs.PitNumbers.{counter_of, flag_of, kind_of, line_of, option_of, progress_of};
 ghost use Rattle.pit8253.specs.Program.{access_number, access_of, digits_of, mode_number, mode_of, modulus, radix_number, radix_of};
-ghost use Rattle.probe.specs.Counter.{counter_counts, counter_line, counter_lines, counter_running, counter_status, loads_next, newest_of};
+ghost use Rattle.probe.specs.CounterText.{counter_counts, counter_line, counter_lines, counter_running, counter_status, loads_next, newest_of};
 
 use crate::shown::{ByteOrNone, WordOrNone, digit};
 use board_types::digits::{HexByte, HexWord};
@@ -15,7 +15,7 @@ use pit8253::image::CounterImage;
 use std::alloc::{AllocError, Global};
 
 /// The line of the counter `number` with this image.
-#[tactic(auto, unfolding(crate::specs::Counter::counter_line))]
+#[tactic(auto, unfolding(crate::specs::CounterText::counter_line))]
 pub(crate) fn counter_line(
     alloc: Global,
     number: u8,
@@ -33,7 +33,7 @@ pub(crate) fn counter_line(
     Ok(text)
 }
 
-#[tactic(auto, unfolding(crate::specs::Counter::counter_counts))]
+#[tactic(auto, unfolding(crate::specs::CounterText::counter_counts))]
 fn counter_counts(alloc: Global, number: u8, image: &CounterImage) -> Result<String, AllocError>
     ensures { IfOk result (λ text. string_bytes text ≡ counter_counts number (counter_of image.now)) }
 {
@@ -47,7 +47,7 @@ fn counter_counts(alloc: Global, number: u8, image: &CounterImage) -> Result<Str
     )
 }
 
-#[tactic(auto, unfolding(crate::specs::Counter::counter_lines, pit8253::specs::Image::counter_of))]
+#[tactic(auto, unfolding(crate::specs::CounterText::counter_lines, pit8253::specs::PitNumbers::counter_of))]
 fn counter_lines(alloc: Global, image: &CounterImage) -> Result<String, AllocError>
     ensures { IfOk result (λ text. string_bytes text ≡ counter_lines (counter_of image.now)) }
 {
@@ -72,7 +72,7 @@ fn loads_next(image: &CounterImage) -> u8
 }
 
 /// 1 if the next read of the count gives its high byte, else 0.
-#[tactic(auto, unfolding(pit8253::specs::Image::counter_of))]
+#[tactic(auto, unfolding(pit8253::specs::PitNumbers::counter_of))]
 fn reads_high(image: &CounterImage) -> u8
     ensures { result ≡ (if reads_high (counter_of image.now).access (counter_of image.now).high_next then 1 else 0) }
 {
@@ -83,7 +83,7 @@ fn reads_high(image: &CounterImage) -> u8
     }
 }
 
-#[tactic(auto, unfolding(crate::specs::Counter::counter_running, pit8253::specs::Image::counter_of))]
+#[tactic(auto, unfolding(crate::specs::CounterText::counter_running, pit8253::specs::PitNumbers::counter_of))]
 fn counter_running(alloc: Global, image: &CounterImage) -> Result<String, AllocError>
     ensures { IfOk result (λ text. string_bytes text ≡ counter_running (counter_of image.now)) }
 {
@@ -95,7 +95,7 @@ fn counter_running(alloc: Global, image: &CounterImage) -> Result<String, AllocE
 }
 
 /// Adds the status, if the counter is an 8254's.
-#[tactic(auto, unfolding(pit8253::specs::Image::counter_of))]
+#[tactic(auto, unfolding(pit8253::specs::PitNumbers::counter_of))]
 fn push_status(alloc: Global, text: &mut String, image: &CounterImage) -> Result<(), AllocError>
     ensures { OnOk result (string_bytes text.new ≡ string_bytes text.old
         ++ (if is_8254 (counter_of image.now).kind then counter_status (counter_of image.now) else [])) }
@@ -107,7 +107,7 @@ fn push_status(alloc: Global, text: &mut String, image: &CounterImage) -> Result
     text.push_str(status.as_str())
 }
 
-#[tactic(auto, unfolding(crate::specs::Counter::counter_status))]
+#[tactic(auto, unfolding(crate::specs::CounterText::counter_status))]
 fn counter_status(alloc: Global, image: &CounterImage) -> Result<String, AllocError>
     ensures { IfOk result (λ text. string_bytes text ≡ counter_status (counter_of image.now)) }
 {
@@ -118,7 +118,7 @@ fn counter_status(alloc: Global, image: &CounterImage) -> Result<String, AllocEr
 }
 
 /// The mode's number, 0 to 5.
-#[tactic(auto, unfolding(pit8253::specs::Image::counter_of))]
+#[tactic(auto, unfolding(pit8253::specs::PitNumbers::counter_of))]
 fn mode_digit(image: &CounterImage) -> u8
     ensures digit { result ≡ mode_number (counter_of image.now).mode }
     ensures bound { result ≤ 5 }
@@ -133,7 +133,7 @@ fn mode_digit(image: &CounterImage) -> u8
 }
 
 /// The access: 1 the low byte, 2 the high byte, 3 both.
-#[tactic(auto, unfolding(pit8253::specs::Image::counter_of))]
+#[tactic(auto, unfolding(pit8253::specs::PitNumbers::counter_of))]
 fn access_digit(image: &CounterImage) -> u8
     ensures digit { result ≡ access_number (counter_of image.now).access }
     ensures bound { result ≤ 3 }
@@ -146,7 +146,7 @@ fn access_digit(image: &CounterImage) -> u8
 }
 
 /// 1 if counts are written in decimal digits, else 0.
-#[tactic(auto, unfolding(pit8253::specs::Image::counter_of))]
+#[tactic(auto, unfolding(pit8253::specs::PitNumbers::counter_of))]
 fn radix_digit(image: &CounterImage) -> u8
     ensures digit { result ≡ radix_number (counter_of image.now).radix }
     ensures bound { result ≤ 1 }
@@ -155,7 +155,7 @@ fn radix_digit(image: &CounterImage) -> u8
 }
 
 /// The running count, as it would be read.
-#[tactic(auto, unfolding(pit8253::specs::Image::counter_of))]
+#[tactic(auto, unfolding(pit8253::specs::PitNumbers::counter_of))]
 fn count_digits(image: &CounterImage) -> u16
     ensures { result ≡ digits_of (counter_of image.now).count_radix (counter_of image.now).count }
 {
@@ -163,7 +163,7 @@ fn count_digits(image: &CounterImage) -> u16
 }
 
 /// The newest full count since the control word, if there is one.
-#[tactic(auto, unfolding(pit8253::specs::Image::counter_of))]
+#[tactic(auto, unfolding(pit8253::specs::PitNumbers::counter_of))]
 fn newest(image: &CounterImage) -> Option<u16>
     ensures { result ≡ newest_of (counter_of image.now) }
 {
@@ -185,7 +185,7 @@ fn digits_in(radix: u8, count: u16) -> u16
 }
 
 /// The status byte of an 8254's counter.
-#[tactic(auto, unfolding(pit8253::specs::Image::counter_of))]
+#[tactic(auto, unfolding(pit8253::specs::PitNumbers::counter_of))]
 fn status(image: &CounterImage) -> u8
     ensures { result ≡ status_of (counter_of image.now) }
 {
@@ -194,7 +194,7 @@ fn status(image: &CounterImage) -> u8
     128 * out + 64 * null + 16 * access_digit(image) + 2 * mode_digit(image) + radix_digit(image)
 }
 
-#[tactic(auto, unfolding(pit8253::specs::Image::counter_of))]
+#[tactic(auto, unfolding(pit8253::specs::PitNumbers::counter_of))]
 fn latched_status(image: &CounterImage) -> Option<u8>
     ensures { result ≡ (counter_of image.now).status }
 {
@@ -202,7 +202,7 @@ fn latched_status(image: &CounterImage) -> Option<u8>
 }
 
 /// 1 where the running half keeps its 0.
-#[tactic(auto, unfolding(pit8253::specs::Image::counter_of))]
+#[tactic(auto, unfolding(pit8253::specs::PitNumbers::counter_of))]
 fn keeps_zero(image: &CounterImage) -> u8
     ensures { result ≡ (if (counter_of image.now).keeps_zero then 1 else 0) }
 {

@@ -10,7 +10,7 @@ ghost use Rattle.board.specs.OneTurn.{begun_in};
 ghost use Rattle.board_plain.specs.Plain.{clock_of};
 ghost use Rattle.probe.specs.Counts.{count_line, counts_of, counts_text, next_clock};
 ghost use Rattle.probe.specs.Making.{AnswersMaking};
-ghost use Rattle.probe.specs.Tallied.{AreBelow, HasNoted, HasTallied, IsBefore, name_of, one_more, tally_line};
+ghost use Rattle.probe.specs.Tallied.{AreBelow, HasCounted, HasTallied, IsBefore, name_of, one_more, tally_line};
 
 use crate::making::lacking;
 use board::one_turn::Begun;
@@ -46,7 +46,7 @@ pub(crate) struct Counts {
 
 impl Counts {
     fn new(alloc: Global, start: Clock) -> Counts
-        ensures noted { HasNoted [] result }
+        ensures noted { HasCounted [] result }
         ensures started { result.first ≡ start }
         ensures before { (clock : ℕ) → IsBefore clock result }
     {
@@ -61,8 +61,8 @@ impl Counts {
     /// Notes what begins, if anything does.
     fn note(&mut self, begun: Option<Begun>) -> Result<(), AllocError>
         requires { IfSome begun (λ b. IsBefore b.clock self.old) }
-        ensures noted { OnOk result ((all : List Begun) → HasNoted all self.old
-            → HasNoted (all ++ option_to_list begun) self.new) }
+        ensures noted { OnOk result ((all : List Begun) → HasCounted all self.old
+            → HasCounted (all ++ option_to_list begun) self.new) }
         ensures before { OnOk result ((clock : ℕ) → IfSome begun (λ b. b.clock < clock) → IsBefore clock self.old
             → IsBefore clock self.new) }
         ensures started { OnOk result ((start : ℕ) → IfSome begun (λ b. start ≤ b.clock)
@@ -77,8 +77,8 @@ impl Counts {
     /// Notes what begins, and tallies what began before it.
     fn begin(&mut self, begun: Begun) -> Result<(), AllocError>
         requires { IsBefore begun.clock self.old }
-        ensures noted { OnOk result ((all : List Begun) → HasNoted all self.old
-            → HasNoted (all ++ begun ∷ []) self.new) }
+        ensures noted { OnOk result ((all : List Begun) → HasCounted all self.old
+            → HasCounted (all ++ begun ∷ []) self.new) }
         ensures before { OnOk result ((clock : ℕ) → begun.clock < clock → IsBefore clock self.new) }
         ensures started { OnOk result ((start : ℕ) → start ≤ begun.clock → start ≤ self.old.first
             → start ≤ self.new.first) }
@@ -92,10 +92,10 @@ impl Counts {
     /// beginning end here.
     fn tally_latest(&mut self, clock: Clock) -> Result<(), AllocError>
         requires { IsBefore clock self.old }
-        ensures tallied { OnOk result ((all : List Begun) → HasNoted all self.old → HasTallied all clock self.new) }
+        ensures tallied { OnOk result ((all : List Begun) → HasCounted all self.old → HasTallied all clock self.new) }
         ensures places { OnOk result (AreBelow clock self.new.places) }
         ensures types { OnOk result (AreBelow clock self.new.types) }
-        ensures before { OnOk result ((all : List Begun) → HasNoted all self.old → self.new.first ≡ next_clock all clock) }
+        ensures before { OnOk result ((all : List Begun) → HasCounted all self.old → self.new.first ≡ next_clock all clock) }
         ensures started { (start : ℕ) → start ≤ clock → start ≤ self.old.first → start ≤ self.new.first }
         ensures latest { self.new.latest ≡ self.old.latest }
     {
@@ -115,7 +115,7 @@ impl Counts {
         requires before { IsBefore end self.old }
         requires started { start ≤ self.old.first }
         requires ended { start ≤ end }
-        ensures { IfOk result (λ text. (all : List Begun) → HasNoted all self.old
+        ensures { IfOk result (λ text. (all : List Begun) → HasCounted all self.old
             → string_bytes text ≡ counts_of all start end) }
     {
         self.tally_latest(end)?;

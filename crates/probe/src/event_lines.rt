@@ -12,7 +12,7 @@ ghost use Rattle.events.specs.Events.{is_same_state, state_events};
 ghost use Rattle.events.specs.declared.event.Event.TheVariants.{Began, Became, Keyed, Reached, Wired};
 ghost use Rattle.probe.specs.Listed.{access_text, begun_text, events_text, key_word, listed_lines, lists_access, lists_begun, lists_keys, lists_states, lists_wires, state_word, wire_name};
 ghost use Rattle.probe.specs.Making.{AnswersMaking};
-ghost use Rattle.probe.specs.Told.{arrivals_from, change_events, clock_lines, held_from, key_lines, keys_seen, latched_from, levels_seen, lines_between, lines_seen, lists_beginning, seen_of, waiting_seen};
+ghost use Rattle.probe.specs.ListedEvents.{arrivals_from, change_events, clock_lines, held_from, key_lines, keys_seen, latched_from, levels_seen, lines_between, lines_seen, lists_beginning, seen_of, waiting_seen};
 
 use crate::kinds::Kind;
 use crate::making::lacking;
@@ -261,7 +261,7 @@ fn push_latched(
 
 /// Adds the lines of what becomes of the keys at `clock`, before which `waiting` codes waited. At the board's clock the
 /// keyboard must still be as `clock` left it.
-#[tactic(auto, unfolding(crate::specs::Told::key_lines))]
+#[tactic(auto, unfolding(crate::specs::ListedEvents::key_lines))]
 fn push_keys(
     text: &mut String,
     kinds: &[Kind],
@@ -380,7 +380,7 @@ fn push_change(
 }
 
 /// Adds the lines of the wires that take another level, if wires are listed.
-#[tactic(auto, unfolding(crate::specs::Told::lines_between))]
+#[tactic(auto, unfolding(crate::specs::ListedEvents::lines_between))]
 fn push_changes(
     text: &mut String,
     kinds: &[Kind],
@@ -422,7 +422,7 @@ pub(crate) struct Seen {
     pub(crate) levels: Option<Levels>,
 }
 
-#[tactic(auto, unfolding(crate::specs::Told::seen_of))]
+#[tactic(auto, unfolding(crate::specs::ListedEvents::seen_of))]
 pub(crate) fn seen_of(board: &Board, asked: Asked) -> Seen
     ensures seen { result ≡ seen_of asked board.now.plain }
     ensures clock { result.clock ≡ clock_of board.now.plain }
@@ -594,7 +594,7 @@ fn push_asked_keys(
 
 /// Adds the lines of a turn's first clock, which began with what was seen `before`. The board stands at the end of the
 /// turn, and what is asked for is still as that clock left it.
-#[tactic(auto, unfolding(crate::specs::Told::clock_lines))]
+#[tactic(auto, unfolding(crate::specs::ListedEvents::clock_lines))]
 fn push_turn(
     text: &mut String,
     kinds: &[Kind],

@@ -1,6 +1,6 @@
 //! Inquiries, and how a line is read as one.
 ghost use Rattle.std.specs.Prelude.{◌≡◌, []};
-ghost use Rattle.debugger_meaning.specs.Words.{count_of, hex_number, words_of};
+ghost use Rattle.debugger_meaning.specs.CommandWords.{count_of, hex_number, words_of};
 ghost use Rattle.probe.specs.Inquiry.{events_of, inquiry_of, inquiry_with, inquiry_with_two, key_at, key_of, list_of, place_of, run_inquiry};
 ghost use Rattle.probe.specs.Kinds.{kinds_from};
 

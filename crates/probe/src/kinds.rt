@@ -1,6 +1,6 @@
 //! The kinds of events that are listed, and how words name them.
 ghost use Rattle.std.specs.Prelude.{◌≡◌, ◌^◌, ◌<◌, ◌≤◌, [], length, option_map, position, IfSome};
-ghost use Rattle.debugger_meaning.specs.Words.{words_of};
+ghost use Rattle.debugger_meaning.specs.CommandWords.{words_of};
 ghost use Rattle.probe.specs.Kinds.{is_equals, is_hyphen, kind_of, kind_with, kinds_from, plain_kind, range_of};
 
 use arrayvec::ArrayVec;

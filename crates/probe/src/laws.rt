@@ -1,7 +1,7 @@
 //! What holds of counts, of stops, of probes and of what `chips` prints, by the definitions alone.
 ghost use Rattle.probe.specs.ChipLaws.{LoadsAsTold};
 ghost use Rattle.probe.specs.MomentLaws.{EachMomentOnce, MomentsAreRuns, OneListOfRanges, PastTheEndAlike};
-ghost use Rattle.probe.specs.Laws.{AnswersAsDebugger, CountsAddUp, ProbesStand, StandingEndsAlike, StandingMetAlike};
+ghost use Rattle.probe.specs.ProbeLaws.{AnswersAsDebugger, CountsAddUp, ProbesStand, StandingEndsAlike, StandingMetAlike};
 
 /// The clocks before the first beginning, those of each CS:IP and those of each type of interrupt add up to the clocks
 /// that are made.

@@ -3,10 +3,10 @@ ghost use Rattle.std.specs.Prelude.{◌≡◌, ◌+◌, ◌-◌, ◌<◌, ◌≤
 ghost use Rattle.std.specs.Result.{IfErr};
 ghost use Rattle.board.specs.Found.{found_at};
 ghost use Rattle.board_plain.specs.Plain.{clock_of};
-ghost use Rattle.debugger_meaning.specs.Kept.{LacksMemory};
+ghost use Rattle.debugger_meaning.specs.SessionInvariant.{LacksMemory};
 ghost use Rattle.probe.specs.Looked.{IsFoundIn, LooksOn, RanToStop, ShortOfMemory};
 ghost use Rattle.probe.specs.Met.{asks_keys, asks_wires};
-ghost use Rattle.probe.specs.Stops.{standing};
+ghost use Rattle.probe.specs.ProbeStops.{standing};
 ghost use Rattle.probe.specs.Watched.{asked_of, IsWatched, KeepsStops, stops_of};
 
 use crate::event_lines::{Asked, Seen, lists_keys, lists_wires, seen_of};

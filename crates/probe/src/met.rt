@@ -4,7 +4,7 @@ ghost use Rattle.std.specs.List.{list_any};
 ghost use Rattle.board_plain.specs.Plain.{clock_of, codes_at};
 ghost use Rattle.probe.specs.Met.{happened, is_entries, is_met, is_starts, keys_moved, lists_entered, lists_some, met, one_differs, same_levels, wires_moved, write_differs};
 ghost use Rattle.probe.specs.Signalled.{levels_of};
-ghost use Rattle.probe.specs.Stops.{HasBytes, standing, stands};
+ghost use Rattle.probe.specs.ProbeStops.{HasBytes, standing, stands};
 ghost use Rattle.probe.specs.Watched.{IsWatched, stops_of};
 
 use crate::bytes::Copied;
@@ -45,7 +45,7 @@ pub(crate) fn met(
 }
 
 /// The least number, from 1, of a stop that holds as a condition at the board's clock.
-#[tactic(auto, unfolding(crate::specs::Stops::standing))]
+#[tactic(auto, unfolding(crate::specs::ProbeStops::standing))]
 pub(crate) fn standing(watches: &[Watched], board: &Board) -> Option<usize>
     requires { All IsWatched watches.now }
     ensures { result ≡ standing (stops_of watches.now) board.now.plain }
@@ -59,7 +59,7 @@ pub(crate) fn standing(watches: &[Watched], board: &Board) -> Option<usize>
 }
 
 /// Whether a stop holds as a condition.
-#[tactic(auto, unfolding(crate::specs::Stops::stands))]
+#[tactic(auto, unfolding(crate::specs::ProbeStops::stands))]
 fn stands(stop: &Stop, board: &Board) -> bool
     requires { HasBytes stop.now }
     ensures { result ≡ stands stop.now board.now.plain }

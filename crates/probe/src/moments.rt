@@ -4,13 +4,13 @@ ghost use Rattle.std.specs.List.{flat_map};
 ghost use Rattle.std.specs.Result.{IfErr};
 ghost use Rattle.std.specs.String.{string_bytes};
 ghost use Rattle.board_plain.specs.Plain.{Plain, clock_of};
-ghost use Rattle.debugger_meaning.specs.Kept.{LacksMemory};
+ghost use Rattle.debugger_meaning.specs.SessionInvariant.{LacksMemory};
 ghost use Rattle.debugger_meaning.specs.Stands.{session_about};
 ghost use Rattle.events_laws.specs.WithKey.{with_key};
 ghost use Rattle.probe.specs.Looked.{RanToStop};
 ghost use Rattle.probe.specs.Moments.{AnswersTrial, AreRanges, CanBeTried, CannotBeTried, moments_line};
 ghost use Rattle.probe.specs.Requests.{IsRising};
-ghost use Rattle.probe.specs.Stops.{IsEndOf};
+ghost use Rattle.probe.specs.ProbeStops.{IsEndOf};
 ghost use Rattle.probe.specs.Tried.{RunsTo, TriedNext, TriedSoFar, added, ends_of, ends_with, joined, moments_of};
 ghost use Rattle.probe.specs.Watched.{IsWatched, KeepsStops, all_standing, stops_of};
 
@@ -280,10 +280,10 @@ fn add(
 ) -> Result<(), AllocError>
     ensures { OnOk result (ranges.new.items ≡ added ranges.old.items first last stopped.now) }
 {
-    let fresh = moments_of(first, last, stopped);
+    let coming = moments_of(first, last, stopped);
     match ranges.pop() {
-        None => push(ranges, &fresh),
-        Some(range) => push_joined(ranges, &range, &fresh, stopped),
+        None => push(ranges, &coming),
+        Some(range) => push_joined(ranges, &range, &coming, stopped),
     }
 }
 
@@ -291,20 +291,20 @@ fn add(
 fn push_joined(
     ranges: &mut Vec<Moments>,
     range: &Moments,
-    fresh: &Moments,
+    coming: &Moments,
     stopped: &Stopped,
 ) -> Result<(), AllocError>
     ensures { OnOk result
-        (ranges.new.items ≡ ranges.old.items ++ joined range.now fresh.now (ends_with range.now.ends stopped.now)) }
+        (ranges.new.items ≡ ranges.old.items ++ joined range.now coming.now (ends_with range.now.ends stopped.now)) }
 {
     match ends_with(&range.ends, stopped) {
         Some(ends) => {
-            let joined = with_ends(range, fresh.last, ends);
+            let joined = with_ends(range, coming.last, ends);
             push(ranges, &joined)
         }
         None => {
             push(ranges, range)?;
-            push(ranges, fresh)
+            push(ranges, coming)
         }
     }
 }

@@ -6,7 +6,7 @@ ghost use Rattle.probe.specs.Looked.{FindsNoStop, answer_at, from_of, with_numbe
 ghost use Rattle.probe.specs.Moments.{AnswersTrial};
 ghost use Rattle.probe.specs.Probe.{AddsStop, AnswersStopping, GoesBackToStop, GoesOn, RefusesBackToStop, RefusesGoing, RefusesStop, conditions_of, gone_by, probe_about, session_of};
 ghost use Rattle.probe.specs.Requests.{IsRising};
-ghost use Rattle.probe.specs.Stops.{HasBytes, MetLast};
+ghost use Rattle.probe.specs.ProbeStops.{HasBytes, MetLast};
 ghost use Rattle.probe.specs.Watched.{IsWatched, KeepsStops, stops_of};
 
 use crate::looking::{last_met, run_to_stop};

@@ -1,8 +1,8 @@
 //! A session that answers inquiries.
 ghost use Rattle.std.specs.Prelude.{◌≡◌};
-ghost use Rattle.probe.specs.Chips.{chips_text};
+ghost use Rattle.probe.specs.ChipsText.{chips_text};
 ghost use Rattle.probe.specs.Listing.{list_text};
-ghost use Rattle.probe.specs.Session.{AnswersInquiry, AnswersProbe};
+ghost use Rattle.probe.specs.InquirySession.{AnswersInquiry, AnswersProbe};
 ghost use Rattle.debugger_meaning.specs.Session.{Shows};
 ghost use Rattle.debugger_meaning.specs.Stands.{Stands};
 

@@ -1,6 +1,6 @@
 //! Numbers and flags that several lines of text have.
 ghost use Rattle.std.specs.Prelude.{◌≡◌, ◌≤◌, Some, if◌then◌else◌};
-ghost use Rattle.board_types.specs.Lines.{is_high};
+ghost use Rattle.board_types.specs.LineLevel.{is_high};
 ghost use Rattle.probe.specs.Shown.{byte_or_none, word_or_none};
 
 use board_types::digits::{HexByte, HexWord};

@@ -48,7 +48,7 @@ pub(crate) fn levels_of(board: &Board) -> Levels
 }
 
 /// Whether request lines 0 and 1 are high.
-#[tactic(auto, unfolding(pic8259::specs::Image::pic_of))]
+#[tactic(auto, unfolding(pic8259::specs::PicNumbers::pic_of))]
 fn lines_of(controller: &Pic) -> (bool, bool)
     ensures ir_0 { result.0 ≡ contains controller.now.high 0 }
     ensures ir_1 { result.1 ≡ contains controller.now.high 1 }

@@ -1,7 +1,7 @@
 //! The stops of a probe's runs, and how a line that has to do with stops is read.
 ghost use Rattle.std.specs.Prelude.{◌≡◌, ◌<◌, ◌^◌, IfSome, length};
-ghost use Rattle.debugger_meaning.specs.Words.{words_of};
-ghost use Rattle.probe.specs.Stops.{HasBytes};
+ghost use Rattle.debugger_meaning.specs.CommandWords.{words_of};
+ghost use Rattle.probe.specs.ProbeStops.{HasBytes};
 ghost use Rattle.probe.specs.Requests.{changes_in, is_standing, request_of, stop_of, trial_of, IsRequest, IsRising};
 
 use crate::kinds::{Kinds, read_kinds};

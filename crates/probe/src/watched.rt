@@ -2,7 +2,7 @@
 ghost use Rattle.std.specs.Prelude.{◌≡◌, ◌≤◌, All, IfOk, IsTrue, OnErr, length};
 ghost use Rattle.probe.specs.Probe.{conditions_of};
 ghost use Rattle.probe.specs.Requests.{asks_changes};
-ghost use Rattle.probe.specs.Stops.{HasBytes};
+ghost use Rattle.probe.specs.ProbeStops.{HasBytes};
 ghost use Rattle.probe.specs.Watched.{all_standing, AreCopies, IsWatched, KeepsStops, StaysCopied, stops_of};
 
 use crate::bytes::Copied;

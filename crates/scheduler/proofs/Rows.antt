@@ -13,12 +13,12 @@ both true false is = absurd (cc)
 both false b is = absurd (cc)
 
 -- whether a deadline comes after that of a source at a clock, by the clock or by the place
-comes_behind : ℕ → Source → Source → Option ℕ → Bool
-comes_behind clock source other None = true
-comes_behind clock source other (Some at) = nat_lt clock at || (nat_eq clock at && nat_le (place_of source) (place_of other))
+comes_later : ℕ → Source → Source → Option ℕ → Bool
+comes_later clock source other None = true
+comes_later clock source other (Some at) = nat_lt clock at || (nat_eq clock at && nat_le (place_of source) (place_of other))
 
-behind_by : (clock at first other : ℕ) → (nat_lt clock at || (nat_eq clock at && nat_le first other)) ≡ true → (clock < at) ⊎ ((clock ≡ at) × (first ≤ other))
-behind_by clock at first other is = by_order (nat_lt clock at) refl is
+after_by : (clock at first other : ℕ) → (nat_lt clock at || (nat_eq clock at && nat_le first other)) ≡ true → (clock < at) ⊎ ((clock ≡ at) × (first ≤ other))
+after_by clock at first other is = by_order (nat_lt clock at) refl is
   where
     by_order : (b : Bool) → nat_lt clock at ≡ b → (b || (nat_eq clock at && nat_le first other)) ≡ true → (clock < at) ⊎ ((clock ≡ at) × (first ≤ other))
     by_order true before is = inl (grind (arith, nat_tests))
@@ -52,16 +52,16 @@ each p is = by_source (all_true (p Counter0) (p Counter2) (p Keys) (p Processor)
 
 -- whether all other deadlines come after that of a source at a clock
 comes_first : DeadlinesState → ℕ → Source → Bool
-unfolding comes_behind
-comes_first d clock source = all (λ other. comes_behind clock source other (deadline_of d other))
+unfolding comes_later
+comes_first d clock source = all (λ other. comes_later clock source other (deadline_of d other))
 
 next_by : (d : DeadlinesState) (clock : ℕ) (source : Source) → deadline_of d source ≡ Some clock → comes_first d clock source ≡ true → IsNext d clock source
-unfolding comes_behind comes_first
+unfolding comes_later comes_first
 next_by d clock source due first = record {
   due = due;
   first = λ other at is.
-      behind_by clock at (place_of source) (place_of other)
-      (ap (comes_behind clock source other) (sym is) ∙ each (λ s. comes_behind clock source s (deadline_of d s)) first other);
+      after_by clock at (place_of source) (place_of other)
+      (ap (comes_later clock source other) (sym is) ∙ each (λ s. comes_later clock source s (deadline_of d s)) first other);
 }
 
 -- deadlines, each of a source at a clock
@@ -71,51 +71,51 @@ at_clocks (it ∷ more) = with_deadline (at_clocks more) it.0 (Some it.1)
 
 -- all five at one clock
 five : IsNext (at_clocks ((End, 7) ∷ (Processor, 7) ∷ (Keys, 7) ∷ (Counter2, 7) ∷ (Counter0, 7) ∷ [])) 7 Counter0
-unfolding comes_behind comes_first
+unfolding comes_later comes_first
 five = next_by _ 7 Counter0 refl refl
 
 -- each pair at one clock
 counter_0_before_counter_2 : IsNext (at_clocks ((Counter2, 7) ∷ (Counter0, 7) ∷ [])) 7 Counter0
-unfolding comes_behind comes_first
+unfolding comes_later comes_first
 counter_0_before_counter_2 = next_by _ 7 Counter0 refl refl
 
 counter_0_before_keys : IsNext (at_clocks ((Keys, 7) ∷ (Counter0, 7) ∷ [])) 7 Counter0
-unfolding comes_behind comes_first
+unfolding comes_later comes_first
 counter_0_before_keys = next_by _ 7 Counter0 refl refl
 
 counter_0_before_processor : IsNext (at_clocks ((Processor, 7) ∷ (Counter0, 7) ∷ [])) 7 Counter0
-unfolding comes_behind comes_first
+unfolding comes_later comes_first
 counter_0_before_processor = next_by _ 7 Counter0 refl refl
 
 counter_0_before_end : IsNext (at_clocks ((End, 7) ∷ (Counter0, 7) ∷ [])) 7 Counter0
-unfolding comes_behind comes_first
+unfolding comes_later comes_first
 counter_0_before_end = next_by _ 7 Counter0 refl refl
 
 counter_2_before_keys : IsNext (at_clocks ((Keys, 7) ∷ (Counter2, 7) ∷ [])) 7 Counter2
-unfolding comes_behind comes_first
+unfolding comes_later comes_first
 counter_2_before_keys = next_by _ 7 Counter2 refl refl
 
 counter_2_before_processor : IsNext (at_clocks ((Processor, 7) ∷ (Counter2, 7) ∷ [])) 7 Counter2
-unfolding comes_behind comes_first
+unfolding comes_later comes_first
 counter_2_before_processor = next_by _ 7 Counter2 refl refl
 
 counter_2_before_end : IsNext (at_clocks ((End, 7) ∷ (Counter2, 7) ∷ [])) 7 Counter2
-unfolding comes_behind comes_first
+unfolding comes_later comes_first
 counter_2_before_end = next_by _ 7 Counter2 refl refl
 
 keys_before_processor : IsNext (at_clocks ((Processor, 7) ∷ (Keys, 7) ∷ [])) 7 Keys
-unfolding comes_behind comes_first
+unfolding comes_later comes_first
 keys_before_processor = next_by _ 7 Keys refl refl
 
 keys_before_end : IsNext (at_clocks ((End, 7) ∷ (Keys, 7) ∷ [])) 7 Keys
-unfolding comes_behind comes_first
+unfolding comes_later comes_first
 keys_before_end = next_by _ 7 Keys refl refl
 
 processor_before_end : IsNext (at_clocks ((End, 7) ∷ (Processor, 7) ∷ [])) 7 Processor
-unfolding comes_behind comes_first
+unfolding comes_later comes_first
 processor_before_end = next_by _ 7 Processor refl refl
 
 -- a sooner clock comes before any place
 sooner_end : IsNext (at_clocks ((End, 6) ∷ (Processor, 7) ∷ (Keys, 7) ∷ (Counter2, 7) ∷ (Counter0, 7) ∷ [])) 6 End
-unfolding comes_behind comes_first
+unfolding comes_later comes_first
 sooner_end = next_by _ 6 End refl refl

@@ -1,6 +1,6 @@
 //! Instructions whose texts are assembled again.
 use crate::code::Code;
-use crate::trip::{is_same_behind, text_of};
+use crate::trip::{reads_back_alike, text_of};
 use anyhow::{Context, Result, ensure};
 use isa::form::Instr;
 use isa::layout::Second;
@@ -49,7 +49,7 @@ impl Setting {
                     && let Some(instr) = self.instruction(opcode, second)
                 {
                     let text = text_of(alloc, &instr)?;
-                    ensure!(is_same_behind(alloc, &text)?, "{text}");
+                    ensure!(reads_back_alike(alloc, &text)?, "{text}");
                     count = count.saturating_add(1);
                 }
             }

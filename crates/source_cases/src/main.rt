@@ -3,7 +3,7 @@
 //! A case is one line, in one of seven forms. For the assembler:
 //!
 //! `TEXT => ANSWER`, a line of a whole source: TEXT is line 8 of a source whose other lines define names and place it
-//! at 1000:1000 (`BEFORE` and `BEHIND` in src/placed.rt). The answer is the bytes that stand there in hexadecimal,
+//! at 1000:1000 (`BEFORE` and `AFTER` in src/placed.rt). The answer is the bytes that stand there in hexadecimal,
 //! `none` for no byte, or `fault N`, followed by ` line M` if it is another line's.
 //!
 //! `TEXT => alone ANSWER`, a line by itself: `2`, `3` or `4` if the text has that fault whatever the other lines are,

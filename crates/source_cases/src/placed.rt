@@ -9,7 +9,7 @@ const BEFORE: &str =
     "five EQU 5\nlow EQU -3\nbig EQU 1234h\nSEGMENT A AT 1000h\n ORG 0FF0h\nback: DB 0\n ORG 1000h\n";
 
 /// The lines after the case's.
-const BEHIND: &str = "\n ORG 1040h\nfore: DB 0\nlater EQU 7\n";
+const AFTER: &str = "\n ORG 1040h\nfore: DB 0\nlater EQU 7\n";
 
 /// The number of the case's line in the source.
 const LINE: u32 = 8;
@@ -22,7 +22,7 @@ const END: u32 = 0x11040;
 
 /// What the assembler makes of the line.
 pub fn answer_to(alloc: Global, line: &str) -> Result<String, AllocError> {
-    let source = format!(in alloc; "{BEFORE}{line}{BEHIND}")?;
+    let source = format!(in alloc; "{BEFORE}{line}{AFTER}")?;
     match assemble(alloc, source.as_bytes()) {
         Ok(listing) => code_text(alloc, listing.image()),
         Err(fault) => fault_text(alloc, fault),

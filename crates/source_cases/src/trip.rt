@@ -15,7 +15,7 @@ pub fn text_of(alloc: Global, instr: &Instr) -> Result<String> {
 }
 
 /// Whether the text, assembled at the offset, gives an instruction of the same text.
-pub fn is_same_behind(alloc: Global, text: &str) -> Result<bool> {
+pub fn reads_back_alike(alloc: Global, text: &str) -> Result<bool> {
     let source = format!(in alloc; "SEGMENT CODE AT 1000h\nORG 4000h\n{text}\n")?;
     match instruction_of(alloc, source.as_bytes()) {
         Some(instr) => is_text_of(alloc, text, &instr),

@@ -3,7 +3,7 @@ use Rattle.std.proofs.Common.{◌≡◌, ◌≢◌, ◌<◌, ℕ, Bool, true, fa
 use Rattle.std.specs.Prelude.{is_some}
 use Rattle.std.proofs.lemmas.List.{get_or-set_same, get_or-set_other, length-set}
 use Rattle.board_types.specs.Bits.{has_bit}
-use Rattle.board_types.specs.Lines.{from_bool, is_high}
+use Rattle.board_types.specs.LineLevel.{from_bool, is_high}
 use Rattle.board_types.specs.declared.line.Line.{Line}
 use Rattle.board_types.specs.declared.line.Line.TheVariants.{Low, High}
 use Rattle.keyboard.specs.Keyboard.{KeyboardState, after_clearing}
@@ -15,7 +15,7 @@ use Rattle.pit8253.specs.Pit.{PitState}
 use Rattle.ppi8255.specs.Ppi.{lines_b}
 use Rattle.wiring.specs.Wires.{after_settling}
 use Rattle.wiring.specs.EachWire.{after_latch_wire, after_gate_wire, after_request_wires}
-use Rattle.wiring.specs.Laws.{SettledAgree}
+use Rattle.wiring.specs.WiringLaws.{SettledAgree}
 
 -- which lines are high, once a line has taken a level
 pub high_after_line : (s : PicState) (level : ℕ) (line : Line) → (after_line s level line).high ≡ slice_set s.high level (is_high line)

@@ -2,8 +2,8 @@
 use Rattle.std.proofs.Common.{◌≡◌, ℕ, ◌+◌, ◌/◌, ◌%◌, Bool, true, false, if◌then◌else◌, List, [], ◌∷◌, refl, sym, ap, ◌∙◌}
 use Rattle.std.specs.Prelude.{◌==◌, ◌&&◌}
 use Rattle.board_types.specs.Bits.{has_bit}
-use Rattle.board_types.specs.Lines.{is_high}
-use Rattle.bus.specs.PortWrites.{after_port_writes}
+use Rattle.board_types.specs.LineLevel.{is_high}
+use Rattle.bus.specs.PortWriteBus.{after_port_writes}
 use Rattle.pit8253.specs.Counter as one
 use Rattle.pit8253.specs.Counter.{CounterState}
 use Rattle.pit8253.specs.Pit as pit
@@ -17,7 +17,7 @@ use Rattle.wiring.specs.Ports.{port_at, after_port_read, after_port_write, after
 use Rattle.wiring.specs.Wires.{pit_after_clock, after_settling, after_clock, after_arrival, after_arrivals, after_key_settling}
 use Rattle.wiring.specs.EachWire.{port_b_line}
 use Rattle.wiring.specs.Speaker.{is_speaker_high, is_speaker_high_after}
-use Rattle.wiring.specs.Laws.{SoundsAlike, DependsOnWrites, NoKeyTouches, NoReadTouches}
+use Rattle.wiring.specs.WiringLaws.{SoundsAlike, DependsOnWrites, NoKeyTouches, NoReadTouches}
 use Rattle.wiring.proofs.TimerGates.{changed_at}
 use Rattle.wiring.proofs.Unread.{unread, IsUnread, tick_unread, control_unread, write_unread, gate_unread, read_leaves, back_where_leaves, same_rest}
 

@@ -2,13 +2,13 @@
 use Rattle.std.proofs.Common.{◌≡◌, ℕ, zero, suc, ◌+◌, ◌&&◌, false, sym, ap, ◌∙◌, arith}
 use Rattle.board_types.proofs.Iterate.{iterate_zero, iterate_more}
 use Rattle.board_types.specs.Bits.{has_bit}
-use Rattle.board_types.specs.Lines.{is_high}
+use Rattle.board_types.specs.LineLevel.{is_high}
 use Rattle.keyboard.specs.Keyboard as keys
 use Rattle.keyboard.specs.Keyboard.{KeyboardState}
 use Rattle.ppi8255.specs.Ppi.{lines_b}
 use Rattle.wiring.specs.Alone.{GoesOnAlone}
 use Rattle.wiring.specs.Chips.{ChipsState}
-use Rattle.wiring.specs.Laws.{KeysSettled}
+use Rattle.wiring.specs.WiringLaws.{KeysSettled}
 use Rattle.wiring.specs.Speaker.{is_speaker_high}
 use Rattle.wiring.specs.Wires.{after_settling, after_clock, after_clocks}
 use Rattle.wiring.proofs.Latch.{latch_settled}
@@ -17,7 +17,7 @@ use Rattle.wiring.proofs.Speaker.{ppi_of_clocks}
 -- chips with the parallel port and the keyboard of chips that go on alone do so, too
 pub alone_alike : (s t : ChipsState) → t.ppi ≡ s.ppi → t.keyboard ≡ s.keyboard → GoesOnAlone s → GoesOnAlone t
 alone_alike s t ppi keyboard alone = record {
-  muted = ap (λ p. has_bit (lines_b p) 1) ppi ∙ alone.muted;
+  speaker_off = ap (λ p. has_bit (lines_b p) 1) ppi ∙ alone.speaker_off;
   keys = ap (λ p. keys.after_settling t.keyboard (lines_b p)) ppi ∙ ap (λ k. keys.after_settling k (lines_b s.ppi)) keyboard
       ∙ alone.keys ∙ sym keyboard;
 }
@@ -56,4 +56,4 @@ low_now s low = ap (λ b. b && is_high s.pit.counter_2.out) low
 
 -- chips that go on alone leave the speaker low
 pub low_alone : (s : ChipsState) (n : ℕ) → GoesOnAlone s → is_speaker_high (after_clocks s n) ≡ false
-low_alone s n alone = low_now (after_clocks s n) (ap (λ p. has_bit (lines_b p) 1) (ppi_of_clocks s n) ∙ alone.muted)
+low_alone s n alone = low_now (after_clocks s n) (ap (λ p. has_bit (lines_b p) 1) (ppi_of_clocks s n) ∙ alone.speaker_off)

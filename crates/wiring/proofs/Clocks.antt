@@ -2,7 +2,7 @@
 use Rattle.std.proofs.Common.{◌≡◌, ℕ, zero, suc, ◌+◌, arith, Bool, true, false, if◌then◌else◌, List, [], ◌∷◌, refl, ap, ◌∙◌}
 use Rattle.board_types.proofs.Iterate.{iterate_zero, iterate_more}
 use Rattle.memory.specs.Regions.{is_text_address}
-use Rattle.bus.specs.PortWrites.{after_port_writes}
+use Rattle.bus.specs.PortWriteBus.{after_port_writes}
 use Rattle.wiring.specs.declared.port.Port.{Port}
 use Rattle.wiring.specs.declared.port.Port.TheVariants.{Controller, Timer, Parallel, Adapter, Nothing}
 use Rattle.wiring.specs.Chips.{ChipsState}

@@ -2,7 +2,7 @@
 use Rattle.std.proofs.Common.{refl}
 use Rattle.wiring.specs.Chips.{ChipsState}
 use Rattle.wiring.specs.Wires.{after_acknowledge}
-use Rattle.wiring.specs.Laws.{SoundsAlike, NoEntryTouches}
+use Rattle.wiring.specs.WiringLaws.{SoundsAlike, NoEntryTouches}
 use Rattle.wiring.proofs.Alike.{depends_on_writes}
 
 alike_after_acknowledge : (s : ChipsState) → SoundsAlike (after_acknowledge s) s

@@ -4,7 +4,7 @@ use Rattle.std.specs.Prelude.{◌==◌, is_some}
 use Rattle.std.proofs.lemmas.List.{get_or-set_other, length-set}
 use Rattle.std.proofs.Math.ListN.{get_or-map}
 use Rattle.memory.specs.Regions.{is_text_address}
-use Rattle.board_types.specs.Lines.{from_bool, is_high}
+use Rattle.board_types.specs.LineLevel.{from_bool, is_high}
 use Rattle.keyboard.specs.Keyboard.{KeyboardState}
 use Rattle.board_types.specs.declared.choice.TimerKind.{TimerKind}
 use Rattle.pic8259.specs.Levels.{Levels, all_levels, contains}
@@ -16,7 +16,7 @@ use Rattle.wiring.specs.Chips.{ChipsState, power_on}
 use Rattle.wiring.specs.Ports.{with_byte, port_at, after_port_read, after_port_write, after_input, after_output}
 use Rattle.wiring.specs.Wires.{after_settling, after_clock, after_arrival, after_key_settling, after_acknowledge}
 use Rattle.wiring.specs.EachWire.{port_b_line, after_latch_wire, after_gate_wire}
-use Rattle.wiring.specs.Laws.{FixedWires, WiresStay}
+use Rattle.wiring.specs.WiringLaws.{FixedWires, WiresStay}
 use Rattle.wiring.proofs.Agreement.{high_after_requests}
 use Rattle.wiring.proofs.HighLines.{high_after_acknowledge, high_after_read, high_after_write}
 use Rattle.wiring.proofs.TimerGates.{SameGates, write_gates, read_gates, tick_gates, gate_gates}

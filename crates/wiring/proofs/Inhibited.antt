@@ -2,14 +2,14 @@
 use Rattle.std.proofs.Common.{◌≡◌, ℕ, zero, suc, ◌+◌, ◌<◌, sym, ap, ◌∙◌, arith}
 use Rattle.std.specs.Prelude.{is_some}
 use Rattle.board_types.proofs.Iterate.{iterate_zero, iterate_more}
-use Rattle.board_types.specs.Lines.{from_bool}
+use Rattle.board_types.specs.LineLevel.{from_bool}
 use Rattle.keyboard.specs.Keyboard.{KeyboardState}
 use Rattle.pic8259.proofs.Inhibited.{stays_inhibited, unheard}
 use Rattle.pic8259.specs.Inhibited.{is_inhibited}
 use Rattle.pic8259.specs.Pic.{PicState, after_line, is_requesting}
 use Rattle.wiring.specs.Alone.{IsTimerInhibited}
 use Rattle.wiring.specs.Chips.{ChipsState}
-use Rattle.wiring.specs.Laws.{KeysSettled}
+use Rattle.wiring.specs.WiringLaws.{KeysSettled}
 use Rattle.wiring.specs.Wires.{pit_after_clock, after_settling, after_clock, after_clocks}
 use Rattle.wiring.specs.EachWire.{after_gate_wire, after_latch_wire, is_requested}
 use Rattle.wiring.proofs.Alone.{keys_settled_later}

@@ -1,11 +1,11 @@
 -- The keyboard's own settling empties the latch if line 7 of port B is 1.
-use Rattle.keyboard.specs.Parts.{sends, after_sending}
+use Rattle.keyboard.specs.QueueParts.{sends, after_sending}
 use Rattle.std.proofs.Common.{◌≡◌, ℕ, Bool, true, false, if◌then◌else◌, refl, sym, ap, ◌∙◌}
 use Rattle.board_types.specs.Bits.{has_bit}
 use Rattle.keyboard.specs.Keyboard.{KeyboardState, after_settling, after_clearing}
 use Rattle.ppi8255.specs.Ppi.{lines_b}
 use Rattle.wiring.specs.Chips.{ChipsState}
-use Rattle.wiring.specs.Laws.{KeysSettled}
+use Rattle.wiring.specs.WiringLaws.{KeysSettled}
 use Rattle.wiring.specs.EachWire.{after_latch_wire}
 
 pub line_7_clears : (s : KeyboardState) (lines : ℕ) → has_bit lines 7 ≡ true → after_settling s lines ≡ after_clearing s

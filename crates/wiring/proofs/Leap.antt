@@ -4,7 +4,7 @@ use Rattle.std.specs.Prelude.{◌==◌, is_some}
 use Rattle.board_types.proofs.Iterate.{iterate_zero, iterate_more, iterate_add}
 use Rattle.board_types.specs.Timed.{IsSteady}
 use Rattle.board_types.specs.declared.line.Line.{Line}
-use Rattle.board_types.specs.Lines.{from_bool, is_high}
+use Rattle.board_types.specs.LineLevel.{from_bool, is_high}
 use Rattle.memory.specs.Map.{MemoryMap}
 use Rattle.mda_text.specs.Mda as mda
 use Rattle.mda_text.specs.Mda.{MdaState}
@@ -17,11 +17,11 @@ use Rattle.pit8253.specs.Pit as pit
 use Rattle.pit8253.specs.Pit.{PitState}
 use Rattle.wiring.specs.Chips.{ChipsState}
 use Rattle.wiring.specs.Edges.{ticks_between}
-use Rattle.wiring.specs.Leap.{IsStill, leapt}
+use Rattle.wiring.specs.Leap.{IsStill, after_leap}
 use Rattle.wiring.specs.Wires.{pit_after_clock, after_settling, after_clock, after_clocks}
 use Rattle.wiring.specs.EachWire.{port_b_line, after_latch_wire, after_gate_wire, after_request_wires}
 use Rattle.wiring.proofs.Agreement.{first_line, high_after_requests, second_line}
-use Rattle.wiring.proofs.Behind.{gate_stays}
+use Rattle.wiring.proofs.Lagging.{gate_stays}
 use Rattle.wiring.proofs.Requests.{risen_line, same_line}
 use Rattle.wiring.proofs.Ticks.{more_ticks, quarter}
 
@@ -61,7 +61,7 @@ with_parts s clock p m same_clock same_pit same_mda =
     ∙ ap (λ q. record s { pit = q; mda = m }) same_pit
     ∙ ap (λ n. record s { mda = n }) same_mda
 
-no_leap : (s : ChipsState) → after_clocks s 0 ≡ leapt s 0
+no_leap : (s : ChipsState) → after_clocks s 0 ≡ after_leap s 0
 no_leap s =
     let none : ticks_between s.clock (s.clock + 0) ≡ 0 = omega arith in
     iterate_zero after_clock s
@@ -69,7 +69,7 @@ no_leap s =
     (ap (λ k. pit.after_ticks s.pit k) none ∙ iterate_zero pit.after_tick s.pit) (iterate_zero mda.after_clock s.mda))
 
 -- one more clock after clocks that were leapt over: it is leapt over with them, and then the wires settle
-leap_then_settle : (n : ℕ) (s : ChipsState) → after_clocks s n ≡ leapt s n → after_clocks s (n + 1) ≡ after_settling (leapt s (n + 1))
+leap_then_settle : (n : ℕ) (s : ChipsState) → after_clocks s n ≡ after_leap s n → after_clocks s (n + 1) ≡ after_settling (after_leap s (n + 1))
 unfolding after_clock
 leap_then_settle n s leap =
     let now : ℕ = ticks_between s.clock (s.clock + n) in
@@ -84,11 +84,11 @@ leap_then_settle n s leap =
     ∙ ap (λ c. after_settling (record s { clock = c; pit = pit.after_ticks s.pit next; mda = mda.after_clocks s.mda (n + 1) })) (omega arith)
 
 -- one clock, after which the wires settle
-pub one_clock : (s : ChipsState) → after_clocks s 1 ≡ after_settling (leapt s 1)
+pub one_clock : (s : ChipsState) → after_clocks s 1 ≡ after_settling (after_leap s 1)
 one_clock s = leap_then_settle 0 s (no_leap s)
 
 -- n clocks, all at once
-pub clocks_leap : (n : ℕ) (s : ChipsState) → after_settling s ≡ s → IsStill s n → after_clocks s n ≡ leapt s n
+pub clocks_leap : (n : ℕ) (s : ChipsState) → after_settling s ≡ s → IsStill s n → after_clocks s n ≡ after_leap s n
 clocks_leap zero s still steady = no_leap s
 clocks_leap (suc n) s still steady =
     let parts : Settled s = settled_parts s still in
@@ -99,65 +99,65 @@ clocks_leap (suc n) s still steady =
     let same : (pit.after_ticks s.pit next).counter_0.out ≡ s.pit.counter_0.out =
     ap (λ (q : PitState). q.counter_0.out) (each_counter next s.pit) ∙ steady next (omega arith) in
     ap (λ k. after_clocks s k) (sym more) ∙ leap_then_settle n s (clocks_leap n s still steady_now)
-    ∙ ap (λ k. after_settling (leapt s k)) more
+    ∙ ap (λ k. after_settling (after_leap s k)) more
     ∙ parts_settled s (pit.after_ticks s.pit next) (s.clock + suc n) (mda.after_clocks s.mda (suc n)) parts gate same
 
 -- clocks up to a turn of OUT0: the wires settle only after the last
-pub clocks_to_turn : (n : ℕ) (s : ChipsState) → 1 ≤ n → after_settling s ≡ s → IsStill s (n - 1) → after_clocks s n ≡ after_settling (leapt s n)
+pub clocks_to_turn : (n : ℕ) (s : ChipsState) → 1 ≤ n → after_settling s ≡ s → IsStill s (n - 1) → after_clocks s n ≡ after_settling (after_leap s n)
 clocks_to_turn n s some still steady =
     let whole : n - 1 + 1 ≡ n = omega (arith, some) in
-    ap (λ k. after_clocks s k) (sym whole) ∙ leap_then_settle (n - 1) s (clocks_leap (n - 1) s still steady) ∙ ap (λ k. after_settling (leapt s k)) whole
+    ap (λ k. after_clocks s k) (sym whole) ∙ leap_then_settle (n - 1) s (clocks_leap (n - 1) s still steady) ∙ ap (λ k. after_settling (after_leap s k)) whole
 
 -- once IR0 has risen, and until it is taken, OUT0's last level alone counts
 
-wires_behind : (s : ChipsState) (clock : ℕ) (p : PitState) (m : MdaState) (c : PicState) → Settled s → after_gate_wire p s.ppi ≡ p
+wires_after : (s : ChipsState) (clock : ℕ) (p : PitState) (m : MdaState) (c : PicState) → Settled s → after_gate_wire p s.ppi ≡ p
     → after_settling (record s { clock = clock; pit = p; mda = m; pic = c }) ≡ record s { clock = clock; pit = p; mda = m; pic = after_request_wires c p s.keyboard }
 unfolding after_settling
-wires_behind s clock p m c parts gate =
+wires_after s clock p m c parts gate =
     let t : ChipsState = record s { clock = clock; pit = p; mda = m } in
     let wired : PitState = after_gate_wire p s.ppi in
     ap (λ k. record t { keyboard = k; pit = wired; pic = after_request_wires c wired k }) parts.latch
     ∙ ap (λ q. record t { pit = q; pic = after_request_wires c q s.keyboard }) gate
 
 -- a clock after clocks that were leapt over
-settle_later : (n : ℕ) (s : ChipsState) → after_settling s ≡ s → contains s.pic.risen 0 ≡ true → after_clock (after_settling (leapt s n)) ≡ after_settling (leapt s (n + 1))
+settle_later : (n : ℕ) (s : ChipsState) → after_settling s ≡ s → contains s.pic.risen 0 ≡ true → after_clock (after_settling (after_leap s n)) ≡ after_settling (after_leap s (n + 1))
 unfolding after_clock
 settle_later n s still risen =
     let parts : Settled s = settled_parts s still in
     let now : ℕ = ticks_between s.clock (s.clock + n) in
     let next : ℕ = ticks_between s.clock (s.clock + (n + 1)) in
     let there : PitState = pit.after_ticks s.pit now in
-    let behind : PitState = pit.after_ticks s.pit next in
+    let lag : PitState = pit.after_ticks s.pit next in
     let beam : MdaState = mda.after_clocks s.mda (n + 1) in
     let full : Line = from_bool (is_some s.keyboard.latch) in
     let same : ticks_between s.clock (s.clock + suc n) ≡ next = omega arith in
-    let ticked : pit_after_clock there (s.clock + n + 1) ≡ behind =
+    let ticked : pit_after_clock there (s.clock + n + 1) ≡ lag =
     more_ticks ((s.clock + n + 1) % 4 == 0) s.pit now ∙ ap (λ k. pit.after_ticks s.pit k) (quarter s.clock n ∙ same) in
     let moved : mda.after_clock (mda.after_clocks s.mda n) ≡ beam = sym (iterate_more mda.after_clock n s.mda) in
     let requests : PicState = after_request_wires s.pic there s.keyboard in
-    let gate : after_gate_wire behind s.ppi ≡ behind = gate_stays next s.pit (port_b_line s.ppi 0) parts.gate in
-    ap after_clock (wires_behind s (s.clock + n) there (mda.after_clocks s.mda n) s.pic parts (gate_stays now s.pit (port_b_line s.ppi 0) parts.gate))
+    let gate : after_gate_wire lag s.ppi ≡ lag = gate_stays next s.pit (port_b_line s.ppi 0) parts.gate in
+    ap after_clock (wires_after s (s.clock + n) there (mda.after_clocks s.mda n) s.pic parts (gate_stays now s.pit (port_b_line s.ppi 0) parts.gate))
     ∙ ap (λ p. after_settling (record s { clock = s.clock + n + 1; pit = p; mda = mda.after_clock (mda.after_clocks s.mda n); pic = requests })) ticked
-    ∙ ap (λ m. after_settling (record s { clock = s.clock + n + 1; pit = behind; mda = m; pic = requests })) moved
-    ∙ ap (λ c. after_settling (record s { clock = c; pit = behind; mda = beam; pic = requests })) (omega arith)
-    ∙ wires_behind s (s.clock + (n + 1)) behind beam requests parts gate
-    ∙ ap (λ c. record s { clock = s.clock + (n + 1); pit = behind; mda = beam; pic = c })
-    (risen_line s.pic 0 1 there.counter_0.out behind.counter_0.out full (omega arith) (omega arith) risen)
-    ∙ sym (wires_behind s (s.clock + (n + 1)) behind beam s.pic parts gate)
+    ∙ ap (λ m. after_settling (record s { clock = s.clock + n + 1; pit = lag; mda = m; pic = requests })) moved
+    ∙ ap (λ c. after_settling (record s { clock = c; pit = lag; mda = beam; pic = requests })) (omega arith)
+    ∙ wires_after s (s.clock + (n + 1)) lag beam requests parts gate
+    ∙ ap (λ c. record s { clock = s.clock + (n + 1); pit = lag; mda = beam; pic = c })
+    (risen_line s.pic 0 1 there.counter_0.out lag.counter_0.out full (omega arith) (omega arith) risen)
+    ∙ sym (wires_after s (s.clock + (n + 1)) lag beam s.pic parts gate)
 
-risen_more : (n : ℕ) (s : ChipsState) → after_settling s ≡ s → contains s.pic.risen 0 ≡ true → after_clocks s (n + 1) ≡ after_settling (leapt s (n + 1))
+risen_more : (n : ℕ) (s : ChipsState) → after_settling s ≡ s → contains s.pic.risen 0 ≡ true → after_clocks s (n + 1) ≡ after_settling (after_leap s (n + 1))
 risen_more zero s still risen = one_clock s
 risen_more (suc n) s still risen =
     let more : suc n ≡ n + 1 = omega arith in
     iterate_more after_clock (suc n) s
-    ∙ ap after_clock (ap (λ k. after_clocks s k) more ∙ risen_more n s still risen ∙ ap (λ k. after_settling (leapt s k)) (sym more))
+    ∙ ap after_clock (ap (λ k. after_clocks s k) more ∙ risen_more n s still risen ∙ ap (λ k. after_settling (after_leap s k)) (sym more))
     ∙ settle_later (suc n) s still risen
 
 -- clocks of which the wires settle only after the last
-pub risen_clocks : (n : ℕ) (s : ChipsState) → 1 ≤ n → after_settling s ≡ s → contains s.pic.risen 0 ≡ true → after_clocks s n ≡ after_settling (leapt s n)
+pub risen_clocks : (n : ℕ) (s : ChipsState) → 1 ≤ n → after_settling s ≡ s → contains s.pic.risen 0 ≡ true → after_clocks s n ≡ after_settling (after_leap s n)
 risen_clocks n s some still risen =
     let whole : n - 1 + 1 ≡ n = omega (arith, some) in
-    ap (λ k. after_clocks s k) (sym whole) ∙ risen_more (n - 1) s still risen ∙ ap (λ k. after_settling (leapt s k)) whole
+    ap (λ k. after_clocks s k) (sym whole) ∙ risen_more (n - 1) s still risen ∙ ap (λ k. after_settling (after_leap s k)) whole
 
 -- settled wires stay settled with a controller whose lines are as they were
 pub same_lines_settled : (s : ChipsState) (p : PicState) → length s.pic.high ≡ 8 → after_settling s ≡ s → p.high ≡ s.pic.high → after_settling (record s { pic = p }) ≡ record s { pic = p }
@@ -171,11 +171,11 @@ same_lines_settled s p eight still same =
     ap (λ high. contains high 1) (same ∙ sym lines) ∙ second_line s.pic.high (is_high zeroth) (is_high first) eight in
     let zeroth_stays : contains p.high 0 ≡ is_high zeroth =
     ap (λ high. contains high 0) (same ∙ sym lines) ∙ first_line s.pic.high (is_high zeroth) (is_high first) eight in
-    wires_behind s s.clock s.pit s.mda p parts parts.gate
+    wires_after s s.clock s.pit s.mda p parts parts.gate
     ∙ ap (λ c. record s { pic = c })
     (ap (λ c. after_line c 1 first) (same_line p 0 zeroth zeroth_stays) ∙ same_line p 1 first first_stays)
 
-pub settled_leap : (n : ℕ) (s : ChipsState) → after_settling s ≡ s → IsStill s n → after_settling (leapt s n) ≡ leapt s n
+pub settled_leap : (n : ℕ) (s : ChipsState) → after_settling s ≡ s → IsStill s n → after_settling (after_leap s n) ≡ after_leap s n
 settled_leap n s still steady =
     let parts : Settled s = settled_parts s still in
     let ticks : ℕ = ticks_between s.clock (s.clock + n) in

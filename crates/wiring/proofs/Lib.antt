@@ -14,7 +14,7 @@ pub mod Ticks
 pub mod Alike
 pub mod Entries
 pub mod Speaker
-pub mod Behind
+pub mod Lagging
 pub mod Leap
 pub mod Alone
 pub mod Edges

@@ -3,7 +3,7 @@ use Rattle.std.proofs.Common.{◌≡◌, ℕ, Bool, true, false, if◌then◌els
 use Rattle.std.specs.Prelude.{is_some}
 use Rattle.std.proofs.lemmas.Grind.{common_steps}
 use Rattle.board_types.specs.Bits.{has_bit}
-use Rattle.board_types.specs.Lines.{from_bool}
+use Rattle.board_types.specs.LineLevel.{from_bool}
 use Rattle.board_types.specs.declared.choice.TimerKind.{TimerKind}
 use Rattle.pic8259.specs.Pic.{PicState, after_line}
 use Rattle.pit8253.specs.Counter as counter
@@ -16,7 +16,7 @@ use Rattle.keyboard.specs.Keyboard.{KeyboardState, after_clearing}
 use Rattle.wiring.specs.Chips.{ChipsState, power_on}
 use Rattle.wiring.specs.Wires.{after_settling, after_arrival, after_arrivals}
 use Rattle.wiring.specs.EachWire.{after_latch_wire, after_gate_wire}
-use Rattle.wiring.specs.Laws.{KeysSettled}
+use Rattle.wiring.specs.WiringLaws.{KeysSettled}
 
 -- a key that arrives only waits
 latch_kept : (k : KeyboardState) (code : ℕ) → (keys.after_arrival k code).latch ≡ k.latch

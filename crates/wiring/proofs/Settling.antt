@@ -1,9 +1,9 @@
 -- The wires, and the keyboard before them, settle once and for all.
-use Rattle.keyboard.specs.Parts.{after_sending}
+use Rattle.keyboard.specs.QueueParts.{after_sending}
 use Rattle.std.proofs.Common.{◌≡◌, ◌≢◌, ◌<◌, ℕ, Bool, true, false, if◌then◌else◌, List, [], ◌∷◌, Option, None, Some, refl, sym, ap, ◌∙◌, arith}
 use Rattle.std.specs.Prelude.{◌&&◌, is_some, is_none}
 use Rattle.board_types.specs.Bits.{has_bit}
-use Rattle.board_types.specs.Lines.{from_bool}
+use Rattle.board_types.specs.LineLevel.{from_bool}
 use Rattle.keyboard.specs.Keyboard as keys
 use Rattle.keyboard.specs.Keyboard.{KeyboardState, after_clearing}
 use Rattle.pic8259.specs.Pic.{PicState}
@@ -12,7 +12,7 @@ use Rattle.ppi8255.specs.Ppi.{PpiState, lines_b}
 use Rattle.wiring.specs.Chips.{ChipsState}
 use Rattle.wiring.specs.Wires.{after_settling, after_key_settling}
 use Rattle.wiring.specs.EachWire.{port_b_line, after_latch_wire, after_gate_wire, after_request_wires}
-use Rattle.wiring.specs.Laws.{SettlesOnce, KeysSettleOnce}
+use Rattle.wiring.specs.WiringLaws.{SettlesOnce, KeysSettleOnce}
 use Rattle.wiring.proofs.Gates.{gate_2_twice}
 use Rattle.wiring.proofs.Requests.{both_lines_twice}
 

@@ -3,8 +3,8 @@ use Rattle.std.proofs.Common.{◌≡◌, ℕ, zero, suc, arith, ◌+◌, ◌<◌
 use Rattle.std.proofs.lemmas.List.Sums.{fold_more}
 use Rattle.board_types.proofs.Iterate.{iterate_zero, iterate_more}
 use Rattle.board_types.specs.Bits.{has_bit}
-use Rattle.board_types.specs.Lines.{is_high}
-use Rattle.bus.specs.PortWrites.{after_port_writes}
+use Rattle.board_types.specs.LineLevel.{is_high}
+use Rattle.bus.specs.PortWriteBus.{after_port_writes}
 use Rattle.pit8253.specs.Pit.{PitState, after_tick, after_ticks}
 use Rattle.ppi8255.specs.Ppi as ppi
 use Rattle.ppi8255.specs.Ppi.{lines_b}
@@ -116,7 +116,7 @@ ppi_of_clocks s (suc n) =
     ∙ ppi_of_clock (after_clocks s n) ∙ ppi_of_clocks s n
 
 -- if port B holds the speaker low, it is low at any later clock
-pub stays_muted : (s : ChipsState) (writes : List (ℕ × ℕ)) (clocks : ℕ) → has_bit (lines_b (after_port_writes after_output s writes).ppi) 1 ≡ false → is_speaker_high_after (after_clocks s clocks) writes ≡ false
-stays_muted s writes clocks low =
+pub stays_speaker_off : (s : ChipsState) (writes : List (ℕ × ℕ)) (clocks : ℕ) → has_bit (lines_b (after_port_writes after_output s writes).ppi) 1 ≡ false → is_speaker_high_after (after_clocks s clocks) writes ≡ false
+stays_speaker_off s writes clocks low =
     stays_low (after_clocks s clocks) writes
     (ap (λ p. has_bit (lines_b p) 1) (ppi_of_writes (after_clocks s clocks) s writes (ppi_of_clocks s clocks)) ∙ low)

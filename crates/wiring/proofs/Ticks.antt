@@ -15,7 +15,7 @@ use Rattle.ppi8255.specs.Ppi.{PpiState}
 use Rattle.wiring.specs.Chips.{ChipsState}
 use Rattle.wiring.specs.Wires.{pit_after_clock, after_settling, after_clock, after_clocks}
 use Rattle.wiring.specs.EachWire.{port_b_line, after_gate_wire}
-use Rattle.wiring.specs.Laws.{ClocksTick}
+use Rattle.wiring.specs.WiringLaws.{ClocksTick}
 use Rattle.wiring.proofs.Clocks.{clock_of_clocks}
 use Rattle.wiring.proofs.Gates.{no_rise}
 use Rattle.wiring.proofs.Settling.{settles_once}

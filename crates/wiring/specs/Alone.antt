@@ -10,7 +10,7 @@ use Rattle.wiring.specs.Chips.{ChipsState}
 
 -- port B holds the speaker low, and the keyboard has settled to its lines
 pub record GoesOnAlone (s : ChipsState) : Type 0 where
-  pub muted : has_bit (lines_b s.ppi) 1 ≡ false
+  pub speaker_off : has_bit (lines_b s.ppi) 1 ≡ false
   pub keys : keyboard.after_settling s.keyboard (lines_b s.ppi) ≡ s.keyboard
 
 -- IR0, which OUT0 drives, is inhibited: it requests nothing whatever the timer does

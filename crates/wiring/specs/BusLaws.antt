@@ -7,7 +7,7 @@ use Rattle.memory.specs.Regions.{is_text_address}
 use Rattle.memory.specs.Map.{MemoryMap}
 use Rattle.memory.specs.Map as map
 use Rattle.memory.proofs.Writes.{write_changes}
-use Rattle.bus.specs.Kept.{IsBus}
+use Rattle.bus.specs.BusPromises.{IsBus}
 use Rattle.mda_text.specs.Mda as mda
 use Rattle.mda_text.specs.Mda.{MdaState}
 use Rattle.mda_text.proofs.ScreenLaws.{is_memory}

@@ -2,7 +2,7 @@
 -- To be believed by callers of this crate: the headline does not rest on it.
 use Rattle.std.specs.Prelude.{ℕ, Bool, if◌then◌else◌, is_some}
 use Rattle.board_types.specs.Bits.{has_bit}
-use Rattle.board_types.specs.Lines.{from_bool}
+use Rattle.board_types.specs.LineLevel.{from_bool}
 use Rattle.board_types.specs.declared.line.Line.{Line}
 use Rattle.pic8259.specs.Pic.{PicState, after_line, is_requesting, vector}
 use Rattle.pit8253.specs.Pit.{PitState, after_gate}

@@ -15,8 +15,8 @@ abbrev pub IsStill : ChipsState → ℕ → Type 0
 IsStill s n = IsSteady counter.after_ticks out_of s.pit.counter_0 (ticks_between s.clock (s.clock + n))
 
 -- the chips after n clocks at once in which nothing happens but that the beam moves and the counters tick
-abbrev pub leapt : ChipsState → ℕ → ChipsState
-leapt s n = record s {
+abbrev pub after_leap : ChipsState → ℕ → ChipsState
+after_leap s n = record s {
   clock = s.clock + n;
   pit = pit.after_ticks s.pit (ticks_between s.clock (s.clock + n));
   mda = mda.after_clocks s.mda n;

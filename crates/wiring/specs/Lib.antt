@@ -5,8 +5,8 @@ pub mod EachWire
 pub mod Sound
 pub mod Speaker
 pub mod BusLaws
-pub mod Laws
-pub mod Timer
+pub mod WiringLaws
+pub mod LaggingTimer
 pub mod Edges
 pub mod Leap
 pub mod Alone

@@ -2,8 +2,8 @@
 -- To be believed: the headline rests on it.
 use Rattle.std.specs.Prelude.{ℕ, ◌&&◌, Bool, List}
 use Rattle.board_types.specs.Bits.{has_bit}
-use Rattle.board_types.specs.Lines.{is_high}
-use Rattle.bus.specs.PortWrites.{after_port_writes}
+use Rattle.board_types.specs.LineLevel.{is_high}
+use Rattle.bus.specs.PortWriteBus.{after_port_writes}
 use Rattle.ppi8255.specs.Ppi.{lines_b}
 use Rattle.wiring.specs.Chips.{ChipsState}
 use Rattle.wiring.specs.Ports.{after_output}

@@ -5,7 +5,7 @@
 use Rattle.std.specs.Prelude.{ℕ, ◌+◌, ◌%◌, ◌==◌, if◌then◌else◌, List, fold, is_some}
 use Rattle.board_types.specs.Bits.{has_bit}
 use Rattle.board_types.specs.Iterate.{iterate}
-use Rattle.board_types.specs.Lines.{from_bool}
+use Rattle.board_types.specs.LineLevel.{from_bool}
 use Rattle.pic8259.specs.Pic as pic
 use Rattle.pic8259.specs.Pic.{PicState, after_line}
 use Rattle.pit8253.specs.Pit.{PitState, after_tick, after_gate}

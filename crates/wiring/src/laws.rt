@@ -1,6 +1,6 @@
 //! What holds of memory and of the wires whatever the chips' states are. Each is an empty function whose contract
 //! states it.
-ghost use Rattle.wiring.specs.Laws.{SettlesOnce, KeysSettleOnce, SettledAgree, SettlingChangesAlone, ClocksTick, WiresStay, DependsOnWrites, NoKeyTouches, NoEntryTouches, NoReadTouches, WriteChangesOneByte};
+ghost use Rattle.wiring.specs.WiringLaws.{SettlesOnce, KeysSettleOnce, SettledAgree, SettlingChangesAlone, ClocksTick, WiresStay, DependsOnWrites, NoKeyTouches, NoEntryTouches, NoReadTouches, WriteChangesOneByte};
 
 /// Wires that have settled stay as they are when they settle again.
 pub fn settles_once()

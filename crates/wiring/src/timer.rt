@@ -4,7 +4,7 @@ ghost use Rattle.board_types.specs.Timed.{IsSteady, IsUntilTurn};
 ghost use Rattle.board_types.specs.declared.line.Line.{Line};
 ghost use Rattle.pit8253.specs.Counter as counter;
 ghost use Rattle.pit8253.specs.Counter.{out_of};
-ghost use Rattle.wiring.specs.Timer.{is_before, later_turn, IsSoon};
+ghost use Rattle.wiring.specs.LaggingTimer.{is_before, later_turn, IsSoon};
 ghost use Rattle.pit8253.specs.Pit.{power_on, after_ticks, after_gate, after_write, byte_at, after_read};
 
 use board_types::choice::TimerKind;
@@ -18,7 +18,7 @@ pub(crate) struct Timer {
     /// The timer as it was before the ticks that are only counted.
     pit: Pit,
     /// How many ticks it lags: OUT0 and OUT2 haven't turned in them.
-    behind: u64,
+    lag: u64,
     /// After how many ticks, counted from `pit`, OUT0 turns.
     turn_0: Option<u64>,
     /// After how many ticks, counted from `pit`, OUT2 turns.
@@ -27,13 +27,13 @@ pub(crate) struct Timer {
 
 impl Model for Timer {
     ghost use Rattle.pit8253.specs.Pit.{PitState, after_ticks};
-    ghost use Rattle.wiring.specs.Timer.{IsBehind};
+    ghost use Rattle.wiring.specs.LaggingTimer.{IsLagging};
 
     ghost Value = { PitState };
 
-    ghost view = { λ t. after_ticks t.pit t.behind };
+    ghost view = { λ t. after_ticks t.pit t.lag };
 
-    ghost invariant = { λ t. IsBehind t.pit.counter_0 t.turn_0 t.behind × IsBehind t.pit.counter_2 t.turn_2 t.behind };
+    ghost invariant = { λ t. IsLagging t.pit.counter_0 t.turn_0 t.lag × IsLagging t.pit.counter_2 t.turn_2 t.lag };
 }
 
 impl Timer {
@@ -45,7 +45,7 @@ impl Timer {
     }
 
     /// A timer that doesn't lag.
-    #[tactic(auto, using(crate::proofs::Behind::at_once, crate::proofs::Behind::not_behind))]
+    #[tactic(auto, using(crate::proofs::Lagging::at_once, crate::proofs::Lagging::no_lag))]
     pub(crate) fn standing(pit: Pit) -> Timer
         ensures { result ≡ pit }
     {
@@ -53,18 +53,18 @@ impl Timer {
         let turn_2 = pit.until_change(2);
         Timer {
             pit,
-            behind: 0,
+            lag: 0,
             turn_0,
             turn_2,
         }
     }
 
     /// The timer with all its ticks made.
-    pub(crate) fn present(&self) -> Pit
+    pub(crate) fn synced(&self) -> Pit
         ensures { result ≡ self.now }
     {
         let mut pit = self.pit;
-        pit.advance(self.behind);
+        pit.advance(self.lag);
         pit
     }
 
@@ -80,18 +80,18 @@ impl Timer {
 
     /// Counts `ticks` more ticks, if neither OUT0 nor OUT2 turns in them. Answers whether it did.
     #[inline(always)]
-    #[tactic(auto, using(crate::proofs::Behind::later, crate::proofs::Behind::still_behind))]
+    #[tactic(auto, using(crate::proofs::Lagging::later, crate::proofs::Lagging::lags_still))]
     pub(crate) fn count(&mut self, ticks: u64) -> bool
         ensures counted { IsTrue result → self.new ≡ after_ticks self.old ticks }
         ensures left { result ≡ false → self.new ≡ self.old }
         ensures out_0 { IsTrue result → IsSteady counter.after_ticks out_of self.old.counter_0 ticks }
         ensures out_2 { IsTrue result → IsSteady counter.after_ticks out_of self.old.counter_2 ticks }
     {
-        if let Some(behind) = self.behind.checked_add(ticks)
-            && is_before(behind, self.turn_0)
-            && is_before(behind, self.turn_2)
+        if let Some(lag) = self.lag.checked_add(ticks)
+            && is_before(lag, self.turn_0)
+            && is_before(lag, self.turn_2)
         {
-            self.behind = behind;
+            self.lag = lag;
             return true;
         }
         false
@@ -99,15 +99,15 @@ impl Timer {
 
     /// Makes the counted ticks, and `ticks` more. Mostly OUT0 turns, and then it stays known when OUT2 does.
     #[inline(never)]
-    #[tactic(auto, using(crate::proofs::Behind::later, crate::proofs::Behind::at_once))]
+    #[tactic(auto, using(crate::proofs::Lagging::later, crate::proofs::Lagging::at_once))]
     fn tick(&mut self, ticks: u64)
         ensures { self.new ≡ after_ticks self.old ticks }
     {
-        let Some(all) = self.behind.checked_add(ticks) else {
+        let Some(all) = self.lag.checked_add(ticks) else {
             return self.tick_apart(ticks);
         };
         self.pit.advance(all);
-        self.behind = 0;
+        self.lag = 0;
         self.turn_0 = self.pit.until_change(0);
         self.turn_2 = if is_before(all, self.turn_2) {
             later_turn(self.turn_2, all)
@@ -118,17 +118,17 @@ impl Timer {
 
     /// Makes the counted ticks, and then `ticks` more: together they may be too many to count.
     #[inline(never)]
-    #[tactic(auto, using(crate::proofs::Behind::later))]
+    #[tactic(auto, using(crate::proofs::Lagging::later))]
     fn tick_apart(&mut self, ticks: u64)
         ensures { self.new ≡ after_ticks self.old ticks }
     {
-        let mut pit = self.present();
+        let mut pit = self.synced();
         pit.advance(ticks);
         *self = Timer::standing(pit);
     }
 
     /// The level of OUT0.
-    #[tactic(auto, using(crate::proofs::Behind::out_0_stays))]
+    #[tactic(auto, using(crate::proofs::Lagging::out_0_stays))]
     pub(crate) fn out_0(&self) -> Line
         ensures { result ≡ self.now.counter_0.out }
     {
@@ -136,7 +136,7 @@ impl Timer {
     }
 
     /// The level of OUT2.
-    #[tactic(auto, using(crate::proofs::Behind::out_2_stays))]
+    #[tactic(auto, using(crate::proofs::Lagging::out_2_stays))]
     pub(crate) fn out_2(&self) -> Line
         ensures { result ≡ self.now.counter_2.out }
     {
@@ -147,14 +147,14 @@ impl Timer {
     pub(crate) fn until_turn_0(&self) -> Option<u64>
         ensures { IsUntilTurn counter.after_ticks out_of self.now.counter_0 result }
     {
-        later_turn(self.turn_0, self.behind)
+        later_turn(self.turn_0, self.lag)
     }
 
     /// After how many ticks, from 1 on, OUT2 turns; `None` if it never does.
     pub(crate) fn until_turn_2(&self) -> Option<u64>
         ensures { IsUntilTurn counter.after_ticks out_of self.now.counter_2 result }
     {
-        later_turn(self.turn_2, self.behind)
+        later_turn(self.turn_2, self.lag)
     }
 
     /// After how many ticks, from 1 on, OUT0 or OUT2 turns; `None` if neither ever does.
@@ -166,7 +166,7 @@ impl Timer {
         ensures some { IfSome result (λ n. 1 ≤ n) }
         ensures soon { IsSoon result }
     {
-        later_turn(earlier_turn(self.turn_0, self.turn_2), self.behind)
+        later_turn(earlier_turn(self.turn_0, self.turn_2), self.lag)
     }
 
     /// The byte that a read of `port`, below 4, gives.
@@ -175,7 +175,7 @@ impl Timer {
         ensures byte { result ≡ byte_at self.old port }
         ensures state { self.new ≡ after_read self.old port }
     {
-        let mut pit = self.present();
+        let mut pit = self.synced();
         let byte = pit.read(port);
         *self = Timer::standing(pit);
         byte
@@ -186,13 +186,13 @@ impl Timer {
         requires { port < 4 }
         ensures { self.new ≡ after_write self.old port value }
     {
-        let mut pit = self.present();
+        let mut pit = self.synced();
         pit.write(port, value);
         *self = Timer::standing(pit);
     }
 
     /// Gate 2 takes the level `line`. If it has that level already, nothing changes, and the timer goes on lagging.
-    #[tactic(auto, using(crate::proofs::Behind::gate_stays))]
+    #[tactic(auto, using(crate::proofs::Lagging::gate_stays))]
     pub(crate) fn set_gate_2(&mut self, line: Line)
         ensures { self.new ≡ after_gate self.old 2 line }
     {
@@ -206,7 +206,7 @@ impl Timer {
     fn turn_gate_2(&mut self, line: Line)
         ensures { self.new ≡ after_gate self.old 2 line }
     {
-        let mut pit = self.present();
+        let mut pit = self.synced();
         pit.set_gate(2, line);
         *self = Timer::standing(pit);
     }
@@ -236,15 +236,15 @@ fn is_before(ticks: u64, turn: Option<u64>) -> bool
     }
 }
 
-/// How many ticks are left to a turn after `behind` ticks, which come before it.
+/// How many ticks are left to a turn after `lag` ticks, which come before it.
 #[inline(always)]
-fn later_turn(turn: Option<u64>, behind: u64) -> Option<u64>
-    requires { IsTrue (is_before behind turn) }
-    ensures turn { result ≡ later_turn turn behind }
+fn later_turn(turn: Option<u64>, lag: u64) -> Option<u64>
+    requires { IsTrue (is_before lag turn) }
+    ensures turn { result ≡ later_turn turn lag }
     ensures some { IfSome result (λ n. 1 ≤ n) }
 {
     match turn {
-        Some(turn) => Some(turn - behind),
+        Some(turn) => Some(turn - lag),
         None => None,
     }
 }

@@ -1,8 +1,8 @@
 //! The Intel 8259A, alone and in 8086 mode.
 ghost use Rattle.std.specs.Prelude.{◌≡◌, ◌%◌, if◌then◌else◌};
-ghost use Rattle.pic8259.specs.Image.{flag_of, pic_of};
+ghost use Rattle.pic8259.specs.PicNumbers.{flag_of, pic_of};
 ghost use Rattle.pic8259.specs.Pic.{power_on, after_acknowledge, after_line, after_read, after_write, byte_at, is_requesting, vector};
-ghost use Rattle.pit8253.specs.Image.{line_of};
+ghost use Rattle.pit8253.specs.PitNumbers.{line_of};
 
 use crate::levels::line_of;
 use pic8259::controller::Pic;

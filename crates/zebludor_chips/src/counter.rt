@@ -1,10 +1,10 @@
 //! One counter of the Intel 8253 or 8254 by itself: a third of the timer's image, and a third of its work.
 ghost use Rattle.std.specs.Prelude.{◌≡◌, ◌≤◌, if◌then◌else◌};
 ghost use Rattle.board_types.specs.declared.choice.TimerKind.TheVariants.{I8253};
-ghost use Rattle.board_types.specs.Lines.{is_high};
+ghost use Rattle.board_types.specs.LineLevel.{is_high};
 ghost use Rattle.board_types.specs.Timed.{IsUntilTurn};
 ghost use Rattle.pit8253.specs.Counter.{after_control_word, after_gate, after_read, after_read_back, after_ticks, after_write, next_byte, out_of, power_on};
-ghost use Rattle.pit8253.specs.Image.{counter_of, kind_of, line_of};
+ghost use Rattle.pit8253.specs.PitNumbers.{counter_of, kind_of, line_of};
 ghost use Rattle.zebludor_chips.specs.Turns.{turn_of};
 
 use crate::levels::{kind_of, line_of, number_of};

@@ -1,7 +1,7 @@
 //! Levels of wires, and kinds of timers, as numbers.
 ghost use Rattle.std.specs.Prelude.{◌≡◌, if◌then◌else◌};
-ghost use Rattle.board_types.specs.Lines.{is_high};
-ghost use Rattle.pit8253.specs.Image.{kind_of, line_of};
+ghost use Rattle.board_types.specs.LineLevel.{is_high};
+ghost use Rattle.pit8253.specs.PitNumbers.{kind_of, line_of};
 
 use board_types::choice::TimerKind;
 use board_types::line::Line;

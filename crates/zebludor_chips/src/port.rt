@@ -1,6 +1,6 @@
 //! The Intel 8255A in mode 0, with the board's switches on its pins. Ports are numbered by A1 and A0.
 ghost use Rattle.std.specs.Prelude.{◌≡◌, ◌%◌};
-ghost use Rattle.ppi8255.specs.Image.{ppi_of};
+ghost use Rattle.ppi8255.specs.PpiNumbers.{ppi_of};
 ghost use Rattle.ppi8255.specs.Ppi.{power_on, after_write, byte_at, lines_b};
 ghost use Rattle.zebludor_chips.specs.Pins.{inputs_of};
 

@@ -1,11 +1,11 @@
 //! The Intel 8253 and 8254. Ports are numbered by A1 and A0, counters from 0 to 2.
 ghost use Rattle.std.specs.Prelude.{◌≡◌, ◌≤◌, ◌%◌, if◌then◌else◌};
 ghost use Rattle.board_types.specs.declared.choice.TimerKind.TheVariants.{I8253};
-ghost use Rattle.board_types.specs.Lines.{is_high};
+ghost use Rattle.board_types.specs.LineLevel.{is_high};
 ghost use Rattle.board_types.specs.Timed.{IsUntilTurn};
 ghost use Rattle.pit8253.specs.Counter as one;
 ghost use Rattle.pit8253.specs.Counter.{out_of};
-ghost use Rattle.pit8253.specs.Image.{counter_of, kind_of, line_of, pit_of};
+ghost use Rattle.pit8253.specs.PitNumbers.{counter_of, kind_of, line_of, pit_of};
 ghost use Rattle.pit8253.specs.Pit.{power_on, counter, after_gate, after_read, after_ticks, after_write, byte_at};
 ghost use Rattle.zebludor_chips.specs.Turns.{turn_of};
 
@@ -96,7 +96,7 @@ pub extern "C" fn zebludor_pit_until_change(pit: &PitImage, n: u8) -> u64
 }
 
 // one counter of an image, by a clause that says nothing of the others
-#[tactic(auto, unfolding(pit8253::specs::Image::pit_of))]
+#[tactic(auto, unfolding(pit8253::specs::PitNumbers::pit_of))]
 fn counter_image(pit: &PitImage, n: u8) -> &CounterImage
     ensures { counter_of result.now ≡ counter (pit_of pit.now) n }
 {

@@ -3,7 +3,7 @@ use Rattle.std.proofs.Common.{◌≡◌, ℕ, List, length, inl, inr, Result, Ok
 use Rattle.std.specs.Prelude.{MatchResult}
 use Rattle.pcboard_texts.specs.declared.fault.Fault.{Fault}
 use Rattle.zebludor_run.specs.declared.run.Outcome.{Outcome}
-use Rattle.zebludor_run.specs.Outcomes.{Tells, buffer_after, fault_outcome, text_outcome}
+use Rattle.zebludor_run.specs.RunOutcomes.{Tells, buffer_after, fault_outcome, text_outcome}
 
 pub tells : {T : Type 0} (bytes : T → List ℕ) (Is : List ℕ → Type 0) (For : Fault → Type 0) (report : Result T Fault) (old new : List ℕ) (outcome : Outcome)
     → MatchResult report (λ text. outcome ≡ text_outcome (bytes text) (length old)) (λ fault. outcome ≡ fault_outcome fault)

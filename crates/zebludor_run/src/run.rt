@@ -1,8 +1,8 @@
 //! Runs of sources and of HEX texts.
 ghost use Rattle.std.specs.Prelude.{◌≡◌, true, false, length, MatchResult, string_bytes};
 ghost use Rattle.pcboard_texts.specs.Answer.{IsReport, IsTrueRefusal};
-ghost use Rattle.pcboard_texts.specs.Faults.{IsWantOfMemory};
-ghost use Rattle.zebludor_run.specs.Outcomes.{Accepts, Tells, buffer_after, fault_outcome, text_outcome};
+ghost use Rattle.pcboard_texts.specs.RunFaults.{IsWantOfMemory};
+ghost use Rattle.zebludor_run.specs.RunOutcomes.{Accepts, Tells, buffer_after, fault_outcome, text_outcome};
 
 use pcboard_program::report::Report;
 use pcboard_program::run::run_texts;

@@ -8,7 +8,7 @@ use Rattle.debugger_meaning.specs.Answers.{fault_number}
 use Rattle.probe.specs.Probe.{AnswersStopping, ProbeState, probe_about}
 use Rattle.pcboard_texts.specs.declared.fault.Fault.{Fault}
 use Rattle.pcboard_texts.specs.Answer.{IsBoardOf, IsTrueRefusal}
-use Rattle.pcboard_texts.specs.Faults.{line_of, number_of}
+use Rattle.pcboard_texts.specs.RunFaults.{line_of, number_of}
 use Rattle.pcboard_texts.specs.Refusal.{want_of_session}
 use Rattle.pcboard_texts.specs.Transcript.{Answering, AnswersTyped, reply_text}
 use Rattle.zebludor_session.specs.declared.session.OpenSession.{OpenSession}

@@ -8,7 +8,7 @@ ghost use Rattle.assembler_syntax.specs.ExpressionSteps.{atom_of, constant_of, e
 use crate::expression::{Atom, Expression, Term};
 use crate::part::SignedParts;
 use assembler_lexeme::fault::{SyntaxError, SyntaxFault};
-use assembler_lexeme::token::{Mark, Token};
+use assembler_lexeme::token::{Punctuator, Token};
 use dialect::keyword::Keyword;
 use dialect::meaning::Meaning;
 use std::alloc::Global;
@@ -20,7 +20,7 @@ fn single_atom(token: &Token) -> Result<Atom, SyntaxError>
         Token::One => Ok(Atom::Number(1)),
         Token::Number(number) => Ok(Atom::Number(*number)),
         Token::Named(name) => Ok(Atom::Named(*name)),
-        Token::Mark(Mark::Dollar) => Ok(Atom::Here),
+        Token::Punctuator(Punctuator::Dollar) => Ok(Atom::Here),
         _ => Err(SyntaxError::Fault(SyntaxFault::BadLine)),
     }
 }
@@ -69,7 +69,7 @@ pub(crate) fn read_expression(alloc: Global, tokens: &[Token]) -> Result<Express
 }
 
 /// An expression of a term and those that are still to come.
-#[tactic(auto, using(crate::proofs::Gathering::term_behind))]
+#[tactic(auto, using(crate::proofs::Gathering::term_after))]
 fn read_terms(alloc: Global, first: Term, parts: SignedParts) -> Result<Expression, SyntaxError>
     ensures { Gives result (with_front (first ∷ []) (all_of term_of parts.entry)) }
 {

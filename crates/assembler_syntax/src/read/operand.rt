@@ -3,7 +3,7 @@ ghost use Rattle.std.specs.Prelude.{◌≡◌, [], ◌∷◌};
 ghost use Rattle.std.specs.Option.{option_map};
 ghost use Rattle.assembler_lexeme.specs.Faults.{all_of, Gives};
 ghost use Rattle.assembler_syntax.specs.PartSteps.{parts, signed_part, signed_parts};
-ghost use Rattle.assembler_syntax.specs.OperandSteps.{base_with, behind_segment, brackets_by, brackets_of, brackets_view, empty_address, far_label, far_of, far_pointer, far_target, led_operand, memory_in, memory_of, operand_of, operands_of, place_or_value, register_of, short_of, single_label, single_operand, single_register, terms_with, value_of, with_part, with_parts, with_register, with_term};
+ghost use Rattle.assembler_syntax.specs.OperandSteps.{base_with, after_segment, brackets_by, brackets_of, brackets_view, empty_address, far_label, far_of, far_pointer, far_target, led_operand, memory_in, memory_of, operand_of, operands_of, place_or_value, register_of, short_of, single_label, single_operand, single_register, terms_with, value_of, with_part, with_parts, with_register, with_term};
 
 use crate::expression::{Expression, Term};
 use crate::operand::{Address, Operand};
@@ -14,7 +14,7 @@ use crate::part::{
 use crate::read::expression::{read_expression, read_term};
 use assembler_lexeme::fault::{SyntaxError, SyntaxFault};
 use assembler_lexeme::sequence::Sequence;
-use assembler_lexeme::token::{Mark, Token};
+use assembler_lexeme::token::{Punctuator, Token};
 use dialect::keyword::Keyword;
 use dialect::meaning::Meaning;
 use dialect::register::Register;
@@ -176,14 +176,14 @@ fn brackets_by<'a, 'b>(first: &Token, rest: &'a [Token<'b>]) -> Option<Brackets<
     ensures { brackets_view result ≡ brackets_by first.now rest.now }
 {
     match first {
-        Token::Mark(Mark::OpenBracket) => Some((None, rest)),
-        Token::Word(Meaning::Register(register)) => behind_segment(*register, rest),
+        Token::Punctuator(Punctuator::OpenBracket) => Some((None, rest)),
+        Token::Word(Meaning::Register(register)) => after_segment(*register, rest),
         _ => None,
     }
 }
 
-fn behind_segment<'a, 'b>(register: Register, rest: &'a [Token<'b>]) -> Option<Brackets<'a, 'b>>
-    ensures { brackets_view result ≡ behind_segment register rest.now }
+fn after_segment<'a, 'b>(register: Register, rest: &'a [Token<'b>]) -> Option<Brackets<'a, 'b>>
+    ensures { brackets_view result ≡ after_segment register rest.now }
 {
     match (register, rest) {
         (Register::Segment(segment), [colon, bracket, inner @ ..])

@@ -1,7 +1,7 @@
 //! Reading statements.
 ghost use Rattle.std.specs.Prelude.{◌≡◌, ◌+◌, ◌<◌, ◌≤◌, [], ◌∷◌, drop, length, IfSome, IfNone};
 ghost use Rattle.assembler_lexeme.specs.Faults.{Gives};
-ghost use Rattle.assembler_syntax.specs.StatementSteps.{data_of, directive_of, ends_of, equ_of, instruction_of, is_at, is_directive, is_equ, keyword_statement, led_statement, onto_prefixes, org_of, prefixed_statement, prefixes_of, segment_at, segment_by, segment_of, segment_token, statement_behind, statement_of, word_statement};
+ghost use Rattle.assembler_syntax.specs.StatementSteps.{data_of, directive_of, ends_of, equ_of, instruction_of, is_at, is_directive, is_equ, keyword_statement, led_statement, onto_prefixes, org_of, prefixed_statement, prefixes_of, segment_at, segment_by, segment_of, segment_token, statement_after, statement_of, word_statement};
 
 use crate::part::{is_colon, split};
 use crate::read::expression::read_constant;
@@ -65,7 +65,7 @@ fn prefixed_statement(alloc: Global, tokens: &[Token]) -> Result<Statement, Synt
         prefixes.push(prefix)?;
         rest = &rest[size..];
     }
-    statement_behind(alloc, prefixes, rest)
+    statement_after(alloc, prefixes, rest)
 }
 
 /// The prefix at the front of tokens, and how many of them it has.
@@ -111,13 +111,13 @@ fn override_by(segment: SegmentRegister, rest: &[Token]) -> Option<(Prefix, usiz
 }
 
 /// The statement after these prefixes.
-#[tactic(auto, unfolding(crate::specs::StatementSteps::statement_behind))]
-fn statement_behind(
+#[tactic(auto, unfolding(crate::specs::StatementSteps::statement_after))]
+fn statement_after(
     alloc: Global,
     prefixes: Sequence<Prefix>,
     tokens: &[Token],
 ) -> Result<Statement, SyntaxError>
-    ensures { Gives result (statement_behind prefixes tokens.now) }
+    ensures { Gives result (statement_after prefixes tokens.now) }
 {
     match split(tokens) {
         Some((Token::Word(meaning), rest)) => word_statement(alloc, prefixes, *meaning, rest),

@@ -1,5 +1,5 @@
 use Rattle.std.proofs.Common.{subst, Some}
-use Rattle.assembler.specs.Rows.{IsFormOf}
+use Rattle.assembler.specs.LocatedLines.{IsFormOf}
 use Rattle.assembler.proofs.ReadingWeights.{few_prefixes}
 use Rattle.assembler.proofs.early.size_of.Goals as goal
 

@@ -1,8 +1,8 @@
 use Rattle.std.proofs.Common.{◌≤◌, ◌+◌, ◌∙◌, ◌++◌, ap, refl, sym, subst}
 use Rattle.assembler.specs.FirstPass.{IsNewDefinition, offset_of, size_limit}
-use Rattle.assembler.specs.Rows.{label_definition, location_after, statement_definition}
+use Rattle.assembler.specs.LocatedLines.{label_definition, location_after, statement_definition}
 use Rattle.assembler_syntax.specs.Weights.{statement_weight}
-use Rattle.assembler.proofs.ReadingFaults.{added_names, adds_row, is_clean, is_light, is_short}
+use Rattle.assembler.proofs.ReadingFaults.{added_names, adds_line, is_clean, is_light, is_short}
 use Rattle.assembler.proofs.ReadingNames.{label_new, statement_new}
 use Rattle.assembler.proofs.reading.add_line.Goals as goal
 
@@ -27,18 +27,18 @@ statement_definition-constant-requires-clause-short c = is_short c.args.start c.
 pub define-requires : goal.define-requires
 define-requires c =
     label_new c.args.state.now.symbols.entries c.args.state.now.location c.args.line c.label_definition-label.result c.label_definition-label.ensures
-    (is_clean c.args.state.now.symbols.entries c.args.state.now.location c.args.line c.args.form c.requires.clean).fresh
+    (is_clean c.args.state.now.symbols.entries c.args.state.now.location c.args.line c.args.form c.requires.clean).undefined
 
 pub define-requires-2 : goal.define-requires-2
 define-requires-2 c =
     subst (λ n. IsNewDefinition n c.statement_definition-constant.result)
     (sym (c.in_ok-define.ensures ∙ ap (λ n. c.args.state.now.symbols.entries ++ n) c.label_definition-label.ensures))
     (statement_new c.args.state.now.symbols.entries c.args.state.now.location c.args.line c.statement_definition-constant.result c.statement_definition-constant.ensures
-    (is_clean c.args.state.now.symbols.entries c.args.state.now.location c.args.line c.args.form c.requires.clean).fresh)
+    (is_clean c.args.state.now.symbols.entries c.args.state.now.location c.args.line c.args.form c.requires.clean).undefined)
 
 pub returns : goal.returns
 returns c =
-    adds_row c.args.state.now (record { location = c.location_after-next.result; symbols = c.define-2.new.symbols }) c.args.start c.args.length c.args.line c.args.form _
+    adds_line c.args.state.now (record { location = c.location_after-next.result; symbols = c.define-2.new.symbols }) c.args.start c.args.length c.args.line c.args.form _
     c.requires.small c.requires.room
     (is_short c.args.start c.args.length c.args.line.statement c.requires.place c.requires.within)
     c.requires.within.pieces c.requires.form

@@ -3,7 +3,7 @@ use Rattle.std.specs.Prelude.{◌⊎◌, All}
 use Rattle.wiring.specs.Wires.{after_arrivals}
 use Rattle.board_types.specs.declared.keys.StampedKey.{StampedKey}
 use Rattle.board.specs.Arrivals.{HaveArrived}
-use Rattle.board.specs.Leap.{ComesAfter}
+use Rattle.board.specs.UneventfulClocks.{ComesAfter}
 use Rattle.board_plain.specs.Plain.{codes_at}
 use Rattle.board.specs.declared.arrivals.Arrived.{Arrived}
 use Rattle.board.proofs.KeyOrder.{no_key_by}

@@ -1,7 +1,7 @@
 use Rattle.std.proofs.Common.{◌≡◌, ◌≤◌, ◌<◌, ◌^◌, sym, ◌∙◌, arith, length, Some, rules}
 use Rattle.std.proofs.Math.Nat.{pow-le-pow_right}
 use Rattle.board_types.specs.Digits.{spelled}
-use Rattle.debugger_meaning.specs.Words.{hex_number}
+use Rattle.debugger_meaning.specs.CommandWords.{hex_number}
 use Rattle.debugger_meaning.proofs.Counting.{hex_below, hex_is}
 use Rattle.debugger_meaning.proofs.word.hex_number.Goals as goal
 

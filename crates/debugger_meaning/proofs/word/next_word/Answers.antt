@@ -1,5 +1,5 @@
 use Rattle.std.proofs.Common.{sym, ◌∙◌, arith}
-use Rattle.debugger_meaning.specs.Words.{words_of}
+use Rattle.debugger_meaning.specs.CommandWords.{words_of}
 use Rattle.debugger_meaning.proofs.Scanning.{word_at}
 use Rattle.debugger_meaning.proofs.word.next_word.Goals as goal
 

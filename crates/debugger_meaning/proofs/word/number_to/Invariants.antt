@@ -1,6 +1,6 @@
 use Rattle.std.proofs.Common.{◌≡◌, ◌≤◌, ◌-◌, ◌^◌, drop}
 use Rattle.board_types.specs.Digits.{spelled}
-use Rattle.debugger_meaning.specs.Words.{at_most_greatest}
+use Rattle.debugger_meaning.specs.CommandWords.{at_most_greatest}
 use Rattle.debugger_meaning.proofs.word.number_to.Given as goal
 
 abbrev pub invariant-loop-byte : goal.invariant-loop-byte

@@ -1,5 +1,5 @@
 use Rattle.std.proofs.Common.{◌≡◌, length}
-use Rattle.debugger_meaning.specs.Words.{words_from}
+use Rattle.debugger_meaning.specs.CommandWords.{words_from}
 use Rattle.debugger_meaning.proofs.word.skip_spaces.Given as goal
 
 abbrev pub invariant-loop-rest : goal.invariant-loop-rest

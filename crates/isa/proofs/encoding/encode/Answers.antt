@@ -1,5 +1,5 @@
 use Rattle.std.proofs.Common.{sym, subst}
-use Rattle.isa.specs.Rows.{HasDigit}
+use Rattle.isa.specs.RowSearch.{HasDigit}
 use Rattle.isa.proofs.Rows.{digit_within}
 use Rattle.isa.proofs.encoding.encode.Goals as goal
 

@@ -1,6 +1,6 @@
 use Rattle.std.proofs.Common.{ap, ◌∙◌, find, drop}
 use Rattle.std.proofs.lemmas.List.{take_rest}
-use Rattle.isa.specs.Parts.{begins, row_at}
+use Rattle.isa.specs.OpcodeBytes.{begins, row_at}
 use Rattle.isa.proofs.Rows.{find_before}
 use Rattle.isa.proofs.parts.row_at.Goals as goal
 

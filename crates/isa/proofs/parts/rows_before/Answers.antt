@@ -1,6 +1,6 @@
 use Rattle.std.proofs.Common.{ap, ◌∙◌, get_or, arith}
 use Rattle.isa.specs.declared.parts.TheConstants.{FIRST}
-use Rattle.isa.specs.Rows.{is_before}
+use Rattle.isa.specs.RowSearch.{is_before}
 use Rattle.isa.proofs.Rows.{before_at}
 use Rattle.isa.proofs.parts.rows_before.Goals as goal
 

@@ -1,5 +1,5 @@
 use Rattle.std.proofs.Common.{arith}
-use Rattle.mda_text.proofs.Blocks.{words_before, words_within}
+use Rattle.mda_text.proofs.Sections.{words_before, words_within}
 use Rattle.mda_text.proofs.snapshot.same_words.Goals as goal
 
 pub returns-in-Some-clause-same : goal.returns-in-Some-clause-same

@@ -1,6 +1,6 @@
 use Rattle.std.proofs.Common.{◌≡◌, ◌∷◌, [], true, false, refl, sym, ap, subst, ◌∙◌}
 use Rattle.pic8259.specs.Pic.{PicState, power_on, after_write}
-use Rattle.pic8259.specs.Laws.{after_words, HasEnded}
+use Rattle.pic8259.specs.PicLaws.{after_words, HasEnded}
 use Rattle.pic8259.proofs.Words.{sequence_ends}
 use Rattle.parts_alone.proofs.controller.initialised.Goals as goal
 

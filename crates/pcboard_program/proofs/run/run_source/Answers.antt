@@ -1,6 +1,6 @@
 use Rattle.std.proofs.Common.{sym, subst, ◌∙◌}
 use Rattle.std.proofs.lemmas.Result.{err_from_is_err_and}
-use Rattle.pcboard_texts.specs.Report.{FitsBoard}
+use Rattle.pcboard_texts.specs.ImageReport.{FitsBoard}
 use Rattle.pcboard_program.proofs.run.run_source.Goals as goal
 
 pub returns-in_err-listing-clause-accepted : goal.returns-in_err-listing-clause-accepted

@@ -1,5 +1,5 @@
 use Rattle.std.proofs.Common.{sym, subst}
-use Rattle.pcboard_texts.specs.Report.{FitsBoard}
+use Rattle.pcboard_texts.specs.ImageReport.{FitsBoard}
 use Rattle.pcboard_program.proofs.run.run_texts.Goals as goal
 
 pub returns-clause-accepted : goal.returns-clause-accepted

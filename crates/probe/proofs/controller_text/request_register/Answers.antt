@@ -1,5 +1,5 @@
 use Rattle.std.proofs.Common.{◌∙◌, ◌<◌, ℕ, rules, bit_and, if◌then◌else◌, ap, sym}
-use Rattle.pic8259.specs.Image.{flag_of}
+use Rattle.pic8259.specs.PicNumbers.{flag_of}
 use Rattle.probe.proofs.Registers.{is_set, requests_of}
 use Rattle.probe.proofs.controller_text.request_register.Goals as goal
 

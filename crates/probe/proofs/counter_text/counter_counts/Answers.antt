@@ -1,4 +1,4 @@
-use Rattle.probe.specs.Counter.{counter_counts}
+use Rattle.probe.specs.CounterText.{counter_counts}
 use Rattle.probe.proofs.counter_text.counter_counts.Goals as goal
 
 pub returns : goal.returns

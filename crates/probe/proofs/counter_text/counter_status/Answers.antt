@@ -1,4 +1,4 @@
-use Rattle.probe.specs.Counter.{counter_status}
+use Rattle.probe.specs.CounterText.{counter_status}
 use Rattle.probe.proofs.counter_text.counter_status.Goals as goal
 
 pub returns : goal.returns

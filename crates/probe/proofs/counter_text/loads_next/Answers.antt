@@ -1,6 +1,6 @@
 use Rattle.std.proofs.Common.{ap, refl, ◌∙◌, if◌then◌else◌, Bool}
 use Rattle.pit8253.specs.Counter.{after_ticks}
-use Rattle.pit8253.specs.Image.{counter_of}
+use Rattle.pit8253.specs.PitNumbers.{counter_of}
 use Rattle.probe.proofs.Loading.{loads_of}
 use Rattle.probe.proofs.counter_text.loads_next.Goals as goal
 

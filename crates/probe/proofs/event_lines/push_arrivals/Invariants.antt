@@ -3,7 +3,7 @@ use Rattle.std.proofs.Common.{◌≡◌, ◌≤◌, ◌++◌, map, take}
 use Rattle.std.specs.String.{string_bytes}
 use Rattle.board_types.specs.declared.keys.StampedKey.{StampedKey}
 use Rattle.probe.specs.Listed.{listed_lines}
-use Rattle.probe.specs.Told.{arrivals_from, held_from}
+use Rattle.probe.specs.ListedEvents.{arrivals_from, held_from}
 use Rattle.probe.proofs.event_lines.push_arrivals.Given as goal
 
 abbrev pub invariant-loop-key : goal.invariant-loop-key

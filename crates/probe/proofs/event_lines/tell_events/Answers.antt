@@ -12,7 +12,7 @@ use Rattle.board_plain.specs.Trail.{last}
 use Rattle.board_plain.specs.declared.trail.TrailEntry.{TrailEntry}
 use Rattle.debugger_meaning.specs.Stands.{SessionState}
 use Rattle.probe.specs.declared.event_lines.Asked.{Asked}
-use Rattle.probe.specs.Told.{clock_lines, seen_of}
+use Rattle.probe.specs.ListedEvents.{clock_lines, seen_of}
 use Rattle.probe.proofs.Counting.{ends_at, on_ok, stands_short}
 use Rattle.probe.proofs.Telling.{all_told, more_told, none_told, text_told, turn_told}
 use Rattle.probe.proofs.event_lines.tell_events.Goals as goal

@@ -2,7 +2,7 @@
 use Rattle.std.proofs.Common.{◌-◌}
 use Rattle.std.specs.String.{string_bytes}
 use Rattle.board_plain.specs.Plain.{clock_of}
-use Rattle.probe.specs.Told.{IsTold}
+use Rattle.probe.specs.ListedEvents.{IsTold}
 use Rattle.probe.proofs.event_lines.tell_events.Given as goal
 
 abbrev pub invariant-turns : goal.invariant-turns

@@ -1,5 +1,5 @@
 use Rattle.std.proofs.Common.{◌≡◌, [], length}
-use Rattle.debugger_meaning.specs.Words.{words_of}
+use Rattle.debugger_meaning.specs.CommandWords.{words_of}
 use Rattle.probe.specs.Kinds.{kinds_from}
 use Rattle.probe.proofs.kinds.read_kinds.Given as goal
 

@@ -6,7 +6,7 @@ use Rattle.board.specs.Found.{found_at}
 use Rattle.probe.specs.declared.event_lines.Asked.{Asked}
 use Rattle.probe.specs.declared.event_lines.Seen.{Seen}
 use Rattle.probe.specs.Met.{asked_by}
-use Rattle.probe.specs.Stops.{standing}
+use Rattle.probe.specs.ProbeStops.{standing}
 use Rattle.probe.specs.Watched.{stops_of}
 use Rattle.probe.proofs.Copies.{asked_is}
 use Rattle.probe.proofs.Searching.{last_all, last_more, last_none, LastSoFar, none_here}

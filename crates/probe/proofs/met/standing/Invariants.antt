@@ -2,7 +2,7 @@
 use Rattle.std.proofs.Common.{◌≡◌, ℕ, ◌<◌, false}
 use Rattle.std.specs.Prelude.{slice_index_or}
 use Rattle.probe.specs.declared.watched.Watched.{Watched}
-use Rattle.probe.specs.Stops.{stands}
+use Rattle.probe.specs.ProbeStops.{stands}
 use Rattle.probe.proofs.met.standing.Given as goal
 
 abbrev pub invariant-loop-index : goal.invariant-loop-index

@@ -11,7 +11,7 @@ returns-in-Some c =
     let rest : List Moments = c.pop.new.self.items in
     let range : Moments = c.in-Some.range in
     subst (λ (xs : List Moments). OnOk c.push_joined.result (c.push_joined.new.ranges.items ≡ xs))
-    (ap (λ (f : Moments). rest ++ joined range f (ends_with range.ends c.args.stopped.now)) c.moments_of-fresh.ensures
+    (ap (λ (f : Moments). rest ++ joined range f (ends_with range.ends c.args.stopped.now)) c.moments_of-coming.ensures
     ∙ sym (added_at_end rest range c.args.first c.args.last c.args.stopped.now)
     ∙ ap (λ (xs : List Moments). added xs c.args.first c.args.last c.args.stopped.now) (sym c.in-Some.ensures.items))
     c.push_joined.ensures

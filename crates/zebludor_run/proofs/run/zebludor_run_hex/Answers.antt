@@ -1,6 +1,6 @@
 use Rattle.std.specs.Prelude.{string_bytes, true}
 use Rattle.pcboard_texts.specs.Answer.{IsReport, IsTrueRefusal}
-use Rattle.pcboard_texts.specs.Faults.{IsWantOfMemory}
+use Rattle.pcboard_texts.specs.RunFaults.{IsWantOfMemory}
 use Rattle.pcboard_program.specs.declared.report.Report.{Report}
 use Rattle.zebludor_run.proofs.Telling.{tells}
 use Rattle.zebludor_run.proofs.run.zebludor_run_hex.Goals as goal

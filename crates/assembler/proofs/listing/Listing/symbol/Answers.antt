@@ -12,7 +12,7 @@ returns-in_err-name c =
 
 pub name_text-requires : goal.name_text-requires
 name_text-requires c =
-    own_letters c.self.inside.reading.source.items c.self.inside.reading.symbols.entries c.self.inside.reading.rows.items c.args.i c.in_ok-name.name.now c.in_ok-name.symbol.now
+    own_letters c.self.inside.reading.source.items c.self.inside.reading.symbols.entries c.self.inside.reading.located_lines.items c.args.i c.in_ok-name.name.now c.in_ok-name.symbol.now
     c.self.invariant.0 c.in_ok-name.ensures.entry
 
 pub value-requires : goal.value-requires

@@ -4,7 +4,7 @@ use Rattle.board_plain.specs.Board.{BoardState}
 use Rattle.board_plain.specs.Plain.{Plain, after_clock, change_next, next_act}
 use Rattle.board_plain.specs.Trail.{trail_next}
 use Rattle.events.specs.Accesses.{accesses_next}
-use Rattle.board.specs.Alone.{PassesOver, WiresStay}
+use Rattle.board.specs.UnseenClocks.{PassesOver, WiresStay}
 use Rattle.board.specs.OneTurn.{begun_of}
 use Rattle.board.proofs.Beginning.{act_on}
 use Rattle.board.proofs.OneTurn.{begins_by, passes_within, stay_after_first}

@@ -1,7 +1,7 @@
 use Rattle.std.proofs.Common.{◌≤◌, refl, subst, arith}
 use Rattle.board_plain.specs.Board.{BoardState}
 use Rattle.board_plain.specs.Work.{work_next}
-use Rattle.board.specs.Alone.{WiresStay}
+use Rattle.board.specs.UnseenClocks.{WiresStay}
 use Rattle.board.proofs.Turns.{board_leaps}
 use Rattle.board.proofs.board.Board.leap.Goals as goal
 

@@ -1,7 +1,7 @@
 use Rattle.std.proofs.Common.{◌≡◌, ◌≢◌, ◌∙◌, sym, ap, arith}
 use Rattle.std.proofs.lemmas.Grind.{common_steps}
 use Rattle.board_plain.specs.Board.{BoardState}
-use Rattle.board_types.specs.Lines.{from_bool}
+use Rattle.board_types.specs.LineLevel.{from_bool}
 use Rattle.board_plain.specs.Plain.{after_clock, speaker_level}
 use Rattle.board.proofs.Ticking.{nothing_listed, change_listed, high_again}
 use Rattle.board.proofs.board.Board.list_change.Goals as goal

@@ -2,7 +2,7 @@ use Rattle.std.proofs.Common.{◌<◌, sym, subst, arith}
 use Rattle.board_plain.specs.Board.{BoardState}
 use Rattle.board_plain.specs.Plain.{after_clock, clock_of}
 use Rattle.events.specs.Accesses.{accesses_next}
-use Rattle.board.specs.Alone.{PassesOver, WiresStay}
+use Rattle.board.specs.UnseenClocks.{PassesOver, WiresStay}
 use Rattle.board.proofs.Beginning.{GoesOn, goes_over}
 use Rattle.board.proofs.board.Board.make.Goals as goal
 

@@ -8,7 +8,7 @@ use Rattle.board_plain.specs.Trail.{trail_next}
 use Rattle.board_plain.specs.Work.{work_next}
 use Rattle.events.specs.Accesses.{accesses_next}
 use Rattle.events.specs.declared.access.Access.{Access}
-use Rattle.board.specs.Alone.{WiresStayThen}
+use Rattle.board.specs.UnseenClocks.{WiresStayThen}
 use Rattle.board.specs.HeldBack.{IsHeldBack}
 use Rattle.board.specs.OneTurn.{begun_of}
 use Rattle.board.proofs.Leap.{nothing_begins}

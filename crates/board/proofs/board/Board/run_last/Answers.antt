@@ -1,8 +1,8 @@
 use Rattle.std.proofs.Common.{◌≡◌, ◌<◌, ◌+◌, ◌∙◌, refl, sym, ap, subst, arith, None}
 use Rattle.std.specs.Bool.{IsTrue}
 use Rattle.board.specs.AwaitFree.{AllAwaitFree}
-use Rattle.board.specs.Reach.{AllWithin, may_pass}
-use Rattle.board.proofs.Reach.{passes_none}
+use Rattle.board.specs.IpRange.{AllWithin, is_unwatched}
+use Rattle.board.proofs.IpRange.{stops_nowhere}
 use Rattle.board.specs.Found.{found_before}
 use Rattle.board.proofs.Latest.{Looked}
 use Rattle.board_plain.specs.Plain.{clock_of}
@@ -34,8 +34,8 @@ later-last-requires g c =
 pub turns-preserved : goal.turns-preserved
 turns-preserved g c =
     let before : clock_of c.turns.self.plain < c.get.result + c.args.count = omega (arith, c.turns-test.true, c.clock-in-turns.ensures, c.get-in-turns.ensures.value) in
-    let waits : IsTrue c.passes_none.result → AllAwaitFree c.args.stops.now.items × (c.holding-here.result ≡ None) =
-    λ yes. (subst AllAwaitFree c.as_slice.ensures.value (c.all_await_free-whole.ensures (c.passes_none.ensures yes).0), (c.passes_none.ensures yes).1) in
+    let waits : IsTrue c.stops_nowhere.result → AllAwaitFree c.args.stops.now.items × (c.holding-here.result ≡ None) =
+    λ yes. (subst AllAwaitFree c.as_slice.ensures.value (c.all_await_free-whole.ensures (c.stops_nowhere.ensures yes).0), (c.stops_nowhere.ensures yes).1) in
     subst (Looked c.args.stops.now.items (c.get.result + c.args.count) c.args.self.now c.turn_between.new.self) (sym (c.later-last.ensures ∙ ap (found_before c.turns.last c.holding-here.result) c.clock-in-turns-2.ensures))
-    (looked_between (may_pass c.of-reach.result) c.args.stops.now.items (c.get.result + c.args.count) c.passes_none.result c.args.self.now c.turns.self c.turn_between.new.self c.turns.last c.holding-here.result waits
-    (passes_none c.of-reach.result c.args.stops.now.items (subst (AllWithin c.of-reach.result) c.as_slice-2.ensures.value c.of-reach.ensures)) c.turns.invariant (sym c.holding-here.ensures) before c.in_ok-turn_between.ensures.ok)
+    (looked_between (is_unwatched c.of-ip_range.result) c.args.stops.now.items (c.get.result + c.args.count) c.stops_nowhere.result c.args.self.now c.turns.self c.turn_between.new.self c.turns.last c.holding-here.result waits
+    (stops_nowhere c.of-ip_range.result c.args.stops.now.items (subst (AllWithin c.of-ip_range.result) c.as_slice-2.ensures.value c.of-ip_range.ensures)) c.turns.invariant (sym c.holding-here.ensures) before c.in_ok-turn_between.ensures.ok)

@@ -3,7 +3,7 @@ use Rattle.std.specs.Option.{option_to_list}
 use Rattle.std.specs.Prelude.{IfOk, IfSome, IsTrue, OnOk}
 use Rattle.events.specs.Accesses.{accesses_next}
 use Rattle.board.specs.OneTurn.{begun_of}
-use Rattle.board.specs.Alone.{WiresStayThen}
+use Rattle.board.specs.UnseenClocks.{WiresStayThen}
 use Rattle.board.specs.Turns.{IsTurnOn}
 use Rattle.std.specs.Vec.{vec_capacity}
 use Rattle.board_plain.specs.Board.{BoardState}

@@ -5,8 +5,8 @@ use Rattle.board.proofs.Search.{between_moves, found, held_at_once, held_search,
 use Rattle.board.proofs.Turns.{not_counted, turn_alone}
 use Rattle.board.specs.Turns.{IsTurnOn}
 use Rattle.board.specs.AwaitFree.{AllAwaitFree}
-use Rattle.board.specs.Reach.{AllWithin, may_pass}
-use Rattle.board.proofs.Reach.{passes_none}
+use Rattle.board.specs.IpRange.{AllWithin, is_unwatched}
+use Rattle.board.proofs.IpRange.{stops_nowhere}
 use Rattle.std.specs.Bool.{IsTrue}
 use Rattle.board.proofs.board.Board.run_until.Goals as goal
 
@@ -59,8 +59,8 @@ turns-preserved g c =
     let within = c.turns.invariant.so_far.within in
     let before : clock_of c.turns.self.plain < c.get.result + c.args.count = omega (arith, within, c.clock-in-turns.ensures, c.get-in-turns.ensures.value, c.if-get-end.false) in
     let waits : IsTrue c.all_await_free-whole.result → AllAwaitFree c.args.stops.now.items = λ yes. subst AllAwaitFree c.as_slice.ensures.value (c.all_await_free-whole.ensures yes) in
-    searched_between (may_pass c.of-reach.result) c.args.stops.now.items (c.get.result + c.args.count) c.all_await_free-whole.result c.args.self.now c.turns.self c.turn_between.new.self waits
-    (passes_none c.of-reach.result c.args.stops.now.items (subst (AllWithin c.of-reach.result) c.as_slice-2.ensures.value c.of-reach.ensures)) c.turns.invariant here before c.in_ok-turn_between.ensures.ok
+    searched_between (is_unwatched c.of-ip_range.result) c.args.stops.now.items (c.get.result + c.args.count) c.all_await_free-whole.result c.args.self.now c.turns.self c.turn_between.new.self waits
+    (stops_nowhere c.of-ip_range.result c.args.stops.now.items (subst (AllWithin c.of-ip_range.result) c.as_slice-2.ensures.value c.of-ip_range.ensures)) c.turns.invariant here before c.in_ok-turn_between.ensures.ok
 
 pub returns-in_err-turn_between-clause-succeeds : goal.returns-in_err-turn_between-clause-succeeds
 returns-in_err-turn_between-clause-succeeds g c = λ within_limit enough.

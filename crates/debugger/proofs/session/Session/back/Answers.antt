@@ -1,5 +1,5 @@
 use Rattle.std.proofs.Common.{ℕ, ◌-◌, subst, arith}
-use Rattle.debugger_meaning.specs.Kept.{StandsNow}
+use Rattle.debugger_meaning.specs.SessionInvariant.{StandsNow}
 use Rattle.debugger_meaning.proofs.Returning.{goes_back}
 use Rattle.debugger.proofs.session.Session.back.Goals as goal
 

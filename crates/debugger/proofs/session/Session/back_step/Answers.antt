@@ -3,7 +3,7 @@ use Rattle.board_plain.specs.declared.stop.Condition.{Condition}
 use Rattle.board_plain.specs.declared.stop.Condition.TheVariants.{Free}
 use Rattle.board_plain.specs.Lasts.{HeldLast}
 use Rattle.debugger_meaning.specs.Back.{tell_clock}
-use Rattle.debugger_meaning.specs.Kept.{StandsNow}
+use Rattle.debugger_meaning.specs.SessionInvariant.{StandsNow}
 use Rattle.debugger_meaning.specs.Stands.{gone}
 use Rattle.debugger_meaning.proofs.Returning.{goes_back_to}
 use Rattle.debugger.proofs.session.Session.back_step.Goals as goal

@@ -2,7 +2,7 @@ use Rattle.std.proofs.Common.{◌≡◌, ℕ, List, [], refl, sym, ap, ◌∙◌
 use Rattle.board_plain.specs.declared.stop.Condition.{Condition}
 use Rattle.board_plain.specs.Lasts.{HeldLast}
 use Rattle.debugger_meaning.specs.declared.answer.Answer.TheVariants.{StopAt}
-use Rattle.debugger_meaning.specs.Kept.{StandsNow}
+use Rattle.debugger_meaning.specs.SessionInvariant.{StandsNow}
 use Rattle.debugger_meaning.specs.Stands.{SessionState, gone}
 use Rattle.debugger_meaning.proofs.Returning.{goes_back_to, is_empty_list, none_sought}
 use Rattle.debugger.proofs.session.Session.back_stop.Goals as goal

@@ -3,7 +3,7 @@ use Rattle.board_plain.specs.Board.{BoardState}
 use Rattle.board_plain.specs.Lasts.{HeldLast, IsLastOf, NoneHeld}
 use Rattle.board_plain.specs.Plain.{clock_of}
 use Rattle.debugger_meaning.specs.Stands.{gone}
-use Rattle.debugger_meaning.proofs.Behind.{Searched, found_behind, searched_more}
+use Rattle.debugger_meaning.proofs.Following.{Searched, found_after, searched_more}
 use Rattle.debugger_meaning.proofs.Standing.{stands_later}
 use Rattle.debugger.proofs.session.Session.last_held.Goals as goal
 
@@ -22,7 +22,7 @@ returns-in-Some g c =
     let past = last.clock_is in (
       stands_later c.args.self.now.first _ p q stands on,
       omega (arith, then, past, c.get.ensures.value),
-      found_behind c.args.stops.now.items stands.0 n c.stretches.bound (gone c.args.self.now) c.in-Some.found.0 c.in-Some.found.1
+      found_after c.args.stops.now.items stands.0 n c.stretches.bound (gone c.args.self.now) c.in-Some.found.0 c.in-Some.found.1
           c.args.self.now.first.plain p.plain stands.1.plain stands.1.clock top c.stretches.invariant last,
     )
 

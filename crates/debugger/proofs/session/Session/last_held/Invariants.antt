@@ -1,5 +1,5 @@
 use Rattle.debugger_meaning.specs.Stands.{gone}
-use Rattle.debugger_meaning.proofs.Behind.{Searched}
+use Rattle.debugger_meaning.proofs.Following.{Searched}
 use Rattle.debugger.proofs.session.Session.last_held.Given as goal
 
 abbrev pub invariant-stretches : goal.invariant-stretches

@@ -1,6 +1,6 @@
 use Rattle.std.proofs.Common.{sym, ap, subst}
 use Rattle.board_plain.specs.Board.{BoardState}
-use Rattle.debugger_meaning.specs.Kept.{IsSession, StandsNow}
+use Rattle.debugger_meaning.specs.SessionInvariant.{IsSession, StandsNow}
 use Rattle.debugger_meaning.specs.Stands.{SessionState, shown_of}
 use Rattle.debugger_meaning.specs.Stands.{Shown, StandsAfter}
 use Rattle.debugger_meaning.proofs.Standing.{at_board}

@@ -1,8 +1,8 @@
 use Rattle.std.proofs.Common.{◌≡◌, ◌<◌, sym, ap, ◌∙◌, subst}
 use Rattle.board_plain.specs.Plain.{clock_of}
-use Rattle.debugger_meaning.specs.Kept.{IsSession}
+use Rattle.debugger_meaning.specs.SessionInvariant.{IsSession}
 use Rattle.debugger_meaning.specs.Stands.{SessionState, Stands, shown_of}
-use Rattle.debugger.specs.WithKey.{board_with}
+use Rattle.debugger.specs.CopiesWithKey.{board_with}
 use Rattle.debugger.proofs.Adding.{made_with, session_with}
 use Rattle.events_laws.specs.WithKey.{with_key}
 use Rattle.debugger.proofs.session.Session.take_key.Goals as goal

@@ -1,5 +1,5 @@
 use Rattle.std.proofs.Common.{rules}
-use Rattle.mda_text.proofs.Blocks.{recalled}
+use Rattle.mda_text.proofs.Sections.{recalled}
 use Rattle.mda_text.proofs.mda.Mda.take_snapshot.Goals as goal
 
 pub invariant_of-self : goal.invariant_of-self

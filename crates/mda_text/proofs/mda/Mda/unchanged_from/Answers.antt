@@ -1,5 +1,5 @@
 use Rattle.std.proofs.Common.{ℕ, ◌+◌, ◌%◌, arith}
-use Rattle.mda_text.proofs.Blocks.{cells_unchanged, same_truth}
+use Rattle.mda_text.proofs.Sections.{cells_unchanged, same_truth}
 use Rattle.mda_text.proofs.mda.Mda.unchanged_from.Goals as goal
 
 pub returns-clause-unchanged : goal.returns-clause-unchanged

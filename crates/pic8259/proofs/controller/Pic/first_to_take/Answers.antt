@@ -1,4 +1,4 @@
-use Rattle.pic8259.specs.Parts.{is_pending}
+use Rattle.pic8259.specs.AskingLevels.{is_pending}
 use Rattle.std.proofs.Common.{◌≡◌, ◌+◌, ◌<◌, true, false, not, ◌&&◌, ◌||◌, length, take, find, slice_index_or, sym, ap, ◌∙◌, arith}
 use Rattle.std.proofs.Math.Bool.{and-false}
 use Rattle.std.specs.List.{list_any}

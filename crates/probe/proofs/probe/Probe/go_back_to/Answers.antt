@@ -3,7 +3,7 @@ use Rattle.std.specs.Prelude.{MatchResult}
 use Rattle.board_plain.specs.Board.{BoardState}
 use Rattle.board_plain.specs.Plain.{clock_of}
 use Rattle.probe.specs.Probe.{gone_by, GoesBackToStop, ProbeState, RefusesBackToStop}
-use Rattle.probe.specs.Stops.{MetLast}
+use Rattle.probe.specs.ProbeStops.{MetLast}
 use Rattle.probe.specs.Watched.{stops_of}
 use Rattle.probe.proofs.Passing.{back_keep}
 use Rattle.probe.proofs.Probes.{goes_back_by, probe_of}

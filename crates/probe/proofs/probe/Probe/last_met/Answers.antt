@@ -3,7 +3,7 @@ use Rattle.std.specs.Prelude.{MatchResult}
 use Rattle.debugger_meaning.specs.Stands.{gone, SessionState}
 use Rattle.probe.specs.Looked.{FindsNoStop}
 use Rattle.probe.specs.Probe.{gone_by, ProbeState}
-use Rattle.probe.specs.Stops.{MetLast}
+use Rattle.probe.specs.ProbeStops.{MetLast}
 use Rattle.probe.specs.Watched.{IsWatched, stops_of}
 use Rattle.probe.proofs.Probes.{probe_of, probe_with, stops_with}
 use Rattle.probe.proofs.probe.Probe.last_met.Goals as goal

@@ -1,5 +1,5 @@
 use Rattle.std.proofs.Common.{ℕ, take, get_or, sym, ap, ◌∙◌}
-use Rattle.bus.specs.PortWrites.{after_port_writes}
+use Rattle.bus.specs.PortWriteBus.{after_port_writes}
 use Rattle.wiring.specs.declared.sound.Sound.{Sound}
 use Rattle.wiring.specs.Ports.{after_output}
 use Rattle.wiring.specs.Sound.{sound_of, sound_after_write}

@@ -1,5 +1,5 @@
 use Rattle.std.proofs.Common.{◌≡◌, take}
-use Rattle.bus.specs.PortWrites.{after_port_writes}
+use Rattle.bus.specs.PortWriteBus.{after_port_writes}
 use Rattle.wiring.specs.Ports.{after_output}
 use Rattle.wiring.proofs.chips.Chips.ppi_after.Given as goal
 

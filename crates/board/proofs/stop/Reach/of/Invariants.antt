@@ -1,8 +1,0 @@
-use Rattle.std.proofs.Common.{ℕ, ◌<◌}
-use Rattle.std.specs.Prelude.{slice_index_or}
-use Rattle.board_plain.specs.declared.stop.Condition.TheVariants.{Free}
-use Rattle.board.specs.Reach.{IsWithin}
-use Rattle.board.proofs.stop.Reach.of.Given as goal
-
-abbrev pub invariant-loop-condition : goal.invariant-loop-condition
-invariant-loop-condition l = (k : ℕ) → k < l.condition-index → IsWithin l.reach (slice_index_or l.conditions k Free)
