@@ -27,7 +27,8 @@ IsReadFault text fault = (found : SyntaxFault) × (read_line text ≡ Err found)
 -- the fault of a text's row, in the light of the lines before it
 abbrev pub IsLineFault : Names → Option Location → List ℕ → SourceFault → Type 0
 IsLineFault names location text fault =
-    (located : LocatedLine) × IsLocatedLine names location text located × (early_fault names located.location located.line located.form ≡ Some fault)
+    (located : LocatedLine) × IsLocatedLine names location text located
+    × (early_fault names located.location located.line located.form ≡ Some fault)
 
 abbrev pub IsTextFault : Names → Option Location → List ℕ → SourceFault → Type 0
 IsTextFault names location text fault = IsReadFault text fault ⊎ IsLineFault names location text fault

@@ -32,7 +32,8 @@ pub record Keeps (source said : List ℕ) (kept : KeptLine) (located : LocatedLi
 
 abbrev pub AreKept : List ℕ → List (List ℕ) → List KeptLine → List LocatedLine → Type 0
 AreKept source [] [] [] = Unit {0}
-AreKept source (text ∷ texts) (kept ∷ more) (located ∷ located_lines) = Keeps source text kept located × AreKept source texts more located_lines
+AreKept source (text ∷ texts) (kept ∷ more) (located ∷ located_lines) =
+    Keeps source text kept located × AreKept source texts more located_lines
 AreKept source texts kept located_lines = ⊥
 
 -- what a line places is bounded: its expressions are short, and its form is one of the table's

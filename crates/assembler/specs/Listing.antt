@@ -38,7 +38,8 @@ place_part (Some location) (b ∷ bs) = bytes_part location (b ∷ bs)
 place_part location bytes = spaces 28
 
 abbrev pub line_bytes : Names → LocatedLine → Option Location → List ℕ
-line_bytes names located (Some location) = bytes_by names location located.size (content_of located.line.statement located.form)
+line_bytes names located (Some location) =
+    bytes_by names location located.size (content_of located.line.statement located.form)
 line_bytes names located None = []
 
 -- a line of the listing: the row's bytes and the line's text
@@ -47,7 +48,8 @@ listed names text located = place_part located.location (line_bytes names locate
 
 -- the line of the listing with this number, from 0 on
 abbrev pub line_at : Names → List (List ℕ) → List LocatedLine → ℕ → Option (List ℕ)
-line_at names texts located_lines i = option_map (λ line. listed names line.0 line.1) (slice_get (zip texts located_lines) i)
+line_at names texts located_lines i =
+    option_map (λ line. listed names line.0 line.1) (slice_get (zip texts located_lines) i)
 
 -- a name's letters, without the zeros that fill it up
 abbrev pub letters_of : Name → List ℕ

@@ -85,7 +85,8 @@ pub record IsLocatedLine (known : Names) (here : Option Location) (text : List �
   pub size : located.size ≡ size_of known located.line.statement located.form
   pub location : located.location ≡ here
   pub next : located.next ≡ location_after known here located.line.statement located.size
-  pub names : located.names ≡ label_definition here located.line.label ++ statement_definition known located.line.statement
+  pub names : located.names
+      ≡ label_definition here located.line.label ++ statement_definition known located.line.statement
 
 -- whether a constant of a statement is out of range: paragraphs and locations are words, counts before DUP are words
 -- but not 0, and EQU takes any number of a double word
@@ -161,4 +162,5 @@ abbrev pub AreLocatedLines : List LocatedLine → List (List ℕ) → List Locat
 AreLocatedLines before [] [] = Unit {0}
 AreLocatedLines before [] (located ∷ located_lines) = ⊥
 AreLocatedLines before (text ∷ texts) [] = ⊥
-AreLocatedLines before (text ∷ texts) (located ∷ located_lines) = IsCleanLine before text located × AreLocatedLines (before ++ located ∷ []) texts located_lines
+AreLocatedLines before (text ∷ texts) (located ∷ located_lines) =
+    IsCleanLine before text located × AreLocatedLines (before ++ located ∷ []) texts located_lines

@@ -143,7 +143,8 @@ SpellsOperand (operands.Memory a) =
 SpellsOperand (operands.Short terms) = Exactly (keyword keywords.Short ∷ []) then SpellsExpression terms
 SpellsOperand (operands.FarLabel label) = Exactly (keyword keywords.Far ∷ Named label ∷ [])
 SpellsOperand (operands.FarPointer s o) =
-    Exactly (keyword keywords.Far ∷ []) then SpellsExpression s then Exactly (Punctuator Colon ∷ []) then SpellsExpression o
+    Exactly (keyword keywords.Far ∷ []) then SpellsExpression s
+    then Exactly (Punctuator Colon ∷ []) then SpellsExpression o
 
 abbrev pub SpellsOperands : List Operand → List Token → Type 0
 SpellsOperands [] = Exactly []

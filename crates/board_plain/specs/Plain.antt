@@ -100,7 +100,8 @@ unfoldable pub power_on : List (ℕ × ℕ) → Config → List StampedKey → P
 power_on image config keys = record {
   cpu = reset_cpu;
   busy = 0;
-  chips = after_arrivals (chips.power_on image (1024 * config.ram_kb) config.sw1 config.sw2 config.timer) (codes_at keys 0);
+  chips =
+      after_arrivals (chips.power_on image (1024 * config.ram_kb) config.sw1 config.sw2 config.timer) (codes_at keys 0);
   keys = keys;
   clocks = config.clocks;
 }

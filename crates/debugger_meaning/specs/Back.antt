@@ -21,7 +21,8 @@ pub record GoesBack (n : ℕ) (old new : SessionState) (answer : Answer) : Type 
 
 -- back to the last earlier clock at which one of these conditions holds; the answer is made of its number and that
 -- clock
-pub record GoesBackTo (sought : List Condition) (tell : ℕ → ℕ → Answer) (old new : SessionState) (answer : Answer) : Type 0 where
+pub record GoesBackTo (sought : List Condition) (tell : ℕ → ℕ → Answer)
+    (old new : SessionState) (answer : Answer) : Type 0 where
   pub number : ℕ
   pub last : HeldLast sought (gone old) old.first.plain (clock_of new.board.plain) number
   pub stands : StandsAt last.passed old.first new.board

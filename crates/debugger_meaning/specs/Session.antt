@@ -118,7 +118,8 @@ Answers (commands.Dump first count) old result new = Shows (dump_text old.board.
 Answers commands.Trail old result new = Shows (flat_map entry_line old.board.trail) result × (new ≡ old)
 Answers (commands.Back n) old result new = MatchResult result (GoesBack n old new) (RefusesBack n old new)
 Answers commands.BackStep old result new =
-    MatchResult result (GoesBackTo (conditions.Free ∷ []) tell_clock old new) (RefusesBackTo (conditions.Free ∷ []) old new)
+    MatchResult result (GoesBackTo (conditions.Free ∷ []) tell_clock old new)
+    (RefusesBackTo (conditions.Free ∷ []) old new)
 Answers commands.BackStop old result new =
     MatchResult result (GoesBackTo old.stops StopAt old new) (RefusesBackTo old.stops old new)
 

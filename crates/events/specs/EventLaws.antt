@@ -23,7 +23,8 @@ AreOwn bus s (access ∷ accesses) = IsOwn bus s access × AreOwn bus (after_acc
 
 -- What is done over a bus that notes is what is done over the bus alone, which the noted accesses, made in order, leave
 -- as it leaves it.
-pub record IsNoted {S : Type 0} (bus : BusMeaning S) (s : S) (done : StepResult S) (noted : StepResult (Noted S)) : Type 0 where
+pub record IsNoted {S : Type 0} (bus : BusMeaning S) (s : S)
+    (done : StepResult S) (noted : StepResult (Noted S)) : Type 0 where
   pub cpu : noted.cpu ≡ done.cpu
   pub clocks : noted.clocks ≡ done.clocks
   pub reached : noted.bus.reached ≡ done.bus

@@ -140,7 +140,8 @@ signed_pair r =
 abbrev pub SignsExtend : Type 0
 SignsExtend =
     (r : Registers) → r.ax < 65536
-    → (signed_of Word (after_adjust r Cbw).ax ≡ signed_of Byte (al_of r)) × (signed_pair (after_adjust r Cwd) ≡ signed_of Word r.ax)
+    → (signed_of Word (after_adjust r Cbw).ax ≡ signed_of Byte (al_of r))
+    × (signed_pair (after_adjust r Cwd) ≡ signed_of Word r.ax)
 
 -- how many bits a width has
 abbrev pub bits_of : Width → ℕ

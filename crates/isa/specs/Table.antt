@@ -37,7 +37,8 @@ row operation opcode first second clocks = record {
 }
 
 abbrev pub row/ : Operation → ℕ → ℕ → Kind → Kind → Clocks → Row
-row/ operation opcode digit first second clocks = record (row operation opcode first second clocks) { digit = Some digit }
+row/ operation opcode digit first second clocks =
+    record (row operation opcode first second clocks) { digit = Some digit }
 
 -- the families of operations, each operation with its number
 abbrev pub arithmetics : (ArithmeticType → ℕ → Row) → List Row

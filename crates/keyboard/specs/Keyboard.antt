@@ -29,5 +29,6 @@ after_clearing s = record s { latch = None }
 unfoldable pub after_settling : KeyboardState → ℕ → KeyboardState
 after_settling s port_b =
     if has_bit port_b 7 then after_clearing s
-    else (if has_bit port_b 6 && is_none s.latch then record s { waiting = drop 1 s.waiting; latch = slice_get s.waiting 0 }
+    else (if has_bit port_b 6 && is_none s.latch then
+    record s { waiting = drop 1 s.waiting; latch = slice_get s.waiting 0 }
     else s)

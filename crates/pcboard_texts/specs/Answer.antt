@@ -89,8 +89,8 @@ abbrev pub AppendsA : (List ℕ → Type 0) → Option (List ℕ) → Option (Li
 AppendsA Is old new = (text : List ℕ) × Is text × Appends old new text
 
 -- what a task's answer adds to the bytes that `out` holds, if the files and the input that it reads are known
-abbrev pub PrintsTask : {S : Type 0} → Answering S → Task → (List ℕ → Option (List ℕ)) → Option (List ℕ) → Option (List ℕ)
-    → Option (List ℕ) → Type 0
+abbrev pub PrintsTask : {S : Type 0} → Answering S → Task → (List ℕ → Option (List ℕ))
+    → Option (List ℕ) → Option (List ℕ) → Option (List ℕ) → Type 0
 PrintsTask By tasks.Stored files input old new =
     IfSome input (λ text. AppendsA (IsReport false (source_of text) (run_text_of text)) old new)
 PrintsTask By (tasks.Asm file list) files input old new =
@@ -106,8 +106,8 @@ abbrev pub Reading : Type 1
 Reading = List (List ℕ) → Result Task LineFault → Type 0
 
 -- The words name a task, and its answer is added, for a program that reads words and answers lines in these ways.
-abbrev pub PrintsFor : {S : Type 0} → Reading → Answering S → List (List ℕ) → (List ℕ → Option (List ℕ)) → Option (List ℕ)
-    → Option (List ℕ) → Option (List ℕ) → Type 0
+abbrev pub PrintsFor : {S : Type 0} → Reading → Answering S → List (List ℕ)
+    → (List ℕ → Option (List ℕ)) → Option (List ℕ) → Option (List ℕ) → Option (List ℕ) → Type 0
 PrintsFor Reads By words files input old new =
     (task : Task) × Reads words (Ok task) × PrintsTask By task files input old new
 

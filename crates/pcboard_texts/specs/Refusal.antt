@@ -89,7 +89,8 @@ EndsUnjudged task status old new =
     ⊎ ((status ≡ 1) × TellsA (λ fault. (fault ≡ want_of_board) ⊎ (fault ≡ want_of_file (hex_of task))) old new)
 
 -- what a session prints on the first of these lines: on none, on some, or on all
-pub record BeginsTranscript {S : Type 0} (By : Answering S) (session : S) (lines : List (List ℕ)) (text : List ℕ) : Type 0 where
+pub record BeginsTranscript {S : Type 0} (By : Answering S)
+    (session : S) (lines : List (List ℕ)) (text : List ℕ) : Type 0 where
   pub answered : List (List ℕ)
   pub left : List (List ℕ)
   pub are_lines : lines ≡ answered ++ left
@@ -104,8 +105,8 @@ pub record BeginsSession {S : Type 0} (By : Answering S) (hex : Bool) (bytes run
 
 -- a session's task adds its replies up to the refusal, if the files and the input that it reads are known; no other
 -- task adds any
-abbrev pub PrintsReplies : {S : Type 0} → Answering S → Task → (List ℕ → Option (List ℕ)) → Option (List ℕ) → Option (List ℕ)
-    → Option (List ℕ) → Type 0
+abbrev pub PrintsReplies : {S : Type 0} → Answering S → Task → (List ℕ → Option (List ℕ))
+    → Option (List ℕ) → Option (List ℕ) → Option (List ℕ) → Type 0
 PrintsReplies By (tasks.Debug file run hex) files input old new =
     IfSome (files file.now) (λ bytes. IfSome (files run.now)
     (λ said. IfSome input (λ typed. AppendsA (BeginsSession By hex bytes said typed) old new)))
@@ -113,8 +114,8 @@ PrintsReplies By _ files input old new = ⊥
 
 -- Nothing is printed beside a refusal, unless the words name a session, which prints replies as it goes: for a program
 -- that reads words and answers lines in these ways.
-abbrev pub PrintsNoAnswerFor : {S : Type 0} → Reading → Answering S → List (List ℕ) → (List ℕ → Option (List ℕ)) → Option (List ℕ)
-    → Option (List ℕ) → Option (List ℕ) → Type 0
+abbrev pub PrintsNoAnswerFor : {S : Type 0} → Reading → Answering S → List (List ℕ)
+    → (List ℕ → Option (List ℕ)) → Option (List ℕ) → Option (List ℕ) → Option (List ℕ) → Type 0
 PrintsNoAnswerFor Reads By words files input old new =
     (new ≡ old) ⊎ ((task : Task) × Reads words (Ok task) × PrintsReplies By task files input old new)
 
@@ -139,4 +140,5 @@ RefusesWords = RefusesWordsFor AnswersWords
 
 -- what is printed for words that aren't UTF-8
 abbrev pub unreadable_text : List ℕ
-unreadable_text = codes "error: invalid UTF-8 was detected in one or more arguments\n\nFor more information, try '--help'.\n"
+unreadable_text =
+    codes "error: invalid UTF-8 was detected in one or more arguments\n\nFor more information, try '--help'.\n"

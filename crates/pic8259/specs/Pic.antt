@@ -87,7 +87,8 @@ blocks s level = contains s.served level && not (s.special_mask && contains s.ma
 -- "Interrupt Mask Register (IMR)": a level may be taken if it asks and is unmasked; "Priority Resolver": and no level
 -- that blocks stands in the list at or before its place
 abbrev pub may_be_taken : PicState → ℕ → Bool
-may_be_taken s level = (asks s level && not (contains s.masked level)) && not (list_any (blocks s) (up_to s.order level))
+may_be_taken s level =
+    (asks s level && not (contains s.masked level)) && not (list_any (blocks s) (up_to s.order level))
 
 -- the level that an acknowledge or a poll takes, if there is one
 unfoldable pub level_to_take : PicState → Option ℕ

@@ -149,7 +149,8 @@ abbrev pub after_square_count : CounterState → CounterState
 after_square_count c =
     let count : ℕ = count_minus c.count_radix c.count (half_step c.count c.out) in
     if c.count == 1 then after_square_load c High else (
-    if (if c.keeps_zero then c.count else count) == 0 then after_square_load c (if c.newest == 1 then High else opposite c.out)
+    if (if c.keeps_zero then c.count else count) == 0 then
+    after_square_load c (if c.newest == 1 then High else opposite c.out)
     else record c { count = count })
 
 -- modes 4 and 5: the count falls by 1; at 0, once for each load, OUT goes low for one tick (once: this board's

@@ -19,7 +19,8 @@ use Rattle.pit8253.specs.Pit.{PitState}
 -- two bytes of the count as it was; then both latches have ended
 abbrev pub ReadsBack : Type 0
 ReadsBack =
-    (c : CounterState) → c.kind ≡ I8254 → c.access ≡ LowThenHigh → c.high_next ≡ false → c.latch ≡ None → c.status ≡ None
+    (c : CounterState) → c.kind ≡ I8254 → c.access ≡ LowThenHigh
+    → c.high_next ≡ false → c.latch ≡ None → c.status ≡ None
     → (word : ℕ) → word / 32 % 2 ≡ 0 → word / 16 % 2 ≡ 0 → (k l m : ℕ)
     → let first : CounterState = after_ticks (after_read_back c word) k in
     let second : CounterState = after_ticks (after_read first) l in

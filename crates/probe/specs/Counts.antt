@@ -54,7 +54,8 @@ count_line name count clocks = name ++ (codes " " ++ (decimal count ++ (codes " 
 
 abbrev pub line_of : (ℕ → List ℕ) → (Begun → Option ℕ) → List Begun → ℕ → ℕ → List ℕ
 line_of name number begun end k =
-    count_line (name k) (count_by (λ b. is_number k (number b)) begun) (clocks_from (λ b. is_number k (number b)) begun end)
+    count_line (name k) (count_by (λ b. is_number k (number b)) begun)
+    (clocks_from (λ b. is_number k (number b)) begun end)
 
 -- a line for each number
 abbrev pub lines_of : (ℕ → List ℕ) → (Begun → Option ℕ) → List Begun → ℕ → List ℕ

@@ -24,7 +24,9 @@ place_of_break _ = None
 
 -- a place in memory: a segment and an offset with a colon between them, or a physical address
 unfoldable pub place_of : List ℕ → Option Place
-place_of word = if is_some (position is_colon word) then place_of_break (break_command word) else place_of_address (hex_number 5 word)
+place_of word =
+    if is_some (position is_colon word) then place_of_break (break_command word)
+    else place_of_address (hex_number 5 word)
 
 -- 1 to 4,096 instructions from a place on
 abbrev pub list_within : Place → ℕ → Option Inquiry

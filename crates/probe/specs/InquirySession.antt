@@ -25,7 +25,8 @@ AnswersInquiry (Listing place count) old result new =
     Shows (list_text old.board.plain place.segment place.offset count) result × (new ≡ old)
 AnswersInquiry (Counts n) old result new = AnswersMaking n (counts_text old.board.plain n) old result new
 AnswersInquiry (Signals n) old result new = AnswersMaking n (signals_text old.board.plain n) old result new
-AnswersInquiry (Events n kinds) old result new = AnswersMaking n (events_text kinds.items old.board.plain n) old result new
+AnswersInquiry (Events n kinds) old result new =
+    AnswersMaking n (events_text kinds.items old.board.plain n) old result new
 AnswersInquiry (Key code at) old result new = AnswersKey code at old result new
 
 -- what is no inquiry is answered as the debugger answers it

@@ -31,7 +31,8 @@ range_within None _ = None
 
 abbrev pub range_round : ℕ → List ℕ → Option ℕ → Option (ℕ × ℕ)
 range_round most word None = None
-range_round most word (Some hyphen) = range_within (hex_number most (take hyphen word)) (hex_number most (drop (hyphen + 1) word))
+range_round most word (Some hyphen) =
+    range_within (hex_number most (take hyphen word)) (hex_number most (drop (hyphen + 1) word))
 
 unfoldable pub range_of : ℕ → List ℕ → Option (ℕ × ℕ)
 range_of most word = range_round most word (position is_hyphen word)

@@ -64,7 +64,8 @@ is_listed kinds event = list_any (lists event) kinds
 -- the words of an event after its clock
 abbrev pub begun_text : TrailEntry → TrailEvent → List ℕ
 begun_text e (Instruction instr bytes) =
-    codes "start " ++ (hex_word e.cs ++ (codes ":" ++ (hex_word e.ip ++ (codes " " ++ flat_map hex_byte_text bytes.items))))
+    codes "start "
+    ++ (hex_word e.cs ++ (codes ":" ++ (hex_word e.ip ++ (codes " " ++ flat_map hex_byte_text bytes.items))))
 begun_text e (Entry kind) = codes "entry " ++ hex_byte_text kind
 
 abbrev pub access_text : Access → List ℕ
@@ -102,8 +103,10 @@ unfoldable pub event_line : Event → List ℕ
 event_line (Began e) = line_of e.clock (begun_text e e.event)
 event_line (Reached clock access) = line_of clock (access_text access)
 event_line (Became clock state) = line_of clock (state_word state)
-event_line (Keyed clock what code) = line_of clock (codes "key " ++ (hex_byte_text code ++ (codes " " ++ key_word what)))
-event_line (Wired clock wire level) = line_of clock (codes "wire " ++ (wire_name wire ++ (codes " " ++ level_digit level)))
+event_line (Keyed clock what code) =
+    line_of clock (codes "key " ++ (hex_byte_text code ++ (codes " " ++ key_word what)))
+event_line (Wired clock wire level) =
+    line_of clock (codes "wire " ++ (wire_name wire ++ (codes " " ++ level_digit level)))
 
 -- the lines of those events that are listed
 unfoldable pub listed_lines : List Kind → List Event → List ℕ
@@ -111,4 +114,5 @@ listed_lines kinds events = flat_map event_line (filter (is_listed kinds) events
 
 -- the listed events of n clocks, and the clock that is reached
 unfoldable pub events_text : List Kind → Plain → ℕ → List ℕ
-events_text kinds s n = listed_lines kinds (events_in s n) ++ (codes "clock " ++ (decimal (clock_of s + n) ++ codes "\n"))
+events_text kinds s n =
+    listed_lines kinds (events_in s n) ++ (codes "clock " ++ (decimal (clock_of s + n) ++ codes "\n"))

@@ -92,7 +92,8 @@ clock_lines kinds asked before entries accesses s =
     listed_lines kinds (map Began entries)
     ++ (listed_lines kinds (map (Reached before.clock) accesses)
     ++ (listed_lines kinds (state_events before.clock before.state (state_of s))
-    ++ (keys_seen asked.keys kinds (before.clock + 1) before.waiting (codes_at s.keys (before.clock + 1)) s.chips.keyboard
+    ++ (keys_seen asked.keys kinds (before.clock + 1) before.waiting
+    (codes_at s.keys (before.clock + 1)) s.chips.keyboard
     ++ lines_seen kinds (before.clock + 1) before.levels (levels_seen asked.wires s))))
 
 -- a kind that lists what begins: an instruction, or an entry, which has a type

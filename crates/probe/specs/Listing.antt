@@ -22,7 +22,8 @@ size_listed NoRow = 1
 
 -- the bytes that a line lists; offsets wrap at 65,536
 abbrev pub bytes_listed : Plain → ℕ → ℕ → ℕ → List ℕ
-bytes_listed s segment offset size = map (λ k. byte_of s (physical segment (offset_after offset k))) (range_with_len 0 size)
+bytes_listed s segment offset size =
+    map (λ k. byte_of s (physical segment (offset_after offset k))) (range_with_len 0 size)
 
 -- an instruction, or a byte
 abbrev pub text_listed : Decoded → ℕ → ℕ → List ℕ

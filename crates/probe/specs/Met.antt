@@ -82,11 +82,13 @@ pub record AreRenewed (accesses : List Access) (t : Plain) (old new : Copied) : 
   pub count : length new.bytes.items ≡ length old.bytes.items
   pub bytes : (k : ℕ) → k < length old.bytes.items
       → (get_or new.bytes.items k 0 ≡ byte_of t (old.first + k))
-      ⊎ ((list_any (writes_to (old.first + k)) accesses ≡ false) × (get_or new.bytes.items k 0 ≡ get_or old.bytes.items k 0))
+      ⊎ ((list_any (writes_to (old.first + k)) accesses ≡ false)
+      × (get_or new.bytes.items k 0 ≡ get_or old.bytes.items k 0))
 
 -- a write to one of `count` addresses has changed its byte
 abbrev pub write_differs : ℕ → ℕ → Copied → Plain → Access → Bool
-write_differs address count copied t (Write at byte) = (nat_le address at && nat_lt at (address + count)) && differs_copied copied at t
+write_differs address count copied t (Write at byte) =
+    (nat_le address at && nat_lt at (address + count)) && differs_copied copied at t
 write_differs address count copied t (In port byte) = false
 write_differs address count copied t (Out port byte) = false
 

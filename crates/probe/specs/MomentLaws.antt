@@ -45,7 +45,8 @@ IsAnswerOf (Some ends) (Text text) = ⊥
 -- what `go` answers in the session in which the key was typed for a clock is what the clock's range says
 abbrev pub MomentsAreRuns : Type 0
 MomentsAreRuns =
-    (old keyed new : ProbeState) (trial : Trial) (ranges : List Moments) (m : Moments) (stamp : ℕ) (told answer : Answer)
+    (old keyed new : ProbeState) (trial : Trial) (ranges : List Moments)
+    (m : Moments) (stamp : ℕ) (told answer : Answer)
     → AreRanges old.stops old.board.plain trial trial.first trial.last ranges
     → Contains ranges m → m.first ≤ stamp → stamp ≤ m.last
     → Takes (key_tried trial stamp) (session_of old) (session_of keyed) told → keyed.stops ≡ old.stops
@@ -55,5 +56,6 @@ MomentsAreRuns =
 -- a key that comes after a run's end changes nothing of it
 abbrev pub PastTheEndAlike : Type 0
 PastTheEndAlike =
-    (stops : List ProbeStop) (s : Plain) (trial : Trial) (stamp : ℕ) (end : Option End) → clock_of s + trial.count < stamp
+    (stops : List ProbeStop) (s : Plain) (trial : Trial) (stamp : ℕ) (end : Option End)
+    → clock_of s + trial.count < stamp
     → EndsWith stops s trial stamp end ↔ IsEndOf stops trial.count s end

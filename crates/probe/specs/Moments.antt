@@ -44,7 +44,8 @@ pub record IsReached (stops : List Stop) (s : Plain) (trial : Trial) (m : Moment
 -- moments with which the runs end alike
 pub record AreAlike (stops : List Stop) (s : Plain) (trial : Trial) (m : Moments) : Type 0 where
   pub rising : m.first ≤ m.last
-  pub each : (stamp : ℕ) → m.first ≤ stamp → stamp ≤ m.last → (end : Option End) × (EndsWith stops s trial stamp end × IsAmong m.ends end)
+  pub each : (stamp : ℕ) → m.first ≤ stamp → stamp ≤ m.last
+      → (end : Option End) × (EndsWith stops s trial stamp end × IsAmong m.ends end)
   pub least : IfSome m.ends (λ ends. IsReached stops s trial m ends.number ends.least)
   pub greatest : IfSome m.ends (λ ends. IsReached stops s trial m ends.number ends.greatest)
 
@@ -61,13 +62,15 @@ DiffersNext m (next ∷ rest) = stop_number next ≢ stop_number m
 abbrev pub AreRanges : List Stop → Plain → Trial → ℕ → ℕ → List Moments → Type 0
 AreRanges stops s trial first last [] = last < first
 AreRanges stops s trial first last (m ∷ ms) =
-    (m.first ≡ first) × ((m.last ≤ last) × (AreAlike stops s trial m × (DiffersNext m ms × AreRanges stops s trial (m.last + 1) last ms)))
+    (m.first ≡ first)
+    × ((m.last ≤ last) × (AreAlike stops s trial m × (DiffersNext m ms × AreRanges stops s trial (m.last + 1) last ms)))
 
 -- how runs end, in a line: `1 97 stop 1 1 97`, `98 200 none`
 abbrev pub ends_text : Option Ends → List ℕ
 ends_text None = codes " none\n"
 ends_text (Some ends) =
-    codes " stop " ++ (decimal ends.number ++ (codes " " ++ (decimal ends.least ++ (codes " " ++ (decimal ends.greatest ++ codes "\n")))))
+    codes " stop " ++ (decimal ends.number
+    ++ (codes " " ++ (decimal ends.least ++ (codes " " ++ (decimal ends.greatest ++ codes "\n")))))
 
 unfoldable pub moments_line : Moments → List ℕ
 moments_line m = decimal m.first ++ (codes " " ++ (decimal m.last ++ ends_text m.ends))
@@ -93,7 +96,8 @@ IsPastLimit clock trial = (2 ^ 40 < trial.last) ⊎ (2 ^ 40 < clock + trial.coun
 abbrev pub CannotBeTried : ℕ → Trial → DebugFault → Type 0
 CannotBeTried clock trial ClockLimit = IsPastLimit clock trial
 CannotBeTried clock trial BadScan = ¬ (IsPastLimit clock trial) × ¬ (IsTrue (names_key trial.code))
-CannotBeTried clock trial StampsFall = ¬ (IsPastLimit clock trial) × (IsTrue (names_key trial.code) × (trial.first ≤ clock))
+CannotBeTried clock trial StampsFall =
+    ¬ (IsPastLimit clock trial) × (IsTrue (names_key trial.code) × (trial.first ≤ clock))
 CannotBeTried clock trial (Memory None) = CanBeTried clock trial
 CannotBeTried clock trial (Memory (Some at)) = ⊥
 CannotBeTried clock trial BadCommand = ⊥

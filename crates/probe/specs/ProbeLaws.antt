@@ -28,14 +28,17 @@ use Rattle.probe.specs.Typed.{typed_key}
 
 -- the clocks of all lines
 abbrev pub clocks_of_lines : (Begun → Option ℕ) → List Begun → ℕ → ℕ
-clocks_of_lines number begun end = sum_by (λ k. clocks_from (λ b. is_number k (number b)) begun end) (numbers_of number begun)
+clocks_of_lines number begun end =
+    sum_by (λ k. clocks_from (λ b. is_number k (number b)) begun end) (numbers_of number begun)
 
 -- the clocks before the first beginning, those of each CS:IP and those of each type add up to all clocks of the run
 abbrev pub CountsAddUp : Type 0
 CountsAddUp =
     (s : Plain) (n : ℕ)
     → (next_clock (begun_in s n) (clock_of s + n) - clock_of s)
-    + (clocks_of_lines place_of (begun_in s n) (clock_of s + n) + clocks_of_lines type_of (begun_in s n) (clock_of s + n)) ≡ n
+    + (clocks_of_lines place_of (begun_in s n) (clock_of s + n)
+    + clocks_of_lines type_of (begun_in s n) (clock_of s + n))
+    ≡ n
 
 -- stops that are conditions are the board's: a run ends as its search says, and so does a way back
 abbrev pub StandingEndsAlike : Type 0
@@ -57,7 +60,8 @@ OnlyStand s = s.stops ≡ map Standing (conditions_of s.stops)
 abbrev pub AnswersAsDebugger : Type 0
 AnswersAsDebugger =
     (line : List ℕ) (old new : ProbeState) (result : Result Answer DebugFault)
-    → OnlyStand old → trial_of line ≡ None → stop_of line ≡ None → inquiry_of line ≡ None → AnswersStopping line old result new
+    → OnlyStand old → trial_of line ≡ None → stop_of line ≡ None → inquiry_of line ≡ None
+    → AnswersStopping line old result new
     → AnswersLine (command_of line) (session_of old) result (session_of new) × OnlyStand new
 
 -- the key that a line types, if it is taken
@@ -66,7 +70,8 @@ key_typed None (Some (Key code at)) clock (Ok answer) = typed_key clock code at 
 key_typed request inquiry clock result = []
 
 -- a probe answers a line, and goes on
-pub record AnsweredThen (line : List ℕ) (After : List StampedKey → ProbeState → Type 0) (keys : List StampedKey) (old : ProbeState) :
+pub record AnsweredThen (line : List ℕ) (After : List StampedKey → ProbeState → Type 0)
+    (keys : List StampedKey) (old : ProbeState) :
     Type 0 where
   pub result : Result Answer DebugFault
   pub next : ProbeState

@@ -19,7 +19,8 @@ use Rattle.probe.specs.ProbeStops.{HasBytes}
 -- 1 to 65,536 bytes, all of them below 100000h
 abbrev pub changes_within : ℕ → ℕ → Option Stop
 changes_within address count =
-    if nat_le 1 count && (nat_le count 65536 && nat_le (address + count) (2 ^ 20)) then Some (Changes address count) else None
+    if nat_le 1 count && (nat_le count 65536 && nat_le (address + count) (2 ^ 20)) then Some (Changes address count)
+    else None
 
 abbrev pub changes_of : Option ℕ → Option ℕ → Option Stop
 changes_of (Some address) (Some count) = changes_within address count
@@ -57,7 +58,8 @@ trial_within None _ _ _ = None
 
 abbrev pub trial_in : List (List ℕ) → Option Trial
 trial_in (name ∷ code ∷ first ∷ last ∷ count ∷ []) =
-    if bytes_eq name (codes "moments") then trial_within (hex_number 2 code) (count_of first) (count_of last) (count_of count)
+    if bytes_eq name (codes "moments") then trial_within
+    (hex_number 2 code) (count_of first) (count_of last) (count_of count)
     else None
 trial_in _ = None
 

@@ -25,7 +25,8 @@ levels_of s = record {
 
 -- the line of a change, with the clock that brings it
 abbrev pub change_line : List ℕ → ℕ → Bool → Bool → List ℕ
-change_line name clock before after = if beq before after then [] else line_of clock (name ++ (codes " " ++ level_digit after))
+change_line name clock before after =
+    if beq before after then [] else line_of clock (name ++ (codes " " ++ level_digit after))
 
 unfoldable pub changes_between : ℕ → Levels → Levels → List ℕ
 changes_between clock before after =

@@ -26,7 +26,11 @@ ends_of (Some end) = Some (record { number = end.number; least = end.clock; grea
 
 -- the ends of runs and of one more, if that ends at their stop, or, as they do, at none
 abbrev pub wider : Ends → End → Ends
-wider ends end = record { number = ends.number; least = min ends.least end.clock; greatest = max ends.greatest end.clock }
+wider ends end = record {
+  number = ends.number;
+  least = min ends.least end.clock;
+  greatest = max ends.greatest end.clock;
+}
 
 abbrev pub ends_with : Option Ends → Option End → Option (Option Ends)
 ends_with None None = Some None
@@ -49,7 +53,8 @@ added (m ∷ n ∷ ms) first last end = m ∷ added (n ∷ ms) first last end
 
 -- the key was tried at each clock before this one, and without it no stop was met up to the clock before the last of
 -- them
-pub record Tried (stops : List Stop) (s bare : Plain) (trial : Trial) (end stamp : ℕ) (ranges : List Moments) (watches : List Watched) : Type 0 where
+pub record Tried (stops : List Stop) (s bare : Plain) (trial : Trial)
+    (end stamp : ℕ) (ranges : List Moments) (watches : List Watched) : Type 0 where
   pub passed : ℕ
   pub plain : bare ≡ after_clocks s passed
   pub clock : clock_of bare ≡ clock_of s + passed
@@ -61,7 +66,8 @@ pub record Tried (stops : List Stop) (s bare : Plain) (trial : Trial) (end stamp
   pub watched : All IsWatched watches
 
 -- the key can be tried at this clock
-pub record TriedSoFar (stops : List Stop) (s bare : Plain) (trial : Trial) (end stamp : ℕ) (ranges : List Moments) (watches : List Watched) : Type 0 where
+pub record TriedSoFar (stops : List Stop) (s bare : Plain) (trial : Trial)
+    (end stamp : ℕ) (ranges : List Moments) (watches : List Watched) : Type 0 where
   pub first : trial.first ≤ stamp
   pub last : stamp ≤ trial.last
   pub in_time : end ≡ clock_of s + trial.count

@@ -76,7 +76,8 @@ pub record FixedWires (s : ChipsState) : Type 0 where
 
 -- the fixed wires have their levels at power-on, and keep them
 pub record WiresStay : Type 0 where
-  pub first : (image : List (ℕ × ℕ)) (ram_size sw1 sw2 : ℕ) (kind : TimerKind) → FixedWires (power_on image ram_size sw1 sw2 kind)
+  pub first : (image : List (ℕ × ℕ)) (ram_size sw1 sw2 : ℕ) (kind : TimerKind)
+      → FixedWires (power_on image ram_size sw1 sw2 kind)
   pub byte : (s : ChipsState) (address byte : ℕ) → FixedWires s → FixedWires (with_byte s address byte)
   pub input : (s : ChipsState) (port : ℕ) → FixedWires s → FixedWires (after_input s port)
   pub output : (s : ChipsState) (port byte : ℕ) → FixedWires s → FixedWires (after_output s port byte)

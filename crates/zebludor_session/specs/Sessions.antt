@@ -80,7 +80,8 @@ TellsReply reply old new told =
     ⊎ ((told ≡ no_memory_told (fault_of reply)) × (new ≡ old))
 
 -- a session answers a line: as `pcprobe` does, and its reply is kept and told
-pub record AnswersOne (line : List ℕ) (old : OpenSession) (new : Option OpenSession) (before after : List ℕ) (told : Told) : Type 0 where
+pub record AnswersOne (line : List ℕ) (old : OpenSession)
+    (new : Option OpenSession) (before after : List ℕ) (told : Told) : Type 0 where
   pub session : OpenSession
   pub kept : new ≡ Some session
   pub answers : AnswersTyped AnswersSession line old.probe session.reply session.probe
