@@ -24,4 +24,6 @@ one_placed located_lines a b is also =
 pub one_image : (source : List ℕ) (a b : List (ℕ × ℕ)) → Gives source a → Gives source b → b ≡ a
 one_image source a b is also =
     one_placed is.located_lines b a
-    (subst (λ (located_lines : List LocatedLine). ArePlaced located_lines b) (one_lines [] (text_lines source) also.located_lines is.located_lines also.are_located_lines is.are_located_lines) also.placed) is.placed
+    (subst (λ (located_lines : List LocatedLine). ArePlaced located_lines b)
+    (one_lines [] (text_lines source) also.located_lines is.located_lines also.are_located_lines is.are_located_lines) also.placed)
+    is.placed

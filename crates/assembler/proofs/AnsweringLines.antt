@@ -50,7 +50,8 @@ read_same : (a b : Line) → read a ≡ read b → a ≡ b
 read_same a b is = cc
 
 -- a text makes one row
-pub one_located : (known : Names) (here : Option Location) (text : List ℕ) (r s : LocatedLine) → IsLocatedLine known here text r → IsLocatedLine known here text s → r ≡ s
+pub one_located : (known : Names) (here : Option Location) (text : List ℕ) (r s : LocatedLine)
+    → IsLocatedLine known here text r → IsLocatedLine known here text s → r ≡ s
 one_located known here text r s is also =
     let line : r.line ≡ s.line = read_same r.line s.line (sym is.reads ∙ also.reads) in
     let form : r.form ≡ s.form =
@@ -68,7 +69,8 @@ one_clean : (before : List LocatedLine) (text : List ℕ) (r s : LocatedLine) �
 one_clean before text r s is also = one_located (names_of before) (location_following before) text r s is.is_located_line also.is_located_line
 
 -- the texts make one list of rows
-pub one_lines : (before : List LocatedLine) (texts : List (List ℕ)) (rs ss : List LocatedLine) → AreLocatedLines before texts rs → AreLocatedLines before texts ss → rs ≡ ss
+pub one_lines : (before : List LocatedLine) (texts : List (List ℕ)) (rs ss : List LocatedLine)
+    → AreLocatedLines before texts rs → AreLocatedLines before texts ss → rs ≡ ss
 one_lines before [] [] [] is also = refl
 one_lines before [] [] (s ∷ ss) is also = absurd also
 one_lines before [] (r ∷ rs) ss is also = absurd is
@@ -102,5 +104,6 @@ lines_up_to before (first ∷ front) text back (r ∷ rs) are =
       located_lines = r ∷ rest.located_lines;
       clean = (are.0, rest.clean);
       located = rest.located;
-      is_located_line = subst (λ (xs : List LocatedLine). IsCleanLine xs text rest.located) (append_assoc before (r ∷ []) rest.located_lines) rest.is_located_line;
+      is_located_line =
+          subst (λ (xs : List LocatedLine). IsCleanLine xs text rest.located) (append_assoc before (r ∷ []) rest.located_lines) rest.is_located_line;
     }

@@ -92,7 +92,8 @@ loadable_in image address byte is at =
     loadable_is address (All-contains IsLoadable (keys_of image) address is.loadable
     (Contains-keys_from_lookup {eq = λ (a b : ℕ). is_at (nat_cmp a) b} at_same address image (ap (λ (o : Option ℕ). is_some o) at)))
 
-all_loadable : (placed : List (ℕ × ℕ)) → ((address byte : ℕ) → Contains placed (address, byte) → is_loadable address ≡ true) → list_all is_loadable (keys_of placed) ≡ true
+all_loadable : (placed : List (ℕ × ℕ)) → ((address byte : ℕ) → Contains placed (address, byte) → is_loadable address ≡ true)
+    → list_all is_loadable (keys_of placed) ≡ true
 all_loadable [] each = refl
 all_loadable (entry ∷ placed) each =
     and_from (is_loadable entry.0) (list_all is_loadable (keys_of placed)) (each entry.0 entry.1 (0, omega arith, refl))
@@ -103,7 +104,8 @@ pub placed_parts : (names : Names) (front : List LocatedLine) (located : Located
     → placed_by_all names (front ++ located ∷ back) ≡ placed_by_all names front ++ (placed_by names located ++ placed_by_all names back)
 placed_parts names front located back = flat_map-append (placed_by names) front (located ∷ back)
 
-pub fits_there : (names : Names) (front : List LocatedLine) (located : LocatedLine) (back : List LocatedLine) → AllByRecursion (Fits names) (front ++ located ∷ back) → Fits names located
+pub fits_there : (names : Names) (front : List LocatedLine) (located : LocatedLine) (back : List LocatedLine)
+    → AllByRecursion (Fits names) (front ++ located ∷ back) → Fits names located
 fits_there names [] located back fits = fits.0
 fits_there names (first ∷ front) located back fits = fits_there names front located back fits.1
 
@@ -112,7 +114,8 @@ pub record CleanThere (before : List LocatedLine) (located : LocatedLine) : Type
   pub text : List ℕ
   pub clean : IsCleanLine before text located
 
-pub clean_there : (before : List LocatedLine) (texts : List (List ℕ)) (front : List LocatedLine) (located : LocatedLine) (back : List LocatedLine) → AreLocatedLines before texts (front ++ located ∷ back) → CleanThere (before ++ front) located
+pub clean_there : (before : List LocatedLine) (texts : List (List ℕ)) (front : List LocatedLine) (located : LocatedLine) (back : List LocatedLine)
+    → AreLocatedLines before texts (front ++ located ∷ back) → CleanThere (before ++ front) located
 clean_there before [] [] located back are = absurd are
 clean_there before (text ∷ texts) [] located back are = record {
   text = text;
@@ -135,11 +138,13 @@ pub record StandsIn (names : Names) (front : List LocatedLine) (located : Locate
   pub free : list_any (is_placed (placed_by_all names front)) (addresses_from location 0 located.size) ≡ false
   pub loadable : list_all is_loadable (addresses_from location 0 located.size) ≡ true
 
-pub placed_there : (names : Names) (located : LocatedLine) (location : Location) → located.location ≡ Some location → placed_by names located ≡ bytes_from location 0 (bytes_by names location located.size (content_of located.line.statement located.form))
+pub placed_there : (names : Names) (located : LocatedLine) (location : Location) → located.location ≡ Some location
+    → placed_by names located ≡ bytes_from location 0 (bytes_by names location located.size (content_of located.line.statement located.form))
 unfolding placed_by
 placed_there names located location at = ap (λ (o : Option Location). placed_at names o located.size (content_of located.line.statement located.form)) at
 
-names_split : (front : List LocatedLine) (located : LocatedLine) (back : List LocatedLine) → names_of (front ++ located ∷ back) ≡ names_of front ++ names_of (located ∷ back)
+names_split : (front : List LocatedLine) (located : LocatedLine) (back : List LocatedLine)
+    → names_of (front ++ located ∷ back) ≡ names_of front ++ names_of (located ∷ back)
 names_split front located back = flat_map-append (λ (r : LocatedLine). r.names) front (located ∷ back)
 
 -- a clean row has as many bytes as its size says
@@ -147,11 +152,11 @@ pub line_length : (front : List LocatedLine) (located : LocatedLine) (back : Lis
     → IsCleanLine front text located → FitsAt (names_of (front ++ located ∷ back)) located location
     → length (bytes_by (names_of (front ++ located ∷ back)) location located.size (content_of located.line.statement located.form)) ≡ located.size
 line_length front located back text location clean fits =
-    keeps_size (names_of front) (names_of (located ∷ back)) (names_of (front ++ located ∷ back)) located.location location located.line located.form located.size
-    clean.clean clean.is_located_line.size (names_split front located back) fits.known fits.fits
+    keeps_size (names_of front) (names_of (located ∷ back)) (names_of (front ++ located ∷ back)) located.location location
+    located.line located.form located.size clean.clean clean.is_located_line.size (names_split front located back) fits.known fits.fits
 
-stands_in : (names : Names) (front : List LocatedLine) (located : LocatedLine) (back : List LocatedLine) (location : Location) (image : List (ℕ × ℕ)) → located.location ≡ Some location
-    → length (bytes_by names location located.size (content_of located.line.statement located.form)) ≡ located.size
+stands_in : (names : Names) (front : List LocatedLine) (located : LocatedLine) (back : List LocatedLine) (location : Location) (image : List (ℕ × ℕ))
+    → located.location ≡ Some location → length (bytes_by names location located.size (content_of located.line.statement located.form)) ≡ located.size
     → IsDistinct (λ (a b : ℕ). a == b) (keys_of (placed_by_all names (front ++ located ∷ back))) → IsImage image
     → ((address byte : ℕ) → Contains (placed_by_all names (front ++ located ∷ back)) (address, byte) → image_byte image address ≡ Some byte)
     → StandsIn names front located location
@@ -161,10 +166,12 @@ stands_in names front located back location image at long once is_image holds =
     let following : List (ℕ × ℕ) = placed_by_all names back in
     let parts : placed_by_all names (front ++ located ∷ back) ≡ before ++ (own ++ following) = placed_parts names front located back in
     let keys : keys_of (placed_by_all names (front ++ located ∷ back)) ≡ keys_of before ++ (keys_of own ++ keys_of following) =
-    ap (λ (es : List (ℕ × ℕ)). keys_of es) parts ∙ (keys_append before (own ++ following) ∙ ap (λ (ks : List ℕ). keys_of before ++ ks) (keys_append own following)) in
+    ap (λ (es : List (ℕ × ℕ)). keys_of es) parts
+    ∙ (keys_append before (own ++ following) ∙ ap (λ (ks : List ℕ). keys_of before ++ ks) (keys_append own following)) in
     let addresses : keys_of own ≡ addresses_from location 0 located.size =
     ap (λ (es : List (ℕ × ℕ)). keys_of es) (placed_there names located location at)
-    ∙ (addresses_are location 0 (bytes_by names location located.size (content_of located.line.statement located.form)) ∙ ap (addresses_from location 0) long) in
+    ∙ (addresses_are location 0 (bytes_by names location located.size (content_of located.line.statement located.form))
+    ∙ ap (addresses_from location 0) long) in
     let apart : NoneIn (keys_of before) (keys_of own) =
     none_in_front (keys_of before) (keys_of own) (keys_of following)
     (none_before (keys_of before) (keys_of own ++ keys_of following) (subst (IsDistinct (λ (a b : ℕ). a == b)) keys once)) in
@@ -178,23 +185,27 @@ stands_in names front located back location image at long once is_image holds =
     }
 
 no_late : (names : Names) (is_taken : ℕ → Bool) (has_label : Bool) (location : Option Location) (size : ℕ) (content : Option Content)
-    → ((place : Location) → location ≡ Some place → fault_at names is_taken has_label place size content ≡ None) → late_fault names is_taken has_label location size content ≡ None
+    → ((place : Location) → location ≡ Some place → fault_at names is_taken has_label place size content ≡ None)
+    → late_fault names is_taken has_label location size content ≡ None
 unfolding late_fault
 no_late names is_taken has_label None size content each = refl
 no_late names is_taken has_label (Some place) size content each = each place refl
 
 -- rows that place an image have no fault
-pub no_located_fault : (texts : List (List ℕ)) (front : List LocatedLine) (located : LocatedLine) (back : List LocatedLine) (image : List (ℕ × ℕ)) → AreLocatedLines [] texts (front ++ located ∷ back)
-    → ArePlaced (front ++ located ∷ back) image → located_fault (names_of (front ++ located ∷ back)) front located ≡ None
+pub no_located_fault : (texts : List (List ℕ)) (front : List LocatedLine) (located : LocatedLine) (back : List LocatedLine) (image : List (ℕ × ℕ))
+    → AreLocatedLines [] texts (front ++ located ∷ back) → ArePlaced (front ++ located ∷ back) image
+    → located_fault (names_of (front ++ located ∷ back)) front located ≡ None
 no_located_fault texts front located back image are placed =
     let names : Names = names_of (front ++ located ∷ back) in
     let there : CleanThere front located = clean_there [] texts front located back are in
     let each : (place : Location) → located.location ≡ Some place
-    → fault_at names (is_placed (placed_by_all names front)) (is_some located.line.label) place located.size (content_of located.line.statement located.form) ≡ None = λ place at.
+    → fault_at names (is_placed (placed_by_all names front)) (is_some located.line.label) place located.size (content_of located.line.statement located.form)
+    ≡ None = λ place at.
     let fits : FitsAt names located place = fits_there names front located back placed.fit place at in
     let stands : StandsIn names front located place =
     stands_in names front located back place image at (line_length front located back there.text place there.clean fits) placed.once placed.is_image
     (λ address byte contained. (placed.bytes address byte).1 contained) in
     no_fault_at names (is_placed (placed_by_all names front)) (is_some located.line.label) place located.size (content_of located.line.statement located.form)
     fits.known fits.fits fits.within stands.free stands.loadable in
-    no_late names (is_placed (placed_by_all names front)) (is_some located.line.label) located.location located.size (content_of located.line.statement located.form) each
+    no_late names (is_placed (placed_by_all names front))
+    (is_some located.line.label) located.location located.size (content_of located.line.statement located.form) each

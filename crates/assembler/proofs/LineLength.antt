@@ -34,10 +34,12 @@ second_test true b f g rest none = cc
 second_test false true f g rest none = cc
 second_test false false f g rest none = refl
 
-pub counts_known : (known : Names) (here : Option Location) (line : Line) (form : Option Form) → early_fault known here line form ≡ None → has_unknown_constant known line.statement ≡ false
+pub counts_known : (known : Names) (here : Option Location) (line : Line) (form : Option Form)
+    → early_fault known here line form ≡ None → has_unknown_constant known line.statement ≡ false
 unfolding early_fault
 counts_known known here line form none =
-    second_test (opens_within here line.statement || has_wrong_constant known line.statement) (has_unknown_constant known line.statement) faults.BadLine faults.UnknownName _ none
+    second_test (opens_within here line.statement || has_wrong_constant known line.statement)
+    (has_unknown_constant known line.statement) faults.BadLine faults.UnknownName _ none
 
 statement_length : (known more : Names) (location : Location) (statement : Statement) (form : Option Form) → has_unknown_constant known statement ≡ false
     → HasSizeAt (known ++ more) location (size_of known statement form) (content_of statement form)
@@ -47,17 +49,20 @@ statement_length known more location statements.Ends form counts named fits = re
 statement_length known more location (statements.Equ name n) form counts named fits = refl
 statement_length known more location (statements.Org n) form counts named fits = refl
 statement_length known more location (statements.Data width items) form counts named fits =
-    data_length known (known ++ more) (keeps_after known more) location.offset width items counts (not_false (are_items_known (known ++ more) location.offset items) named)
+    data_length known (known ++ more) (keeps_after known more) location.offset width items counts
+    (not_false (are_items_known (known ++ more) location.offset items) named)
 statement_length known more location (statements.Instruction i) None counts named fits = refl
 statement_length known more location (statements.Instruction i) (Some f) counts named fits =
     fields_length f i (fields_of (known ++ more) location (instruction_size f i) f i) fits
 
 -- more names may follow those that are known at a line
 pub keeps_size : (known more names : Names) (here : Option Location) (location : Location) (line : Line) (form : Option Form) (size : ℕ)
-    → early_fault known here line form ≡ None → size ≡ size_of known line.statement form → names ≡ known ++ more → HasSizeAt names location size (content_of line.statement form)
+    → early_fault known here line form ≡ None → size ≡ size_of known line.statement form → names ≡ known ++ more
+    → HasSizeAt names location size (content_of line.statement form)
 keeps_size known more names here location line form size clean is all named fits =
     let at : size_of known line.statement form ≡ size = sym is in
     let by : known ++ more ≡ names = sym all in
     subst (λ (n : Names). HasSizeAt n location size (content_of line.statement form)) by
-    (subst (λ (k : ℕ). HasSizeAt (known ++ more) location k (content_of line.statement form)) at (statement_length known more location line.statement form (counts_known known here line form clean)))
+    (subst (λ (k : ℕ). HasSizeAt (known ++ more) location k (content_of line.statement form)) at
+    (statement_length known more location line.statement form (counts_known known here line form clean)))
     named fits

@@ -143,7 +143,8 @@ text_ascii (c ∷ d ∷ text) = tt
 quoted_ascii : (lexeme : List ℕ) → AsciiIfSome (quoted_token lexeme)
 unfolding quoted_token
 quoted_ascii lexeme =
-    either_way AsciiIfSome (nat_le 3 (length lexeme) && last_byte lexeme == 39) (Some (text_token (between_quotes lexeme))) None (text_ascii (between_quotes lexeme)) tt
+    either_way AsciiIfSome (nat_le 3 (length lexeme) && last_byte lexeme == 39)
+    (Some (text_token (between_quotes lexeme))) None (text_ascii (between_quotes lexeme)) tt
 
 some_punctuator : (o : Option PunctuatorType) → AsciiIfSome (option_map Punctuator o)
 some_punctuator None = tt
@@ -159,7 +160,8 @@ unfolding token_of
 token_ascii lexeme ascii =
     either_way AsciiIfSome (begins_with is_letter lexeme) (word_token lexeme) _ (word_ascii lexeme ascii)
     (either_way AsciiIfSome (begins_with is_digit lexeme) (number_token lexeme) _ (number_ascii lexeme)
-    (either_way AsciiIfSome (begins_with (λ b. b == 39) lexeme) (quoted_token lexeme) (punctuator_token lexeme) (quoted_ascii lexeme) (punctuator_ascii lexeme)))
+    (either_way AsciiIfSome (begins_with (λ b. b == 39) lexeme) (quoted_token lexeme)
+    (punctuator_token lexeme) (quoted_ascii lexeme) (punctuator_ascii lexeme)))
 
 abbrev AllAscii : List Token → Type 0
 AllAscii ts = AllByRecursion IsAsciiToken ts
@@ -168,7 +170,8 @@ abbrev AsciiTokens : Result (List Token) SyntaxFault → Type 0
 AsciiTokens (Ok ts) = AllAscii ts
 AsciiTokens (Err fault) = Unit {0}
 
-onto_tokens : (o : Option Token) (r : Result (List Token) SyntaxFault) → AsciiIfSome o → AsciiTokens r → AsciiTokens (wanted o >>= (λ t. r >>= (λ ts. Ok (t ∷ ts))))
+onto_tokens : (o : Option Token) (r : Result (List Token) SyntaxFault) → AsciiIfSome o → AsciiTokens r
+    → AsciiTokens (wanted o >>= (λ t. r >>= (λ ts. Ok (t ∷ ts))))
 onto_tokens None r first rest = tt
 onto_tokens (Some t) (Ok ts) first rest = (first, rest)
 onto_tokens (Some t) (Err fault) first rest = tt
@@ -301,7 +304,8 @@ abbrev AsciiRead : Result Line SyntaxFault → Type 0
 AsciiRead (Ok line) = AsciiLine line
 AsciiRead (Err fault) = Unit {0}
 
-label_with : (label : Option Name) (r : Result Statement SyntaxFault) → AsciiName label → AsciiStatement r → AsciiRead (r >>= (λ s. Ok (record { label = label; statement = s })))
+label_with : (label : Option Name) (r : Result Statement SyntaxFault) → AsciiName label → AsciiStatement r
+    → AsciiRead (r >>= (λ s. Ok (record { label = label; statement = s })))
 label_with label (Ok s) ascii names = record { label = ascii; statement = names }
 label_with label (Err fault) ascii names = tt
 
@@ -357,7 +361,8 @@ statement_names known (statements.Segment name n) ascii = constant_names name (c
 statement_names known (statements.Equ name n) ascii = constant_names name (constant_in known n) ascii
 statement_names known s ascii = tt
 
-pub names_ascii : (before : List LocatedLine) (texts : List (List ℕ)) (located_lines : List LocatedLine) → AreLocatedLines before texts located_lines → AsciiNames (names_of located_lines)
+pub names_ascii : (before : List LocatedLine) (texts : List (List ℕ)) (located_lines : List LocatedLine)
+    → AreLocatedLines before texts located_lines → AsciiNames (names_of located_lines)
 names_ascii before [] [] are = tt
 names_ascii before [] (located ∷ located_lines) are = absurd are
 names_ascii before (text ∷ texts) [] are = absurd are
@@ -391,10 +396,12 @@ letters_ascii (x ∷ names) (suc i) entry all is = letters_ascii names i entry a
 pub no_symbol : (names : Names) (i : ℕ) → None ≡ slice_get names i → None ≡ symbol_at names i
 no_symbol names i is = ap (λ (o : Option (Name × Symbol)). option_map (λ (entry : Name × Symbol). (letters_of entry.0, symbol_value entry.1)) o) is
 
-pub own_symbol : (names : Names) (i : ℕ) (name : Name) (symbol : Symbol) → Some (name, symbol) ≡ slice_get names i → Some (letters_of name, symbol_value symbol) ≡ symbol_at names i
+pub own_symbol : (names : Names) (i : ℕ) (name : Name) (symbol : Symbol) → Some (name, symbol) ≡ slice_get names i
+    → Some (letters_of name, symbol_value symbol) ≡ symbol_at names i
 own_symbol names i name symbol is = ap (λ (o : Option (Name × Symbol)). option_map (λ (entry : Name × Symbol). (letters_of entry.0, symbol_value entry.1)) o) is
 
-pub own_letters : (source : List ℕ) (names : Names) (kepts : List KeptLine) (i : ℕ) (name : Name) (symbol : Symbol) → Reads source names kepts → Some (name, symbol) ≡ slice_get names i
-    → IsAscii (letters_of name)
+pub own_letters : (source : List ℕ) (names : Names) (kepts : List KeptLine) (i : ℕ) (name : Name) (symbol : Symbol)
+    → Reads source names kepts → Some (name, symbol) ≡ slice_get names i → IsAscii (letters_of name)
 own_letters source names kepts i name symbol reads is =
-    letters_ascii names i (name, symbol) (subst AsciiNames (sym reads.names_are) (names_ascii [] (text_lines source) reads.located_lines reads.are_located_lines)) (sym is)
+    letters_ascii names i (name, symbol)
+    (subst AsciiNames (sym reads.names_are) (names_ascii [] (text_lines source) reads.located_lines reads.are_located_lines)) (sym is)

@@ -45,8 +45,10 @@ some_none kept is = cc
 some_same : (a b : KeptLine) → Some a ≡ Some b → a ≡ b
 some_same a b is = cc
 
-line_after : (source text : List ℕ) (texts : List (List ℕ)) (before : List LocatedLine) (located : LocatedLine) (located_lines : List LocatedLine) (kept : KeptLine) (i : ℕ) → IsCleanLine before text located
-    → LineThere source texts (before ++ located ∷ []) located_lines kept i → LineThere source (text ∷ texts) before (located ∷ located_lines) kept (suc i)
+line_after : (source text : List ℕ) (texts : List (List ℕ)) (before : List LocatedLine)
+    (located : LocatedLine) (located_lines : List LocatedLine) (kept : KeptLine) (i : ℕ)
+    → IsCleanLine before text located → LineThere source texts (before ++ located ∷ []) located_lines kept i
+    → LineThere source (text ∷ texts) before (located ∷ located_lines) kept (suc i)
 line_after source text texts before located located_lines kept i clean there = record {
   text = there.text;
   located = there.located;
@@ -58,8 +60,10 @@ line_after source text texts before located located_lines kept i clean there = r
   line = there.line;
 }
 
-pub line_there : (source : List ℕ) (before : List LocatedLine) (texts : List (List ℕ)) (kepts : List KeptLine) (located_lines : List LocatedLine) (i : ℕ) (kept : KeptLine)
-    → AreKept source texts kepts located_lines → AreLocatedLines before texts located_lines → slice_get kepts i ≡ Some kept → LineThere source texts before located_lines kept i
+pub line_there : (source : List ℕ) (before : List LocatedLine) (texts : List (List ℕ))
+    (kepts : List KeptLine) (located_lines : List LocatedLine) (i : ℕ) (kept : KeptLine)
+    → AreKept source texts kepts located_lines → AreLocatedLines before texts located_lines → slice_get kepts i ≡ Some kept
+    → LineThere source texts before located_lines kept i
 line_there source before [] [] [] i kept keeps are is = absurd (none_some kept is)
 line_there source before [] [] (located ∷ located_lines) i kept keeps are is = absurd keeps
 line_there source before [] (k ∷ ks) located_lines i kept keeps are is = absurd keeps
@@ -76,7 +80,8 @@ line_there source before (text ∷ texts) (k ∷ ks) (located ∷ located_lines)
   line = λ names. refl;
 }
 line_there source before (text ∷ texts) (k ∷ ks) (located ∷ located_lines) (suc i) kept keeps are is =
-    line_after source text texts before located located_lines kept i are.0 (line_there source (before ++ located ∷ []) texts ks located_lines i kept keeps.1 are.1 is)
+    line_after source text texts before located located_lines kept i are.0
+    (line_there source (before ++ located ∷ []) texts ks located_lines i kept keeps.1 are.1 is)
 
 pub no_line : (source : List ℕ) (names : Names) (texts : List (List ℕ)) (kepts : List KeptLine) (located_lines : List LocatedLine) (i : ℕ)
     → AreKept source texts kepts located_lines → slice_get kepts i ≡ None → line_at names texts located_lines i ≡ None
@@ -95,12 +100,14 @@ nothing_more : (n : ℕ) → n + 0 ≡ n
 nothing_more n = omega arith
 
 -- the image's bytes at a row's addresses are the row's
-byte_there : (location : Location) (n : ℕ) (bytes : List ℕ) (k : ℕ) → k < length bytes → Contains (bytes_from location n bytes) (address_after location (n + k), get_or bytes k 0)
+byte_there : (location : Location) (n : ℕ) (bytes : List ℕ) (k : ℕ) → k < length bytes
+    → Contains (bytes_from location n bytes) (address_after location (n + k), get_or bytes k 0)
 byte_there location n [] k within = absurd (omega arith)
 byte_there location n (b ∷ bs) zero within = (0, omega arith, ap (λ (m : ℕ). (address_after location m, b)) (sym (nothing_more n)))
 byte_there location n (b ∷ bs) (suc k) within =
     Contains-append_right ((address_after location n, b) ∷ []) (bytes_from location (n + 1) bs) (address_after location (n + suc k), get_or bs k 0)
-    (subst (λ (m : ℕ). Contains (bytes_from location (n + 1) bs) (address_after location m, get_or bs k 0)) (moved n k) (byte_there location (n + 1) bs k (omega arith)))
+    (subst (λ (m : ℕ). Contains (bytes_from location (n + 1) bs) (address_after location m, get_or bs k 0))
+    (moved n k) (byte_there location (n + 1) bs k (omega arith)))
 
 none_before : (k : ℕ) → 0 + k ≡ k
 none_before k = omega arith
@@ -115,13 +122,15 @@ never_false is = cc
 abbrev pub Holds : List (ℕ × ℕ) → Location → List ℕ → Type 0
 Holds image location bytes = (k : ℕ) → k < length bytes → image_byte image (address_after location k) ≡ Some (get_or bytes k 0)
 
-holds_own : (names : Names) (front : List LocatedLine) (located : LocatedLine) (back : List LocatedLine) (image : List (ℕ × ℕ)) (location : Location) → located.location ≡ Some location
+holds_own : (names : Names) (front : List LocatedLine) (located : LocatedLine) (back : List LocatedLine) (image : List (ℕ × ℕ)) (location : Location)
+    → located.location ≡ Some location
     → ((address byte : ℕ) → Contains (placed_by_all names (front ++ located ∷ back)) (address, byte) → image_byte image address ≡ Some byte)
     → Holds image location (bytes_by names location located.size (content_of located.line.statement located.form))
 holds_own names front located back image location at holds k within =
     let bytes : List ℕ = bytes_by names location located.size (content_of located.line.statement located.form) in
     let here : Contains (bytes_from location 0 bytes) (address_after location k, get_or bytes k 0) =
-    subst (λ (m : ℕ). Contains (bytes_from location 0 bytes) (address_after location m, get_or bytes k 0)) (none_before k) (byte_there location 0 bytes k within) in
+    subst (λ (m : ℕ). Contains (bytes_from location 0 bytes) (address_after location m, get_or bytes k 0))
+    (none_before k) (byte_there location 0 bytes k within) in
     let own : Contains (placed_by names located) (address_after location k, get_or bytes k 0) =
     subst (λ (es : List (ℕ × ℕ)). Contains es (address_after location k, get_or bytes k 0)) (sym (placed_there names located location at)) here in
     holds (address_after location k) (get_or bytes k 0)
@@ -129,7 +138,8 @@ holds_own names front located back image location at holds k within =
     (Contains-append_right (placed_by_all names front) (placed_by names located ++ placed_by_all names back) (address_after location k, get_or bytes k 0)
     (Contains-append_left (placed_by names located) (placed_by_all names back) (address_after location k, get_or bytes k 0) own)))
 
-digits_are : (image : List (ℕ × ℕ)) (location : Location) (bytes : List ℕ) (k : ℕ) → Holds image location bytes → k ≤ length bytes → shown_digits image location k ≡ flat_map hex_byte_text (take k bytes)
+digits_are : (image : List (ℕ × ℕ)) (location : Location) (bytes : List ℕ) (k : ℕ) → Holds image location bytes → k ≤ length bytes
+    → shown_digits image location k ≡ flat_map hex_byte_text (take k bytes)
 digits_are image location bytes zero holds within = refl
 digits_are image location bytes (suc k) holds within =
     let byte : shown_byte image location k ≡ get_or bytes k 0 = ap (λ (o : Option ℕ). unwrap_or o 0) (holds k (omega arith)) in
@@ -162,13 +172,16 @@ filled_up size = elim (cases_lt 8 size) [
   | inr not_more ↦ rw (lt_not 8 size (omega arith)) (omega arith)
 ]
 
-place_is : (image : List (ℕ × ℕ)) (location : Location) (bytes : List ℕ) → Holds image location bytes → shown_place image location (length bytes) ≡ bytes_part location bytes
+place_is : (image : List (ℕ × ℕ)) (location : Location) (bytes : List ℕ) → Holds image location bytes
+    → shown_place image location (length bytes) ≡ bytes_part location bytes
 unfolding shown_place bytes_part
 place_is image location bytes holds =
     let punctuator : List ℕ = more_punctuator bytes ∷ 32 ∷ [] in
     let digits : shown_digits image location (shown_count (length bytes)) ≡ flat_map hex_byte_text (take 8 bytes) =
-    digits_are image location bytes (shown_count (length bytes)) holds (count_within (length bytes)) ∙ ap (λ (bs : List ℕ). flat_map hex_byte_text bs) (first_eight bytes) in
-    let whole : shown_digits image location (shown_count (length bytes)) ++ (spaces (2 * (8 - shown_count (length bytes))) ++ punctuator) ≡ first_bytes bytes ++ punctuator =
+    digits_are image location bytes (shown_count (length bytes)) holds (count_within (length bytes))
+    ∙ ap (λ (bs : List ℕ). flat_map hex_byte_text bs) (first_eight bytes) in
+    let whole : shown_digits image location (shown_count (length bytes)) ++ (spaces (2 * (8 - shown_count (length bytes))) ++ punctuator)
+    ≡ first_bytes bytes ++ punctuator =
     ap₂ (λ (xs : List ℕ) (n : ℕ). xs ++ (spaces n ++ punctuator)) digits (filled_up (length bytes))
     ∙ sym (append_assoc (flat_map hex_byte_text (take 8 bytes)) (spaces (16 - 2 * length bytes)) punctuator) in
     ap (λ (xs : List ℕ). hex_word location.segment ++ (58 ∷ hex_word location.offset ++ (32 ∷ xs))) whole
@@ -189,7 +202,8 @@ Stands names image located =
     → (length (bytes_by names location located.size (content_of located.line.statement located.form)) ≡ located.size)
     × Holds image location (bytes_by names location located.size (content_of located.line.statement located.form))
 
-line_part_is : (names : Names) (image : List (ℕ × ℕ)) (located : LocatedLine) (location : Option Location) → located.location ≡ location → Stands names image located
+line_part_is : (names : Names) (image : List (ℕ × ℕ)) (located : LocatedLine) (location : Option Location)
+    → located.location ≡ location → Stands names image located
     → shown_at image (location_by_size location located.size) located.size ≡ place_part location (line_bytes names located location)
 line_part_is names image located None at stands = nowhere image located.size
 line_part_is names image located (Some location) at stands =
@@ -197,8 +211,8 @@ line_part_is names image located (Some location) at stands =
     let there = stands location at in
     ap (λ (n : ℕ). shown_at image (location_by_size (Some location) n) n) (sym there.0) ∙ part_is image location bytes there.1
 
-stands_there : (texts : List (List ℕ)) (front : List LocatedLine) (located : LocatedLine) (back : List LocatedLine) (text : List ℕ) (image : List (ℕ × ℕ)) → IsCleanLine front text located
-    → ArePlaced (front ++ located ∷ back) image → Stands (names_of (front ++ located ∷ back)) image located
+stands_there : (texts : List (List ℕ)) (front : List LocatedLine) (located : LocatedLine) (back : List LocatedLine) (text : List ℕ) (image : List (ℕ × ℕ))
+    → IsCleanLine front text located → ArePlaced (front ++ located ∷ back) image → Stands (names_of (front ++ located ∷ back)) image located
 stands_there texts front located back text image clean placed location at =
     let names : Names = names_of (front ++ located ∷ back) in (
       line_length front located back text location clean (fits_there names front located back placed.fit location at),
@@ -206,18 +220,22 @@ stands_there texts front located back text image clean placed location at =
     )
 
 -- the listing's line of a kept row
-pub line_is : (source : List ℕ) (texts : List (List ℕ)) (located_lines : List LocatedLine) (kept : KeptLine) (i : ℕ) (image : List (ℕ × ℕ)) → LineThere source texts [] located_lines kept i → ArePlaced located_lines image
+pub line_is : (source : List ℕ) (texts : List (List ℕ)) (located_lines : List LocatedLine) (kept : KeptLine) (i : ℕ) (image : List (ℕ × ℕ))
+    → LineThere source texts [] located_lines kept i → ArePlaced located_lines image
     → Some (shown_line source image kept) ≡ line_at (names_of located_lines) texts located_lines i
 line_is source texts located_lines kept i image there placed =
     let stands : Stands (names_of located_lines) image there.located =
     subst (λ (rs : List LocatedLine). Stands (names_of rs) image there.located) (sym there.split)
-    (stands_there texts there.front there.located there.back there.text image there.clean (subst (λ (rs : List LocatedLine). ArePlaced rs image) there.split placed)) in
-    let part : shown_at image (shown_location kept) kept.size ≡ place_part there.located.location (line_bytes (names_of located_lines) there.located there.located.location) =
+    (stands_there texts there.front there.located there.back there.text image there.clean
+    (subst (λ (rs : List LocatedLine). ArePlaced rs image) there.split placed)) in
+    let part : shown_at image (shown_location kept) kept.size
+    ≡ place_part there.located.location (line_bytes (names_of located_lines) there.located there.located.location) =
     ap₂ (λ (o : Option Location) (n : ℕ). shown_at image (location_by_size o n) n) there.keeps.location there.keeps.size
     ∙ line_part_is (names_of located_lines) image there.located there.located.location refl stands in
     ap₂ (λ (xs ys : List ℕ). Some (xs ++ ys)) part there.keeps.text ∙ sym (there.line (names_of located_lines))
 
-pub line_ascii : (source : List ℕ) (texts : List (List ℕ)) (located_lines : List LocatedLine) (kept : KeptLine) (i : ℕ) → LineThere source texts [] located_lines kept i → IsAscii (said_by source kept)
+pub line_ascii : (source : List ℕ) (texts : List (List ℕ)) (located_lines : List LocatedLine) (kept : KeptLine) (i : ℕ)
+    → LineThere source texts [] located_lines kept i → IsAscii (said_by source kept)
 line_ascii source texts located_lines kept i there =
     subst IsAscii (sym there.keeps.text) (ascii_of there.text (characters_of there.text there.located.line there.clean.is_located_line.reads))
 
@@ -227,13 +245,14 @@ past_end location n has_label is = elim (cases_lt 65536 (location.offset + suc n
   | inr not_more ↦ omega arith
 ]
 
-ends_by : (location : Option Location) (size : ℕ) (has_label : Bool) → ((place : Location) → location ≡ Some place → is_past_end place size has_label ≡ false) → EndsBy 65536 (location_by_size location size) size
+ends_by : (location : Option Location) (size : ℕ) (has_label : Bool)
+    → ((place : Location) → location ≡ Some place → is_past_end place size has_label ≡ false) → EndsBy 65536 (location_by_size location size) size
 ends_by location zero has_label within = tt
 ends_by None (suc n) has_label within = tt
 ends_by (Some place) (suc n) has_label within = past_end place n has_label (within place refl)
 
-pub line_ends : (source : List ℕ) (texts : List (List ℕ)) (located_lines : List LocatedLine) (kept : KeptLine) (i : ℕ) (image : List (ℕ × ℕ)) → LineThere source texts [] located_lines kept i → ArePlaced located_lines image
-    → EndsBy 65536 (shown_location kept) kept.size
+pub line_ends : (source : List ℕ) (texts : List (List ℕ)) (located_lines : List LocatedLine) (kept : KeptLine) (i : ℕ) (image : List (ℕ × ℕ))
+    → LineThere source texts [] located_lines kept i → ArePlaced located_lines image → EndsBy 65536 (shown_location kept) kept.size
 line_ends source texts located_lines kept i image there placed =
     let fit : Fits (names_of located_lines) there.located =
     fits_there (names_of located_lines) there.front there.located there.back (subst (AllByRecursion (Fits (names_of located_lines))) there.split placed.fit) in
@@ -243,9 +262,12 @@ line_ends source texts located_lines kept i image there placed =
     subst (λ (n : ℕ). Ends kept.location n) (sym there.keeps.size) (subst (λ (o : Option Location). Ends o there.located.size) (sym there.keeps.location) own)
 
 -- what a listing keeps
-module _ (source : List ℕ) (names : Names) (kepts : List KeptLine) (image : List (ℕ × ℕ)) (reads : Reads source names kepts) (gives : Gives source image) (i : ℕ) where
+module _ (source : List ℕ) (names : Names) (kepts : List KeptLine) (image : List (ℕ × ℕ))
+    (reads : Reads source names kepts) (gives : Gives source image) (i : ℕ) where
   own_placed : ArePlaced reads.located_lines image
-  own_placed = subst (λ (rs : List LocatedLine). ArePlaced rs image) (one_lines [] (text_lines source) gives.located_lines reads.located_lines gives.are_located_lines reads.are_located_lines) gives.placed
+  own_placed =
+      subst (λ (rs : List LocatedLine). ArePlaced rs image)
+      (one_lines [] (text_lines source) gives.located_lines reads.located_lines gives.are_located_lines reads.are_located_lines) gives.placed
 
   pub own_there : (kept : KeptLine) → slice_get kepts i ≡ Some kept → LineThere source (text_lines source) [] reads.located_lines kept i
   own_there kept is = line_there source [] (text_lines source) kepts reads.located_lines i kept reads.are_kept reads.are_located_lines is
@@ -259,14 +281,18 @@ module _ (source : List ℕ) (names : Names) (kepts : List KeptLine) (image : Li
   pub own_ends : (kept : KeptLine) → slice_get kepts i ≡ Some kept → EndsBy 65536 (shown_location kept) kept.size
   own_ends kept is = line_ends source (text_lines source) reads.located_lines kept i image (own_there kept is) own_placed
 
-  one_line : (located_lines : List LocatedLine) → AreLocatedLines [] (text_lines source) located_lines → line_at (names_of reads.located_lines) (text_lines source) reads.located_lines i ≡ line_at names (text_lines source) located_lines i
+  one_line : (located_lines : List LocatedLine) → AreLocatedLines [] (text_lines source) located_lines
+      → line_at (names_of reads.located_lines) (text_lines source) reads.located_lines i ≡ line_at names (text_lines source) located_lines i
   one_line located_lines are =
       ap₂ (λ (ns : Names) (rs : List LocatedLine). line_at ns (text_lines source) rs i) (sym reads.names_are)
       (one_lines [] (text_lines source) reads.located_lines located_lines reads.are_located_lines are)
 
   pub own_line : (kept : KeptLine) → slice_get kepts i ≡ Some kept → (located_lines : List LocatedLine) → AreLocatedLines [] (text_lines source) located_lines
       → Some (shown_line source image kept) ≡ line_at names (text_lines source) located_lines i
-  own_line kept is located_lines are = line_is source (text_lines source) reads.located_lines kept i image (own_there kept is) own_placed ∙ one_line located_lines are
+  own_line kept is located_lines are =
+      line_is source (text_lines source) reads.located_lines kept i image (own_there kept is) own_placed ∙ one_line located_lines are
 
-  pub no_own_line : slice_get kepts i ≡ None → (located_lines : List LocatedLine) → AreLocatedLines [] (text_lines source) located_lines → None ≡ line_at names (text_lines source) located_lines i
-  no_own_line is located_lines are = sym (no_line source (names_of reads.located_lines) (text_lines source) kepts reads.located_lines i reads.are_kept is) ∙ one_line located_lines are
+  pub no_own_line : slice_get kepts i ≡ None → (located_lines : List LocatedLine) → AreLocatedLines [] (text_lines source) located_lines
+      → None ≡ line_at names (text_lines source) located_lines i
+  no_own_line is located_lines are =
+      sym (no_line source (names_of reads.located_lines) (text_lines source) kepts reads.located_lines i reads.are_kept is) ∙ one_line located_lines are

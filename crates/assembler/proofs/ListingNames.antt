@@ -20,11 +20,13 @@ sym_one : (m n : ℕ) → m ≡ n → suc m ≡ 1 + n
 sym_one m n is = omega arith
 
 -- the first byte that is no letter ends the letters
-pub ends_at : (letters : List ℕ) (n : ℕ) → AreLetters letters n → n < length letters → get_or letters n 0 ≡ 0 → n ≡ prefix_len (λ (letter : ℕ). nat_lt 0 letter) letters
+pub ends_at : (letters : List ℕ) (n : ℕ) → AreLetters letters n → n < length letters → get_or letters n 0 ≡ 0
+    → n ≡ prefix_len (λ (letter : ℕ). nat_lt 0 letter) letters
 ends_at [] n are within is = absurd (omega arith)
 ends_at (b ∷ bs) zero are within is = rw is refl
 ends_at (b ∷ bs) (suc n) are within is =
-    rw (lt_yes 0 b (are 0 (omega arith))) (sym_one n (prefix_len (λ (letter : ℕ). nat_lt 0 letter) bs) (ends_at bs n (letters_after b bs n are) (omega arith) is))
+    rw (lt_yes 0 b (are 0 (omega arith)))
+    (sym_one n (prefix_len (λ (letter : ℕ). nat_lt 0 letter) bs) (ends_at bs n (letters_after b bs n are) (omega arith) is))
 
 pub ends_all : (letters : List ℕ) (n : ℕ) → AreLetters letters n → n ≡ length letters → n ≡ prefix_len (λ (letter : ℕ). nat_lt 0 letter) letters
 ends_all [] n are is = is

@@ -16,8 +16,8 @@ use Rattle.assembler_syntax.specs.Lines.{read_line, line_of}
 use Rattle.assembler_lexeme.specs.Faults.{◌>>=◌}
 
 -- bytes that are UTF-8 are a text
-pub text_of_utf8 : {E : Type 0} (r : Result (Bor (List ℕ)) E) (or_else text : Bor (List ℕ)) (bytes : List ℕ) (Q : E → Type 0) → IsAscii bytes → text ≡ result_unwrap_or r or_else
-    → MatchResult r (λ s. (s.now ≡ bytes) × IsUtf8 bytes) (λ e. ¬ (IsUtf8 bytes) × Q e) → text.now ≡ bytes
+pub text_of_utf8 : {E : Type 0} (r : Result (Bor (List ℕ)) E) (or_else text : Bor (List ℕ)) (bytes : List ℕ) (Q : E → Type 0)
+    → IsAscii bytes → text ≡ result_unwrap_or r or_else → MatchResult r (λ s. (s.now ≡ bytes) × IsUtf8 bytes) (λ e. ¬ (IsUtf8 bytes) × Q e) → text.now ≡ bytes
 text_of_utf8 (Ok s) or_else text bytes Q ascii is made = ap (λ (t : Bor (List ℕ)). t.now) is ∙ made.0
 text_of_utf8 (Err e) or_else text bytes Q ascii is made = absurd (made.0 (IsUtf8-from_ascii bytes ascii))
 

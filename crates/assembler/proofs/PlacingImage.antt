@@ -20,7 +20,8 @@ use Rattle.assembler.specs.Placement.{address_after, bytes_from, is_placed}
 use Rattle.assembler.specs.SecondPass.{has_byte, with_entries}
 
 -- an image with one more byte is an image
-pub still_image : (image : List (ℕ × ℕ)) (address byte : ℕ) → IsImage image → IsLoadable address → byte < 256 → IsImage (insert_entry nat_cmp image address byte)
+pub still_image : (image : List (ℕ × ℕ)) (address byte : ℕ) → IsImage image → IsLoadable address → byte < 256
+    → IsImage (insert_entry nat_cmp image address byte)
 still_image image address byte whole loadable small =
     image_put image (insert_entry nat_cmp image address byte) address byte refl (sorted_put address byte image whole.rising) whole loadable small
 
@@ -66,7 +67,8 @@ found_first : (a : ℕ) (e : ℕ × ℕ) (es : List (ℕ × ℕ)) (o : Option �
 found_first a e es o true is none = ap (λ (f : Option ℕ). or_else f (Some e.1)) (none refl)
 found_first a e es o false is none = refl
 
-bytes_with : (image placed : List (ℕ × ℕ)) (a : ℕ) → IsDistinct (λ x y. x == y) (keys_of placed) → image_byte (with_entries image placed) a ≡ or_else (found placed a) (image_byte image a)
+bytes_with : (image placed : List (ℕ × ℕ)) (a : ℕ) → IsDistinct (λ x y. x == y) (keys_of placed)
+    → image_byte (with_entries image placed) a ≡ or_else (found placed a) (image_byte image a)
 bytes_with image [] a distinct = refl
 bytes_with image (e ∷ es) a distinct =
     bytes_with (insert_entry nat_cmp image e.0 e.1) es a (IsDistinct-tail (λ x y. x == y) e.0 (keys_of es) distinct)
@@ -82,18 +84,21 @@ or_nothing (Some b) = refl
 pub bytes_are : (placed : List (ℕ × ℕ)) → IsDistinct (λ x y. x == y) (keys_of placed)
     → (address byte : ℕ) → (image_byte (with_entries [] placed) address ≡ Some byte) ↔ Contains placed (address, byte)
 bytes_are placed distinct address byte =
-    let is : image_byte (with_entries [] placed) address ≡ found placed address = bytes_with [] placed address distinct ∙ or_nothing (found placed address) in
-    (λ some. Contains-from_lookup (λ x y. eqb-true x y) address byte placed (sym is ∙ some), λ has. is ∙ lookup-from_Contains nat_eq_equiv address byte placed distinct has)
+    let is : image_byte (with_entries [] placed) address ≡ found placed address = bytes_with [] placed address distinct ∙ or_nothing (found placed address) in (
+      λ some. Contains-from_lookup (λ x y. eqb-true x y) address byte placed (sym is ∙ some),
+      λ has. is ∙ lookup-from_Contains nat_eq_equiv address byte placed distinct has,
+    )
 
 -- byte by byte
 pub next_byte : (bytes : List ℕ) (i : ℕ) → i < length bytes → drop i bytes ≡ get_or bytes i 0 ∷ drop (i + 1) bytes
 next_byte bytes i within = let one : i + 1 ≡ suc i = omega arith in rw one (drop-cons bytes i 0 within)
 
-pub put_next : (image new whole : List (ℕ × ℕ)) (location : Location) (bytes : List ℕ) (at i address : ℕ) → i < length bytes → address ≡ address_after location at
-    → new ≡ insert_entry nat_cmp image address (get_or bytes i 0) → with_entries image (bytes_from location at (drop i bytes)) ≡ whole
-    → with_entries new (bytes_from location (at + 1) (drop (i + 1) bytes)) ≡ whole
+pub put_next : (image new whole : List (ℕ × ℕ)) (location : Location) (bytes : List ℕ) (at i address : ℕ)
+    → i < length bytes → address ≡ address_after location at → new ≡ insert_entry nat_cmp image address (get_or bytes i 0)
+    → with_entries image (bytes_from location at (drop i bytes)) ≡ whole → with_entries new (bytes_from location (at + 1) (drop (i + 1) bytes)) ≡ whole
 put_next image new whole location bytes at i address within is put held =
-    ap (λ (im : List (ℕ × ℕ)). with_entries im (bytes_from location (at + 1) (drop (i + 1) bytes))) (put ∙ ap (λ (a : ℕ). insert_entry nat_cmp image a (get_or bytes i 0)) is)
+    ap (λ (im : List (ℕ × ℕ)). with_entries im (bytes_from location (at + 1) (drop (i + 1) bytes)))
+    (put ∙ ap (λ (a : ℕ). insert_entry nat_cmp image a (get_or bytes i 0)) is)
     ∙ sym (ap (λ (bs : List ℕ). with_entries image (bytes_from location at bs)) (next_byte bytes i within)) ∙ held
 
 pub no_byte : (bytes : List ℕ) (i : ℕ) → length bytes ≤ i → drop i bytes ≡ []

@@ -46,11 +46,12 @@ below_end size last none some = grind (arith, nat_tests)
 
 pub ends_within : (location : Location) (size : ℕ) (has_label : Bool) → is_past_end location size has_label ≡ false → 0 < size → location.offset + size ≤ 65536
 ends_within location size has_label within some =
-    below_end size (location.offset + size) (or_parts (nat_lt 0 size && nat_lt 65536 (location.offset + size)) (has_label && nat_lt 65535 location.offset) within).0 some
+    below_end size (location.offset + size)
+    (or_parts (nat_lt 0 size && nat_lt 65536 (location.offset + size)) (has_label && nat_lt 65535 location.offset) within).0 some
 
 -- what a kept row places, if it has no fault
-pub kept_stands : (names : Names) (is_taken : ℕ → Bool) (kept : KeptLine) (location : Location) (content : Option Content) → kept.location ≡ Some location → content_in kept ≡ content
-    → kept_fault names is_taken kept ≡ None → CanStand names is_taken kept.has_label location kept.size content
+pub kept_stands : (names : Names) (is_taken : ℕ → Bool) (kept : KeptLine) (location : Location) (content : Option Content) → kept.location ≡ Some location
+    → content_in kept ≡ content → kept_fault names is_taken kept ≡ None → CanStand names is_taken kept.has_label location kept.size content
 kept_stands names is_taken kept location content at is none =
     can_stand names is_taken kept.has_label location kept.size content
     (sym (ap (λ (o : Option Location). late_fault names is_taken kept.has_label o kept.size (content_in kept)) at
@@ -59,7 +60,8 @@ kept_stands names is_taken kept location content at is none =
 pub kept_size : (names : Names) (kept : KeptLine) (location : Location) (content : Option Content) → kept.location ≡ Some location → content_in kept ≡ content
     → KeepsSize names kept → HasSizeAt names location kept.size content
 kept_size names kept location content at is size =
-    subst (λ (o : Option Content). HasSize names (Some location) kept.size o) is (subst (λ (o : Option Location). HasSize names o kept.size (content_in kept)) at size)
+    subst (λ (o : Option Content). HasSize names (Some location) kept.size o) is
+    (subst (λ (o : Option Location). HasSize names o kept.size (content_in kept)) at size)
 
 no_content_fault : (known fits : Bool) → known ≡ false → fits ≡ false → (if known then Some Undefined else (if fits then Some OutOfRange else None)) ≡ None
 no_content_fault known fits one two = rw (one, two) refl

@@ -32,7 +32,8 @@ use Rattle.assembler.proofs.LineLength.{keeps_size}
 use Rattle.assembler.proofs.PlacingLines.{can_stand, ends_within}
 
 -- ---- rows as they are kept
-are_kept_lines : (source : List ℕ) (texts : List (List ℕ)) (kepts : List KeptLine) (located_lines : List LocatedLine) → AreKept source texts kepts located_lines → AreKeptLines kepts located_lines
+are_kept_lines : (source : List ℕ) (texts : List (List ℕ)) (kepts : List KeptLine) (located_lines : List LocatedLine)
+    → AreKept source texts kepts located_lines → AreKeptLines kepts located_lines
 are_kept_lines source [] [] [] are = tt
 are_kept_lines source [] [] (located ∷ located_lines) are = absurd are
 are_kept_lines source [] (kept ∷ kepts) [] are = absurd are
@@ -40,10 +41,13 @@ are_kept_lines source [] (kept ∷ kepts) (located ∷ located_lines) are = absu
 are_kept_lines source (text ∷ texts) [] [] are = absurd are
 are_kept_lines source (text ∷ texts) [] (located ∷ located_lines) are = absurd are
 are_kept_lines source (text ∷ texts) (kept ∷ kepts) [] are = absurd are
-are_kept_lines source (text ∷ texts) (kept ∷ kepts) (located ∷ located_lines) are =
-    (record { label = are.0.label; location = are.0.location; size = are.0.size; content = are.0.content }, are_kept_lines source texts kepts located_lines are.1)
+are_kept_lines source (text ∷ texts) (kept ∷ kepts) (located ∷ located_lines) are = (
+  record { label = are.0.label; location = are.0.location; size = are.0.size; content = are.0.content },
+  are_kept_lines source texts kepts located_lines are.1,
+)
 
-kept_count : (source : List ℕ) (texts : List (List ℕ)) (kepts : List KeptLine) (located_lines : List LocatedLine) → AreKept source texts kepts located_lines → length kepts ≡ length texts
+kept_count : (source : List ℕ) (texts : List (List ℕ)) (kepts : List KeptLine) (located_lines : List LocatedLine)
+    → AreKept source texts kepts located_lines → length kepts ≡ length texts
 kept_count source [] [] [] are = refl
 kept_count source [] [] (located ∷ located_lines) are = absurd are
 kept_count source [] (kept ∷ kepts) [] are = absurd are
@@ -67,48 +71,59 @@ same_length (kept ∷ kepts) [] are = absurd are
 same_length (kept ∷ kepts) (located ∷ located_lines) are = ap suc (same_length kepts located_lines are.1)
 
 -- ---- rows have their sizes
-size_here : (names : Names) (located : LocatedLine) (here : Option Location) → located.location ≡ here → ((location : Location) → HasSizeAt names location located.size (content_of located.line.statement located.form))
+size_here : (names : Names) (located : LocatedLine) (here : Option Location)
+    → located.location ≡ here → ((location : Location) → HasSizeAt names location located.size (content_of located.line.statement located.form))
     → HasSize names here located.size (content_of located.line.statement located.form)
 size_here names located None at each = tt
 size_here names located (Some location) at each = each location
 
-pub lines_sized : (names : Names) (before : List LocatedLine) (texts : List (List ℕ)) (located_lines : List LocatedLine) → AreLocatedLines before texts located_lines → names ≡ names_of (before ++ located_lines) → AllByRecursion (LineHasSize names) located_lines
+pub lines_sized : (names : Names) (before : List LocatedLine) (texts : List (List ℕ)) (located_lines : List LocatedLine)
+    → AreLocatedLines before texts located_lines → names ≡ names_of (before ++ located_lines) → AllByRecursion (LineHasSize names) located_lines
 lines_sized names before [] [] are is = tt
 lines_sized names before [] (located ∷ located_lines) are is = absurd are
 lines_sized names before (text ∷ texts) [] are is = absurd are
 lines_sized names before (text ∷ texts) (located ∷ located_lines) are is =
-    let all : names ≡ names_of before ++ names_of (located ∷ located_lines) = is ∙ flat_map-append (λ (r : LocatedLine). r.names) before (located ∷ located_lines) in (
+    let all : names ≡ names_of before ++ names_of (located ∷ located_lines) =
+    is ∙ flat_map-append (λ (r : LocatedLine). r.names) before (located ∷ located_lines) in (
       size_here names located located.location refl
-          (λ location. keeps_size (names_of before) (names_of (located ∷ located_lines)) names located.location location located.line located.form located.size are.0.clean are.0.is_located_line.size all),
+          (λ location. keeps_size (names_of before) (names_of (located ∷ located_lines)) names located.location
+          location located.line located.form located.size are.0.clean are.0.is_located_line.size all),
       lines_sized names (before ++ located ∷ []) texts located_lines are.1 (is ∙ ap names_of (sym (append_assoc before (located ∷ []) located_lines))),
     )
 
 kept_sized : (names : Names) (kept : KeptLine) (located : LocatedLine) → IsKept kept located → LineHasSize names located → KeepsSize names kept
 kept_sized names kept located is size =
     subst (λ (o : Option Location). HasSize names o kept.size (content_in kept)) (sym is.location)
-    (subst (λ (n : ℕ). HasSize names located.location n (content_in kept)) (sym is.size) (subst (λ (o : Option Content). HasSize names located.location located.size o) (sym is.content) size))
+    (subst (λ (n : ℕ). HasSize names located.location n (content_in kept)) (sym is.size)
+    (subst (λ (o : Option Content). HasSize names located.location located.size o) (sym is.content) size))
 
-kepts_sized : (names : Names) (kepts : List KeptLine) (located_lines : List LocatedLine) → AreKeptLines kepts located_lines → AllByRecursion (LineHasSize names) located_lines → AllByRecursion (KeepsSize names) kepts
+kepts_sized : (names : Names) (kepts : List KeptLine) (located_lines : List LocatedLine)
+    → AreKeptLines kepts located_lines → AllByRecursion (LineHasSize names) located_lines → AllByRecursion (KeepsSize names) kepts
 kepts_sized names [] [] are sized = tt
 kepts_sized names [] (located ∷ located_lines) are sized = absurd are
 kepts_sized names (kept ∷ kepts) [] are sized = absurd are
-kepts_sized names (kept ∷ kepts) (located ∷ located_lines) are sized = (kept_sized names kept located are.0 sized.0, kepts_sized names kepts located_lines are.1 sized.1)
+kepts_sized names (kept ∷ kepts) (located ∷ located_lines) are sized =
+    (kept_sized names kept located are.0 sized.0, kepts_sized names kepts located_lines are.1 sized.1)
 
-reads_sized : (source : List ℕ) (names : Names) (kepts : List KeptLine) (reads : Reads source names kepts) → AllByRecursion (LineHasSize names) reads.located_lines
+reads_sized : (source : List ℕ) (names : Names) (kepts : List KeptLine) (reads : Reads source names kepts)
+    → AllByRecursion (LineHasSize names) reads.located_lines
 reads_sized source names kepts reads = lines_sized names [] (text_lines source) reads.located_lines reads.are_located_lines reads.names_are
 
 pub all_sized : (source : List ℕ) (names : Names) (kepts : List KeptLine) → Reads source names kepts → AllByRecursion (KeepsSize names) kepts
 all_sized source names kepts reads =
-    kepts_sized names kepts reads.located_lines (are_kept_lines source (text_lines source) kepts reads.located_lines reads.are_kept) (reads_sized source names kepts reads)
+    kepts_sized names kepts reads.located_lines
+    (are_kept_lines source (text_lines source) kepts reads.located_lines reads.are_kept) (reads_sized source names kepts reads)
 
 -- ---- what rows place, and their faults
 entries_is : (names : Names) (kept : KeptLine) (located : LocatedLine) → IsKept kept located → entries_by names kept ≡ placed_by names located
 unfolding placed_by
 entries_is names kept located is =
     ap (λ (o : Option Location). placed_at names o kept.size (content_in kept)) is.location
-    ∙ ap (λ (n : ℕ). placed_at names located.location n (content_in kept)) is.size ∙ ap (λ (o : Option Content). placed_at names located.location located.size o) is.content
+    ∙ ap (λ (n : ℕ). placed_at names located.location n (content_in kept)) is.size
+    ∙ ap (λ (o : Option Content). placed_at names located.location located.size o) is.content
 
-entries_are : (names : Names) (kepts : List KeptLine) (located_lines : List LocatedLine) → AreKeptLines kepts located_lines → entries_by_all names kepts ≡ placed_by_all names located_lines
+entries_are : (names : Names) (kepts : List KeptLine) (located_lines : List LocatedLine) → AreKeptLines kepts located_lines
+    → entries_by_all names kepts ≡ placed_by_all names located_lines
 entries_are names [] [] are = refl
 entries_are names [] (located ∷ located_lines) are = absurd are
 entries_are names (kept ∷ kepts) [] are = absurd are
@@ -117,27 +132,29 @@ entries_are names (kept ∷ kepts) (located ∷ located_lines) are =
     ∙ ap (λ (es : List (ℕ × ℕ)). placed_by names located ++ es) (entries_are names kepts located_lines are.1)
 
 fault_is : (names : Names) (is_taken : ℕ → Bool) (kept : KeptLine) (located : LocatedLine) → IsKept kept located
-    → late_fault names is_taken (is_some located.line.label) located.location located.size (content_of located.line.statement located.form) ≡ kept_fault names is_taken kept
+    → late_fault names is_taken (is_some located.line.label) located.location located.size (content_of located.line.statement located.form)
+    ≡ kept_fault names is_taken kept
 fault_is names is_taken kept located is =
     sym (ap (λ (b : Bool). late_fault names is_taken b kept.location kept.size (content_in kept)) is.label
     ∙ ap (λ (o : Option Location). late_fault names is_taken (is_some located.line.label) o kept.size (content_in kept)) is.location
     ∙ ap (λ (n : ℕ). late_fault names is_taken (is_some located.line.label) located.location n (content_in kept)) is.size
     ∙ ap (λ (o : Option Content). late_fault names is_taken (is_some located.line.label) located.location located.size o) is.content)
 
-located_fault_is : (names : Names) (befores : List KeptLine) (before : List LocatedLine) (kept : KeptLine) (located : LocatedLine) → AreKeptLines befores before → IsKept kept located
-    → located_fault names before located ≡ kept_fault names (is_placed (entries_by_all names befores)) kept
+located_fault_is : (names : Names) (befores : List KeptLine) (before : List LocatedLine) (kept : KeptLine) (located : LocatedLine)
+    → AreKeptLines befores before → IsKept kept located → located_fault names before located ≡ kept_fault names (is_placed (entries_by_all names befores)) kept
 located_fault_is names befores before kept located are is =
     fault_is names (is_placed (placed_by_all names before)) kept located is
     ∙ ap (λ (es : List (ℕ × ℕ)). kept_fault names (is_placed es) kept) (sym (entries_are names befores before are))
 
-kept_push : (befores : List KeptLine) (before : List LocatedLine) (kept : KeptLine) (located : LocatedLine) → AreKeptLines befores before → IsKept kept located → AreKeptLines (befores ++ kept ∷ []) (before ++ located ∷ [])
+kept_push : (befores : List KeptLine) (before : List LocatedLine) (kept : KeptLine) (located : LocatedLine)
+    → AreKeptLines befores before → IsKept kept located → AreKeptLines (befores ++ kept ∷ []) (before ++ located ∷ [])
 kept_push [] [] kept located are is = (is, tt)
 kept_push [] (r ∷ rs) kept located are is = absurd are
 kept_push (k ∷ ks) [] kept located are is = absurd are
 kept_push (k ∷ ks) (r ∷ rs) kept located are is = (are.0, kept_push ks rs kept located are.1 is)
 
-faultless_are : (names : Names) (befores : List KeptLine) (before : List LocatedLine) (kepts : List KeptLine) (located_lines : List LocatedLine) → AreKeptLines befores before → AreKeptLines kepts located_lines
-    → AreFaultlessKept names befores kepts → AreFaultless names before located_lines
+faultless_are : (names : Names) (befores : List KeptLine) (before : List LocatedLine) (kepts : List KeptLine) (located_lines : List LocatedLine)
+    → AreKeptLines befores before → AreKeptLines kepts located_lines → AreFaultlessKept names befores kepts → AreFaultless names before located_lines
 faultless_are names befores before [] [] front are free = tt
 faultless_are names befores before [] (located ∷ located_lines) front are free = absurd are
 faultless_are names befores before (kept ∷ kepts) [] front are free = absurd are
@@ -167,29 +184,36 @@ stands names before has_label (Some location) size content none has_size =
     let can = can_stand names (is_placed before) has_label location size content none in
     let keys = keys_at names location size content (has_size can.known can.fits) in
     record {
-      differ = subst (λ (ks : List ℕ). IsDistinct (λ a b. a == b) ks) (sym keys) (addresses_differ location 0 size (few_bytes location size has_label can.within));
+      differ =
+          subst (λ (ks : List ℕ). IsDistinct (λ a b. a == b) ks) (sym keys) (addresses_differ location 0 size (few_bytes location size has_label can.within));
       free = ap (list_any (is_placed before)) keys ∙ can.free;
     }
 
 fits_at : (names : Names) (is_taken : ℕ → Bool) (located : LocatedLine) (location : Location) → located.location ≡ Some location
-    → late_fault names is_taken (is_some located.line.label) located.location located.size (content_of located.line.statement located.form) ≡ None → FitsAt names located location
+    → late_fault names is_taken (is_some located.line.label) located.location located.size (content_of located.line.statement located.form) ≡ None
+    → FitsAt names located location
 fits_at names is_taken located location at none =
     let can = can_stand names is_taken (is_some located.line.label) location located.size (content_of located.line.statement located.form)
-    (ap (λ (o : Option Location). late_fault names is_taken (is_some located.line.label) o located.size (content_of located.line.statement located.form)) (sym at) ∙ none) in
+    (ap (λ (o : Option Location). late_fault names is_taken (is_some located.line.label) o located.size (content_of located.line.statement located.form))
+    (sym at)
+    ∙ none) in
     record { known = can.known; fits = can.fits; within = can.within }
 
 all_fit : (names : Names) (before located_lines : List LocatedLine) → AreFaultless names before located_lines → AllByRecursion (Fits names) located_lines
 all_fit names before [] free = tt
-all_fit names before (located ∷ located_lines) free =
-    ((λ location at. fits_at names (is_placed (placed_by_all names before)) located location at free.0), all_fit names (before ++ located ∷ []) located_lines free.1)
+all_fit names before (located ∷ located_lines) free = (
+  (λ location at. fits_at names (is_placed (placed_by_all names before)) located location at free.0),
+  all_fit names (before ++ located ∷ []) located_lines free.1,
+)
 
 line_stands : (names : Names) (before : List LocatedLine) (located : LocatedLine) → located_fault names before located ≡ None → LineHasSize names located
     → Stands names (placed_by_all names before) located.location located.size (content_of located.line.statement located.form)
 line_stands names before located none has_size =
-    stands names (placed_by_all names before) (is_some located.line.label) located.location located.size (content_of located.line.statement located.form) none has_size
+    stands names (placed_by_all names before) (is_some located.line.label) located.location located.size
+    (content_of located.line.statement located.form) none has_size
 
-keys_differ : (names : Names) (before : List LocatedLine) (located : LocatedLine) → located_fault names before located ≡ None → LineHasSize names located → IsDistinct (λ a b. a == b) (keys_of (placed_by_all names before))
-    → IsDistinct (λ a b. a == b) (keys_of (placed_by_all names (before ++ located ∷ [])))
+keys_differ : (names : Names) (before : List LocatedLine) (located : LocatedLine) → located_fault names before located ≡ None → LineHasSize names located
+    → IsDistinct (λ a b. a == b) (keys_of (placed_by_all names before)) → IsDistinct (λ a b. a == b) (keys_of (placed_by_all names (before ++ located ∷ [])))
 unfolding placed_by
 keys_differ names before located none has_size differ =
     let here = placed_at names located.location located.size (content_of located.line.statement located.form) in
@@ -200,9 +224,11 @@ keys_differ names before located none has_size differ =
     ap keys_of all ∙ map-append (λ (e : ℕ × ℕ). e.0) (placed_by_all names before) here in
     subst (λ (ks : List ℕ). IsDistinct (λ a b. a == b) ks) (sym keys) (still_differ (placed_by_all names before) (keys_of here) differ at.differ at.free)
 
-all_differ : (names : Names) (before located_lines : List LocatedLine) → AreFaultless names before located_lines → AllByRecursion (LineHasSize names) located_lines
-    → IsDistinct (λ a b. a == b) (keys_of (placed_by_all names before)) → IsDistinct (λ a b. a == b) (keys_of (placed_by_all names (before ++ located_lines)))
-all_differ names before [] free sized differ = subst (λ (rs : List LocatedLine). IsDistinct (λ a b. a == b) (keys_of (placed_by_all names rs))) (sym (append-nil before)) differ
+all_differ : (names : Names) (before located_lines : List LocatedLine) → AreFaultless names before located_lines
+    → AllByRecursion (LineHasSize names) located_lines → IsDistinct (λ a b. a == b) (keys_of (placed_by_all names before))
+    → IsDistinct (λ a b. a == b) (keys_of (placed_by_all names (before ++ located_lines)))
+all_differ names before [] free sized differ =
+    subst (λ (rs : List LocatedLine). IsDistinct (λ a b. a == b) (keys_of (placed_by_all names rs))) (sym (append-nil before)) differ
 all_differ names before (located ∷ located_lines) free sized differ =
     subst (λ (rs : List LocatedLine). IsDistinct (λ a b. a == b) (keys_of (placed_by_all names rs))) (append_assoc before (located ∷ []) located_lines)
     (all_differ names (before ++ located ∷ []) located_lines free.1 sized.1 (keys_differ names before located free.0 sized.0 differ))
@@ -212,7 +238,8 @@ unfolding IsDistinct
 none_differ = tt
 
 -- ---- the image of all rows
-pub are_placed : (names : Names) (located_lines : List LocatedLine) → AreFaultless names [] located_lines → AllByRecursion (LineHasSize names) located_lines → names ≡ names_of located_lines → IsImage (with_entries [] (placed_by_all names located_lines))
+pub are_placed : (names : Names) (located_lines : List LocatedLine) → AreFaultless names [] located_lines
+    → AllByRecursion (LineHasSize names) located_lines → names ≡ names_of located_lines → IsImage (with_entries [] (placed_by_all names located_lines))
     → ArePlaced located_lines (with_entries [] (placed_by_all names located_lines))
 are_placed names located_lines free sized is is_image =
     let differ : IsDistinct (λ a b. a == b) (keys_of (placed_by_all names located_lines)) = all_differ names [] located_lines free sized none_differ in
@@ -220,21 +247,24 @@ are_placed names located_lines free sized is is_image =
       fit = subst (λ (n : Names). AllByRecursion (Fits n) located_lines) is (all_fit names [] located_lines free);
       once = subst (λ (n : Names). IsDistinct (λ a b. a == b) (keys_of (placed_by_all n located_lines))) is differ;
       is_image = is_image;
-      bytes = subst (λ (n : Names). (address byte : ℕ) → (image_byte (with_entries [] (placed_by_all names located_lines)) address ≡ Some byte) ↔ Contains (placed_by_all n located_lines) (address, byte)) is
-          (bytes_are (placed_by_all names located_lines) differ);
+      bytes = subst (λ (n : Names). (address byte : ℕ)
+          → (image_byte (with_entries [] (placed_by_all names located_lines)) address ≡ Some byte) ↔ Contains (placed_by_all n located_lines) (address, byte))
+          is (bytes_are (placed_by_all names located_lines) differ);
     }
 
-pub gives : (source : List ℕ) (names : Names) (kepts : List KeptLine) (image : List (ℕ × ℕ)) → Reads source names kepts → image ≡ with_entries [] (entries_by_all names kepts)
-    → AreFaultlessKept names [] kepts → IsImage image → Gives source image
+pub gives : (source : List ℕ) (names : Names) (kepts : List KeptLine) (image : List (ℕ × ℕ))
+    → Reads source names kepts → image ≡ with_entries [] (entries_by_all names kepts) → AreFaultlessKept names [] kepts → IsImage image → Gives source image
 gives source names kepts image reads is free is_image =
     let kept = are_kept_lines source (text_lines source) kepts reads.located_lines reads.are_kept in
-    let same : image ≡ with_entries [] (placed_by_all names reads.located_lines) = is ∙ ap (with_entries []) (entries_are names kepts reads.located_lines kept) in
+    let same : image ≡ with_entries [] (placed_by_all names reads.located_lines) =
+    is ∙ ap (with_entries []) (entries_are names kepts reads.located_lines kept) in
     record {
       within = reads.within;
       located_lines = reads.located_lines;
       are_located_lines = reads.are_located_lines;
       placed = subst (λ (im : List (ℕ × ℕ)). ArePlaced reads.located_lines im) (sym same)
-          (are_placed names reads.located_lines (faultless_are names [] [] kepts reads.located_lines tt kept free) (reads_sized source names kepts reads) reads.names_are
+          (are_placed names reads.located_lines (faultless_are names [] [] kepts reads.located_lines tt kept free)
+          (reads_sized source names kepts reads) reads.names_are
           (subst (λ (im : List (ℕ × ℕ)). IsImage im) same is_image));
     }
 
@@ -247,9 +277,11 @@ pub record SplitsAt (front : List KeptLine) (kept : KeptLine) (located_lines : L
   pub are_kept : AreKeptLines front before
   pub is_kept : IsKept kept located
 
-splits_at : (front : List KeptLine) (kept : KeptLine) (back : List KeptLine) (located_lines : List LocatedLine) → AreKeptLines (front ++ kept ∷ back) located_lines → SplitsAt front kept located_lines
+splits_at : (front : List KeptLine) (kept : KeptLine) (back : List KeptLine) (located_lines : List LocatedLine)
+    → AreKeptLines (front ++ kept ∷ back) located_lines → SplitsAt front kept located_lines
 splits_at [] kept back [] are = absurd are
-splits_at [] kept back (located ∷ located_lines) are = record { before = []; located = located; back = located_lines; split = refl; are_kept = tt; is_kept = are.0 }
+splits_at [] kept back (located ∷ located_lines) are =
+    record { before = []; located = located; back = located_lines; split = refl; are_kept = tt; is_kept = are.0 }
 splits_at (k ∷ ks) kept back [] are = absurd are
 splits_at (k ∷ ks) kept back (located ∷ located_lines) are =
     let rest = splits_at ks kept back located_lines are.1 in
@@ -262,8 +294,9 @@ splits_at (k ∷ ks) kept back (located ∷ located_lines) are =
       is_kept = rest.is_kept;
     }
 
-late_fault_at : (names : Names) (front : List KeptLine) (kept : KeptLine) (located_lines : List LocatedLine) (fault : SourceFault) (number : ℕ) → SplitsAt front kept located_lines → names ≡ names_of located_lines
-    → AreFaultlessKept names [] front → kept_fault names (is_placed (entries_by_all names front)) kept ≡ Some fault → number ≡ length front + 1 → HasLateFault located_lines fault number
+late_fault_at : (names : Names) (front : List KeptLine) (kept : KeptLine) (located_lines : List LocatedLine) (fault : SourceFault) (number : ℕ)
+    → SplitsAt front kept located_lines → names ≡ names_of located_lines → AreFaultlessKept names [] front
+    → kept_fault names (is_placed (entries_by_all names front)) kept ≡ Some fault → number ≡ length front + 1 → HasLateFault located_lines fault number
 late_fault_at names front kept located_lines fault number at is free found counted = record {
   front = at.before;
   located = at.located;
@@ -271,12 +304,15 @@ late_fault_at names front kept located_lines fault number at is free found count
   split = at.split;
   counted = ap (λ (n : ℕ). n + 1) (same_length front at.before at.are_kept) ∙ sym counted;
   placed = subst (λ (n : Names). AreFaultless n [] at.before) is (faultless_are names [] [] front at.before tt at.are_kept free);
-  found = subst (λ (n : Names). located_fault n at.before at.located ≡ Some fault) is (located_fault_is names front at.before kept at.located at.are_kept at.is_kept ∙ found);
+  found = subst (λ (n : Names). located_fault n at.before at.located ≡ Some fault) is
+      (located_fault_is names front at.before kept at.located at.are_kept at.is_kept ∙ found);
 }
 
-item_split : (kepts : List KeptLine) (i : ℕ) (kept : KeptLine) → i < length kepts → get_or kepts i kept ≡ kept → kepts ≡ take i kepts ++ kept ∷ drop (suc i) kepts
+item_split : (kepts : List KeptLine) (i : ℕ) (kept : KeptLine) → i < length kepts → get_or kepts i kept ≡ kept
+    → kepts ≡ take i kepts ++ kept ∷ drop (suc i) kepts
 item_split kepts i kept within is =
-    sym (take-append-drop i kepts) ∙ ap (λ (ks : List KeptLine). take i kepts ++ ks) (drop-cons kepts i kept within ∙ ap (λ (k : KeptLine). k ∷ drop (suc i) kepts) is)
+    sym (take-append-drop i kepts)
+    ∙ ap (λ (ks : List KeptLine). take i kepts ++ ks) (drop-cons kepts i kept within ∙ ap (λ (k : KeptLine). k ∷ drop (suc i) kepts) is)
 
 first_fault : (source : List ℕ) (names : Names) (kepts : List KeptLine) (image : List (ℕ × ℕ)) (i : ℕ) (kept : KeptLine) (fault : SourceFault) (number : ℕ)
     → Reads source names kepts → i < length kepts → get_or kepts i kept ≡ kept → image ≡ with_entries [] (entries_by_all names (take i kepts))
@@ -284,7 +320,8 @@ first_fault : (source : List ℕ) (names : Names) (kepts : List KeptLine) (image
 first_fault source names kepts image i kept fault number reads within item is free found counted =
     let are = are_kept_lines source (text_lines source) kepts reads.located_lines reads.are_kept in
     let at : SplitsAt (take i kepts) kept reads.located_lines =
-    splits_at (take i kepts) kept (drop (suc i) kepts) reads.located_lines (subst (λ (ks : List KeptLine). AreKeptLines ks reads.located_lines) (item_split kepts i kept within item) are) in
+    splits_at (take i kepts) kept (drop (suc i) kepts) reads.located_lines
+    (subst (λ (ks : List KeptLine). AreKeptLines ks reads.located_lines) (item_split kepts i kept within item) are) in
     let judged : kept_fault names (is_placed (entries_by_all names (take i kepts))) kept ≡ Some fault =
     sym (ap (λ (im : List (ℕ × ℕ)). kept_fault names (has_byte im) kept) is
     ∙ ap (λ (t : ℕ → Bool). kept_fault names t kept) (taken_is (entries_by_all names (take i kepts)))) ∙ found in
@@ -293,7 +330,8 @@ first_fault source names kepts image i kept fault number reads within item is fr
       inr (record {
         located_lines = reads.located_lines;
         clean = reads.are_located_lines;
-        found = late_fault_at names (take i kepts) kept reads.located_lines fault number at reads.names_are free judged (counted ∙ ap (λ (n : ℕ). n + 1) (sym long));
+        found = late_fault_at names (take i kepts) kept reads.located_lines fault number at reads.names_are free judged
+            (counted ∙ ap (λ (n : ℕ). n + 1) (sym long));
       }),
     )
 
@@ -310,18 +348,21 @@ front_more : (kepts : List KeptLine) (i : ℕ) (kept : KeptLine) → i < length 
 front_more kepts i kept within is = take_more kepts i kept within ∙ ap (λ (k : KeptLine). take i kepts ++ k ∷ []) is
 
 pub placed_more : (names : Names) (kepts : List KeptLine) (i : ℕ) (kept : KeptLine) (image new : List (ℕ × ℕ)) → i < length kepts → get_or kepts i kept ≡ kept
-    → image ≡ with_entries [] (entries_by_all names (take i kepts)) → new ≡ with_entries image (entries_by names kept) → new ≡ with_entries [] (entries_by_all names (take (i + 1) kepts))
+    → image ≡ with_entries [] (entries_by_all names (take i kepts)) → new ≡ with_entries image (entries_by names kept)
+    → new ≡ with_entries [] (entries_by_all names (take (i + 1) kepts))
 placed_more names kepts i kept image new within item is put =
     let all : entries_by_all names (take (i + 1) kepts) ≡ entries_by_all names (take i kepts) ++ entries_by names kept =
     ap (entries_by_all names) (front_more kepts i kept within item) ∙ flat_map-append (entries_by names) (take i kepts) (kept ∷ [])
     ∙ ap (λ (es : List (ℕ × ℕ)). entries_by_all names (take i kepts) ++ es) (append-nil (entries_by names kept)) in
     put ∙ ap (λ (im : List (ℕ × ℕ)). with_entries im (entries_by names kept)) is
     ∙ sym (ap (with_entries []) all
-    ∙ fold-append (λ (held : List (ℕ × ℕ)) (entry : ℕ × ℕ). insert_entry nat_cmp held entry.0 entry.1) [] (entries_by_all names (take i kepts)) (entries_by names kept))
+    ∙ fold-append (λ (held : List (ℕ × ℕ)) (entry : ℕ × ℕ). insert_entry nat_cmp held entry.0 entry.1)
+    [] (entries_by_all names (take i kepts)) (entries_by names kept))
 
-faultless_push : (names : Names) (before front : List KeptLine) (kept : KeptLine) → AreFaultlessKept names before front → kept_fault names (is_placed (entries_by_all names (before ++ front))) kept ≡ None
-    → AreFaultlessKept names before (front ++ kept ∷ [])
-faultless_push names before [] kept free none = (ap (λ (ks : List KeptLine). kept_fault names (is_placed (entries_by_all names ks)) kept) (sym (append-nil before)) ∙ none, tt)
+faultless_push : (names : Names) (before front : List KeptLine) (kept : KeptLine) → AreFaultlessKept names before front
+    → kept_fault names (is_placed (entries_by_all names (before ++ front))) kept ≡ None → AreFaultlessKept names before (front ++ kept ∷ [])
+faultless_push names before [] kept free none =
+    (ap (λ (ks : List KeptLine). kept_fault names (is_placed (entries_by_all names ks)) kept) (sym (append-nil before)) ∙ none, tt)
 faultless_push names before (k ∷ ks) kept free none = (
   free.0,
   faultless_push names (before ++ k ∷ []) ks kept free.1
@@ -335,7 +376,8 @@ faultless_more names kepts i kept image within item is free none =
     let judged : kept_fault names (is_placed (entries_by_all names (take i kepts))) kept ≡ None =
     sym (ap (λ (im : List (ℕ × ℕ)). kept_fault names (has_byte im) kept) is
     ∙ ap (λ (t : ℕ → Bool). kept_fault names t kept) (taken_is (entries_by_all names (take i kepts)))) ∙ none in
-    subst (λ (ks : List KeptLine). AreFaultlessKept names [] ks) (sym (front_more kepts i kept within item)) (faultless_push names [] (take i kepts) kept free judged)
+    subst (λ (ks : List KeptLine). AreFaultlessKept names [] ks)
+    (sym (front_more kepts i kept within item)) (faultless_push names [] (take i kepts) kept free judged)
 
 pub whole : (kepts : List KeptLine) (i : ℕ) → length kepts ≤ i → take i kepts ≡ kepts
 whole kepts i past = take_all i kepts past

@@ -34,7 +34,11 @@ record AllFalse (a b c d e : Bool) : Type 0 where
   fourth : d ≡ false
   fifth : e ≡ false
 
-chain_none : (a b c d e : Bool) → (if a then Some BadLine else (if b then Some UnknownName else (if c then Some BadForm else (if d then Some TwiceDefined else (if e then Some NoSegment else None))))) ≡ None → AllFalse a b c d e
+chain_none : (a b c d e : Bool)
+    → (if a then Some BadLine
+    else (if b then Some UnknownName else (if c then Some BadForm else (if d then Some TwiceDefined else (if e then Some NoSegment else None)))))
+    ≡ None
+    → AllFalse a b c d e
 chain_none true b c d e none = cc
 chain_none false true c d e none = cc
 chain_none false false true d e none = cc
@@ -46,29 +50,34 @@ pub record IsClean (names : Names) (line : Line) : Type 0 where
   pub constants : has_wrong_constant names line.statement ≡ false
   pub undefined : defines_again names line ≡ false
 
-pub is_clean : (names : Names) (location : Option Location) (line : Line) (form : Option Form) → early_fault names location line form ≡ None → IsClean names line
+pub is_clean : (names : Names) (location : Option Location) (line : Line) (form : Option Form)
+    → early_fault names location line form ≡ None → IsClean names line
 unfolding early_fault
 is_clean names location line form none =
-    let all = chain_none (opens_within location line.statement || has_wrong_constant names line.statement) (has_unknown_constant names line.statement) (lacks_form line.statement form) (defines_again names line) (stands_outside location line) none in
+    let all = chain_none (opens_within location line.statement || has_wrong_constant names line.statement)
+    (has_unknown_constant names line.statement) (lacks_form line.statement form) (defines_again names line) (stands_outside location line) none in
     record { constants = (or_false (opens_within location line.statement) (has_wrong_constant names line.statement) all.first).1; undefined = all.fourth }
 
 -- the row of a line
-pub is_located_line : (names : Names) (location : Option Location) (text : List ℕ) (line : Line) (form : Option Form) → read_line text ≡ Ok line → IsFormOf names line.statement form
-    → IsLocatedLine names location text (located_of names location line form)
+pub is_located_line : (names : Names) (location : Option Location) (text : List ℕ) (line : Line) (form : Option Form)
+    → read_line text ≡ Ok line → IsFormOf names line.statement form → IsLocatedLine names location text (located_of names location line form)
 is_located_line names location text line form reads chosen = record { reads = reads; form = chosen; size = refl; location = refl; next = refl; names = refl }
 
-pub read_fault : (names : Names) (location : Option Location) (text : List ℕ) (found : SyntaxFault) → read_line text ≡ Err found → IsTextFault names location text (fault_of_line found)
+pub read_fault : (names : Names) (location : Option Location) (text : List ℕ) (found : SyntaxFault)
+    → read_line text ≡ Err found → IsTextFault names location text (fault_of_line found)
 read_fault names location text found reads = inl (found, reads, refl)
 
-pub located_fault : (names : Names) (location : Option Location) (text : List ℕ) (line : Line) (form : Option Form) (fault : SourceFault) → read_line text ≡ Ok line → IsFormOf names line.statement form
-    → early_fault names location line form ≡ Some fault → IsTextFault names location text fault
-located_fault names location text line form fault reads chosen found = inr (located_of names location line form, is_located_line names location text line form reads chosen, found)
+pub located_fault : (names : Names) (location : Option Location) (text : List ℕ) (line : Line) (form : Option Form) (fault : SourceFault)
+    → read_line text ≡ Ok line → IsFormOf names line.statement form → early_fault names location line form ≡ Some fault → IsTextFault names location text fault
+located_fault names location text line form fault reads chosen found =
+    inr (located_of names location line form, is_located_line names location text line form reads chosen, found)
 
 ends_by : (limit : ℕ) (location : Option Location) (size : ℕ) → offset_of location + size ≤ limit → EndsBy limit location size
 ends_by limit None size near = tt
 ends_by limit (Some location) size near = near
 
-is_content : (statement : Statement) (form : Option Form) → are_terms_within term_limit statement ≡ true → IfSome form IsForm → IsContent (content_of statement form)
+is_content : (statement : Statement) (form : Option Form) → are_terms_within term_limit statement ≡ true → IfSome form IsForm
+    → IsContent (content_of statement form)
 is_content Empty form short shape = tt
 is_content (Segment name n) form short shape = tt
 is_content Ends form short shape = tt
@@ -81,7 +90,8 @@ is_content (Instruction i) (Some f) short shape = (short, shape)
 lighter : (size weight n : ℕ) → size ≤ size_limit weight → weight ≤ n → size ≤ size_limit n
 lighter size weight n bound light = omega arith
 
-steady : (kept : KeptLine) (location : Option Location) (size : ℕ) (statement : Statement) (form : Option Form) → kept.location ≡ location → kept.size ≡ size → content_in kept ≡ content_of statement form
+steady : (kept : KeptLine) (location : Option Location) (size : ℕ) (statement : Statement) (form : Option Form)
+    → kept.location ≡ location → kept.size ≡ size → content_in kept ≡ content_of statement form
     → offset_of location + size ≤ 2 ^ 40 → are_terms_within term_limit statement ≡ true → IfSome form IsForm → IsSteady kept
 steady kept location size statement form is sized holds near short shape = record {
   ends = subst (λ (o : Option Location). EndsBy (2 ^ 40) o kept.size) (sym is) (ends_by (2 ^ 40) location kept.size (rw sized near));
@@ -99,7 +109,8 @@ longer a b size n bound grows = omega arith
 
 -- what the state and the kept row are after a line without a fault
 pub adds_line : (old new : Before) (start length : ℕ) (line : Line) (form : Option Form) (kept : KeptLine)
-    → AreSmall old.symbols.entries → offset_of old.location + size_limit length ≤ 2 ^ 40 → are_terms_within term_limit line.statement ≡ true → statement_weight line.statement ≤ length
+    → AreSmall old.symbols.entries → offset_of old.location + size_limit length ≤ 2 ^ 40 → are_terms_within term_limit line.statement ≡ true
+    → statement_weight line.statement ≤ length
     → IfSome form IsForm → IsClean old.symbols.entries line
     → size_of old.symbols.entries line.statement form ≤ size_limit (statement_weight line.statement)
     → offset_of new.location ≤ offset_of old.location + size_of old.symbols.entries line.statement form + 65535
@@ -117,7 +128,8 @@ adds_line old new start length line form kept small room short light shape clean
           (nearer (offset_of old.location) (size_of old.symbols.entries line.statement form) length size room) short shape;
       small = subst (λ (n : Names). AreSmall n) (sym names)
           (small_append (old.symbols.entries ++ label_definition old.location line.label) (statement_definition old.symbols.entries line.statement)
-          (small_append old.symbols.entries (label_definition old.location line.label) small (small_label old.location line.label (near (offset_of old.location) length room)))
+          (small_append old.symbols.entries (label_definition old.location line.label) small
+          (small_label old.location line.label (near (offset_of old.location) length room)))
           (small_statement old.symbols.entries line.statement clean.constants));
       grows = longer (offset_of old.location) (offset_of new.location) (size_of old.symbols.entries line.statement form) length size grows;
     }
@@ -128,7 +140,7 @@ is_short start n statement place within = let le : n ≤ term_limit = omega arit
 pub is_light : (start n : ℕ) (statement : Statement) → start + n ≤ source_limit → IsWithin n statement → statement_weight statement ≤ term_limit
 is_light start n statement place within = omega (arith, within.pieces)
 
-pub added_names : (old mid new : Names) (l d : Option (Name × Symbol)) (ls ds : Names) → definition_names l ≡ ls → definition_names d ≡ ds → mid ≡ old ++ definition_names l → new ≡ mid ++ definition_names d
-    → new ≡ (old ++ ls) ++ ds
+pub added_names : (old mid new : Names) (l d : Option (Name × Symbol)) (ls ds : Names)
+    → definition_names l ≡ ls → definition_names d ≡ ds → mid ≡ old ++ definition_names l → new ≡ mid ++ definition_names d → new ≡ (old ++ ls) ++ ds
 added_names old mid new l d ls ds label constant first second =
     second ∙ ap (λ (m : Names). m ++ definition_names d) (first ∙ ap (λ (n : Names). old ++ n) label) ∙ ap (λ (n : Names). (old ++ ls) ++ n) constant

@@ -51,8 +51,8 @@ text_stands source passed rest text after start is line starts =
     ap (λ (n : ℕ). take (length text) (drop n source)) starts ∙ ap (λ (s : List ℕ). take (length text) s) (drop_passed source passed rest is ∙ line.parts.1)
     ∙ take-append_seam text (line.parts.0 ++ after)
 
-keeps_it : (source text : List ℕ) (start : ℕ) (kept : KeptLine) (located : LocatedLine) → start + length text ≤ length source → take (length text) (drop start source) ≡ text
-    → KeepsLine start (length text) kept located → Keeps source text kept located
+keeps_it : (source text : List ℕ) (start : ℕ) (kept : KeptLine) (located : LocatedLine) → start + length text ≤ length source
+    → take (length text) (drop start source) ≡ text → KeepsLine start (length text) kept located → Keeps source text kept located
 keeps_it source text start kept located inside stands keeps = record {
   inside = omega (arith, keeps.starts, keeps.ends);
   text = ap (λ (n : ℕ). take n (drop kept.start source)) keeps.ends ∙ ap (λ (n : ℕ). take (length text) (drop n source)) keeps.starts ∙ stands;
@@ -63,10 +63,12 @@ keeps_it source text start kept located inside stands keeps = record {
 }
 
 -- a row that is clean in the light of a state is clean after the rows that left that state
-clean_in : (state : Before) (located_lines : List LocatedLine) (text : List ℕ) (located : LocatedLine) → state.symbols.entries ≡ names_of located_lines → state.location ≡ location_following located_lines
-    → IsLocatedLine state.symbols.entries state.location text located → early_fault state.symbols.entries located.location located.line located.form ≡ None → IsCleanLine located_lines text located
+clean_in : (state : Before) (located_lines : List LocatedLine) (text : List ℕ) (located : LocatedLine) → state.symbols.entries ≡ names_of located_lines
+    → state.location ≡ location_following located_lines → IsLocatedLine state.symbols.entries state.location text located
+    → early_fault state.symbols.entries located.location located.line located.form ≡ None → IsCleanLine located_lines text located
 clean_in state located_lines text located names location is clean = record {
-  is_located_line = subst (λ (n : Names). IsLocatedLine n (location_following located_lines) text located) names (subst (λ (o : Option Location). IsLocatedLine state.symbols.entries o text located) location is);
+  is_located_line = subst (λ (n : Names). IsLocatedLine n (location_following located_lines) text located) names
+      (subst (λ (o : Option Location). IsLocatedLine state.symbols.entries o text located) location is);
   clean = subst (λ (n : Names). early_fault n located.location located.line located.form ≡ None) names clean;
 }
 
@@ -89,22 +91,25 @@ reads_more source rest text after number start old new kept more read line start
       passed = read.passed ++ took;
       texts = read.texts ∙ ap (λ (ls : List (List ℕ)). read.front ++ ls) line.lines ∙ sym (append_assoc read.front (text ∷ []) (text_lines after));
       bytes = read.bytes ∙ ap (λ (r : List ℕ). read.passed ++ r) (taken_is rest text after line) ∙ sym (append_assoc read.passed took after);
-      are_located_lines = lines_push [] read.front read.located_lines text located read.are_located_lines (clean_in old read.located_lines text located read.names read.location keeps.adds.is_located_line keeps.adds.clean);
+      are_located_lines = lines_push [] read.front read.located_lines text located read.are_located_lines
+          (clean_in old read.located_lines text located read.names read.location keeps.adds.is_located_line keeps.adds.clean);
       are_kept = subst (λ (ks : List KeptLine). AreKept source (read.front ++ text ∷ []) ks (read.located_lines ++ located ∷ [])) (sym keeps.kept_last)
           (kept_push source read.front kept read.located_lines text keeps.kept located read.are_kept
-          (keeps_it source text start keeps.kept located (inside_source source read.passed rest text after start read.bytes line at) (text_stands source read.passed rest text after start read.bytes line at) adds.keeps));
+          (keeps_it source text start keeps.kept located (inside_source source read.passed rest text after start read.bytes line at)
+          (text_stands source read.passed rest text after start read.bytes line at) adds.keeps));
       names = adds.names ∙ ap (λ (ns : Names). ns ++ located.names) read.names ∙ sym (names_push read.located_lines located);
       location = adds.location ∙ sym (location_push read.located_lines located);
       counted = omega (arith, read.counted, length-append read.front (text ∷ []));
       each_takes = omega (arith, read.each_takes, size, some);
-      room = rw size (room_left (offset_of old.location) (offset_of new.location) (length text) (length read.passed) (length took) read.room adds.grows (taken_size rest text after line) some);
+      room = rw size (room_left (offset_of old.location) (offset_of new.location) (length text)
+          (length read.passed) (length took) read.room adds.grows (taken_size rest text after line) some);
       small = adds.small;
       steady = subst (λ (ks : List KeptLine). AllByRecursion IsSteady ks) (sym keeps.kept_last) (all_push IsSteady kept keeps.kept read.steady adds.steady);
     }
 
 -- if no line is left, the source is read
-pub reads_all : (source rest : List ℕ) (number : ℕ) (state : Before) (kept : List KeptLine) → HasRead source rest number state kept → text_lines rest ≡ [] → length source ≤ source_limit
-    → Reads source state.symbols.entries kept
+pub reads_all : (source rest : List ℕ) (number : ℕ) (state : Before) (kept : List KeptLine)
+    → HasRead source rest number state kept → text_lines rest ≡ [] → length source ≤ source_limit → Reads source state.symbols.entries kept
 reads_all source rest number state kept read none within =
     let all : text_lines source ≡ read.front = read.texts ∙ ap (λ (ls : List (List ℕ)). read.front ++ ls) none ∙ no_more read.front in
     record {
@@ -117,14 +122,17 @@ reads_all source rest number state kept read none within =
       steady = read.steady;
     }
 
-fault_after : (state : Before) (located_lines : List LocatedLine) (text : List ℕ) (fault : SourceFault) → state.symbols.entries ≡ names_of located_lines → state.location ≡ location_following located_lines
-    → IsTextFault state.symbols.entries state.location text fault → IsTextFault (names_of located_lines) (location_following located_lines) text fault
+fault_after : (state : Before) (located_lines : List LocatedLine) (text : List ℕ) (fault : SourceFault) → state.symbols.entries ≡ names_of located_lines
+    → state.location ≡ location_following located_lines → IsTextFault state.symbols.entries state.location text fault
+    → IsTextFault (names_of located_lines) (location_following located_lines) text fault
 fault_after state located_lines text fault names location found =
-    subst (λ (n : Names). IsTextFault n (location_following located_lines) text fault) names (subst (λ (o : Option Location). IsTextFault state.symbols.entries o text fault) location found)
+    subst (λ (n : Names). IsTextFault n (location_following located_lines) text fault) names
+    (subst (λ (o : Option Location). IsTextFault state.symbols.entries o text fault) location found)
 
 -- the fault of the next line is the source's first
 pub stops_first : (source rest text after : List ℕ) (number : ℕ) (state : Before) (kept : List KeptLine) (fault : AsmFault)
-    → HasRead source rest number state kept → IsLine rest text after → length source ≤ source_limit → StopsAt state text (number + 1) fault → IsFirst source fault
+    → HasRead source rest number state kept → IsLine rest text after
+    → length source ≤ source_limit → StopsAt state text (number + 1) fault → IsFirst source fault
 stops_first source rest text after number state kept SourceTooLong read line within stops = absurd stops
 stops_first source rest text after number state kept Memory read line within stops = tt
 stops_first source rest text after number state kept (InLine fault at) read line within stops = (
@@ -142,7 +150,8 @@ stops_first source rest text after number state kept (InLine fault at) read line
 )
 
 -- nothing is read yet
-pub starts : (source : List ℕ) (state : Before) (kept : List KeptLine) → state.symbols.entries ≡ [] → state.location ≡ None → kept ≡ [] → HasRead source source 0 state kept
+pub starts : (source : List ℕ) (state : Before) (kept : List KeptLine)
+    → state.symbols.entries ≡ [] → state.location ≡ None → kept ≡ [] → HasRead source source 0 state kept
 starts source state kept names location none = record {
   front = [];
   located_lines = [];

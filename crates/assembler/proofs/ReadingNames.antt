@@ -29,7 +29,8 @@ or_false false b none = (refl, none)
 same_either : (a b : Name) → same_name a b ≡ same_name b a
 same_either a b =
     same_from_decides (bytes_eq a.letters b.letters) (bytes_eq b.letters a.letters) (bytes_eq-Decides a.letters b.letters)
-    (Decides-like (bytes_eq b.letters a.letters) (λ (e : b.letters ≡ a.letters). sym e) (λ (e : a.letters ≡ b.letters). sym e) (bytes_eq-Decides b.letters a.letters))
+    (Decides-like (bytes_eq b.letters a.letters) (λ (e : b.letters ≡ a.letters). sym e)
+    (λ (e : a.letters ≡ b.letters). sym e) (bytes_eq-Decides b.letters a.letters))
 
 passed_by : (test : Bool) (x : Symbol) (a b c : Option Symbol) → (if test then Some x else a) ≡ None → (a ≡ None → b ≡ c) → (if test then Some x else b) ≡ c
 passed_by true x a b c none go = cc
@@ -46,11 +47,12 @@ found_by : (test : Bool) (x symbol : Symbol) (a b : Option Symbol) → ((if test
 found_by true x symbol a b small go is = small is
 found_by false x symbol a b small go is = go small is
 
-small_at : (names more : Names) (name : Name) (symbol : Symbol) → (meaning names name ≡ Some symbol → IsSmall symbol) → (meaning more name ≡ Some symbol → IsSmall symbol)
-    → meaning (names ++ more) name ≡ Some symbol → IsSmall symbol
+small_at : (names more : Names) (name : Name) (symbol : Symbol) → (meaning names name ≡ Some symbol → IsSmall symbol)
+    → (meaning more name ≡ Some symbol → IsSmall symbol) → meaning (names ++ more) name ≡ Some symbol → IsSmall symbol
 small_at [] more name symbol one two is = two is
 small_at (d ∷ names) more name symbol one two is =
-    found_by (same_name name d.0) d.1 symbol (meaning names name) (meaning (names ++ more) name) one (λ (small : meaning names name ≡ Some symbol → IsSmall symbol). small_at names more name symbol small two) is
+    found_by (same_name name d.0) d.1 symbol (meaning names name) (meaning (names ++ more) name) one
+    (λ (small : meaning names name ≡ Some symbol → IsSmall symbol). small_at names more name symbol small two) is
 
 pub small_append : (names more : Names) → AreSmall names → AreSmall more → AreSmall (names ++ more)
 small_append names more one two name symbol is = small_at names more name symbol (one name symbol) (two name symbol) is
@@ -100,10 +102,11 @@ label_by : (names : Names) (location : Option Location) (label : Option Name) (d
 label_by names None None d is undefined = cc
 label_by names None (Some name) d is undefined = cc
 label_by names (Some location) None d is undefined = cc
-label_by names (Some location) (Some name) d is undefined = let same : d ≡ (name, Label location) = cc in ap (λ (e : Name × Symbol). is_defined names e.0) same ∙ undefined
+label_by names (Some location) (Some name) d is undefined =
+    let same : d ≡ (name, Label location) = cc in ap (λ (e : Name × Symbol). is_defined names e.0) same ∙ undefined
 
-pub label_new : (names : Names) (location : Option Location) (line : Line) (d : Option (Name × Symbol)) → definition_names d ≡ label_definition location line.label
-    → defines_again names line ≡ false → IsNewDefinition names d
+pub label_new : (names : Names) (location : Option Location) (line : Line) (d : Option (Name × Symbol))
+    → definition_names d ≡ label_definition location line.label → defines_again names line ≡ false → IsNewDefinition names d
 label_new names location line None is undefined = tt
 label_new names location line (Some d) is undefined = label_by names location line.label d is (or_false _ _ undefined).0
 
@@ -125,14 +128,16 @@ unlike_by : (test : Bool) (x : Symbol) → test ≡ false → is_some (if test t
 unlike_by true x is = cc
 unlike_by false x is = refl
 
-unlike_label : (location : Option Location) (label : Option Name) (name : Name) → is_same label (Some name) ≡ false → is_defined (label_definition location label) name ≡ false
+unlike_label : (location : Option Location) (label : Option Name) (name : Name) → is_same label (Some name) ≡ false
+    → is_defined (label_definition location label) name ≡ false
 unlike_label None None name other = refl
 unlike_label None (Some label) name other = refl
 unlike_label (Some location) None name other = refl
 unlike_label (Some location) (Some label) name other = unlike_by (same_name name label) (Label location) (same_either name label ∙ other)
 
-pub statement_new : (names : Names) (location : Option Location) (line : Line) (d : Option (Name × Symbol)) → definition_names d ≡ statement_definition names line.statement
-    → defines_again names line ≡ false → IsNewDefinition (names ++ label_definition location line.label) d
+pub statement_new : (names : Names) (location : Option Location) (line : Line) (d : Option (Name × Symbol))
+    → definition_names d ≡ statement_definition names line.statement → defines_again names line ≡ false
+    → IsNewDefinition (names ++ label_definition location line.label) d
 statement_new names location line None is undefined = tt
 statement_new names location line (Some d) is undefined =
     let named = name_by names line.statement d is in

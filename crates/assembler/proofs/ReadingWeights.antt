@@ -57,7 +57,8 @@ module _ (n m : ℕ) (le : n ≤ m) where
   item_more (Once piece) few = piece_more piece few
   item_more (Repeated count each) few =
       let parts = and_parts (is_expression_within n count) (list_all (is_piece_within n) each) few in
-      and_from (is_expression_within m count) (list_all (is_piece_within m) each) (terms_more count parts.0) (all_more (is_piece_within n) (is_piece_within m) piece_more each parts.1)
+      and_from (is_expression_within m count) (list_all (is_piece_within m) each)
+      (terms_more count parts.0) (all_more (is_piece_within n) (is_piece_within m) piece_more each parts.1)
 
   pub within_more : (statement : Statement) → are_terms_within n statement ≡ true → are_terms_within m statement ≡ true
   within_more Empty few = refl

@@ -72,7 +72,8 @@ pub values_fit : (f : Form) (next : ℤ) (n : Numbers) (v : Values) → values_o
 unfolding values_of
 values_fit f next n v e =
     let k : Kind = field_kind f.row in
-    let are : (displacement_in (displacement_field f.place) n.displacement ≡ Some v.displacement) × (number_in k next n ≡ Some v.number) × (segment_in k n.segment ≡ Some v.segment) =
+    let are : (displacement_in (displacement_field f.place) n.displacement ≡ Some v.displacement)
+    × (number_in k next n ≡ Some v.number) × (segment_in k n.segment ≡ Some v.segment) =
     values_are (displacement_in (displacement_field f.place) n.displacement) (number_in k next n) (segment_in k n.segment) v e in
     record {
       displacement = displacement_fits (displacement_field f.place) n.displacement v.displacement are.0;

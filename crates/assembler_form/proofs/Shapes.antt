@@ -120,7 +120,8 @@ both_regs p None m n one p_fits q_fits = subst (FitsMaybe p) (omega (arith, q_fi
 both_regs (Some _) (Some _) m n one p_fits q_fits = cc
 
 -- a digit leaves reg to no operand
-with_digit : (d : Option ℕ) (p : Option RegPart) (n : ℕ) → (is_none_digit d || is_none p) ≡ true → FitsMaybe p n → FitsMaybe (first_reg (option_map reg_parts.Digit d) p) n
+with_digit : (d : Option ℕ) (p : Option RegPart) (n : ℕ) → (is_none_digit d || is_none p) ≡ true → FitsMaybe p n
+    → FitsMaybe (first_reg (option_map reg_parts.Digit d) p) n
 with_digit None p n one fits = fits
 with_digit (Some _) None n one fits = fits
 with_digit (Some _) (Some _) n one fits = cc
@@ -210,7 +211,8 @@ any_before : (k : Kind) → has_place k ≡ false → (places kinds.Rm8 k ≡ pl
 any_before kinds.Memory e = cc
 any_before _ e = (refl, refl)
 
-any_after : (k : Kind) → has_place k ≡ false → (places k kinds.Rm8 ≡ place_parts.Any) × (places k kinds.Rm16 ≡ place_parts.Any) × (places k kinds.Memory ≡ place_parts.Memory)
+any_after : (k : Kind) → has_place k ≡ false
+    → (places k kinds.Rm8 ≡ place_parts.Any) × (places k kinds.Rm16 ≡ place_parts.Any) × (places k kinds.Memory ≡ place_parts.Memory)
 any_after kinds.Memory e = cc
 any_after _ e = (refl, refl, refl)
 
@@ -247,7 +249,8 @@ named_is_place : (named : PlacePart) (p : Place) → FitsPlace named p → IsPla
 named_is_place place_parts.Any p fits = fits
 named_is_place place_parts.Memory p fits = memory_is_place p fits
 
-both_places : (k l : Kind) (p q : Place) (h j : Bool) → has_place k ≡ h → has_place l ≡ j → has_one_place h j ≡ true → PlaceOfKind k p → PlaceOfKind l q → FitsPlace (places k l) (first_place p q)
+both_places : (k l : Kind) (p q : Place) (h j : Bool) → has_place k ≡ h → has_place l ≡ j
+    → has_one_place h j ≡ true → PlaceOfKind k p → PlaceOfKind l q → FitsPlace (places k l) (first_place p q)
 both_places k l p q true false h_is j_is one p_is q_is =
     let fits : FitsPlace (places k l) p = first_has_place k l p h_is j_is p_is in
     subst (λ x. FitsPlace (places k l) (first_place p x)) (sym (absent_without l q j_is q_is))
@@ -257,7 +260,8 @@ both_places k l p q false true h_is j_is one p_is q_is =
 both_places k l p q true true h_is j_is one p_is q_is = cc
 both_places k l p q false false h_is j_is one p_is q_is = cc
 
-no_places : (k l : Kind) (p q : Place) (h j : Bool) → has_place k ≡ h → has_place l ≡ j → not (h || j) ≡ true → PlaceOfKind k p → PlaceOfKind l q → first_place p q ≡ Absent
+no_places : (k l : Kind) (p q : Place) (h j : Bool) → has_place k ≡ h → has_place l ≡ j
+    → not (h || j) ≡ true → PlaceOfKind k p → PlaceOfKind l q → first_place p q ≡ Absent
 no_places k l p q false false h_is j_is none p_is q_is =
     subst (λ x. first_place x q ≡ Absent) (sym (absent_without k p h_is p_is)) (absent_without l q j_is q_is)
 no_places k l p q true _ h_is j_is none p_is q_is = cc
@@ -267,7 +271,8 @@ fits_none : (k : Kind) (named : PlacePart) (n : ℕ) (p : Place) → n ≡ 0 →
 fits_none kinds.Ten named n p n_is p_is = (n_is, p_is)
 fits_none _ named n p n_is p_is = (n_is, p_is)
 
-second_fits : (part : Option RegPart) (k l : Kind) (n : ℕ) (p q : Place) → has_its_place part (has_place k) (has_place l) ≡ true → FitsMaybe part n → PlaceOfKind k p → PlaceOfKind l q → FitsSecond (second_with part (places k l) k) n (first_place p q)
+second_fits : (part : Option RegPart) (k l : Kind) (n : ℕ) (p q : Place) → has_its_place part (has_place k) (has_place l) ≡ true
+    → FitsMaybe part n → PlaceOfKind k p → PlaceOfKind l q → FitsSecond (second_with part (places k l) k) n (first_place p q)
 second_fits None k l n p q one n_fits p_is q_is =
     fits_none k (places k l) n (first_place p q) n_fits (no_places k l p q (has_place k) (has_place l) refl refl one p_is q_is)
 second_fits (Some part) k l n p q one n_fits p_is q_is =

@@ -81,11 +81,13 @@ byte_asks op x other n small is = ((a_word_is n.number x is small, ap Constant (
 word_asks : (op : Operation) (x : ℕ) (other : KnownOperand) (n : Numbers) → x < 65536 → n.number ≡ pos x → Asks op (Word x) other n (a_number x)
 word_asks op x other n small is = ((a_word_is n.number x is small, ap Constant (sym is)), ap a_number (counted n.number x is))
 
-target_asks : (op : Operation) (x : ℕ) (other : KnownOperand) (n : Numbers) → x < 65536 → Has (target_operand op x) n → Asks op (target_operand op x) other n (a_number x)
+target_asks : (op : Operation) (x : ℕ) (other : KnownOperand) (n : Numbers) → x < 65536 → Has (target_operand op x) n
+    → Asks op (target_operand op x) other n (a_number x)
 target_asks (Control control.Jmp) x other n small is = (a_word_is n.number x is small, ap a_number (counted n.number x is))
 target_asks op x other n small is = word_asks op x other n small is
 
-far_asks : (op : Operation) (s o : ℕ) (other : KnownOperand) (n : Numbers) → s < 65536 → o < 65536 → n.segment ≡ pos s → n.number ≡ pos o → Asks op (Far s o) other n (far_away s o)
+far_asks : (op : Operation) (s o : ℕ) (other : KnownOperand) (n : Numbers)
+    → s < 65536 → o < 65536 → n.segment ≡ pos s → n.number ≡ pos o → Asks op (Far s o) other n (far_away s o)
 far_asks op s o other n p q s_is o_is = ((a_word_is n.segment s s_is p, a_word_is n.number o o_is q), rw (s_is, o_is) refl)
 
 memory_asks : (op : Operation) (kw : Option Keyword) (b : Option BaseType) (d : Option ℕ) (other : KnownOperand) (n : Numbers) (size : Size)
@@ -113,7 +115,8 @@ FitsKind kinds.Memory p = IsMemory p
 FitsKind _ p = Unit {0}
 
 place_asks : (op : Operation) (kw : Option Keyword) (p : Place) (d : ℕ) (other : KnownOperand) (n : Numbers) (size : Size) → d < 65536 → IsMemory p
-    → Has (memory_operand p kw d) n → size_or (said_size kw) (size_beside op other) ≡ Some size → Asks op (memory_operand p kw d) other n (memory_meant size p d)
+    → Has (memory_operand p kw d) n → size_or (said_size kw) (size_beside op other) ≡ Some size
+    → Asks op (memory_operand p kw d) other n (memory_meant size p d)
 place_asks op kw places.Absent d other n size small is has e = absurd is
 place_asks op kw (places.Register r) d other n size small is has e = absurd is
 place_asks op kw places.Direct d other n size small is has e = memory_asks op kw None (Some d) other n size small has e
@@ -186,6 +189,8 @@ kind_asks f v next kinds.Signed8 l other n small place has size = word_asks (ope
 kind_asks f v next kinds.Rel8 l other n small place has size =
     target_asks (operation_of f.row) ((next + sign_extended v.number) % 65536) other n (omega arith) has
 kind_asks f v next kinds.Rel16 l other n small place has size = word_asks (operation_of f.row) ((next + v.number) % 65536) other n (omega arith) has
-kind_asks f v next kinds.At8 l other n small place has size = memory_asks (operation_of f.row) None None (Some v.number) other n sizes.Byte small.number has size
-kind_asks f v next kinds.At16 l other n small place has size = memory_asks (operation_of f.row) None None (Some v.number) other n sizes.Word small.number has size
+kind_asks f v next kinds.At8 l other n small place has size =
+    memory_asks (operation_of f.row) None None (Some v.number) other n sizes.Byte small.number has size
+kind_asks f v next kinds.At16 l other n small place has size =
+    memory_asks (operation_of f.row) None None (Some v.number) other n sizes.Word small.number has size
 kind_asks f v next kinds.Far l other n small place has size = far_asks (operation_of f.row) v.segment v.number other n small.segment small.number has.0 has.1

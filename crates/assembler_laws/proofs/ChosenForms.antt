@@ -121,14 +121,16 @@ signed_value x v e =
     subst (λ (y : ℕ). sign_extended y ≡ x) (sym same) (small_sign x below)
 
 -- a distance to a target, added to the offset that it is counted from
-below_by : (x n : ℕ) (b : Bool) → nat_lt x (suc n) ≡ b → (if b then negsuc (suc n - suc x) else pos (x - suc n)) ≡ (if nat_lt x (suc n) then negsuc (suc n - suc x) else pos (x - suc n))
+below_by : (x n : ℕ) (b : Bool) → nat_lt x (suc n) ≡ b
+    → (if b then negsuc (suc n - suc x) else pos (x - suc n)) ≡ (if nat_lt x (suc n) then negsuc (suc n - suc x) else pos (x - suc n))
 below_by x n b e = ap (λ (c : Bool). if c then negsuc (suc n - suc x) else pos (x - suc n)) (sym e)
 
 difference : (x next : ℕ) → ((x < next) × (pos x -ℤ pos next ≡ negsuc (next - suc x))) ⊎ ((next ≤ x) × (pos x -ℤ pos next ≡ pos (x - next)))
 difference x zero = inr (omega arith, ap pos (omega arith))
 difference x (suc n) = by (nat_lt x (suc n)) refl
   where
-    by : (b : Bool) → nat_lt x (suc n) ≡ b → ((x < suc n) × (pos x -ℤ pos (suc n) ≡ negsuc (suc n - suc x))) ⊎ ((suc n ≤ x) × (pos x -ℤ pos (suc n) ≡ pos (x - suc n)))
+    by : (b : Bool) → nat_lt x (suc n) ≡ b
+        → ((x < suc n) × (pos x -ℤ pos (suc n) ≡ negsuc (suc n - suc x))) ⊎ ((suc n ≤ x) × (pos x -ℤ pos (suc n) ≡ pos (x - suc n)))
     by true e = inl (grind (arith, nat_tests), sym (below_by x n true e))
     by false e = inr (grind (arith, nat_tests), sym (below_by x n false e))
 
@@ -166,7 +168,8 @@ adds x next k w more far near value small = omega (arith, more, far, near, value
 near_back : (x next w : ℕ) → x < 65536 → signed_byte_of (pos x -ℤ pos next) ≡ Some w → (next % 65536 + sign_extended w) % 65536 ≡ x
 near_back x next w small e = by (difference x next)
   where
-    by : ((x < next) × (pos x -ℤ pos next ≡ negsuc (next - suc x))) ⊎ ((next ≤ x) × (pos x -ℤ pos next ≡ pos (x - next))) → (next % 65536 + sign_extended w) % 65536 ≡ x
+    by : ((x < next) × (pos x -ℤ pos next ≡ negsuc (next - suc x))) ⊎ ((next ≤ x) × (pos x -ℤ pos next ≡ pos (x - next)))
+        → (next % 65536 + sign_extended w) % 65536 ≡ x
     by (inl under) =
         let k : ℕ = next - suc x in
         let fits = when_fits (is_within (negsuc 127) (pos 127) (negsuc k)) (modulo 256 (negsuc k)) w (subst (λ (z : ℤ). signed_byte_of z ≡ Some w) under.1 e) in
@@ -206,15 +209,18 @@ based_place size b d w small true near none_is near_is e = let zero_is : d ≡ 0
 based_place size b d w small false true none_is near_is e = ap (in_memory size (Some b)) (signed_value d w e)
 based_place size b d w small false false none_is near_is e = ap (in_memory size (Some b)) (word_value d w small e)
 
-place_value : (size : Size) (base : Option BaseType) (d w : ℕ) → d < 65536 → displacement_in (displacement_field (place_at base (Constant (pos d)))) (pos d) ≡ Some w
+place_value : (size : Size) (base : Option BaseType) (d w : ℕ) → d < 65536
+    → displacement_in (displacement_field (place_at base (Constant (pos d)))) (pos d) ≡ Some w
     → memory_meant size (place_at base (Constant (pos d))) w ≡ in_memory size base d
 place_value size None d w small e = ap (in_memory size None) (word_value d w small e)
 place_value size (Some b) d w small e = based_place size b d w small (nat_lt d 1) (is_within (negsuc 127) (pos 127) (pos d)) refl refl e
 
 -- no place in memory is a register
 not_named : (size : Size) (b : BaseType) (none near : Bool) (w : ℕ)
-    → (byte_meant (if none then place_without b else (if near then BaseByte b else BaseWord b)) w ≡ memory_meant sizes.Byte (if none then place_without b else (if near then BaseByte b else BaseWord b)) w)
-    × (word_meant size (if none then place_without b else (if near then BaseByte b else BaseWord b)) w ≡ memory_meant size (if none then place_without b else (if near then BaseByte b else BaseWord b)) w)
+    → (byte_meant (if none then place_without b else (if near then BaseByte b else BaseWord b)) w
+    ≡ memory_meant sizes.Byte (if none then place_without b else (if near then BaseByte b else BaseWord b)) w)
+    × (word_meant size (if none then place_without b else (if near then BaseByte b else BaseWord b)) w
+    ≡ memory_meant size (if none then place_without b else (if near then BaseByte b else BaseWord b)) w)
 not_named size bases.Bp true near w = (refl, refl)
 not_named size bases.BxSi true near w = (refl, refl)
 not_named size bases.BxDi true near w = (refl, refl)
@@ -233,16 +239,22 @@ at_not_named size None d w = (refl, refl)
 at_not_named size (Some b) d w = not_named size b (nat_lt d 1) (is_within (negsuc 127) (pos 127) (pos d)) w
 
 -- ---- what is one of a kind is by value what is asked
-byte_named : (x : KnownOperand) (n : Numbers) (m : ℕ) → IsTrue (is_byte_register x) → m ≡ register_number x → a_register (registers.Byte (byte_register_of m)) ≡ asked_meant x n
-byte_named (known.Register (registers.Byte r)) n m is e = ap (λ (k : ℕ). a_register (registers.Byte (byte_register_of k))) e ∙ ap (λ b. a_register (registers.Byte b)) (byte_back r)
+byte_named : (x : KnownOperand) (n : Numbers) (m : ℕ) → IsTrue (is_byte_register x) → m ≡ register_number x
+    → a_register (registers.Byte (byte_register_of m)) ≡ asked_meant x n
+byte_named (known.Register (registers.Byte r)) n m is e =
+    ap (λ (k : ℕ). a_register (registers.Byte (byte_register_of k))) e ∙ ap (λ b. a_register (registers.Byte b)) (byte_back r)
 byte_named _ n m is e = cc
 
-word_named : (x : KnownOperand) (n : Numbers) (m : ℕ) → IsTrue (is_word_register x) → m ≡ register_number x → a_register (registers.Word (word_register_of m)) ≡ asked_meant x n
-word_named (known.Register (registers.Word r)) n m is e = ap (λ (k : ℕ). a_register (registers.Word (word_register_of k))) e ∙ ap (λ b. a_register (registers.Word b)) (word_back r)
+word_named : (x : KnownOperand) (n : Numbers) (m : ℕ) → IsTrue (is_word_register x) → m ≡ register_number x
+    → a_register (registers.Word (word_register_of m)) ≡ asked_meant x n
+word_named (known.Register (registers.Word r)) n m is e =
+    ap (λ (k : ℕ). a_register (registers.Word (word_register_of k))) e ∙ ap (λ b. a_register (registers.Word b)) (word_back r)
 word_named _ n m is e = cc
 
-segment_named : (x : KnownOperand) (n : Numbers) (m : ℕ) → IsTrue (is_segment_register x) → m ≡ register_number x → a_register (registers.Segment (segment_register_of m)) ≡ asked_meant x n
-segment_named (known.Register (registers.Segment r)) n m is e = ap (λ (k : ℕ). a_register (registers.Segment (segment_register_of k))) e ∙ ap (λ b. a_register (registers.Segment b)) (segment_back r)
+segment_named : (x : KnownOperand) (n : Numbers) (m : ℕ) → IsTrue (is_segment_register x) → m ≡ register_number x
+    → a_register (registers.Segment (segment_register_of m)) ≡ asked_meant x n
+segment_named (known.Register (registers.Segment r)) n m is e =
+    ap (λ (k : ℕ). a_register (registers.Segment (segment_register_of k))) e ∙ ap (λ b. a_register (registers.Segment b)) (segment_back r)
 segment_named _ n m is e = cc
 
 not_cs_named : (x : KnownOperand) → IsTrue (is_segment_not_cs x) → IsTrue (is_segment_register x)
@@ -283,7 +295,8 @@ a_word (known.Number c) n is of = (of.0, refl)
 a_word _ n is of = cc
 
 -- what a field has of a number that is asked is the number's value
-fielded : (x : KnownOperand) (n : Numbers) (m : ℕ) → IsTrue (is_number x) → AreOf x n → ((value : ℕ) → value < 65536 → n.number ≡ pos value → m ≡ value) → a_number m ≡ asked_meant x n
+fielded : (x : KnownOperand) (n : Numbers) (m : ℕ) → IsTrue (is_number x) → AreOf x n
+    → ((value : ℕ) → value < 65536 → n.number ≡ pos value → m ≡ value) → a_number m ≡ asked_meant x n
 fielded x n m is of same =
     let word = a_word x n is of in
     ap a_number (same word.0.value word.0.small word.0.is) ∙ (ap (λ (z : ℤ). a_number (count z)) (sym word.0.is) ∙ sym word.1)
@@ -293,8 +306,8 @@ constant_is_number least greatest known.One is = refl
 constant_is_number least greatest (known.Number (Constant c)) is = refl
 constant_is_number least greatest _ is = cc
 
-escape_named : (x : KnownOperand) (n : Numbers) (code reg : ℕ) → IsTrue (is_constant_within (pos 0) (pos 63) x) → AreOf x n → code ≡ escape_number x / 8 → reg ≡ escape_number x % 8
-    → a_number ((8 * code + reg) % 256) ≡ asked_meant x n
+escape_named : (x : KnownOperand) (n : Numbers) (code reg : ℕ) → IsTrue (is_constant_within (pos 0) (pos 63) x)
+    → AreOf x n → code ≡ escape_number x / 8 → reg ≡ escape_number x % 8 → a_number ((8 * code + reg) % 256) ≡ asked_meant x n
 escape_named known.One n code reg is of code_is reg_is = rw (code_is, reg_is, of) refl
 escape_named (known.Number (Constant (pos c))) n code reg is of code_is reg_is =
     let same : pos c ≡ n.number = let e : Constant (pos c) ≡ Constant n.number = of.1 in cc in
@@ -308,15 +321,18 @@ escape_named (known.Number (Constant (pos c))) n code reg is of code_is reg_is =
     value c code reg low p q = let small : c ≤ 63 = grind (arith, nat_tests) in omega (arith, p, q, small)
 escape_named _ n code reg is of code_is reg_is = cc
 
-target_named : (x : KnownOperand) (n : Numbers) (m : ℕ) → IsTrue (is_short x) → AreOf x n → ((value : ℕ) → value < 65536 → n.number ≡ pos value → m ≡ value) → a_number m ≡ asked_meant x n
+target_named : (x : KnownOperand) (n : Numbers) (m : ℕ) → IsTrue (is_short x) → AreOf x n
+    → ((value : ℕ) → value < 65536 → n.number ≡ pos value → m ≡ value) → a_number m ≡ asked_meant x n
 target_named known.Short n m is of same = ap a_number (same of.value of.small of.is) ∙ ap (λ (z : ℤ). a_number (count z)) (sym of.is)
 target_named _ n m is of same = cc
 
-near_named : (o : Operation) (x : KnownOperand) (n : Numbers) (m : ℕ) → IsTrue (is_near o x) → AreOf x n → ((value : ℕ) → value < 65536 → n.number ≡ pos value → m ≡ value) → a_number m ≡ asked_meant x n
+near_named : (o : Operation) (x : KnownOperand) (n : Numbers) (m : ℕ)
+    → IsTrue (is_near o x) → AreOf x n → ((value : ℕ) → value < 65536 → n.number ≡ pos value → m ≡ value) → a_number m ≡ asked_meant x n
 near_named (Control control.Jmp) x n m is of same = target_named x n m is of same
 near_named _ x n m is of same = fielded x n m is of same
 
-far_named : (x : KnownOperand) (n : Numbers) (s m : ℕ) → IsTrue (is_far_target x) → AreOf x n → word_of n.segment ≡ Some s → word_of n.number ≡ Some m → far_away s m ≡ asked_meant x n
+far_named : (x : KnownOperand) (n : Numbers) (s m : ℕ) → IsTrue (is_far_target x) → AreOf x n
+    → word_of n.segment ≡ Some s → word_of n.number ≡ Some m → far_away s m ≡ asked_meant x n
 far_named known.Far n s m is of s_is m_is =
     let one : s ≡ of.0.value = word_value of.0.value s of.0.small (subst (λ (z : ℤ). word_of z ≡ Some s) of.0.is s_is) in
     let two : m ≡ of.1.value = word_value of.1.value m of.1.small (subst (λ (z : ℤ). word_of z ≡ Some m) of.1.is m_is) in
@@ -324,14 +340,16 @@ far_named known.Far n s m is of s_is m_is =
 far_named _ n s m is of s_is m_is = cc
 
 -- memory
-placed : (m : KnownMemory) (n : Numbers) (size : Size) (place : Place) (w : ℕ) → size_of m.size ≡ size → AreOf (known.Memory m) n → place ≡ place_at m.base m.displacement
-    → displacement_in (displacement_field place) n.displacement ≡ Some w
-    → (memory_meant size place w ≡ asked_meant (known.Memory m) n) × (byte_meant place w ≡ memory_meant sizes.Byte place w) × (word_meant size place w ≡ memory_meant size place w)
+placed : (m : KnownMemory) (n : Numbers) (size : Size) (place : Place) (w : ℕ) → size_of m.size ≡ size → AreOf (known.Memory m) n
+    → place ≡ place_at m.base m.displacement → displacement_in (displacement_field place) n.displacement ≡ Some w
+    → (memory_meant size place w ≡ asked_meant (known.Memory m) n)
+    × (byte_meant place w ≡ memory_meant sizes.Byte place w) × (word_meant size place w ≡ memory_meant size place w)
 placed m n size place w size_is of place_is e =
     let d : ℕ = of.0.value in
     let is : place ≡ place_at m.base (Constant (pos d)) = place_is ∙ ap (place_at m.base) (of.1 ∙ ap Constant of.0.is) in
     let field : displacement_in (displacement_field (place_at m.base (Constant (pos d)))) (pos d) ≡ Some w =
-    subst (λ (p : Place). displacement_in (displacement_field p) (pos d) ≡ Some w) is (subst (λ (z : ℤ). displacement_in (displacement_field place) z ≡ Some w) of.0.is e) in
+    subst (λ (p : Place). displacement_in (displacement_field p) (pos d) ≡ Some w) is
+    (subst (λ (z : ℤ). displacement_in (displacement_field place) z ≡ Some w) of.0.is e) in
     let named = at_not_named size m.base d w in (
       ap (λ (p : Place). memory_meant size p w) is
           ∙ (place_value size m.base d w of.0.small field
@@ -354,14 +372,16 @@ far_size _ is = cc
 
 byte_placed : (x : KnownOperand) (n : Numbers) (place : Place) (w : ℕ) → IsTrue (is_byte_register x || is_byte_memory x) → AreOf x n → place ≡ place_of x
     → displacement_in (displacement_field place) n.displacement ≡ Some w → byte_meant place w ≡ asked_meant x n
-byte_placed (known.Register (registers.Byte r)) n place w is of place_is e = ap (λ (p : Place). byte_meant p w) place_is ∙ ap (λ b. a_register (registers.Byte b)) (byte_back r)
+byte_placed (known.Register (registers.Byte r)) n place w is of place_is e =
+    ap (λ (p : Place). byte_meant p w) place_is ∙ ap (λ b. a_register (registers.Byte b)) (byte_back r)
 byte_placed (known.Memory m) n place w is of place_is e =
     let are = placed m n sizes.Byte place w (byte_size m.size is) of place_is e in are.1 ∙ are.0
 byte_placed _ n place w is of place_is e = cc
 
 word_placed : (x : KnownOperand) (n : Numbers) (place : Place) (w : ℕ) → IsTrue (is_word_register x || is_word_memory x) → AreOf x n → place ≡ place_of x
     → displacement_in (displacement_field place) n.displacement ≡ Some w → word_meant sizes.Word place w ≡ asked_meant x n
-word_placed (known.Register (registers.Word r)) n place w is of place_is e = ap (λ (p : Place). word_meant sizes.Word p w) place_is ∙ ap (λ b. a_register (registers.Word b)) (word_back r)
+word_placed (known.Register (registers.Word r)) n place w is of place_is e =
+    ap (λ (p : Place). word_meant sizes.Word p w) place_is ∙ ap (λ b. a_register (registers.Word b)) (word_back r)
 word_placed (known.Memory m) n place w is of place_is e =
     let are = placed m n sizes.Word place w (word_size m.size is) of place_is e in are.2 ∙ are.0
 word_placed _ n place w is of place_is e = cc
@@ -383,7 +403,8 @@ pointer_placed : (o : Operation) (x : KnownOperand) (n : Numbers) (place : Place
 pointer_placed (Control c) x n place w is of place_is e = far_placed x n place w is of place_is e
 pointer_placed _ x n place w is of place_is e = only_word_placed x n place w is of place_is e
 
-byte_direct : (x : KnownOperand) (n : Numbers) (w : ℕ) → IsTrue (is_direct x) → IsTrue (is_byte_memory x) → AreOf x n → word_of n.displacement ≡ Some w → in_memory sizes.Byte None w ≡ asked_meant x n
+byte_direct : (x : KnownOperand) (n : Numbers) (w : ℕ) → IsTrue (is_direct x) → IsTrue (is_byte_memory x)
+    → AreOf x n → word_of n.displacement ≡ Some w → in_memory sizes.Byte None w ≡ asked_meant x n
 byte_direct (known.Memory m) n w direct is of e =
     let value : w ≡ of.0.value = word_value of.0.value w of.0.small (subst (λ (z : ℤ). word_of z ≡ Some w) of.0.is e) in
     rw (value, of.0.is, byte_size m.size is, no_base m.base direct) refl
@@ -393,7 +414,8 @@ byte_direct (known.Memory m) n w direct is of e =
     no_base (Some b) is = cc
 byte_direct _ n w direct is of e = cc
 
-word_direct : (x : KnownOperand) (n : Numbers) (w : ℕ) → IsTrue (is_direct x) → IsTrue (is_word_memory x) → AreOf x n → word_of n.displacement ≡ Some w → in_memory sizes.Word None w ≡ asked_meant x n
+word_direct : (x : KnownOperand) (n : Numbers) (w : ℕ) → IsTrue (is_direct x) → IsTrue (is_word_memory x)
+    → AreOf x n → word_of n.displacement ≡ Some w → in_memory sizes.Word None w ≡ asked_meant x n
 word_direct (known.Memory m) n w direct is of e =
     let value : w ≡ of.0.value = word_value of.0.value w of.0.small (subst (λ (z : ℤ). word_of z ≡ Some w) of.0.is e) in
     rw (value, of.0.is, word_size m.size is, no_base m.base direct) refl
@@ -404,8 +426,8 @@ word_direct (known.Memory m) n w direct is of e =
 word_direct _ n w direct is of e = cc
 
 -- an operand of a kind
-pub kind_means : (f : Form) (v : Values) (next : ℕ) (n : Numbers) (k : Kind) (x : KnownOperand) → IsTrue (is_of (operation_of f.row) k x) → AreOf x n → Puts f v (pos next) n k x
-    → operand_meant f v (next % 65536) k ≡ asked_meant x n
+pub kind_means : (f : Form) (v : Values) (next : ℕ) (n : Numbers) (k : Kind) (x : KnownOperand)
+    → IsTrue (is_of (operation_of f.row) k x) → AreOf x n → Puts f v (pos next) n k x → operand_meant f v (next % 65536) k ≡ asked_meant x n
 unfolding operand_meant
 kind_means f v next n kinds.Nothing x is of puts = nothing_named x n is
 kind_means f v next n kinds.Ten x is of puts = nothing_named x n is
@@ -438,7 +460,8 @@ kind_means f v next n kinds.Rel8 x is of puts =
     (λ value small same. near_back value next v.number small (subst (λ (z : ℤ). signed_byte_of (z -ℤ pos next) ≡ Some v.number) same puts))
 kind_means f v next n kinds.Rel16 x is of puts =
     fielded x n ((next % 65536 + v.number) % 65536) is of
-    (λ value small same. sum_back value next v.number small (some_same v.number (modulo 65536 (n.number -ℤ pos next)) puts ∙ ap (λ (z : ℤ). modulo 65536 (z -ℤ pos next)) same))
+    (λ value small same.
+    sum_back value next v.number small (some_same v.number (modulo 65536 (n.number -ℤ pos next)) puts ∙ ap (λ (z : ℤ). modulo 65536 (z -ℤ pos next)) same))
   where
     some_same : (a b : ℕ) → Some b ≡ Some a → a ≡ b
     some_same a b e = let same : b ≡ a = cc in sym same

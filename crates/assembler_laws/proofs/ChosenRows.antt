@@ -187,7 +187,8 @@ unfolding form_with
 has_form f a is = record { code = ap (λ (g : Form). g.code) is; reg = ap (λ (g : Form). g.reg) is; place = ap (λ (g : Form). g.place) is }
 
 fields_are : (f : Form) (next : ℤ) (n : Numbers) (v : Values) → values_of f next n ≡ Some v
-    → (displacement_in (displacement_field f.place) n.displacement ≡ Some v.displacement) × (number_in (field_kind f.row) next n ≡ Some v.number) × (segment_in (field_kind f.row) n.segment ≡ Some v.segment)
+    → (displacement_in (displacement_field f.place) n.displacement ≡ Some v.displacement)
+    × (number_in (field_kind f.row) next n ≡ Some v.number) × (segment_in (field_kind f.row) n.segment ≡ Some v.segment)
 unfolding values_of
 fields_are f next n v e =
     values_are (displacement_in (displacement_field f.place) n.displacement) (number_in (field_kind f.row) next n) (segment_in (field_kind f.row) n.segment) v e
@@ -198,26 +199,33 @@ plus_none a b c is none = omega (arith, is, none)
 none_plus : (a b c : ℕ) → a ≡ b + c → b ≡ 0 → a ≡ c
 none_plus a b c is none = omega (arith, is, none)
 
-first_parts : (f : Form) (a : Asked) (v : Values) (next : ℤ) (n : Numbers) → are_apart f.row ≡ true → HasForm f a → values_of f next n ≡ Some v → HasParts f v next n (first_of f.row) a.first
+first_parts : (f : Form) (a : Asked) (v : Values) (next : ℤ) (n : Numbers)
+    → are_apart f.row ≡ true → HasForm f a → values_of f next n ≡ Some v → HasParts f v next n (first_of f.row) a.first
 first_parts f a v next n apart is e =
     let k : Kind = first_of f.row in
     let l : Kind = second_of f.row in
-    let ones = four (one_of (has_code k) (has_code l)) (one_of (has_reg k) (has_reg l)) (one_of (has_place k) (has_place l)) (one_of (has_field k) (has_field l)) apart in
+    let ones =
+    four (one_of (has_code k) (has_code l)) (one_of (has_reg k) (has_reg l)) (one_of (has_place k) (has_place l)) (one_of (has_field k) (has_field l)) apart in
     let fields = fields_are f next n v e in
     record {
-      code = λ has. plus_none f.code (in_opcode k a.first) (in_opcode l a.second) is.code (no_code l a.second (not_second (has_code k) (has_code l) ones.0 has));
+      code = λ has.
+          plus_none f.code (in_opcode k a.first) (in_opcode l a.second) is.code (no_code l a.second (not_second (has_code k) (has_code l) ones.0 has));
       reg = λ has. plus_none f.reg (in_reg k a.first) (in_reg l a.second) is.reg (no_reg l a.second (not_second (has_reg k) (has_reg l) ones.1 has));
-      place = λ has. is.place ∙ (ap (first_place (in_place k a.first)) (no_place l a.second (not_second (has_place k) (has_place l) ones.2 has)) ∙ first_alone (in_place k a.first));
+      place = λ has.
+          is.place ∙ (ap (first_place (in_place k a.first)) (no_place l a.second (not_second (has_place k) (has_place l) ones.2 has))
+          ∙ first_alone (in_place k a.first));
       displacement = fields.0;
       number = λ has. subst (λ (m : Kind). number_in m next n ≡ Some v.number) (first_field k l has) fields.1;
       segment = λ has. subst (λ (m : Kind). segment_in m n.segment ≡ Some v.segment) (first_field k l has) fields.2;
     }
 
-second_parts : (f : Form) (a : Asked) (v : Values) (next : ℤ) (n : Numbers) → are_apart f.row ≡ true → HasForm f a → values_of f next n ≡ Some v → HasParts f v next n (second_of f.row) a.second
+second_parts : (f : Form) (a : Asked) (v : Values) (next : ℤ) (n : Numbers)
+    → are_apart f.row ≡ true → HasForm f a → values_of f next n ≡ Some v → HasParts f v next n (second_of f.row) a.second
 second_parts f a v next n apart is e =
     let k : Kind = first_of f.row in
     let l : Kind = second_of f.row in
-    let ones = four (one_of (has_code k) (has_code l)) (one_of (has_reg k) (has_reg l)) (one_of (has_place k) (has_place l)) (one_of (has_field k) (has_field l)) apart in
+    let ones =
+    four (one_of (has_code k) (has_code l)) (one_of (has_reg k) (has_reg l)) (one_of (has_place k) (has_place l)) (one_of (has_field k) (has_field l)) apart in
     let fields = fields_are f next n v e in
     record {
       code = λ has. none_plus f.code (in_opcode k a.first) (in_opcode l a.second) is.code (no_code k a.first (not_first (has_code k) (has_code l) ones.0 has));
@@ -225,7 +233,8 @@ second_parts f a v next n apart is e =
       place = λ has. is.place ∙ ap (λ (p : Place). first_place p (in_place l a.second)) (no_place k a.first (not_first (has_place k) (has_place l) ones.2 has));
       displacement = fields.0;
       number = λ has. subst (λ (m : Kind). number_in m next n ≡ Some v.number) (second_field k l (not_first (has_field k) (has_field l) ones.3 has)) fields.1;
-      segment = λ has. subst (λ (m : Kind). segment_in m n.segment ≡ Some v.segment) (second_field k l (not_first (has_field k) (has_field l) ones.3 has)) fields.2;
+      segment = λ has.
+          subst (λ (m : Kind). segment_in m n.segment ≡ Some v.segment) (second_field k l (not_first (has_field k) (has_field l) ones.3 has)) fields.2;
     }
 
 within_rows : (rs : List Row) (r : Row) (i : ℕ) → slice_get rs i ≡ Some r → Contains rs r
@@ -239,8 +248,10 @@ forms_mean_what_is_asked a f v next n chosen e first_is second_is =
     let is : HasForm f a = has_form f a chosen.parts in
     record {
       operation = takes.operation;
-      first = kind_means f v next n (first_of r) a.first (subst (λ o. is_of o (first_of r) a.first ≡ true) (sym takes.operation) (in_steps a.operation (first_of r) a.first takes.first)) first_is
+      first = kind_means f v next n (first_of r) a.first
+          (subst (λ o. is_of o (first_of r) a.first ≡ true) (sym takes.operation) (in_steps a.operation (first_of r) a.first takes.first)) first_is
           (puts_of f v (pos next) n (first_of r) a.first (first_parts f a v (pos next) n apart is e));
-      second = kind_means f v next n (second_of r) a.second (subst (λ o. is_of o (second_of r) a.second ≡ true) (sym takes.operation) (in_steps a.operation (second_of r) a.second takes.second)) second_is
+      second = kind_means f v next n (second_of r) a.second
+          (subst (λ o. is_of o (second_of r) a.second ≡ true) (sym takes.operation) (in_steps a.operation (second_of r) a.second takes.second)) second_is
           (puts_of f v (pos next) n (second_of r) a.second (second_parts f a v (pos next) n apart is e));
     }

@@ -63,7 +63,11 @@ pub record HasNeither (lacks stands : Bool) : Type 0 where
   pub formed : lacks ≡ false
   pub placed : stands ≡ false
 
-neither_by : (a b c d e : Bool) → (if a then Some BadLine else (if b then Some UnknownName else (if c then Some BadForm else (if d then Some TwiceDefined else (if e then Some NoSegment else None))))) ≡ None → HasNeither c e
+neither_by : (a b c d e : Bool)
+    → (if a then Some BadLine
+    else (if b then Some UnknownName else (if c then Some BadForm else (if d then Some TwiceDefined else (if e then Some NoSegment else None)))))
+    ≡ None
+    → HasNeither c e
 neither_by true b c d e none = absurd (let never : Some BadLine ≡ None = none in cc)
 neither_by false true c d e none = absurd (let never : Some UnknownName ≡ None = none in cc)
 neither_by false false true d e none = absurd (let never : Some BadForm ≡ None = none in cc)
@@ -117,7 +121,8 @@ has_place row i is there =
     let neither = has_neither known row.location row.line row.form there.clean.clean in
     let place = place_there row.location row.line i is neither.placed in
     let form = form_there row.form i (sym (ap (λ s. lacks_form s row.form) is) ∙ neither.formed) in
-    let formed : IsFormOf known (Instruction i) (Some form.0) = subst (IsFormOf known (Instruction i)) form.1 (subst (λ s. IsFormOf known s row.form) is is_located_line.form) in
+    let formed : IsFormOf known (Instruction i) (Some form.0) =
+    subst (IsFormOf known (Instruction i)) form.1 (subst (λ s. IsFormOf known s row.form) is is_located_line.form) in
     let chosen = chosen_there (instruction_asked known i) form.0 formed in
     record {
       form = form.0;

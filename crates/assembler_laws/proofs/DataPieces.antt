@@ -74,7 +74,8 @@ there_none f p front x back none =
     let parts : list_any p (flat_map f (front ++ x ∷ back)) ≡ (list_any p (flat_map f front) || (list_any p (f x) || list_any p (flat_map f back))) =
     ap (list_any p) (flat_map-append f front (x ∷ back)) ∙ list_any-append p (flat_map f front) (f x ++ flat_map f back)
     ∙ ap (λ (b : Bool). list_any p (flat_map f front) || b) (list_any-append p (f x) (flat_map f back)) in
-    (or_parts (list_any p (f x)) (list_any p (flat_map f back)) (or_parts (list_any p (flat_map f front)) (list_any p (f x) || list_any p (flat_map f back)) (sym parts ∙ none)).1).0
+    (or_parts (list_any p (f x)) (list_any p (flat_map f back))
+    (or_parts (list_any p (flat_map f front)) (list_any p (f x) || list_any p (flat_map f back)) (sym parts ∙ none)).1).0
 
 -- ---- how many bytes there are
 value_size : (width : DataWidth) (value : Option ℤ) → is_some value ≡ true → length (option_map_or (number_bytes width) value []) ≡ width_size width
@@ -97,7 +98,8 @@ made_count f size p each (x ∷ xs) all =
 
 pieces_count : (names : Names) (here : ℕ) (width : DataWidth) (pieces : List Piece) → list_all (is_piece_known names here) pieces ≡ true
     → length (flat_map (piece_bytes names here width) pieces) ≡ sum_by (piece_size width) pieces
-pieces_count names here width pieces all = made_count (piece_bytes names here width) (piece_size width) (is_piece_known names here) (piece_count names here width) pieces all
+pieces_count names here width pieces all =
+    made_count (piece_bytes names here width) (piece_size width) (is_piece_known names here) (piece_count names here width) pieces all
 
 repeated_count : (n : ℕ) (bytes : List ℕ) → length (repeated n bytes) ≡ n * length bytes
 repeated_count zero bytes = omega arith
@@ -115,7 +117,8 @@ item_count names here width item all =
 pub line_count : (names : Names) (here : ℕ) (width : DataWidth) (items : List Item) → are_items_known names here items ≡ true
     → length (data_bytes names here width items) ≡ sum_by (item_size names width) items
 unfolding are_items_known data_bytes
-line_count names here width items all = made_count (item_bytes names here width) (item_size names width) (is_item_known names here) (item_count names here width) items all
+line_count names here width items all =
+    made_count (item_bytes names here width) (item_size names width) (is_item_known names here) (item_count names here width) items all
 
 -- ---- a copy among the copies
 copy_there : (bytes : List ℕ) (n copy : ℕ) → copy < n → HasPart (repeated n bytes) (copy * length bytes) bytes
@@ -147,7 +150,8 @@ in_order names here width items piece start known fits is =
     (sym (ap (list_all (λ (item : Item). list_all (does_piece_fit names here width) (pieces_of item))) is.items_are) ∙ fits) in
     record {
       known = there_all (is_piece_known names here) is.front piece is.back (sym (ap (list_all (is_piece_known names here)) is.pieces_are) ∙ item_known);
-      fits = there_all (does_piece_fit names here width) is.front piece is.back (sym (ap (list_all (does_piece_fit names here width)) is.pieces_are) ∙ item_fits);
+      fits =
+          there_all (does_piece_fit names here width) is.front piece is.back (sym (ap (list_all (does_piece_fit names here width)) is.pieces_are) ∙ item_fits);
     }
 
 pub piece_there : (names : Names) (here : ℕ) (width : DataWidth) (items : List Item) (piece : Piece) (start : ℕ) → are_items_known names here items ≡ true
@@ -160,13 +164,16 @@ piece_there names here width items piece start known is =
     let once : List ℕ = flat_map (piece_bytes names here width) (pieces_of is.item) in
     let once_long : length once ≡ sum_by (piece_size width) (pieces_of is.item) = pieces_count names here width (pieces_of is.item) item_known in
     let in_line : HasPart (flat_map (item_bytes names here width) items) (sum_by (item_size names width) is.before) (item_bytes names here width is.item) =
-    subst (λ (its : List Item). HasPart (flat_map (item_bytes names here width) its) (sum_by (item_size names width) is.before) (item_bytes names here width is.item)) (sym is.items_are)
+    subst
+    (λ (its : List Item). HasPart (flat_map (item_bytes names here width) its) (sum_by (item_size names width) is.before) (item_bytes names here width is.item))
+    (sym is.items_are)
     (made_there (item_bytes names here width) is.before is.item is.after (sum_by (item_size names width) is.before)
     (made_count (item_bytes names here width) (item_size names width) (is_item_known names here) (item_count names here width) is.before
     (front_all (is_item_known names here) is.before is.item is.after all))) in
     let in_item : HasPart (item_bytes names here width is.item) (is.copy * length once) once = copy_there once (times_of names is.item) is.copy is.is_copy in
     let in_copy : HasPart once (sum_by (piece_size width) is.front) (piece_bytes names here width piece) =
-    subst (λ (ps : List Piece). HasPart (flat_map (piece_bytes names here width) ps) (sum_by (piece_size width) is.front) (piece_bytes names here width piece)) (sym is.pieces_are)
+    subst (λ (ps : List Piece). HasPart (flat_map (piece_bytes names here width) ps) (sum_by (piece_size width) is.front) (piece_bytes names here width piece))
+    (sym is.pieces_are)
     (made_there (piece_bytes names here width) is.front piece is.back (sum_by (piece_size width) is.front)
     (pieces_count names here width is.front
     (front_all (is_piece_known names here) is.front piece is.back (sym (ap (list_all (is_piece_known names here)) is.pieces_are) ∙ item_known)))) in
@@ -174,7 +181,8 @@ piece_there names here width items piece start known is =
     (sum_by (item_size names width) is.before + (is.copy * length once + sum_by (piece_size width) is.front)) (piece_bytes names here width piece) =
     part_of_part (flat_map (item_bytes names here width) items) (item_bytes names here width is.item) (piece_bytes names here width piece)
     (sum_by (item_size names width) is.before) (is.copy * length once + sum_by (piece_size width) is.front) in_line
-    (part_of_part (item_bytes names here width is.item) once (piece_bytes names here width piece) (is.copy * length once) (sum_by (piece_size width) is.front) in_item in_copy) in
+    (part_of_part (item_bytes names here width is.item) once (piece_bytes names here width piece)
+    (is.copy * length once) (sum_by (piece_size width) is.front) in_item in_copy) in
     let at : sum_by (item_size names width) is.before + (is.copy * length once + sum_by (piece_size width) is.front) ≡ start =
     ap (λ (n : ℕ). sum_by (item_size names width) is.before + (is.copy * n + sum_by (piece_size width) is.front)) once_long ∙ sym is.counted in
     subst (λ (n : ℕ). HasPart (flat_map (item_bytes names here width) items) n (piece_bytes names here width piece)) at following

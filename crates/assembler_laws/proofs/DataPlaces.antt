@@ -124,7 +124,8 @@ has_count known all keeps (Repeated count each) wrong unknown =
 abbrev number_item : List Term → Item
 number_item terms = Once (Value terms)
 
-numbers_size : (names : Names) (width : DataWidth) (values : List (List Term)) → sum_by (item_size names width) (map number_item values) ≡ length values * width_size width
+numbers_size : (names : Names) (width : DataWidth) (values : List (List Term))
+    → sum_by (item_size names width) (map number_item values) ≡ length values * width_size width
 numbers_size names width [] = omega arith
 numbers_size names width (terms ∷ values) =
     let rest = numbers_size names width values in
@@ -152,7 +153,8 @@ number_after names width items values i d within is =
       counted = omega (arith, size);
     }
 
-text_after : (names : Names) (width : DataWidth) (items : List Item) (text : List ℕ) → items ≡ Once (Text text) ∷ [] → StandsAfter names width items (Text text) 0
+text_after : (names : Names) (width : DataWidth) (items : List Item) (text : List ℕ)
+    → items ≡ Once (Text text) ∷ [] → StandsAfter names width items (Text text) 0
 text_after names width items text is = record {
   before = [];
   item = Once (Text text);
@@ -182,7 +184,8 @@ copy_after names width items count terms n i is times within = record {
 }
 
 -- ---- the law
-placed_in : (here : Option Location) (line : Line) → wants_segment line.statement ≡ true → stands_outside here line ≡ false → (location : Location) × (here ≡ Some location)
+placed_in : (here : Option Location) (line : Line) → wants_segment line.statement ≡ true → stands_outside here line ≡ false
+    → (location : Location) × (here ≡ Some location)
 placed_in (Some location) line wants placed = (location, refl)
 placed_in None line wants placed =
     absurd (let never : true ≡ false = sym wants ∙ (or_parts (is_some line.label) (wants_segment line.statement) placed).1 in cc)
@@ -191,8 +194,8 @@ not_false : (b : Bool) → not b ≡ false → b ≡ true
 not_false true is = refl
 not_false false is = absurd (let never : true ≡ false = is in cc)
 
-places_data : (names : Names) (image : List (ℕ × ℕ)) (row : LocatedLine) (width : DataWidth) (items : List Item) (location : Location) → row.location ≡ Some location
-    → are_items_known names location.offset items ≡ true → do_items_fit names location.offset width items ≡ true
+places_data : (names : Names) (image : List (ℕ × ℕ)) (row : LocatedLine) (width : DataWidth) (items : List Item) (location : Location)
+    → row.location ≡ Some location → are_items_known names location.offset items ≡ true → do_items_fit names location.offset width items ≡ true
     → ((item : Item) → Contains items item → HasCount names item) → length (data_bytes names location.offset width items) ≡ row.size
     → HasBytes image location (data_bytes names location.offset width items) → PlacesData names image row width items
 places_data names image row width items location at known fits counts long has =
@@ -211,8 +214,9 @@ places_data names image row width items location at known fits counts long has =
       copies = λ count terms n is times i within. each (Value terms) (i * width_size width) (copy_after names width items count terms n i is times within);
     }
 
-counts_there : (front : List LocatedLine) (row : LocatedLine) (back : List LocatedLine) (width : DataWidth) (items : List Item) → row.line.statement ≡ Data width items
-    → HasNone (names_of front) row.location row.line row.form → (item : Item) → Contains items item → HasCount (names_of (front ++ row ∷ back)) item
+counts_there : (front : List LocatedLine) (row : LocatedLine) (back : List LocatedLine) (width : DataWidth) (items : List Item)
+    → row.line.statement ≡ Data width items → HasNone (names_of front) row.location row.line row.form → (item : Item) → Contains items item
+    → HasCount (names_of (front ++ row ∷ back)) item
 counts_there front row back width items is none item there =
     let known : Names = names_of front in
     let keeps : Keeps known (names_of (front ++ row ∷ back)) =
@@ -221,8 +225,10 @@ counts_there front row back width items is none item there =
     let wrong : list_any (is_wrong_count known) (counts_of items) ≡ false = sym (ap (has_wrong_constant known) is) ∙ none.wrong in
     let unknown : list_any (is_unknown known) (counts_of items) ≡ false = sym (ap (has_unknown_constant known) is) ∙ none.unknown in
     has_count known (names_of (front ++ row ∷ back)) keeps item
-    (there_none item_counts (is_wrong_count known) split.front item split.back (subst (λ (its : List Item). list_any (is_wrong_count known) (counts_of its) ≡ false) split.is wrong))
-    (there_none item_counts (is_unknown known) split.front item split.back (subst (λ (its : List Item). list_any (is_unknown known) (counts_of its) ≡ false) split.is unknown))
+    (there_none item_counts (is_wrong_count known) split.front item split.back
+    (subst (λ (its : List Item). list_any (is_wrong_count known) (counts_of its) ≡ false) split.is wrong))
+    (there_none item_counts (is_unknown known) split.front item split.back
+    (subst (λ (its : List Item). list_any (is_unknown known) (counts_of its) ≡ false) split.is unknown))
 
 pub data_goes_low_byte_first : DataGoesLowByteFirst
 data_goes_low_byte_first source image gives row width items within is =
@@ -230,7 +236,8 @@ data_goes_low_byte_first source image gives row width items within is =
     let split = split_there gives.rows row within in
     let there : CleanThere split.front row =
     clean_there [] (text_lines source) split.front row split.back (subst (AreLocatedLines [] (text_lines source)) split.is gives.are_located_lines) in
-    let none : HasNone (names_of split.front) row.location row.line row.form = has_none (names_of split.front) row.location row.line row.form there.clean.clean in
+    let none : HasNone (names_of split.front) row.location row.line row.form =
+    has_none (names_of split.front) row.location row.line row.form there.clean.clean in
     let place = placed_in row.location row.line (ap wants_segment is) none.outside in
     let location : Location = place.0 in
     let fits : FitsAt names row location =
@@ -240,12 +247,15 @@ data_goes_low_byte_first source image gives row width items within is =
     bytes_placed names row location place.1 ∙ ap (λ (s : Statement). bytes_from location 0 (bytes_by names location row.size (content_of s row.form))) is in
     places_data names image row width items location place.1
     (not_false (are_items_known names location.offset items) (sym (ap (λ (s : Statement). lacks_name names location (content_of s row.form)) is) ∙ fits.known))
-    (not_false (do_items_fit names location.offset width items) (sym (ap (λ (s : Statement). has_wrong_number names location row.size (content_of s row.form)) is) ∙ fits.fits))
+    (not_false (do_items_fit names location.offset width items)
+    (sym (ap (λ (s : Statement). has_wrong_number names location row.size (content_of s row.form)) is) ∙ fits.fits))
     (subst (λ (rows : List LocatedLine). (item : Item) → Contains items item → HasCount (names_of rows) item) (sym split.is)
     (counts_there split.front row split.back width items is none))
     (ap (λ (s : Statement). length (bytes_by names location row.size (content_of s row.form))) (sym is)
-    ∙ subst (λ (rows : List LocatedLine). length (bytes_by (names_of rows) location row.size (content_of row.line.statement row.form)) ≡ row.size) (sym split.is)
-    (line_length split.front row split.back there.text location there.clean (subst (λ (rows : List LocatedLine). FitsAt (names_of rows) row location) split.is fits)))
+    ∙ subst (λ (rows : List LocatedLine). length (bytes_by (names_of rows) location row.size (content_of row.line.statement row.form)) ≡ row.size)
+    (sym split.is)
+    (line_length split.front row split.back there.text location there.clean
+    (subst (λ (rows : List LocatedLine). FitsAt (names_of rows) row location) split.is fits)))
     (λ k d inside.
     (gives.placed.bytes (address_after location k) (get_or bytes k d)).1
     (placed_there (placed_by names) gives.rows row (address_after location k, get_or bytes k d) within

@@ -51,7 +51,8 @@ row_decodes byte names row i is has fits bytes each =
     let f = has.form in
     let location = has.location in
     let fit : FitsAt names row location = fits location has.has_place in
-    let content : content_of row.line.statement row.form ≡ Some (Code f i) = ap (λ s. content_of s row.form) is ∙ ap (content_of (Instruction i)) has.has_form in
+    let content : content_of row.line.statement row.form ≡ Some (Code f i) =
+    ap (λ s. content_of s row.form) is ∙ ap (content_of (Instruction i)) has.has_form in
     let numbers = some_there (fields_of names location row.size f i) (sym (ap (has_wrong_number names location row.size) content) ∙ fit.fits) in
     let v = numbers.0 in
     let instr : Instr = instr_of f i v in

@@ -88,7 +88,8 @@ least_is_found n (test true first more) fault up is = by is.has
         let least = is.least first (inl (refl, refl)) in
         absurd (omega (arith, over, least))
 least_is_found n (test false first more) fault up is =
-    least_is_found (source_fault_number first) more fault (following n first more up) (record { has = by is.has; least = λ other later. is.least other (inr later) })
+    least_is_found (source_fault_number first) more fault (following n first more up)
+    (record { has = by is.has; least = λ other later. is.least other (inr later) })
   where
     by : Finds (test false first more) fault → Finds more fault
     by (inl same) = no same.0
@@ -104,10 +105,12 @@ each_has P none fault each found = absurd found
 each_has P (test fails first more) fault each (inl is) = subst P is.1 (each.0 is.0)
 each_has P (test fails first more) fault each (inr later) = each_has P more fault each.1 later
 
-found_least : (P : SourceFault → Type 0) (tests : Tests) (fault : SourceFault) → rises 0 tests ≡ true → Each P tests → ((other : SourceFault) → P other → Finds tests other)
-    → (found_by tests ≡ Some fault) ↔ IsLeast P fault
+found_least : (P : SourceFault → Type 0) (tests : Tests) (fault : SourceFault)
+    → rises 0 tests ≡ true → Each P tests → ((other : SourceFault) → P other → Finds tests other) → (found_by tests ≡ Some fault) ↔ IsLeast P fault
 found_least P tests fault up each finds = (
-  (λ is. let least = found_is_least 0 tests fault up is in record { has = each_has P tests fault each least.has; least = λ other has. least.least other (finds other has) }),
+  (λ is.
+      let least = found_is_least 0 tests fault up is in
+      record { has = each_has P tests fault each least.has; least = λ other has. least.least other (finds other has) }),
   (λ is. least_is_found 0 tests fault up (record { has = finds fault is.has; least = λ other found. is.least other (each_has P tests other each found) })),
 )
 
@@ -117,7 +120,8 @@ early_tests known location line form =
     test (opens_within location line.statement || has_wrong_constant known line.statement) BadLine (test (has_unknown_constant known line.statement) UnknownName
     (test (lacks_form line.statement form) BadForm (test (defines_again known line) TwiceDefined (test (stands_outside location line) NoSegment none))))
 
-early_finds : (known : Names) (location : Option Location) (line : Line) (form : Option Form) (fault : SourceFault) → HasEarly known location line form fault → Finds (early_tests known location line form) fault
+early_finds : (known : Names) (location : Option Location) (line : Line) (form : Option Form) (fault : SourceFault)
+    → HasEarly known location line form fault → Finds (early_tests known location line form) fault
 early_finds known location line form BadLine is = inl (is, refl)
 early_finds known location line form UnknownName is = inr (inl (is, refl))
 early_finds known location line form BadForm is = inr (inr (inl (is, refl)))
@@ -129,7 +133,8 @@ early_least : (known : Names) (location : Option Location) (line : Line) (form :
     → (early_fault known location line form ≡ Some fault) ↔ IsLeast (HasEarly known location line form) fault
 unfolding early_fault
 early_least known location line form fault =
-    found_least (HasEarly known location line form) (early_tests known location line form) fault refl ((λ is. is), ((λ is. is), ((λ is. is), ((λ is. is), ((λ is. is), tt))))) (early_finds known location line form)
+    found_least (HasEarly known location line form) (early_tests known location line form) fault refl
+    ((λ is. is), ((λ is. is), ((λ is. is), ((λ is. is), ((λ is. is), tt))))) (early_finds known location line form)
 
 -- ---- the tests of the second pass
 not_true : (b : Bool) → not b ≡ true → b ≡ false
@@ -140,7 +145,8 @@ abbrev late_by : Bool → Bool → Bool → Bool → Bool → Tests
 late_by a b c d e = test a Undefined (test b OutOfRange (test c OutOfSegment (test d Overlap (test (not e) NotLoadable none))))
 
 late_same : (a b c d e : Bool) → found_by (late_by a b c d e)
-    ≡ (if a then Some Undefined else (if b then Some OutOfRange else (if c then Some OutOfSegment else (if d then Some Overlap else (if e then None else Some NotLoadable)))))
+    ≡ (if a then Some Undefined
+    else (if b then Some OutOfRange else (if c then Some OutOfSegment else (if d then Some Overlap else (if e then None else Some NotLoadable)))))
 late_same a b c d true = refl
 late_same a b c d false = refl
 
@@ -174,11 +180,13 @@ of_reading line_faults.BadCharacter = refl
 of_reading line_faults.BadLine = refl
 of_reading line_faults.UnknownName = refl
 
-text_is_early : (names : Names) (location : Option Location) (text : List ℕ) (fault : SourceFault) → IsTextFault names location text fault → is_early fault ≡ true
+text_is_early : (names : Names) (location : Option Location) (text : List ℕ) (fault : SourceFault)
+    → IsTextFault names location text fault → is_early fault ≡ true
 text_is_early names location text fault (inl read) = ap is_early read.2 ∙ of_reading read.0
 text_is_early names location text fault (inr found) =
     let row : LocatedLine = found.0 in
-    each_has (λ f. is_early f ≡ true) (early_tests names row.location row.line row.form) fault ((λ is. refl), ((λ is. refl), ((λ is. refl), ((λ is. refl), ((λ is. refl), tt)))))
+    each_has (λ f. is_early f ≡ true) (early_tests names row.location row.line row.form) fault
+    ((λ is. refl), ((λ is. refl), ((λ is. refl), ((λ is. refl), ((λ is. refl), tt)))))
     (early_finds names row.location row.line row.form fault ((early_least names row.location row.line row.form fault).0 found.2).has)
 
 late_is_late : (names : Names) (is_taken : ℕ → Bool) (has_label : Bool) (here : Option Location) (size : ℕ) (content : Option Content) (fault : SourceFault)
@@ -186,7 +194,8 @@ late_is_late : (names : Names) (is_taken : ℕ → Bool) (has_label : Bool) (her
 unfolding late_fault
 late_is_late names is_taken has_label None size content fault is = absurd (let never : None ≡ Some fault = is in cc)
 late_is_late names is_taken has_label (Some location) size content fault is =
-    each_has (λ f. is_early f ≡ false) (late_tests names is_taken has_label location size content) fault ((λ is. refl), ((λ is. refl), ((λ is. refl), ((λ is. refl), ((λ is. refl), tt)))))
+    each_has (λ f. is_early f ≡ false) (late_tests names is_taken has_label location size content) fault
+    ((λ is. refl), ((λ is. refl), ((λ is. refl), ((λ is. refl), ((λ is. refl), tt)))))
     (late_finds names is_taken has_label location size content fault ((late_least names is_taken has_label location size content fault).0 is).has)
 
 row_is_late : (rows : List LocatedLine) (fault : SourceFault) (number : ℕ) → HasLateFault rows fault number → is_early fault ≡ false

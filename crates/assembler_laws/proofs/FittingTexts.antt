@@ -74,7 +74,8 @@ operand_place_there : (x : KnownOperand) (n : Numbers) → AreOf x n → IsThere
 operand_place_there (known.Memory m) n of =
     let at : place_at m.base m.displacement ≡ place_at m.base (Constant (pos of.0.value)) = ap (place_at m.base) (of.1 ∙ ap Constant of.0.is) in
     subst (λ (p : Place). IsThere (displacement_in (displacement_field p) n.displacement)) (sym at)
-    (subst (λ (z : ℤ). IsThere (displacement_in (displacement_field (place_at m.base (Constant (pos of.0.value)))) z)) (sym of.0.is) (place_there m.base of.0.value of.0.small))
+    (subst (λ (z : ℤ). IsThere (displacement_in (displacement_field (place_at m.base (Constant (pos of.0.value)))) z))
+    (sym of.0.is) (place_there m.base of.0.value of.0.small))
 operand_place_there known.Nothing n of = (0, refl)
 operand_place_there (known.Register r) n of = (0, refl)
 operand_place_there known.One n of = (0, refl)
@@ -106,7 +107,8 @@ number_there : (op : Operation) (k : Kind) (x : KnownOperand) (next : ℕ) (n : 
 number_there op kinds.Imm8 x next n is of fits = (subst (λ (z : ℤ). IsThere (byte_of z)) (sym fits.1) (byte_there fits.0 fits.2), (0, refl))
 number_there op kinds.Imm16 x next n is of fits = (word_number_there n.number (a_word x n is of).0, (0, refl))
 number_there op kinds.Signed8 x next n is of fits = (constant_there x n is of, (0, refl))
-number_there op kinds.Rel8 x next n is of fits = (there_by (is_within (negsuc 127) (pos 127) (n.number -ℤ pos next)) (modulo 256 (n.number -ℤ pos next)) fits, (0, refl))
+number_there op kinds.Rel8 x next n is of fits =
+    (there_by (is_within (negsuc 127) (pos 127) (n.number -ℤ pos next)) (modulo 256 (n.number -ℤ pos next)) fits, (0, refl))
 number_there op kinds.Rel16 x next n is of fits = ((modulo 65536 (n.number -ℤ pos next), refl), (0, refl))
 number_there op kinds.At8 x next n is of fits = (direct_there x n (and_parts _ _ is).0 of, (0, refl))
 number_there op kinds.At16 x next n is of fits = (direct_there x n (and_parts _ _ is).0 of, (0, refl))
@@ -121,16 +123,18 @@ all_there a b c one two three =
       rw (one.1, two.1, three.1) refl,
     )
 
-field_there : (f : Form) (a : Asked) (next : ℕ) (n : Numbers) → Takes f.row a → AreOf a.first n → AreOf a.second n → FitsByte (field_kind f.row) next n → (b : Bool) → has_field (first_of f.row) ≡ b
-    → IsThere (number_in (field_kind f.row) (pos next) n) × IsThere (segment_in (field_kind f.row) n.segment)
+field_there : (f : Form) (a : Asked) (next : ℕ) (n : Numbers) → Takes f.row a → AreOf a.first n → AreOf a.second n → FitsByte (field_kind f.row) next n
+    → (b : Bool) → has_field (first_of f.row) ≡ b → IsThere (number_in (field_kind f.row) (pos next) n) × IsThere (segment_in (field_kind f.row) n.segment)
 field_there f a next n takes one two fits true e =
     let is : field_kind f.row ≡ first_of f.row = first_field (first_of f.row) (second_of f.row) e in
     subst (λ (k : Kind). IsThere (number_in k (pos next) n) × IsThere (segment_in k n.segment)) (sym is)
-    (number_there a.operation (first_of f.row) a.first next n (in_steps a.operation (first_of f.row) a.first takes.first) one (subst (λ (k : Kind). FitsByte k next n) is fits))
+    (number_there a.operation (first_of f.row) a.first next n
+    (in_steps a.operation (first_of f.row) a.first takes.first) one (subst (λ (k : Kind). FitsByte k next n) is fits))
 field_there f a next n takes one two fits false e =
     let is : field_kind f.row ≡ second_of f.row = second_field (first_of f.row) (second_of f.row) e in
     subst (λ (k : Kind). IsThere (number_in k (pos next) n) × IsThere (segment_in k n.segment)) (sym is)
-    (number_there a.operation (second_of f.row) a.second next n (in_steps a.operation (second_of f.row) a.second takes.second) two (subst (λ (k : Kind). FitsByte k next n) is fits))
+    (number_there a.operation (second_of f.row) a.second next n
+    (in_steps a.operation (second_of f.row) a.second takes.second) two (subst (λ (k : Kind). FitsByte k next n) is fits))
 
 kind_place_there : (k : Kind) (x : KnownOperand) (n : Numbers) → AreOf x n → IsThere (displacement_in (displacement_field (in_place k x)) n.displacement)
 kind_place_there kinds.Rm8 x n of = operand_place_there x n of
@@ -138,7 +142,8 @@ kind_place_there kinds.Rm16 x n of = operand_place_there x n of
 kind_place_there kinds.Memory x n of = operand_place_there x n of
 kind_place_there _ x n of = (0, refl)
 
-either_place : (p q : Place) (n : ℤ) → IsThere (displacement_in (displacement_field p) n) → IsThere (displacement_in (displacement_field q) n) → IsThere (displacement_in (displacement_field (first_place p q)) n)
+either_place : (p q : Place) (n : ℤ) → IsThere (displacement_in (displacement_field p) n) → IsThere (displacement_in (displacement_field q) n)
+    → IsThere (displacement_in (displacement_field (first_place p q)) n)
 either_place places.Absent q n one two = two
 either_place (places.Register r) q n one two = one
 either_place places.Direct q n one two = one
@@ -152,6 +157,8 @@ numbers_fit a f next n chosen one two fits =
     let is : HasForm f a = has_form f a chosen.parts in
     let place : IsThere (displacement_in (displacement_field f.place) n.displacement) =
     subst (λ (p : Place). IsThere (displacement_in (displacement_field p) n.displacement)) (sym is.place)
-    (either_place (in_place (first_of f.row) a.first) (in_place (second_of f.row) a.second) n.displacement (kind_place_there (first_of f.row) a.first n one) (kind_place_there (second_of f.row) a.second n two)) in
+    (either_place (in_place (first_of f.row) a.first) (in_place (second_of f.row) a.second) n.displacement
+    (kind_place_there (first_of f.row) a.first n one) (kind_place_there (second_of f.row) a.second n two)) in
     let field = field_there f a next n chosen.first.takes one two fits (has_field (first_of f.row)) refl in
-    all_there (displacement_in (displacement_field f.place) n.displacement) (number_in (field_kind f.row) (pos next) n) (segment_in (field_kind f.row) n.segment) place field.0 field.1
+    all_there (displacement_in (displacement_field f.place) n.displacement)
+    (number_in (field_kind f.row) (pos next) n) (segment_in (field_kind f.row) n.segment) place field.0 field.1

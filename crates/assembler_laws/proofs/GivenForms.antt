@@ -47,8 +47,8 @@ use Rattle.assembler_laws.proofs.TakenTexts.{xchg_registers}
 use Rattle.assembler_laws.proofs.TextForms.{ask_both, ax, chosen_said, exchanged_is, first_asked, nop_says, numbers_said, plain_says, row_agrees, second_asked, AskBoth, Says}
 
 -- the text of an instruction, but NOP and XCHG with AX second, in the order in which it is written
-same_size : (i : Instr) (ip : ℕ) (f : Form) → IsInstr i → IsForm f → prefixes_of (said_instruction i ip) ≡ i.prefixes.items → first_of i.form.row ≡ kinds.Rel8 → first_of f.row ≡ kinds.Rel8
-    → instruction_size f (said_instruction i ip) ≡ instr_length i
+same_size : (i : Instr) (ip : ℕ) (f : Form) → IsInstr i → IsForm f → prefixes_of (said_instruction i ip) ≡ i.prefixes.items
+    → first_of i.form.row ≡ kinds.Rel8 → first_of f.row ≡ kinds.Rel8 → instruction_size f (said_instruction i ip) ≡ instr_length i
 same_size i ip f is formed prefixes old new = rw (prefixes, rel_length f formed new, rel_length i.form is.form old) refl
 
 -- ---- registers alone have no number
@@ -61,14 +61,17 @@ register_fits op kinds.Imm8 r from n e = absurd (let contradiction : false ≡ t
 register_fits op kinds.Rel8 r from n e = never (is_near op (known.Register r)) (register_not_near op r) e
 register_fits op _ r from n e = tt
 
-registers_fit : (s : Row) (op : Operation) (r t : Register) (from : ℕ) (n : Numbers) → Takes s (asked_in_order op (known.Register r) (known.Register t)) → FitsByte (field_kind s) from n
+registers_fit : (s : Row) (op : Operation) (r t : Register) (from : ℕ) (n : Numbers)
+    → Takes s (asked_in_order op (known.Register r) (known.Register t)) → FitsByte (field_kind s) from n
 registers_fit s op r t from n takes = by (has_field (first_of s)) refl
   where
     by : (b : Bool) → has_field (first_of s) ≡ b → FitsByte (field_kind s) from n
     by true e =
-        subst (λ (k : Kind). FitsByte k from n) (sym (first_field (first_of s) (second_of s) e)) (register_fits op (first_of s) r from n (in_steps op (first_of s) (known.Register r) takes.first))
+        subst (λ (k : Kind). FitsByte k from n) (sym (first_field (first_of s) (second_of s) e))
+        (register_fits op (first_of s) r from n (in_steps op (first_of s) (known.Register r) takes.first))
     by false e =
-        subst (λ (k : Kind). FitsByte k from n) (sym (second_field (first_of s) (second_of s) e)) (register_fits op (second_of s) t from n (in_steps op (second_of s) (known.Register t) takes.second))
+        subst (λ (k : Kind). FitsByte k from n) (sym (second_field (first_of s) (second_of s) e))
+        (register_fits op (second_of s) t from n (in_steps op (second_of s) (known.Register t) takes.second))
 
 -- ---- the law
 given : (before names : Names) (location : Location) (size : ℕ) (i : Instr) (f : Form) (x y : KnownOperand) (n : Numbers) (a : Asked)
@@ -88,22 +91,27 @@ row_there : (a : Asked) (f : Form) → IsChosen a f → Contains rows f.row
 row_there a f choice = (chosen_form a f choice).row
 
 abbrev Goal : Names → Location → Instr → Form → Type 0
-Goal names location i f = (v : Values) × (fields_of names location (instruction_size f (said_instruction i location.offset)) f (said_instruction i location.offset) ≡ Some v)
+Goal names location i f =
+    (v : Values) × (fields_of names location (instruction_size f (said_instruction i location.offset)) f (said_instruction i location.offset) ≡ Some v)
 
-nop_given : (before names : Names) (location : Location) (i : Instr) (f : Form) → is_nop i.form ≡ true → IsFormFor (instruction_asked before (said_instruction i location.offset)) (Some f) → Goal names location i f
+nop_given : (before names : Names) (location : Location) (i : Instr) (f : Form)
+    → is_nop i.form ≡ true → IsFormFor (instruction_asked before (said_instruction i location.offset)) (Some f) → Goal names location i f
 nop_given before names location i f nop formed =
     let ip : ℕ = location.offset in
     let size : ℕ = instruction_size f (said_instruction i ip) in
-    given before names location size i f known.Nothing known.Nothing no_numbers (asked_in_order (Transfer transfer.Xchg) ax ax) (nop_says before names ip i nop) tt tt formed
-    (λ choice. registers_fit f.row (Transfer transfer.Xchg) (registers.Word Ax) (registers.Word Ax) (ip + size) no_numbers choice.first.takes)
+    given before names location size i f known.Nothing known.Nothing no_numbers (asked_in_order (Transfer transfer.Xchg) ax ax) (nop_says before names ip i nop)
+    tt tt formed (λ choice. registers_fit f.row (Transfer transfer.Xchg) (registers.Word Ax) (registers.Word Ax) (ip + size) no_numbers choice.first.takes)
 
 ax_registers : (x y : KnownOperand) → is_register_and_ax x y ≡ true → (r : Register) × (t : Register) × (x ≡ known.Register r) × (y ≡ known.Register t)
 ax_registers (known.Register (registers.Word r)) (known.Register (registers.Word Ax)) e = (registers.Word r, registers.Word Ax, refl, refl)
 ax_registers _ _ e = cc
 
-order_fits : (location : Location) (i : Instr) (f : Form) → IsInstr i → HasNearTarget i location.offset → prefixes_of (said_instruction i location.offset) ≡ i.prefixes.items → IsForm f
-    → Takes f.row (asked_in_order (operation_of i.form.row) (asked_by (first_written i.form i.values (next_of i location.offset))) (asked_by (second_written i.form i.values (next_of i location.offset))))
-    → FitsByte (field_kind f.row) (location.offset + instruction_size f (said_instruction i location.offset)) (numbers_said i.form i.values (next_of i location.offset))
+order_fits : (location : Location) (i : Instr) (f : Form) → IsInstr i → HasNearTarget i location.offset
+    → prefixes_of (said_instruction i location.offset) ≡ i.prefixes.items → IsForm f
+    → Takes f.row (asked_in_order (operation_of i.form.row) (asked_by (first_written i.form i.values (next_of i location.offset)))
+    (asked_by (second_written i.form i.values (next_of i location.offset))))
+    → FitsByte (field_kind f.row) (location.offset + instruction_size f (said_instruction i location.offset))
+    (numbers_said i.form i.values (next_of i location.offset))
 order_fits location i f is near prefixes formed takes =
     let ip : ℕ = location.offset in
     let next : ℕ = next_of i ip in
@@ -121,7 +129,8 @@ order_fits location i f is near prefixes formed takes =
     })
     (λ old new.
     let target : n.number ≡ pos ((next + sign_extended i.values.number) % 65536) =
-    rel_number i.form i.values next (second_of i.form.row) n (subst (λ (k : Kind). Has (written_operand i.form i.values next k (second_of i.form.row)) n) old both.has_first) in
+    rel_number i.form i.values next (second_of i.form.row) n
+    (subst (λ (k : Kind). Has (written_operand i.form i.values next k (second_of i.form.row)) n) old both.has_first) in
     let size : instruction_size f (said_instruction i ip) ≡ instr_length i = same_size i ip f is formed prefixes old new in
     subst (λ (z : ℤ). is_within (negsuc 127) (pos 127) (z -ℤ pos (ip + instruction_size f (said_instruction i ip))) ≡ true) (sym target)
     (subst (λ (m : ℕ). is_within (negsuc 127) (pos 127) (pos ((next + sign_extended i.values.number) % 65536) -ℤ pos (ip + m)) ≡ true) (sym size) (near old)))
@@ -142,10 +151,13 @@ plain_given before names location i f is near plain formed =
     (λ a a_is first second fits. given before names location size i f x y n a (subst (Says before names ip i x y n) a_is says) first second formed fits)
     (λ choice. order_fits location i f is near says.prefixes (chosen_form (asked_in_order op x y) f choice) choice.first.takes)
   where
-    by_order : (b : Bool) (op : Operation) (x y : KnownOperand) (n : Numbers) → is_exchanged op x y ≡ b → (op ≡ Arithmetic Test → is_memory y ≡ false) → AreOf (sized op x y) n → AreOf (sized op y x) n
-        → (is_exchanged op x y ≡ true → op ≡ Transfer transfer.Xchg → is_register_and_ax x y ≡ true) → ((a : Asked) → (if b then asked_in_order op y x else asked_in_order op x y) ≡ a → AreOf a.first n → AreOf a.second n
+    by_order : (b : Bool) (op : Operation) (x y : KnownOperand) (n : Numbers)
+        → is_exchanged op x y ≡ b → (op ≡ Arithmetic Test → is_memory y ≡ false) → AreOf (sized op x y) n → AreOf (sized op y x) n
+        → (is_exchanged op x y ≡ true → op ≡ Transfer transfer.Xchg → is_register_and_ax x y ≡ true)
+        → ((a : Asked) → (if b then asked_in_order op y x else asked_in_order op x y) ≡ a → AreOf a.first n → AreOf a.second n
         → (IsChosen a f → FitsByte (field_kind f.row) (location.offset + instruction_size f (said_instruction i location.offset)) n) → Goal names location i f)
-        → (IsChosen (asked_in_order op x y) f → FitsByte (field_kind f.row) (location.offset + instruction_size f (said_instruction i location.offset)) n) → Goal names location i f
+        → (IsChosen (asked_in_order op x y) f → FitsByte (field_kind f.row) (location.offset + instruction_size f (said_instruction i location.offset)) n)
+        → Goal names location i f
     by_order false op x y n e order first second registers_are result in_turn = result (asked_in_order op x y) refl first second in_turn
     by_order true op x y n e order first second registers_are result in_turn =
         let are = ax_registers x y (registers_are e (exchanged_is op x y e order)) in

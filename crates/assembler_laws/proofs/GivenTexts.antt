@@ -108,7 +108,8 @@ is_strict r =
     (implies (is_imm8 (second_of r)) (is_byte_kind (first_of r) || is_in (operation_of r))
     && implies (is_wide (second_of r)) (is_word_kind (first_of r) && not (is_in (operation_of r))))
     && ((implies (is_imm8 (first_of r)) (is_int_or_out (operation_of r)) && implies (is_int_or_out (operation_of r)) (not (is_wide (first_of r))))
-    && ((implies (is_rel8 (first_of r)) (is_jmp (operation_of r) || is_short_jump (operation_of r)) && implies (is_short_jump (operation_of r)) (is_rel8 (first_of r)))
+    && ((implies (is_rel8 (first_of r)) (is_jmp (operation_of r) || is_short_jump (operation_of r))
+    && implies (is_short_jump (operation_of r)) (is_rel8 (first_of r)))
     && (not (is_rel8 (second_of r)) && implies (is_rel8 (first_of r)) (is_bare (second_part r) && is_byte_field (field_part r)))))
 
 all_strict : list_all is_strict rows ≡ true
@@ -153,7 +154,8 @@ follows false b e is = absurd (let never : false ≡ true = is in cc)
 abbrev pub IsByte : Numbers → Type 0
 IsByte n = (x : ℕ) × (n.number ≡ pos x) × (x < 256)
 
-byte_not_number : (op : Operation) (p : Place) (kw : Option Keyword) (d : ℕ) (other : KnownOperand) → is_number (sized op (asked_by (byte_operand p kw d)) other) ≡ false
+byte_not_number : (op : Operation) (p : Place) (kw : Option Keyword) (d : ℕ) (other : KnownOperand)
+    → is_number (sized op (asked_by (byte_operand p kw d)) other) ≡ false
 byte_not_number op places.Absent kw d other = refl
 byte_not_number op (places.Register r) kw d other = refl
 byte_not_number op places.Direct kw d other = refl
@@ -161,7 +163,8 @@ byte_not_number op (places.Base b) kw d other = refl
 byte_not_number op (places.BaseByte b) kw d other = refl
 byte_not_number op (places.BaseWord b) kw d other = refl
 
-word_not_number : (op : Operation) (p : Place) (kw : Option Keyword) (d : ℕ) (other : KnownOperand) → is_number (sized op (asked_by (word_operand p kw d)) other) ≡ false
+word_not_number : (op : Operation) (p : Place) (kw : Option Keyword) (d : ℕ) (other : KnownOperand)
+    → is_number (sized op (asked_by (word_operand p kw d)) other) ≡ false
 word_not_number op places.Absent kw d other = refl
 word_not_number op (places.Register r) kw d other = refl
 word_not_number op places.Direct kw d other = refl
@@ -172,8 +175,8 @@ word_not_number op (places.BaseWord b) kw d other = refl
 pub never : {A : Type 0} → (b : Bool) → b ≡ false → b ≡ true → A
 never b is_false is_true = absurd (let contradiction : false ≡ true = sym is_false ∙ is_true in cc)
 
-narrow_byte : (f : Form) (v : Values) (next : ℕ) (op : Operation) (k l : Kind) (other : KnownOperand) (n : Numbers) → is_wide k ≡ false → Has (written_operand f v next k l) n
-    → is_number (sized op (asked_by (written_operand f v next k l)) other) ≡ true → IsByte n
+narrow_byte : (f : Form) (v : Values) (next : ℕ) (op : Operation) (k l : Kind) (other : KnownOperand) (n : Numbers)
+    → is_wide k ≡ false → Has (written_operand f v next k l) n → is_number (sized op (asked_by (written_operand f v next k l)) other) ≡ true → IsByte n
 unfolding written_operand
 narrow_byte f v next op kinds.Imm8 l other n e has is = (v.number % 256, has, omega arith)
 narrow_byte f v next op kinds.EscNumber l other n e has is = (_, has, omega arith)
@@ -202,7 +205,8 @@ byte_taken op _ x e is = cc
 no_byte_size : (s : Option Size) → s ≡ Some sizes.Word → is_byte_size s ≡ false
 no_byte_size s is = ap is_byte_size is
 
-word_not_byte : (op : Operation) (p : Place) (kw : Option Keyword) (d : ℕ) (other : KnownOperand) → size_or (said_size kw) (size_beside op other) ≡ Some sizes.Word → is_bytelike (sized op (asked_by (word_operand p kw d)) other) ≡ false
+word_not_byte : (op : Operation) (p : Place) (kw : Option Keyword) (d : ℕ) (other : KnownOperand)
+    → size_or (said_size kw) (size_beside op other) ≡ Some sizes.Word → is_bytelike (sized op (asked_by (word_operand p kw d)) other) ≡ false
 word_not_byte op places.Absent kw d other e = refl
 word_not_byte op (places.Register r) kw d other e = refl
 word_not_byte op places.Direct kw d other e = no_byte_size _ e
@@ -219,33 +223,40 @@ word_kind_not_byte f v next op kinds.Rm16 l other e size = word_not_byte op f.pl
 word_kind_not_byte f v next op _ l other e size = cc
 
 -- ---- the byte of a form that is chosen in the text's order
-byte_first_by : (f : Form) (v : Values) (next : ℕ) (s : Row) (n : Numbers) → IsStrict f.row → IsStrict s → operation_of s ≡ operation_of f.row → first_of s ≡ kinds.Imm8
-    → Has (first_written f v next) n → is_number (sized (operation_of f.row) (asked_by (first_written f v next)) (asked_by (second_written f v next))) ≡ true → IsByte n
+byte_first_by : (f : Form) (v : Values) (next : ℕ) (s : Row) (n : Numbers)
+    → IsStrict f.row → IsStrict s → operation_of s ≡ operation_of f.row → first_of s ≡ kinds.Imm8 → Has (first_written f v next) n
+    → is_number (sized (operation_of f.row) (asked_by (first_written f v next)) (asked_by (second_written f v next))) ≡ true → IsByte n
 byte_first_by f v next s n strict s_strict same is has number =
     let op : Operation = operation_of f.row in
-    let outs : is_int_or_out op ≡ true = subst (λ (o : Operation). is_int_or_out o ≡ true) same (follows (is_imm8 (first_of s)) (is_int_or_out (operation_of s)) s_strict.byte_first (ap is_imm8 is)) in
-    let narrow : is_wide (first_of f.row) ≡ false = not_true (is_wide (first_of f.row)) (follows (is_int_or_out op) (not (is_wide (first_of f.row))) strict.word_first outs) in
+    let outs : is_int_or_out op ≡ true = subst (λ (o : Operation). is_int_or_out o ≡ true) same
+    (follows (is_imm8 (first_of s)) (is_int_or_out (operation_of s)) s_strict.byte_first (ap is_imm8 is)) in
+    let narrow : is_wide (first_of f.row) ≡ false =
+    not_true (is_wide (first_of f.row)) (follows (is_int_or_out op) (not (is_wide (first_of f.row))) strict.word_first outs) in
     narrow_byte f v next op (first_of f.row) (second_of f.row) (asked_by (second_written f v next)) n narrow has number
 
 either_true : (a b : Bool) → (a || b) ≡ true → b ≡ false → a ≡ true
 either_true true b e is_false = refl
 either_true false b e is_false = absurd (let contradiction : false ≡ true = sym is_false ∙ e in cc)
 
-byte_second_by : (f : Form) (v : Values) (next : ℕ) (s : Row) (n : Numbers) → IsStrict f.row → IsStrict s → operation_of s ≡ operation_of f.row → second_of s ≡ kinds.Imm8
-    → HasSize (operation_of f.row) (first_of f.row) (second_of f.row) (asked_by (second_written f v next))
+byte_second_by : (f : Form) (v : Values) (next : ℕ) (s : Row) (n : Numbers) → IsStrict f.row → IsStrict s → operation_of s ≡ operation_of f.row
+    → second_of s ≡ kinds.Imm8 → HasSize (operation_of f.row) (first_of f.row) (second_of f.row) (asked_by (second_written f v next))
     → IsTrue (is_of (operation_of f.row) (first_of s) (sized (operation_of f.row) (asked_by (first_written f v next)) (asked_by (second_written f v next))))
-    → Has (second_written f v next) n → is_number (sized (operation_of f.row) (asked_by (second_written f v next)) (asked_by (first_written f v next))) ≡ true → IsByte n
+    → Has (second_written f v next) n
+    → is_number (sized (operation_of f.row) (asked_by (second_written f v next)) (asked_by (first_written f v next))) ≡ true → IsByte n
 byte_second_by f v next s n strict s_strict same is size takes has number = by (is_wide (second_of f.row)) refl
   where
     by : (b : Bool) → is_wide (second_of f.row) ≡ b → IsByte n
     by false e = narrow_byte f v next (operation_of f.row) (second_of f.row) (first_of f.row) (asked_by (first_written f v next)) n e has number
     by true e =
-        let words = and_parts _ _ (follows (is_wide (second_of f.row)) (is_word_kind (first_of f.row) && not (is_in (operation_of f.row))) strict.word_second e) in
+        let words =
+        and_parts _ _ (follows (is_wide (second_of f.row)) (is_word_kind (first_of f.row) && not (is_in (operation_of f.row))) strict.word_second e) in
         let no_in : is_in (operation_of s) ≡ false = ap is_in same ∙ not_true (is_in (operation_of f.row)) words.1 in
         let bytes : is_byte_kind (first_of s) ≡ true =
-        either_true (is_byte_kind (first_of s)) (is_in (operation_of s)) (follows (is_imm8 (second_of s)) (is_byte_kind (first_of s) || is_in (operation_of s)) s_strict.byte_second (ap is_imm8 is)) no_in in
+        either_true (is_byte_kind (first_of s)) (is_in (operation_of s))
+        (follows (is_imm8 (second_of s)) (is_byte_kind (first_of s) || is_in (operation_of s)) s_strict.byte_second (ap is_imm8 is)) no_in in
         never _ (word_kind_not_byte f v next (operation_of f.row) (first_of f.row) (second_of f.row) (asked_by (second_written f v next)) words.0 size)
-        (byte_taken (operation_of f.row) (first_of s) (sized (operation_of f.row) (asked_by (first_written f v next)) (asked_by (second_written f v next))) bytes takes)
+        (byte_taken (operation_of f.row) (first_of s)
+        (sized (operation_of f.row) (asked_by (first_written f v next)) (asked_by (second_written f v next))) bytes takes)
 
 -- ---- the target of a short jump
 pub rel_is : (k : Kind) → is_rel8 k ≡ true → k ≡ kinds.Rel8
@@ -256,7 +267,8 @@ jmp_is : (op : Operation) → is_jmp op ≡ true → op ≡ Control control.Jmp
 jmp_is (Control control.Jmp) e = refl
 jmp_is _ e = cc
 
-word_not_short : (op : Operation) (p : Place) (kw : Option Keyword) (d : ℕ) (other : KnownOperand) → is_short (sized op (asked_by (word_operand p kw d)) other) ≡ false
+word_not_short : (op : Operation) (p : Place) (kw : Option Keyword) (d : ℕ) (other : KnownOperand)
+    → is_short (sized op (asked_by (word_operand p kw d)) other) ≡ false
 word_not_short op places.Absent kw d other = refl
 word_not_short op (places.Register r) kw d other = refl
 word_not_short op places.Direct kw d other = refl
@@ -264,7 +276,8 @@ word_not_short op (places.Base b) kw d other = refl
 word_not_short op (places.BaseByte b) kw d other = refl
 word_not_short op (places.BaseWord b) kw d other = refl
 
-short_kind : (f : Form) (v : Values) (next : ℕ) (op : Operation) (k l : Kind) (other : KnownOperand) → is_near_kind k ≡ true → is_short (sized op (asked_by (written_operand f v next k l)) other) ≡ true → is_rel8 k ≡ true
+short_kind : (f : Form) (v : Values) (next : ℕ) (op : Operation) (k l : Kind) (other : KnownOperand)
+    → is_near_kind k ≡ true → is_short (sized op (asked_by (written_operand f v next k l)) other) ≡ true → is_rel8 k ≡ true
 unfolding written_operand
 short_kind f v next op kinds.Rel8 l other e is = refl
 short_kind f v next op kinds.Rel16 l other e is = cc
@@ -275,13 +288,16 @@ or_either : {A : Type 0} → (a b : Bool) → (a || b) ≡ true → (a ≡ true 
 or_either true b e one two = one refl
 or_either false b e one two = two e
 
-target_kind : (f : Form) (v : Values) (next : ℕ) (s : Row) → IsStrict f.row → IsStrict s → RowAgrees f.row → operation_of s ≡ operation_of f.row → first_of s ≡ kinds.Rel8
-    → IsTrue (is_of (operation_of f.row) kinds.Rel8 (sized (operation_of f.row) (asked_by (first_written f v next)) (asked_by (second_written f v next)))) → first_of f.row ≡ kinds.Rel8
+target_kind : (f : Form) (v : Values) (next : ℕ) (s : Row) → IsStrict f.row → IsStrict s
+    → RowAgrees f.row → operation_of s ≡ operation_of f.row → first_of s ≡ kinds.Rel8
+    → IsTrue (is_of (operation_of f.row) kinds.Rel8 (sized (operation_of f.row) (asked_by (first_written f v next)) (asked_by (second_written f v next))))
+    → first_of f.row ≡ kinds.Rel8
 target_kind f v next s strict s_strict agrees same is takes =
     let op : Operation = operation_of f.row in
     let x : KnownOperand = sized op (asked_by (first_written f v next)) (asked_by (second_written f v next)) in
     let jumps : (is_jmp op || is_short_jump op) ≡ true =
-    subst (λ (o : Operation). (is_jmp o || is_short_jump o) ≡ true) same (follows (is_rel8 (first_of s)) (is_jmp (operation_of s) || is_short_jump (operation_of s)) s_strict.target (ap is_rel8 is)) in
+    subst (λ (o : Operation). (is_jmp o || is_short_jump o) ≡ true) same
+    (follows (is_rel8 (first_of s)) (is_jmp (operation_of s) || is_short_jump (operation_of s)) s_strict.target (ap is_rel8 is)) in
     rel_is (first_of f.row)
     (or_either (is_jmp op) (is_short_jump op) jumps
     (λ e. let jmp : op ≡ Control control.Jmp = jmp_is op e in
@@ -302,7 +318,8 @@ pub rel_length : (f : Form) → IsForm f → first_of f.row ≡ kinds.Rel8 → f
 unfolding form_length
 rel_length f is rel =
     let strict : IsStrict f.row = row_strict f.row is.row in
-    let bare = and_parts _ _ (follows (is_rel8 (first_of f.row)) (is_bare (second_part f.row) && is_byte_field (field_part f.row)) strict.bare (ap is_rel8 rel)) in
+    let bare =
+    and_parts _ _ (follows (is_rel8 (first_of f.row)) (is_bare (second_part f.row) && is_byte_field (field_part f.row)) strict.bare (ap is_rel8 rel)) in
     let place = bare_place (second_part f.row) f.reg f.place is.second bare.0 in
     rw (place.0, place.1, byte_field_is (field_part f.row) bare.1) refl
 
@@ -311,12 +328,14 @@ target_number : (op : Operation) (x : ℕ) (n : Numbers) → Has (target_operand
 target_number (Control control.Jmp) x n has = has
 target_number _ x n has = has
 
-pub rel_number : (f : Form) (v : Values) (next : ℕ) (l : Kind) (n : Numbers) → Has (written_operand f v next kinds.Rel8 l) n → n.number ≡ pos ((next + sign_extended v.number) % 65536)
+pub rel_number : (f : Form) (v : Values) (next : ℕ) (l : Kind) (n : Numbers) → Has (written_operand f v next kinds.Rel8 l) n
+    → n.number ≡ pos ((next + sign_extended v.number) % 65536)
 unfolding written_operand
 rel_number f v next l n has = target_number (operation_of f.row) ((next + sign_extended v.number) % 65536) n has
 
 -- ---- what goes into a byte fits
-pub fits_byte : (k : Kind) (next : ℕ) (n : Numbers) → (k ≡ kinds.Imm8 → IsByte n) → (k ≡ kinds.Rel8 → is_within (negsuc 127) (pos 127) (n.number -ℤ pos next) ≡ true) → FitsByte k next n
+pub fits_byte : (k : Kind) (next : ℕ) (n : Numbers) → (k ≡ kinds.Imm8 → IsByte n)
+    → (k ≡ kinds.Rel8 → is_within (negsuc 127) (pos 127) (n.number -ℤ pos next) ≡ true) → FitsByte k next n
 fits_byte kinds.Imm8 next n byte near = byte refl
 fits_byte kinds.Rel8 next n byte near = near refl
 fits_byte _ next n byte near = tt
@@ -340,13 +359,25 @@ in_order_fits f v next n s from is near = by (has_field (first_of s)) refl
         subst (λ (k : Kind). FitsByte k from n) (sym same)
         (fits_byte (first_of s) from n
         (λ imm. byte_first_by f v next s n is.strict is.s_strict is.takes.operation imm is.has_first
-        (subst (λ (k : Kind). is_of (operation_of f.row) k (sized (operation_of f.row) (asked_by (first_written f v next)) (asked_by (second_written f v next))) ≡ true) imm (in_steps (operation_of f.row) (first_of s) (sized (operation_of f.row) (asked_by (first_written f v next)) (asked_by (second_written f v next))) is.takes.first)))
+        (subst (λ (k : Kind).
+        is_of (operation_of f.row) k (sized (operation_of f.row) (asked_by (first_written f v next)) (asked_by (second_written f v next))) ≡ true)
+        imm (in_steps (operation_of f.row) (first_of s)
+        (sized (operation_of f.row) (asked_by (first_written f v next)) (asked_by (second_written f v next))) is.takes.first)))
         (λ rel. near (target_kind f v next s is.strict is.s_strict is.agrees is.takes.operation rel
-        (subst (λ (k : Kind). is_of (operation_of f.row) k (sized (operation_of f.row) (asked_by (first_written f v next)) (asked_by (second_written f v next))) ≡ true) rel (in_steps (operation_of f.row) (first_of s) (sized (operation_of f.row) (asked_by (first_written f v next)) (asked_by (second_written f v next))) is.takes.first))) rel))
+        (subst (λ (k : Kind).
+        is_of (operation_of f.row) k (sized (operation_of f.row) (asked_by (first_written f v next)) (asked_by (second_written f v next))) ≡ true)
+        rel (in_steps (operation_of f.row) (first_of s)
+        (sized (operation_of f.row) (asked_by (first_written f v next)) (asked_by (second_written f v next))) is.takes.first)))
+        rel))
     by false e =
         let same : field_kind s ≡ second_of s = second_field (first_of s) (second_of s) e in
         subst (λ (k : Kind). FitsByte k from n) (sym same)
         (fits_byte (second_of s) from n
-        (λ imm. byte_second_by f v next s n is.strict is.s_strict is.takes.operation imm is.size (in_steps (operation_of f.row) (first_of s) (sized (operation_of f.row) (asked_by (first_written f v next)) (asked_by (second_written f v next))) is.takes.first) is.has_second
-        (subst (λ (k : Kind). is_of (operation_of f.row) k (sized (operation_of f.row) (asked_by (second_written f v next)) (asked_by (first_written f v next))) ≡ true) imm (in_steps (operation_of f.row) (second_of s) (sized (operation_of f.row) (asked_by (second_written f v next)) (asked_by (first_written f v next))) is.takes.second)))
+        (λ imm. byte_second_by f v next s n is.strict is.s_strict is.takes.operation imm is.size (in_steps (operation_of f.row)
+        (first_of s) (sized (operation_of f.row) (asked_by (first_written f v next)) (asked_by (second_written f v next))) is.takes.first)
+        is.has_second
+        (subst (λ (k : Kind).
+        is_of (operation_of f.row) k (sized (operation_of f.row) (asked_by (second_written f v next)) (asked_by (first_written f v next))) ≡ true)
+        imm (in_steps (operation_of f.row) (second_of s)
+        (sized (operation_of f.row) (asked_by (second_written f v next)) (asked_by (first_written f v next))) is.takes.second)))
         (λ rel. never (is_rel8 (second_of s)) (not_true (is_rel8 (second_of s)) is.s_strict.no_second) (ap is_rel8 rel)))

@@ -102,7 +102,8 @@ constant_by known said n rest name terms one two is = (
 
 constant_first : (known : Names) (statement : Statement) (rest : Names) (name : Name) (terms : List Term) → said_constant statement ≡ Some (name, terms)
     → has_unknown_constant known statement ≡ false
-    → (statement_name statement ≡ Some name) × ((n : ℤ) × (constant_of known terms ≡ Some n) × (meaning (statement_definition known statement ++ rest) name ≡ Some (Constant n)))
+    → (statement_name statement ≡ Some name)
+    × ((n : ℤ) × (constant_of known terms ≡ Some n) × (meaning (statement_definition known statement ++ rest) name ≡ Some (Constant n)))
 constant_first known Empty rest name terms is unknown = absurd (never_named (name, terms) is)
 constant_first known (Segment said n) rest name terms is unknown =
     let same = same_pair (said, n) (name, terms) is in
@@ -115,8 +116,8 @@ constant_first known (Org n) rest name terms is unknown = absurd (never_named (n
 constant_first known (Data width items) rest name terms is unknown = absurd (never_named (name, terms) is)
 constant_first known (Instruction i) rest name terms is unknown = absurd (never_named (name, terms) is)
 
-constant_there : (known rest : Names) (here : Option Location) (line : Line) (name : Name) (terms : List Term) → said_constant line.statement ≡ Some (name, terms)
-    → has_unknown_constant known line.statement ≡ false → defines_again known line ≡ false
+constant_there : (known rest : Names) (here : Option Location) (line : Line) (name : Name) (terms : List Term)
+    → said_constant line.statement ≡ Some (name, terms) → has_unknown_constant known line.statement ≡ false → defines_again known line ≡ false
     → (n : ℤ) × (constant_of known terms ≡ Some n)
     × (meaning (known ++ ((label_definition here line.label ++ statement_definition known line.statement) ++ rest)) name ≡ Some (Constant n))
 constant_there known rest here line name terms is unknown again =
@@ -163,7 +164,8 @@ counted_at front row back there fits (Some location) at =
 counted_at front row back there fits None at =
     let none : HasNone (names_of front) row.location row.line row.form = has_none (names_of front) row.location row.line row.form there.clean.clean in
     let wants : wants_segment row.line.statement ≡ false =
-    (or_parts (is_some row.line.label) (wants_segment row.line.statement) (ap (λ (o : Option Location). stands_outside o row.line) (sym at) ∙ none.outside)).1 in
+    (or_parts (is_some row.line.label) (wants_segment row.line.statement)
+    (ap (λ (o : Option Location). stands_outside o row.line) (sym at) ∙ none.outside)).1 in
     ap length (placed_nowhere (names_of (front ++ row ∷ back)) row at)
     ∙ sym (there.clean.is_located_line.size ∙ nothing_outside (names_of front) row.form row.line.statement wants)
 
@@ -201,9 +203,11 @@ pub lines_stand_where_counted : LinesStandWhereCounted
 lines_stand_where_counted source image gives front row back split =
     let texts : List (List ℕ) = text_lines source in
     let are : AreLocatedLines [] texts (front ++ row ∷ back) = subst (AreLocatedLines [] texts) split gives.are_located_lines in
-    let fits : Fits (names_of gives.rows) row = fits_there (names_of gives.rows) front row back (subst (AllByRecursion (Fits (names_of gives.rows))) split gives.placed.fit) in
+    let fits : Fits (names_of gives.rows) row =
+    fits_there (names_of gives.rows) front row back (subst (AllByRecursion (Fits (names_of gives.rows))) split gives.placed.fit) in
     let clean : AreClean front = λ b r a is.
     clean_there [] texts b r (a ++ row ∷ back)
-    (subst (AreLocatedLines [] texts) (split ∙ ap (λ (rs : List LocatedLine). rs ++ row ∷ back) is ∙ append_assoc b (r ∷ a) (row ∷ back)) gives.are_located_lines) in
+    (subst (AreLocatedLines [] texts)
+    (split ∙ ap (λ (rs : List LocatedLine). rs ++ row ∷ back) is ∙ append_assoc b (r ∷ a) (row ∷ back)) gives.are_located_lines) in
     subst (λ (rows : List LocatedLine). StandsWhereCounted (names_of rows) front row) (sym split)
     (stands_so texts front row back are (subst (λ (rows : List LocatedLine). Fits (names_of rows) row) split fits) clean)

@@ -11,13 +11,16 @@ use Rattle.assembler_laws.specs.FirstFaults.{IsFirstLine, LinesBeforeAreClean}
 use Rattle.assembler_laws.proofs.FaultOrder.{faults_come_in_passes}
 use Rattle.assembler_laws.proofs.Uniqueness.{parted, IsLonger, IsSame}
 
-are_push : (before : List LocatedLine) (texts : List (List ℕ)) (rows : List LocatedLine) (text : List ℕ) (row : LocatedLine) → AreLocatedLines before texts rows → IsCleanLine (before ++ rows) text row
-    → AreLocatedLines before (texts ++ text ∷ []) (rows ++ row ∷ [])
+are_push : (before : List LocatedLine) (texts : List (List ℕ)) (rows : List LocatedLine) (text : List ℕ) (row : LocatedLine)
+    → AreLocatedLines before texts rows → IsCleanLine (before ++ rows) text row → AreLocatedLines before (texts ++ text ∷ []) (rows ++ row ∷ [])
 are_push before [] [] text row are is = (subst (λ (rs : List LocatedLine). IsCleanLine rs text row) (append-nil before) is, tt)
 are_push before [] (r ∷ rows) text row are is = absurd are
 are_push before (t ∷ texts) [] text row are is = absurd are
-are_push before (t ∷ texts) (r ∷ rows) text row are is =
-    (are.0, are_push (before ++ r ∷ []) texts rows text row are.1 (subst (λ (rs : List LocatedLine). IsCleanLine rs text row) (sym (append_assoc before (r ∷ []) rows)) is))
+are_push before (t ∷ texts) (r ∷ rows) text row are is = (
+  are.0,
+  are_push (before ++ r ∷ []) texts rows text row are.1
+      (subst (λ (rs : List LocatedLine). IsCleanLine rs text row) (sym (append_assoc before (r ∷ []) rows)) is),
+)
 
 rows_count : (before : List LocatedLine) (texts : List (List ℕ)) (rows : List LocatedLine) → AreLocatedLines before texts rows → length rows ≡ length texts
 rows_count before [] [] are = refl
@@ -25,8 +28,8 @@ rows_count before [] (row ∷ rows) are = absurd are
 rows_count before (text ∷ texts) [] are = absurd are
 rows_count before (text ∷ texts) (row ∷ rows) are = ap suc (rows_count (before ++ row ∷ []) texts rows are.1)
 
-clean_to : (texts : List (List ℕ)) (rows : List LocatedLine) (front : List (List ℕ)) (text : List ℕ) (back : List (List ℕ)) → texts ≡ front ++ text ∷ back → AreLocatedLines [] texts rows
-    → (rs : List LocatedLine) × AreLocatedLines [] (front ++ text ∷ []) rs
+clean_to : (texts : List (List ℕ)) (rows : List LocatedLine) (front : List (List ℕ)) (text : List ℕ) (back : List (List ℕ))
+    → texts ≡ front ++ text ∷ back → AreLocatedLines [] texts rows → (rs : List LocatedLine) × AreLocatedLines [] (front ++ text ∷ []) rs
 clean_to texts rows front text back split are =
     let own : LinesUpTo [] front text = lines_up_to [] front text back rows (subst (λ (ts : List (List ℕ)). AreLocatedLines [] ts rows) split are) in
     (own.rows ++ own.row ∷ [], are_push [] front own.rows text own.row own.clean own.is_located_line)
@@ -52,7 +55,8 @@ clean_before source fault number early front text below (inr (inr is)) =
     let counted : length early.front + 1 ≡ number = early.counted in
     absurd (omega (arith, below, at, counted))
 
-first_line : (source : List ℕ) (fault : SourceFault) (number : ℕ) → IsEarlyFault source fault number ⊎ IsLateFault source fault number → IsFirstLine source fault number
+first_line : (source : List ℕ) (fault : SourceFault) (number : ℕ)
+    → IsEarlyFault source fault number ⊎ IsLateFault source fault number → IsFirstLine source fault number
 first_line source fault number (inl early) = record {
   counted = split_count (text_lines source) early.front early.text early.back number early.texts early.counted;
   before = λ front text back split below.

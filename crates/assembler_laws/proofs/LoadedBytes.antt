@@ -40,5 +40,7 @@ seen_long byte location = let is = length-map-range_with_len (byte_after byte lo
 mapped_small : (f : ℕ → ℕ) (xs : List ℕ) → ((x : ℕ) → f x < 256) → All (λ b. b < 256) (map f xs)
 mapped_small f xs each = All-map (λ b. b < 256) f xs (λ k d within. each _)
 
-pub seen_bytes : (byte : ℕ → ℕ) (location : Location) → ((address : ℕ) → byte address < 256) → All (λ b. b < 256) (code_at byte location.segment location.offset)
-seen_bytes byte location each = mapped_small (byte_after byte location) (range_with_len 0 longest_instruction) (λ k. each (physical location.segment (offset_after location.offset k)))
+pub seen_bytes : (byte : ℕ → ℕ) (location : Location) → ((address : ℕ) → byte address < 256)
+    → All (λ b. b < 256) (code_at byte location.segment location.offset)
+seen_bytes byte location each =
+    mapped_small (byte_after byte location) (range_with_len 0 longest_instruction) (λ k. each (physical location.segment (offset_after location.offset k)))

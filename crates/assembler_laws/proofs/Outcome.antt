@@ -49,7 +49,8 @@ takes_by r a (inl is) (inl one) (inl two) = inl (record { operation = is; first 
 
 takes_or : (r : TableRow) (a : Asked) → Takes r a ⊎ (Takes r a → ⊥)
 takes_or r a =
-    takes_by r a (one_or_other (operation_of r) a.operation) (test_or (is_of a.operation (first_of r) a.first)) (test_or (is_of a.operation (second_of r) a.second))
+    takes_by r a (one_or_other (operation_of r) a.operation)
+    (test_or (is_of a.operation (first_of r) a.first)) (test_or (is_of a.operation (second_of r) a.second))
 
 earlier_not : (r : TableRow) (rs : List TableRow) (a : Asked) (place : ℕ) → (Takes r a → ⊥)
     → ((i : ℕ) (s : TableRow) → i < place → slice_get rs i ≡ Some s → Takes s a → ⊥)
@@ -57,8 +58,8 @@ earlier_not : (r : TableRow) (rs : List TableRow) (a : Asked) (place : ℕ) → 
 earlier_not r rs a place not before zero s small is takes = let same : r ≡ s = cc in not (subst (λ (t : TableRow). Takes t a) (sym same) takes)
 earlier_not r rs a place not before (suc i) s small is takes = before i s (omega (arith, small)) is takes
 
-none_more : (r : TableRow) (rs : List TableRow) (a : Asked) → (Takes r a → ⊥) → NoneTakes rs a → (s : TableRow) (k : ℕ) → k < length (r ∷ rs) → get_or (r ∷ rs) k s ≡ s
-    → Takes s a → ⊥
+none_more : (r : TableRow) (rs : List TableRow) (a : Asked) → (Takes r a → ⊥) → NoneTakes rs a
+    → (s : TableRow) (k : ℕ) → k < length (r ∷ rs) → get_or (r ∷ rs) k s ≡ s → Takes s a → ⊥
 none_more r rs a not none s zero within is takes = not (subst (λ (t : TableRow). Takes t a) (sym is) takes)
 none_more r rs a not none s (suc k) within is takes = none s (k, omega (arith, within), is) takes
 
@@ -110,10 +111,11 @@ form_of names (Instruction i) = form_for (instruction_asked names i)
 
 -- ---- a text makes a clean row, or has a fault
 abbrev HasOutcome : List LocatedLine → List ℕ → Type 0
-HasOutcome before text = ((row : LocatedLine) × IsCleanLine before text row) ⊎ ((fault : SourceFault) × IsTextFault (names_of before) (location_following before) text fault)
+HasOutcome before text =
+    ((row : LocatedLine) × IsCleanLine before text row) ⊎ ((fault : SourceFault) × IsTextFault (names_of before) (location_following before) text fault)
 
-row_outcome : (before : List LocatedLine) (text : List ℕ) (row : LocatedLine) → IsLocatedLine (names_of before) (location_following before) text row → (o : Option SourceFault)
-    → early_fault (names_of before) row.location row.line row.form ≡ o → HasOutcome before text
+row_outcome : (before : List LocatedLine) (text : List ℕ) (row : LocatedLine) → IsLocatedLine (names_of before) (location_following before) text row
+    → (o : Option SourceFault) → early_fault (names_of before) row.location row.line row.form ≡ o → HasOutcome before text
 row_outcome before text row is None at = inl (row, record { is_located_line = is; clean = at })
 row_outcome before text row is (Some fault) at = inr (fault, inr (row, is, at))
 
@@ -142,8 +144,8 @@ record HasEarly (before : List LocatedLine) (texts : List (List ℕ)) : Type 0 w
 abbrev HaveOutcome : List LocatedLine → List (List ℕ) → Type 0
 HaveOutcome before texts = ((rows : List LocatedLine) × AreLocatedLines before texts rows) ⊎ HasEarly before texts
 
-texts_after : (before : List LocatedLine) (text : List ℕ) (texts : List (List ℕ)) (row : LocatedLine) → IsCleanLine before text row → HaveOutcome (before ++ row ∷ []) texts
-    → HaveOutcome before (text ∷ texts)
+texts_after : (before : List LocatedLine) (text : List ℕ) (texts : List (List ℕ)) (row : LocatedLine)
+    → IsCleanLine before text row → HaveOutcome (before ++ row ∷ []) texts → HaveOutcome before (text ∷ texts)
 texts_after before text texts row is (inl clean) = inl (row ∷ clean.0, (is, clean.1))
 texts_after before text texts row is (inr early) = inr (record {
   front = text ∷ early.front;
@@ -153,11 +155,12 @@ texts_after before text texts row is (inr early) = inr (record {
   rows = row ∷ early.rows;
   clean = (is, early.clean);
   fault = early.fault;
-  found = subst (λ (rs : List LocatedLine). IsTextFault (names_of rs) (location_following rs) early.text early.fault) (append_assoc before (row ∷ []) early.rows) early.found;
+  found = subst (λ (rs : List LocatedLine). IsTextFault (names_of rs) (location_following rs) early.text early.fault)
+      (append_assoc before (row ∷ []) early.rows) early.found;
 })
 
-fault_first : (before : List LocatedLine) (text : List ℕ) (texts : List (List ℕ)) (fault : SourceFault) → IsTextFault (names_of before) (location_following before) text fault
-    → HaveOutcome before (text ∷ texts)
+fault_first : (before : List LocatedLine) (text : List ℕ) (texts : List (List ℕ)) (fault : SourceFault)
+    → IsTextFault (names_of before) (location_following before) text fault → HaveOutcome before (text ∷ texts)
 fault_first before text texts fault found = inr (record {
   front = [];
   text = text;
@@ -189,8 +192,8 @@ record HasLate (names : Names) (before rows : List LocatedLine) : Type 0 where
 abbrev CanBePlaced : Names → List LocatedLine → List LocatedLine → Type 0
 CanBePlaced names before rows = AreFaultless names before rows ⊎ HasLate names before rows
 
-rows_after : (names : Names) (before : List LocatedLine) (row : LocatedLine) (rows : List LocatedLine) → located_fault names before row ≡ None → CanBePlaced names (before ++ row ∷ []) rows
-    → CanBePlaced names before (row ∷ rows)
+rows_after : (names : Names) (before : List LocatedLine) (row : LocatedLine) (rows : List LocatedLine)
+    → located_fault names before row ≡ None → CanBePlaced names (before ++ row ∷ []) rows → CanBePlaced names before (row ∷ rows)
 rows_after names before row rows none (inl free) = inl (none, free)
 rows_after names before row rows none (inr late) = inr (record {
   front = row ∷ late.front;
@@ -202,8 +205,8 @@ rows_after names before row rows none (inr late) = inr (record {
   found = ap (λ (rs : List LocatedLine). located_fault names rs late.row) (sym (append_assoc before (row ∷ []) late.front)) ∙ late.found;
 })
 
-rows_by : (names : Names) (before : List LocatedLine) (row : LocatedLine) (rows : List LocatedLine) (o : Option SourceFault) → located_fault names before row ≡ o
-    → CanBePlaced names (before ++ row ∷ []) rows → CanBePlaced names before (row ∷ rows)
+rows_by : (names : Names) (before : List LocatedLine) (row : LocatedLine) (rows : List LocatedLine) (o : Option SourceFault)
+    → located_fault names before row ≡ o → CanBePlaced names (before ++ row ∷ []) rows → CanBePlaced names before (row ∷ rows)
 rows_by names before row rows None at rest = rows_after names before row rows at rest
 rows_by names before row rows (Some fault) at rest = inr (record {
   front = [];
@@ -232,8 +235,8 @@ too_long : SourceTooLong ≢ Memory
 too_long is = cc
 
 -- clean rows that can all be placed place an image
-gives_image : (source : List ℕ) (rows : List LocatedLine) → length source ≤ source_limit → AreLocatedLines [] (text_lines source) rows → AreFaultless (names_of rows) [] rows
-    → (image : List (ℕ × ℕ)) × Gives source image
+gives_image : (source : List ℕ) (rows : List LocatedLine) → length source ≤ source_limit
+    → AreLocatedLines [] (text_lines source) rows → AreFaultless (names_of rows) [] rows → (image : List (ℕ × ℕ)) × Gives source image
 gives_image source rows within are free =
     let names : Names = names_of rows in
     let sized = lines_sized names [] (text_lines source) rows are refl in
@@ -242,7 +245,8 @@ gives_image source rows within are free =
       record { within = within; rows = rows; are_located_lines = are; placed = are_placed names rows free sized refl is_image },
     )
 
-late_outcome : (source : List ℕ) (rows : List LocatedLine) → length source ≤ source_limit → AreLocatedLines [] (text_lines source) rows → CanBePlaced (names_of rows) [] rows → Outcome source
+late_outcome : (source : List ℕ) (rows : List LocatedLine) → length source ≤ source_limit
+    → AreLocatedLines [] (text_lines source) rows → CanBePlaced (names_of rows) [] rows → Outcome source
 late_outcome source rows within are (inl free) = inr (gives_image source rows within are free)
 late_outcome source rows within are (inr late) = inl (
   InLine late.fault (length late.front + 1),

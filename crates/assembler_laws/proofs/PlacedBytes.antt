@@ -115,7 +115,8 @@ item_in names here width item all =
     repeated_in (times_of names item) (flat_map (piece_bytes names here width) (pieces_of item))
     (made_bytes (piece_bytes names here width) is_bytes_piece (piece_in names here width) (pieces_of item) (item_pieces item all))
 
-data_in : (names : Names) (here : ℕ) (width : DataWidth) (items : List Item) → list_all is_bytes_item items ≡ true → are_bytes (data_bytes names here width items) ≡ true
+data_in : (names : Names) (here : ℕ) (width : DataWidth) (items : List Item) → list_all is_bytes_item items ≡ true
+    → are_bytes (data_bytes names here width items) ≡ true
 unfolding data_bytes
 data_in names here width items all = made_bytes (item_bytes names here width) is_bytes_item (item_in names here width) items all
 
@@ -195,17 +196,21 @@ encoding_in : (f : Form) (v : Values) → IsForm f → FitsForm f v → are_byte
 unfolding encoding
 encoding_in f v form fits =
     following (f.row.opcode + code_number (code_part f.row) f.code)
-    (second_bytes (second_part f.row) f.reg f.place ++ (field_bytes (displacement_field f.place) v.displacement 0 ++ field_bytes (field_part f.row) v.number v.segment))
+    (second_bytes (second_part f.row) f.reg f.place
+    ++ (field_bytes (displacement_field f.place) v.displacement 0 ++ field_bytes (field_part f.row) v.number v.segment))
     (code_within f form)
-    (joined (second_bytes (second_part f.row) f.reg f.place) (field_bytes (displacement_field f.place) v.displacement 0 ++ field_bytes (field_part f.row) v.number v.segment)
-    (second_in (second_part f.row) f.reg f.place (each (λ (r : TableRow). is_exact_byte (second_part r)) table f.row exact_bytes form.row) (digit_within f.row form.row) form.second)
+    (joined (second_bytes (second_part f.row) f.reg f.place)
+    (field_bytes (displacement_field f.place) v.displacement 0 ++ field_bytes (field_part f.row) v.number v.segment)
+    (second_in (second_part f.row) f.reg f.place
+    (each (λ (r : TableRow). is_exact_byte (second_part r)) table f.row exact_bytes form.row) (digit_within f.row form.row) form.second)
     (joined (field_bytes (displacement_field f.place) v.displacement 0) (field_bytes (field_part f.row) v.number v.segment)
     (field_in (displacement_field f.place) v.displacement 0 fits.displacement) (field_in (field_part f.row) v.number v.segment fits.number)))
 
 code_in : (f : Form) (i : Written) (v : Values) → IsForm f → FitsForm f v → are_bytes (code_bytes f i v) ≡ true
 code_in f i v form fits = joined (map prefix_byte (prefixes_of i)) (encoding f v) (prefixes_in (prefixes_of i)) (encoding_in f v form fits)
 
-code_by : (f : Form) (i : Written) (o : Option Values) → IsForm f → ((v : Values) → o ≡ Some v → FitsForm f v) → are_bytes (option_map_or (code_bytes f i) o []) ≡ true
+code_by : (f : Form) (i : Written) (o : Option Values) → IsForm f → ((v : Values) → o ≡ Some v → FitsForm f v)
+    → are_bytes (option_map_or (code_bytes f i) o []) ≡ true
 code_by f i (Some v) form fits = code_in f i v form (fits v refl)
 code_by f i None form fits = refl
 
@@ -239,8 +244,9 @@ all_place_bytes names [] clean = tt
 all_place_bytes names (row ∷ rows) clean = (places_bytes names row clean.0, all_place_bytes names rows clean.1)
 
 -- ---- the image
-image_from : (image : List (ℕ × ℕ)) (location : Location) (n : ℕ) (bytes : List ℕ) → IsImage image → list_all is_loadable (addresses_from location n (length bytes)) ≡ true
-    → are_bytes bytes ≡ true → IsImage (with_entries image (bytes_from location n bytes))
+image_from : (image : List (ℕ × ℕ)) (location : Location) (n : ℕ) (bytes : List ℕ)
+    → IsImage image → list_all is_loadable (addresses_from location n (length bytes)) ≡ true → are_bytes bytes ≡ true
+    → IsImage (with_entries image (bytes_from location n bytes))
 image_from image location n [] is loadable all = is
 image_from image location n (b ∷ bs) is loadable all =
     let first = and_parts (is_loadable (address_after location n)) (list_all is_loadable (addresses_from location (n + 1) (length bs))) loadable in
@@ -248,8 +254,8 @@ image_from image location n (b ∷ bs) is loadable all =
     image_from (insert_entry nat_cmp image (address_after location n) b) location (n + 1) bs
     (still_image image (address_after location n) b is (can_load_at (address_after location n) first.0) (byte_below b both.0)) first.1 both.1
 
-image_at : (names : Names) (is_taken : ℕ → Bool) (has_label : Bool) (image : List (ℕ × ℕ)) (here : Option Location) (size : ℕ) (content : Option Content) → IsImage image
-    → late_fault names is_taken has_label here size content ≡ None → HasSize names here size content
+image_at : (names : Names) (is_taken : ℕ → Bool) (has_label : Bool) (image : List (ℕ × ℕ)) (here : Option Location) (size : ℕ) (content : Option Content)
+    → IsImage image → late_fault names is_taken has_label here size content ≡ None → HasSize names here size content
     → ((location : Location) → are_bytes (bytes_by names location size content) ≡ true) → IsImage (with_entries image (placed_at names here size content))
 image_at names is_taken has_label image None size content is none has_size all = is
 image_at names is_taken has_label image (Some location) size content is none has_size all =
@@ -257,15 +263,17 @@ image_at names is_taken has_label image (Some location) size content is none has
     image_from image location 0 (bytes_by names location size content) is
     (ap (λ (n : ℕ). list_all is_loadable (addresses_from location 0 n)) (has_size can.known can.fits) ∙ can.loadable) (all location)
 
-image_by : (names : Names) (before : List LocatedLine) (row : LocatedLine) (image : List (ℕ × ℕ)) → IsImage image → located_fault names before row ≡ None → LineHasSize names row → PlacesBytes names row
-    → IsImage (with_entries image (placed_by names row))
+image_by : (names : Names) (before : List LocatedLine) (row : LocatedLine) (image : List (ℕ × ℕ))
+    → IsImage image → located_fault names before row ≡ None → LineHasSize names row → PlacesBytes names row → IsImage (with_entries image (placed_by names row))
 unfolding placed_by
 image_by names before row image is none sized all =
     image_at names (is_placed (placed_by_all names before)) _ image row.location row.size (content_of row.line.statement row.form) is none sized all
 
-pub image_of_rows : (names : Names) (before rows : List LocatedLine) (image : List (ℕ × ℕ)) → IsImage image → AreFaultless names before rows → AllByRecursion (LineHasSize names) rows
-    → AllByRecursion (PlacesBytes names) rows → IsImage (with_entries image (placed_by_all names rows))
+pub image_of_rows : (names : Names) (before rows : List LocatedLine) (image : List (ℕ × ℕ)) → IsImage image → AreFaultless names before rows
+    → AllByRecursion (LineHasSize names) rows → AllByRecursion (PlacesBytes names) rows → IsImage (with_entries image (placed_by_all names rows))
 image_of_rows names before [] image is free sized all = is
 image_of_rows names before (row ∷ rows) image is free sized all =
-    subst IsImage (sym (fold-append (λ (held : List (ℕ × ℕ)) (entry : ℕ × ℕ). insert_entry nat_cmp held entry.0 entry.1) image (placed_by names row) (placed_by_all names rows)))
-    (image_of_rows names (before ++ row ∷ []) rows (with_entries image (placed_by names row)) (image_by names before row image is free.0 sized.0 all.0) free.1 sized.1 all.1)
+    subst IsImage (sym
+    (fold-append (λ (held : List (ℕ × ℕ)) (entry : ℕ × ℕ). insert_entry nat_cmp held entry.0 entry.1) image (placed_by names row) (placed_by_all names rows)))
+    (image_of_rows names (before ++ row ∷ []) rows (with_entries image (placed_by names row))
+    (image_by names before row image is free.0 sized.0 all.0) free.1 sized.1 all.1)

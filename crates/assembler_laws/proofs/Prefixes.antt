@@ -13,7 +13,8 @@ use Rattle.assembler.proofs.PlacingLines.{is_else}
 -- a claim that holds of no lines, and of the lines before a line with it if it holds of those, holds of the lines
 -- before each
 pub along : (P : List LocatedLine → Type 0) → ((before : List LocatedLine) (row : LocatedLine) → CleanThere before row → P before → P (before ++ row ∷ []))
-    → (before : List LocatedLine) (texts : List (List ℕ)) (front : List LocatedLine) (row : LocatedLine) (back : List LocatedLine) → AreLocatedLines before texts (front ++ row ∷ back)
+    → (before : List LocatedLine) (texts : List (List ℕ)) (front : List LocatedLine) (row : LocatedLine) (back : List LocatedLine)
+    → AreLocatedLines before texts (front ++ row ∷ back)
     → P before → P (before ++ front)
 along P more before [] [] row back are there = absurd are
 along P more before (text ∷ texts) [] row back are there = subst P (sym (append-nil before)) there

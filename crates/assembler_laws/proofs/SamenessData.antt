@@ -64,7 +64,8 @@ module _ (rename : Name → Name) (once : IsOneToOne rename) where
 
   -- what passes in the pieces of each item
   all_pieces : (p q : Piece → Bool) → ((piece : Piece) → p (renamed_piece rename piece) ≡ q piece) → (items : List Item)
-      → list_all (λ (item : Item). list_all p (pieces_of item)) (map (renamed_item rename) items) ≡ list_all (λ (item : Item). list_all q (pieces_of item)) items
+      → list_all (λ (item : Item). list_all p (pieces_of item)) (map (renamed_item rename) items)
+      ≡ list_all (λ (item : Item). list_all q (pieces_of item)) items
   all_pieces p q same items =
       all_changed (renamed_item rename) (λ (item : Item). list_all p (pieces_of item)) (λ (item : Item). list_all q (pieces_of item))
       (λ item. ap (list_all p) (same_pieces item) ∙ all_changed (renamed_piece rename) p q same (pieces_of item)) items
@@ -84,7 +85,8 @@ module _ (rename : Name → Name) (once : IsOneToOne rename) where
   same_item_bytes : (names : Names) (here : ℕ) (width : DataWidth) (item : Item)
       → item_bytes (renamed_names rename names) here width (renamed_item rename item) ≡ item_bytes names here width item
   same_item_bytes names here width item =
-      let bytes : flat_map (piece_bytes (renamed_names rename names) here width) (pieces_of (renamed_item rename item)) ≡ flat_map (piece_bytes names here width) (pieces_of item) =
+      let bytes : flat_map (piece_bytes (renamed_names rename names) here width) (pieces_of (renamed_item rename item))
+      ≡ flat_map (piece_bytes names here width) (pieces_of item) =
       ap (flat_map (piece_bytes (renamed_names rename names) here width)) (same_pieces item)
       ∙ flat_changed (renamed_piece rename) (piece_bytes (renamed_names rename names) here width) (piece_bytes names here width)
       (same_piece_bytes names here width) (pieces_of item) in
@@ -94,4 +96,5 @@ module _ (rename : Name → Name) (once : IsOneToOne rename) where
       → data_bytes (renamed_names rename names) here width (map (renamed_item rename) items) ≡ data_bytes names here width items
   unfolding data_bytes
   same_data_bytes names here width items =
-      flat_changed (renamed_item rename) (item_bytes (renamed_names rename names) here width) (item_bytes names here width) (same_item_bytes names here width) items
+      flat_changed (renamed_item rename) (item_bytes (renamed_names rename names) here width)
+      (item_bytes names here width) (same_item_bytes names here width) items

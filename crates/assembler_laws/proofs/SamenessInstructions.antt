@@ -63,7 +63,9 @@ module _ (rename : Name → Name) (once : IsOneToOne rename) where
   pub same_asked : (names : Names) (i : Instruction) → instruction_asked (renamed_names rename names) (renamed_instruction rename i) ≡ instruction_asked names i
   unfolding instruction_asked
   same_asked names i =
-      λ k. if nat_le (length (same_prefixes i k)) 7 then option_map (λ (os : KnownOperand × KnownOperand). asked i.mnemonic os.0 os.1) (same_operands names i.operands k) else None
+      λ k. if nat_le (length (same_prefixes i k)) 7
+      then option_map (λ (os : KnownOperand × KnownOperand). asked i.mnemonic os.0 os.1) (same_operands names i.operands k)
+      else None
 
   pub same_instruction_size : (f : Form) (i : Instruction) → instruction_size f (renamed_instruction rename i) ≡ instruction_size f i
   same_instruction_size f i = λ k. length (same_prefixes i k) + form_length f

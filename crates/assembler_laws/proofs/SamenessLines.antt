@@ -5,7 +5,8 @@ use Rattle.assembler_syntax.specs.SyntaxLaws.{CaseDoesNotCount as CaseDoesNotCou
 use Rattle.assembler.specs.LocatedLines.{LocatedLine, IsCleanLine, AreLocatedLines}
 use Rattle.assembler_laws.specs.Sameness.{StandPairwise, DifferInCase, CaseDoesNotCount}
 
-row_alike : CaseDoesNotCountInLines → (before : List LocatedLine) (line other : List ℕ) (row : LocatedLine) → DifferInCase line other → IsCleanLine before line row → IsCleanLine before other row
+row_alike : CaseDoesNotCountInLines → (before : List LocatedLine) (line other : List ℕ) (row : LocatedLine)
+    → DifferInCase line other → IsCleanLine before line row → IsCleanLine before other row
 row_alike law before line other row alike is = record {
   is_located_line = record {
     reads = sym (law line other alike.characters alike.same_lexemes) ∙ is.is_located_line.reads;
@@ -18,8 +19,8 @@ row_alike law before line other row alike is = record {
   clean = is.clean;
 }
 
-rows_alike : CaseDoesNotCountInLines → (before : List LocatedLine) (lines others : List (List ℕ)) (rows : List LocatedLine) → StandPairwise DifferInCase lines others
-    → AreLocatedLines before lines rows → AreLocatedLines before others rows
+rows_alike : CaseDoesNotCountInLines → (before : List LocatedLine) (lines others : List (List ℕ)) (rows : List LocatedLine)
+    → StandPairwise DifferInCase lines others → AreLocatedLines before lines rows → AreLocatedLines before others rows
 rows_alike law before [] [] rows alike are = are
 rows_alike law before [] (other ∷ others) rows alike are = absurd alike
 rows_alike law before (line ∷ lines) [] rows alike are = absurd alike

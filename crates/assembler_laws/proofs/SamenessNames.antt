@@ -21,7 +21,8 @@ pub any_changed : {A B : Type 0} (f : A → B) (p : B → Bool) (q : A → Bool)
 any_changed f p q same [] = refl
 any_changed f p q same (x ∷ xs) = λ i. same x i || any_changed f p q same xs i
 
-pub flat_changed : {A B C : Type 0} (f : A → B) (p : B → List C) (q : A → List C) → ((x : A) → p (f x) ≡ q x) → (xs : List A) → flat_map p (map f xs) ≡ flat_map q xs
+pub flat_changed : {A B C : Type 0} (f : A → B) (p : B → List C) (q : A → List C)
+    → ((x : A) → p (f x) ≡ q x) → (xs : List A) → flat_map p (map f xs) ≡ flat_map q xs
 flat_changed f p q same [] = refl
 flat_changed f p q same (x ∷ xs) = λ i. same x i ++ flat_changed f p q same xs i
 
@@ -53,7 +54,8 @@ module _ (rename : Name → Name) (once : IsOneToOne rename) where
   same_term : (names : Names) (here : ℕ) (t : Term) → term_value (renamed_names rename names) here (renamed_term rename t) ≡ term_value names here t
   same_term names here t = ap (option_map (signed t.is_negative)) (same_atom names here t.atom)
 
-  pub same_value : (names : Names) (here : ℕ) (terms : List Term) → value_of (renamed_names rename names) here (renamed_terms rename terms) ≡ value_of names here terms
+  pub same_value : (names : Names) (here : ℕ) (terms : List Term)
+      → value_of (renamed_names rename names) here (renamed_terms rename terms) ≡ value_of names here terms
   unfolding value_of
   same_value names here [] = refl
   same_value names here (t ∷ ts) = λ i. added (same_term names here t i) (same_value names here ts i)
@@ -65,7 +67,8 @@ module _ (rename : Name → Name) (once : IsOneToOne rename) where
   same_constant_atom names (SegmentOf name) = refl
 
   same_constants : (names : Names) (terms : List Term)
-      → list_all (λ (t : Term). is_constant_atom (renamed_names rename names) t.atom) (renamed_terms rename terms) ≡ list_all (λ (t : Term). is_constant_atom names t.atom) terms
+      → list_all (λ (t : Term). is_constant_atom (renamed_names rename names) t.atom) (renamed_terms rename terms)
+      ≡ list_all (λ (t : Term). is_constant_atom names t.atom) terms
   same_constants names terms =
       all_changed (renamed_term rename) (λ (t : Term). is_constant_atom (renamed_names rename names) t.atom) (λ (t : Term). is_constant_atom names t.atom)
       (λ t. same_constant_atom names t.atom) terms

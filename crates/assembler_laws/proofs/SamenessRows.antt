@@ -30,7 +30,8 @@ names_renamed rename (r ∷ rs) =
     ap (λ (ns : Names). renamed_names rename r.names ++ ns) (names_renamed rename rs) ∙ sym (renamed_after rename r.names (names_of rs))
 
 same_location_from : (rename : Name → Name) (location : Option Location) (rows : List LocatedLine)
-    → fold (λ (s : Option Location) (r : LocatedLine). r.next) location (map (renamed_row rename) rows) ≡ fold (λ (s : Option Location) (r : LocatedLine). r.next) location rows
+    → fold (λ (s : Option Location) (r : LocatedLine). r.next) location (map (renamed_row rename) rows)
+    ≡ fold (λ (s : Option Location) (r : LocatedLine). r.next) location rows
 same_location_from rename location [] = refl
 same_location_from rename location (r ∷ rs) = same_location_from rename r.next rs
 

@@ -153,7 +153,8 @@ module _ (rename : Name → Name) (once : IsOneToOne rename) where
       ≡ option_map_or (is_defined names) (statement_name line.statement) false =
       ap (λ (n : Option Name). option_map_or (is_defined (renamed_names rename names)) n false) (same_statement_name line.statement)
       ∙ same_known names (statement_name line.statement) in
-      let two : is_same (option_map rename line.label) (statement_name (renamed_statement rename line.statement)) ≡ is_same line.label (statement_name line.statement) =
+      let two : is_same (option_map rename line.label) (statement_name (renamed_statement rename line.statement))
+      ≡ is_same line.label (statement_name line.statement) =
       ap (is_same (option_map rename line.label)) (same_statement_name line.statement) ∙ same_two line.label (statement_name line.statement) in
       λ i. same_known names line.label i || (known i || two i)
 

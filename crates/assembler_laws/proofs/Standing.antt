@@ -58,7 +58,9 @@ counted_more lines row offset stays to =
       base = to.base;
       says = to.says;
       stays = all_push (λ (r : LocatedLine). sets_location r.line.statement ≡ false) to.since row to.stays stays;
-      counted = ap (λ (n : ℕ). n + row.size) was ∙ (let same : (to.base + sum_by size_of_row to.since) + row.size ≡ to.base + sum_by size_of_row (to.since ++ row ∷ []) = omega (arith, count) in same);
+      counted = ap (λ (n : ℕ). n + row.size) was
+          ∙ (let same : (to.base + sum_by size_of_row to.since) + row.size ≡ to.base + sum_by size_of_row (to.since ++ row ∷ []) = omega (arith, count) in
+          same);
     }
 
 -- a statement that says the whole place, one that says the offset in the same segment, and one that says nothing
@@ -153,7 +155,8 @@ counts_here before row offset says = record {
   counted = let same : offset ≡ offset + 0 = omega arith in same;
 }
 
-told_more : (before : List LocatedLine) (row : LocatedLine) (location : Location) → IsTold before → Told (names_of before) (location_following before) row.line.statement row.size location
+told_more : (before : List LocatedLine) (row : LocatedLine) (location : Location)
+    → IsTold before → Told (names_of before) (location_following before) row.line.statement row.size location
     → IsOpenAt (before ++ row ∷ []) location.segment × IsCountedTo (before ++ row ∷ []) location.offset
 told_more before row location is (inl opens) = (opens_here before row location.segment opens.paragraph, counts_here before row location.offset opens.offset)
 told_more before row location is (inr (inl sets)) =
@@ -282,11 +285,13 @@ opened_location lines paragraph clean opened =
     let there = clean opened.before opened.opening opened.since opened.split in
     subst (IsIn paragraph) (sym (next_is opened.before opened.opening there))
     (in_first (names_of opened.before) (location_following opened.before) opened.opening.line.statement opened.opening.size paragraph opened.says) in
-    let all = walked (λ (passed : List LocatedLine). IsIn paragraph (location_following (front ++ passed))) front (λ (row : LocatedLine). changes_segment row.line.statement)
+    let all = walked (λ (passed : List LocatedLine). IsIn paragraph (location_following (front ++ passed))) front
+    (λ (row : LocatedLine). changes_segment row.line.statement)
     (λ passed row there stays is.
     subst (λ (ls : List LocatedLine). IsIn paragraph (location_following ls)) (append_assoc front passed (row ∷ []))
     (subst (IsIn paragraph) (sym (next_is (front ++ passed) row there))
-    (in_more (names_of (front ++ passed)) (location_following (front ++ passed)) row.line.statement row.size paragraph (none_of (front ++ passed) row there).unknown stays is)))
+    (in_more (names_of (front ++ passed)) (location_following (front ++ passed)) row.line.statement row.size paragraph
+    (none_of (front ++ passed) row there).unknown stays is)))
     [] opened.since (λ b r a is. clean b r a (parts ∙ is)) opened.stays
     (subst (λ (ls : List LocatedLine). IsIn paragraph (location_following ls)) (sym (append-nil front)) first) in
     subst (λ (ls : List LocatedLine). IsIn paragraph (location_following ls)) (sym parts) all
@@ -315,7 +320,8 @@ counted_location lines offset clean to =
     [] to.since (λ b r a is. clean b r a (parts ∙ is)) to.stays
     (subst (λ (ls : List LocatedLine). IsTo (to.base + 0) (location_following ls)) (sym (append-nil front))
     (subst (λ (n : ℕ). IsTo n (location_following front)) (let same : to.base ≡ to.base + 0 = omega arith in same) first)) in
-    subst (λ (n : ℕ). IsTo n (location_following lines)) (sym to.counted) (subst (λ (ls : List LocatedLine). IsTo (to.base + sum_by size_of_row to.since) (location_following ls)) (sym parts) all)
+    subst (λ (n : ℕ). IsTo n (location_following lines)) (sym to.counted)
+    (subst (λ (ls : List LocatedLine). IsTo (to.base + sum_by size_of_row to.since) (location_following ls)) (sym parts) all)
 
 both_are : (location : Location) (here : Option Location) → IsIn location.segment here → IsTo location.offset here → here ≡ Some location
 both_are location here inside to =
@@ -324,4 +330,5 @@ both_are location here inside to =
 
 pub stands_at : (lines : List LocatedLine) (location : Location) → AreClean lines → IsOpenAt lines location.segment → IsCountedTo lines location.offset
     → location_following lines ≡ Some location
-stands_at lines location clean opened to = both_are location (location_following lines) (opened_location lines location.segment clean opened) (counted_location lines location.offset clean to)
+stands_at lines location clean opened to =
+    both_are location (location_following lines) (opened_location lines location.segment clean opened) (counted_location lines location.offset clean to)

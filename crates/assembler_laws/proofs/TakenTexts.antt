@@ -64,8 +64,8 @@ byte_size_is s is = ap is_byte_size is
 word_size_is : (s : Option Size) → s ≡ Some sizes.Word → is_word_size s ≡ true
 word_size_is s is = ap is_word_size is
 
-byte_place_taken : (op : Operation) (kw : Option Keyword) (p : Place) (d : ℕ) (other : KnownOperand) → IsPlace p → size_or (said_size kw) (size_beside op other) ≡ Some sizes.Byte
-    → is_of op kinds.Rm8 (sized op (asked_by (byte_operand p kw d)) other) ≡ true
+byte_place_taken : (op : Operation) (kw : Option Keyword) (p : Place) (d : ℕ) (other : KnownOperand)
+    → IsPlace p → size_or (said_size kw) (size_beside op other) ≡ Some sizes.Byte → is_of op kinds.Rm8 (sized op (asked_by (byte_operand p kw d)) other) ≡ true
 byte_place_taken op kw places.Absent d other is e = absurd is
 byte_place_taken op kw (places.Register n) d other is e = refl
 byte_place_taken op kw places.Direct d other is e = ap is_byte_size e
@@ -73,8 +73,8 @@ byte_place_taken op kw (places.Base b) d other is e = ap is_byte_size e
 byte_place_taken op kw (places.BaseByte b) d other is e = ap is_byte_size e
 byte_place_taken op kw (places.BaseWord b) d other is e = ap is_byte_size e
 
-word_place_taken : (op : Operation) (kw : Option Keyword) (p : Place) (d : ℕ) (other : KnownOperand) → IsPlace p → size_or (said_size kw) (size_beside op other) ≡ Some sizes.Word
-    → is_of op kinds.Rm16 (sized op (asked_by (word_operand p kw d)) other) ≡ true
+word_place_taken : (op : Operation) (kw : Option Keyword) (p : Place) (d : ℕ) (other : KnownOperand)
+    → IsPlace p → size_or (said_size kw) (size_beside op other) ≡ Some sizes.Word → is_of op kinds.Rm16 (sized op (asked_by (word_operand p kw d)) other) ≡ true
 word_place_taken op kw places.Absent d other is e = absurd is
 word_place_taken op kw (places.Register n) d other is e = refl
 word_place_taken op kw places.Direct d other is e = ap is_word_size e
@@ -82,12 +82,13 @@ word_place_taken op kw (places.Base b) d other is e = ap is_word_size e
 word_place_taken op kw (places.BaseByte b) d other is e = ap is_word_size e
 word_place_taken op kw (places.BaseWord b) d other is e = ap is_word_size e
 
-pointer_is : (op : Operation) (b : Option BaseType) (s : Option Size) (d : NumberType) → s ≡ Some (pointer_size op) → is_pointer op (known.Memory (record { size = s; base = b; displacement = d })) ≡ true
+pointer_is : (op : Operation) (b : Option BaseType) (s : Option Size) (d : NumberType) → s ≡ Some (pointer_size op)
+    → is_pointer op (known.Memory (record { size = s; base = b; displacement = d })) ≡ true
 pointer_is (Control c) b s d is = ap is_far_size is
 pointer_is _ b s d is = ap is_word_size is
 
-pointer_taken : (op : Operation) (kw : Option Keyword) (p : Place) (d : ℕ) (other : KnownOperand) → IsMemory p → size_or (said_size kw) (size_beside op other) ≡ Some (pointer_size op)
-    → is_pointer op (sized op (asked_by (word_operand p kw d)) other) ≡ true
+pointer_taken : (op : Operation) (kw : Option Keyword) (p : Place) (d : ℕ) (other : KnownOperand) → IsMemory p
+    → size_or (said_size kw) (size_beside op other) ≡ Some (pointer_size op) → is_pointer op (sized op (asked_by (word_operand p kw d)) other) ≡ true
 pointer_taken op kw places.Absent d other is e = absurd is
 pointer_taken op kw (places.Register n) d other is e = absurd is
 pointer_taken op kw places.Direct d other is e = pointer_is op _ _ _ e
@@ -140,9 +141,12 @@ kind_taken f v next kinds.CodeSegmentNotCs l other place fits near size = not_cs
 kind_taken f v next kinds.SegmentNotCs l other place fits near size = not_cs f.reg fits.0 fits.1
 kind_taken f v next kinds.EscNumber l other place fits near size = escape_taken f.code f.reg fits.0 fits.1
 kind_taken f v next kinds.Signed8 l other place fits near size = signed_taken v.number near
-kind_taken f v next kinds.Rm8 l other place fits near size = byte_place_taken (operation_of f.row) (written_size keywords.Byte l) f.place v.displacement other place size
-kind_taken f v next kinds.Rm16 l other place fits near size = word_place_taken (operation_of f.row) (written_size keywords.Word l) f.place v.displacement other place size
-kind_taken f v next kinds.Memory l other place fits near size = pointer_taken (operation_of f.row) (far_size (operation_of f.row)) f.place v.displacement other place size
+kind_taken f v next kinds.Rm8 l other place fits near size =
+    byte_place_taken (operation_of f.row) (written_size keywords.Byte l) f.place v.displacement other place size
+kind_taken f v next kinds.Rm16 l other place fits near size =
+    word_place_taken (operation_of f.row) (written_size keywords.Word l) f.place v.displacement other place size
+kind_taken f v next kinds.Memory l other place fits near size =
+    pointer_taken (operation_of f.row) (far_size (operation_of f.row)) f.place v.displacement other place size
 kind_taken f v next kinds.Rel8 l other place fits near size = target_taken (operation_of f.row) _ other
 kind_taken f v next kinds.At8 l other place fits near size = ap is_byte_size size
 kind_taken f v next kinds.At16 l other place fits near size = ap is_word_size size
@@ -203,7 +207,8 @@ row_suits r within =
     let signed = and_parts _ _ rest.0 in
     record { number_first = number.0; number_second = number.1; unsigned = signed.0; wide = signed.1; exchange = rest.1 }
 
-fits_numbers : (c : CodePart) (s : Second) (k : Kind) (code reg : ℕ) (p : Place) → FitsCode c code → FitsSecond s reg p → numbers_agree c s k ≡ true → FitsNumbers k code reg
+fits_numbers : (c : CodePart) (s : Second) (k : Kind) (code reg : ℕ) (p : Place)
+    → FitsCode c code → FitsSecond s reg p → numbers_agree c s k ≡ true → FitsNumbers k code reg
 fits_numbers code_parts.SegmentNotCs s kinds.CodeSegmentNotCs code reg p c_fits s_fits e = c_fits
 fits_numbers c s kinds.CodeSegmentNotCs code reg p c_fits s_fits e = cc
 fits_numbers c (seconds.Addressing reg_parts.SegmentNotCs _) kinds.SegmentNotCs code reg p c_fits s_fits e = s_fits.0
@@ -223,9 +228,10 @@ first_taken f v next is =
     let r : Row = f.row in
     let has : RowAgrees r = row_agrees r is.row in
     let suit : RowSuits r = row_suits r is.row in
-    kind_taken f v next (first_of r) (second_of r) (asked_by (second_written f v next)) (kind_fits (second_part r) (first_of r) f.reg f.place is.second has.place_first)
-    (fits_numbers (code_part r) (second_part r) (first_of r) f.code f.reg f.place is.code is.second suit.number_first) (unsigned_near (first_of r) v.number suit.unsigned)
-    (has_size f v next (operation_of r) (first_of r) (second_of r) has.size_first)
+    kind_taken f v next (first_of r) (second_of r) (asked_by (second_written f v next))
+    (kind_fits (second_part r) (first_of r) f.reg f.place is.second has.place_first)
+    (fits_numbers (code_part r) (second_part r) (first_of r) f.code f.reg f.place is.code is.second suit.number_first)
+    (unsigned_near (first_of r) v.number suit.unsigned) (has_size f v next (operation_of r) (first_of r) (second_of r) has.size_first)
 
 second_taken : (f : Form) (v : Values) (next : ℕ) → IsForm f → IsNear (second_of f.row) v.number
     → is_of (operation_of f.row) (second_of f.row) (sized (operation_of f.row) (asked_by (second_written f v next)) (asked_by (first_written f v next))) ≡ true
@@ -233,7 +239,8 @@ second_taken f v next is near =
     let r : Row = f.row in
     let has : RowAgrees r = row_agrees r is.row in
     let suit : RowSuits r = row_suits r is.row in
-    kind_taken f v next (second_of r) (first_of r) (asked_by (first_written f v next)) (kind_fits (second_part r) (second_of r) f.reg f.place is.second has.place_second)
+    kind_taken f v next (second_of r) (first_of r) (asked_by (first_written f v next))
+    (kind_fits (second_part r) (second_of r) f.reg f.place is.second has.place_second)
     (fits_numbers (code_part r) (second_part r) (second_of r) f.code f.reg f.place is.code is.second suit.number_second) near
     (has_size f v next (operation_of r) (second_of r) (first_of r) has.size_second)
 
@@ -265,14 +272,62 @@ record HasWide (op : Operation) : Type 0 where
 
 wide_row : (op : Operation) → has_wide op ≡ true → HasWide op
 unfolding rows
-wide_row (Arithmetic Add) e = record { wide = row/ (Arithmetic Add) 0x81 0 kinds.Rm16 kinds.Imm16 (AtPlace 4 17); within = (29, lit< tt, refl); operation = refl; first = refl; second = refl }
-wide_row (Arithmetic Or) e = record { wide = row/ (Arithmetic Or) 0x81 1 kinds.Rm16 kinds.Imm16 (AtPlace 4 17); within = (30, lit< tt, refl); operation = refl; first = refl; second = refl }
-wide_row (Arithmetic Adc) e = record { wide = row/ (Arithmetic Adc) 0x81 2 kinds.Rm16 kinds.Imm16 (AtPlace 4 17); within = (31, lit< tt, refl); operation = refl; first = refl; second = refl }
-wide_row (Arithmetic Sbb) e = record { wide = row/ (Arithmetic Sbb) 0x81 3 kinds.Rm16 kinds.Imm16 (AtPlace 4 17); within = (32, lit< tt, refl); operation = refl; first = refl; second = refl }
-wide_row (Arithmetic And) e = record { wide = row/ (Arithmetic And) 0x81 4 kinds.Rm16 kinds.Imm16 (AtPlace 4 17); within = (33, lit< tt, refl); operation = refl; first = refl; second = refl }
-wide_row (Arithmetic Sub) e = record { wide = row/ (Arithmetic Sub) 0x81 5 kinds.Rm16 kinds.Imm16 (AtPlace 4 17); within = (34, lit< tt, refl); operation = refl; first = refl; second = refl }
-wide_row (Arithmetic Xor) e = record { wide = row/ (Arithmetic Xor) 0x81 6 kinds.Rm16 kinds.Imm16 (AtPlace 4 17); within = (35, lit< tt, refl); operation = refl; first = refl; second = refl }
-wide_row (Arithmetic Cmp) e = record { wide = row/ (Arithmetic Cmp) 0x81 7 kinds.Rm16 kinds.Imm16 (AtPlace 4 10); within = (36, lit< tt, refl); operation = refl; first = refl; second = refl }
+wide_row (Arithmetic Add) e = record {
+  wide = row/ (Arithmetic Add) 0x81 0 kinds.Rm16 kinds.Imm16 (AtPlace 4 17);
+  within = (29, lit< tt, refl);
+  operation = refl;
+  first = refl;
+  second = refl;
+}
+wide_row (Arithmetic Or) e = record {
+  wide = row/ (Arithmetic Or) 0x81 1 kinds.Rm16 kinds.Imm16 (AtPlace 4 17);
+  within = (30, lit< tt, refl);
+  operation = refl;
+  first = refl;
+  second = refl;
+}
+wide_row (Arithmetic Adc) e = record {
+  wide = row/ (Arithmetic Adc) 0x81 2 kinds.Rm16 kinds.Imm16 (AtPlace 4 17);
+  within = (31, lit< tt, refl);
+  operation = refl;
+  first = refl;
+  second = refl;
+}
+wide_row (Arithmetic Sbb) e = record {
+  wide = row/ (Arithmetic Sbb) 0x81 3 kinds.Rm16 kinds.Imm16 (AtPlace 4 17);
+  within = (32, lit< tt, refl);
+  operation = refl;
+  first = refl;
+  second = refl;
+}
+wide_row (Arithmetic And) e = record {
+  wide = row/ (Arithmetic And) 0x81 4 kinds.Rm16 kinds.Imm16 (AtPlace 4 17);
+  within = (33, lit< tt, refl);
+  operation = refl;
+  first = refl;
+  second = refl;
+}
+wide_row (Arithmetic Sub) e = record {
+  wide = row/ (Arithmetic Sub) 0x81 5 kinds.Rm16 kinds.Imm16 (AtPlace 4 17);
+  within = (34, lit< tt, refl);
+  operation = refl;
+  first = refl;
+  second = refl;
+}
+wide_row (Arithmetic Xor) e = record {
+  wide = row/ (Arithmetic Xor) 0x81 6 kinds.Rm16 kinds.Imm16 (AtPlace 4 17);
+  within = (35, lit< tt, refl);
+  operation = refl;
+  first = refl;
+  second = refl;
+}
+wide_row (Arithmetic Cmp) e = record {
+  wide = row/ (Arithmetic Cmp) 0x81 7 kinds.Rm16 kinds.Imm16 (AtPlace 4 10);
+  within = (36, lit< tt, refl);
+  operation = refl;
+  first = refl;
+  second = refl;
+}
 wide_row _ e = cc
 
 word_place_is : (k : Kind) → is_word_place k ≡ true → k ≡ kinds.Rm16
@@ -283,7 +338,8 @@ signed_is : (k : Kind) → is_signed k ≡ true → k ≡ kinds.Signed8
 signed_is kinds.Signed8 e = refl
 signed_is _ e = cc
 
-signed_number : (f : Form) (v : Values) (next : ℕ) (op : Operation) (k : Kind) (other : KnownOperand) → is_of op kinds.Imm16 (sized op (asked_by (written_operand f v next kinds.Signed8 k)) other) ≡ true
+signed_number : (f : Form) (v : Values) (next : ℕ) (op : Operation) (k : Kind) (other : KnownOperand)
+    → is_of op kinds.Imm16 (sized op (asked_by (written_operand f v next kinds.Signed8 k)) other) ≡ true
 unfolding written_operand
 signed_number f v next op k other = refl
 
@@ -296,9 +352,11 @@ wide_taken f v next is signed =
     let suit : RowSuits f.row = row_suits f.row is.row in
     let agrees = and_parts _ _ (subst (λ (l : Kind). wide_agrees op (first_of f.row) l ≡ true) signed suit.wide) in
     let wide : HasWide op = wide_row op agrees.1 in
-    let first : is_of op kinds.Rm16 (sized op x y) ≡ true = subst (λ (k : Kind). is_of op k (sized op x y) ≡ true) (word_place_is (first_of f.row) agrees.0) (first_taken f v next is) in
+    let first : is_of op kinds.Rm16 (sized op x y) ≡ true =
+    subst (λ (k : Kind). is_of op k (sized op x y) ≡ true) (word_place_is (first_of f.row) agrees.0) (first_taken f v next is) in
     let second : is_of op kinds.Imm16 (sized op y x) ≡ true =
-    subst (λ (l : Kind). is_of op kinds.Imm16 (sized op (asked_by (written_operand f v next l (first_of f.row))) x) ≡ true) (sym signed) (signed_number f v next op (first_of f.row) x) in (
+    subst (λ (l : Kind). is_of op kinds.Imm16 (sized op (asked_by (written_operand f v next l (first_of f.row))) x) ≡ true)
+    (sym signed) (signed_number f v next op (first_of f.row) x) in (
       wide.wide,
       wide.within,
       record {
@@ -308,10 +366,12 @@ wide_taken f v next is signed =
       },
     )
 
-order_taken : (f : Form) (v : Values) (next : ℕ) → IsForm f → Taken (asked_in_order (operation_of f.row) (asked_by (first_written f v next)) (asked_by (second_written f v next)))
+order_taken : (f : Form) (v : Values) (next : ℕ) → IsForm f
+    → Taken (asked_in_order (operation_of f.row) (asked_by (first_written f v next)) (asked_by (second_written f v next)))
 order_taken f v next is = by (is_signed (second_of f.row)) refl
   where
-    by : (b : Bool) → is_signed (second_of f.row) ≡ b → Taken (asked_in_order (operation_of f.row) (asked_by (first_written f v next)) (asked_by (second_written f v next)))
+    by : (b : Bool) → is_signed (second_of f.row) ≡ b
+        → Taken (asked_in_order (operation_of f.row) (asked_by (first_written f v next)) (asked_by (second_written f v next)))
     by true e = wide_taken f v next is (signed_is (second_of f.row) e)
     by false e = same_row f v next is (unsigned_near (second_of f.row) v.number (rw e refl))
 
@@ -328,32 +388,39 @@ xchg_taken _ _ e = cc
 exchange_by : (b : Bool) (x y : KnownOperand) → is_memory y ≡ b → b ≡ false → is_exchanged (Transfer transfer.Xchg) x y ≡ true → is_register_and_ax x y ≡ true
 exchange_by b x y is none e = ap (λ (c : Bool). if c then true else is_register_and_ax x y) (sym (is ∙ none)) ∙ e
 
-pub xchg_registers : (f : Form) (v : Values) (next : ℕ) → IsForm f → is_exchanged (operation_of f.row) (asked_by (first_written f v next)) (asked_by (second_written f v next)) ≡ true
+pub xchg_registers : (f : Form) (v : Values) (next : ℕ) → IsForm f
+    → is_exchanged (operation_of f.row) (asked_by (first_written f v next)) (asked_by (second_written f v next)) ≡ true
     → operation_of f.row ≡ Transfer transfer.Xchg → is_register_and_ax (asked_by (first_written f v next)) (asked_by (second_written f v next)) ≡ true
 xchg_registers f v next is e xchg =
     let x : KnownOperand = asked_by (first_written f v next) in
     let y : KnownOperand = asked_by (second_written f v next) in
     let suit : RowSuits f.row = row_suits f.row is.row in
     let alone : not (has_memory (second_of f.row)) ≡ true = subst (λ (o : Operation). exchange_agrees o (second_of f.row) ≡ true) xchg suit.exchange in
-    let none : is_memory y ≡ false = remembered_is (second_written f v next) ∙ unremembered f v next (second_of f.row) (first_of f.row) (not_true (has_memory (second_of f.row)) alone) in
+    let none : is_memory y ≡ false =
+    remembered_is (second_written f v next) ∙ unremembered f v next (second_of f.row) (first_of f.row) (not_true (has_memory (second_of f.row)) alone) in
     exchange_by (is_memory y) x y refl none (subst (λ (o : Operation). is_exchanged o x y ≡ true) xchg e)
 
-exchange_taken : (f : Form) (v : Values) (next : ℕ) → IsForm f → is_exchanged (operation_of f.row) (asked_by (first_written f v next)) (asked_by (second_written f v next)) ≡ true
-    → operation_of f.row ≡ Transfer transfer.Xchg → Taken (asked_in_order (operation_of f.row) (asked_by (second_written f v next)) (asked_by (first_written f v next)))
+exchange_taken : (f : Form) (v : Values) (next : ℕ) → IsForm f
+    → is_exchanged (operation_of f.row) (asked_by (first_written f v next)) (asked_by (second_written f v next)) ≡ true
+    → operation_of f.row ≡ Transfer transfer.Xchg
+    → Taken (asked_in_order (operation_of f.row) (asked_by (second_written f v next)) (asked_by (first_written f v next)))
 exchange_taken f v next is e xchg =
     let x : KnownOperand = asked_by (first_written f v next) in
     let y : KnownOperand = asked_by (second_written f v next) in
     let suit : RowSuits f.row = row_suits f.row is.row in
     let alone : not (has_memory (second_of f.row)) ≡ true = subst (λ (o : Operation). exchange_agrees o (second_of f.row) ≡ true) xchg suit.exchange in
-    let none : is_memory y ≡ false = remembered_is (second_written f v next) ∙ unremembered f v next (second_of f.row) (first_of f.row) (not_true (has_memory (second_of f.row)) alone) in
+    let none : is_memory y ≡ false =
+    remembered_is (second_written f v next) ∙ unremembered f v next (second_of f.row) (first_of f.row) (not_true (has_memory (second_of f.row)) alone) in
     subst (λ (o : Operation). Taken (asked_in_order o y x)) (sym xchg)
     (xchg_taken x y (exchange_by (is_memory y) x y refl none (subst (λ (o : Operation). is_exchanged o x y ≡ true) xchg e)))
 
-asked_taken : (f : Form) (v : Values) (next : ℕ) → IsForm f → FitsForm f v → Taken (asked_of (operation_of f.row) (asked_by (first_written f v next)) (asked_by (second_written f v next)))
+asked_taken : (f : Form) (v : Values) (next : ℕ) → IsForm f → FitsForm f v
+    → Taken (asked_of (operation_of f.row) (asked_by (first_written f v next)) (asked_by (second_written f v next)))
 asked_taken f v next is fits = by (is_exchanged (operation_of f.row) (asked_by (first_written f v next)) (asked_by (second_written f v next))) refl
   where
     by : (b : Bool) → is_exchanged (operation_of f.row) (asked_by (first_written f v next)) (asked_by (second_written f v next)) ≡ b
-        → Taken (if b then asked_in_order (operation_of f.row) (asked_by (second_written f v next)) (asked_by (first_written f v next)) else asked_in_order (operation_of f.row) (asked_by (first_written f v next)) (asked_by (second_written f v next)))
+        → Taken (if b then asked_in_order (operation_of f.row) (asked_by (second_written f v next)) (asked_by (first_written f v next))
+        else asked_in_order (operation_of f.row) (asked_by (first_written f v next)) (asked_by (second_written f v next)))
     by true e =
         exchange_taken f v next is e
         (exchanged_is (operation_of f.row) (asked_by (first_written f v next)) (asked_by (second_written f v next)) e (ask_both f v next is fits).order)
@@ -374,7 +441,8 @@ few_enough : (n : ℕ) → n ≤ 7 → nat_le n 7 ≡ true
 few_enough n few = grind (arith, nat_tests)
 
 says_asked : (before : Names) (i : Instr) (ip : ℕ) (x y : KnownOperand) → length (prefixes_of (said_instruction i ip)) ≤ 7
-    → known_operands before (operands_in i.form i.values (next_of i ip)) ≡ Some (x, y) → instruction_asked before (said_instruction i ip) ≡ Some (asked (mnemonic_in i.form) x y)
+    → known_operands before (operands_in i.form i.values (next_of i ip)) ≡ Some (x, y)
+    → instruction_asked before (said_instruction i ip) ≡ Some (asked (mnemonic_in i.form) x y)
 unfolding instruction_asked
 says_asked before i ip x y few is = rw (few_enough (length (prefixes_of (said_instruction i ip))) few, is) refl
 
@@ -388,7 +456,10 @@ pub texts_take_a_form : TextsTakeAForm
 texts_take_a_form before i ip is = by (is_nop i.form) refl
   where
     by : (b : Bool) → is_nop i.form ≡ b → (f : Form) × IsFormFor (instruction_asked before (said_instruction i ip)) (Some f)
-    by true nop = text_by before i ip known.Nothing known.Nothing no_numbers (asked_in_order (Transfer transfer.Xchg) ax ax) is (nop_says before before ip i nop) nop_taken
+    by true nop =
+        text_by before i ip known.Nothing known.Nothing no_numbers
+        (asked_in_order (Transfer transfer.Xchg) ax ax) is (nop_says before before ip i nop) nop_taken
     by false plain =
-        text_by before i ip (first_asked i ip) (second_asked i ip) (numbers_said i.form i.values (next_of i ip)) (asked_of (operation_of i.form.row) (first_asked i ip) (second_asked i ip))
-        is (plain_says before before ip i is plain) (asked_taken i.form i.values (next_of i ip) is.form is.values)
+        text_by before i ip (first_asked i ip) (second_asked i ip) (numbers_said i.form i.values (next_of i ip))
+        (asked_of (operation_of i.form.row) (first_asked i ip) (second_asked i ip)) is
+        (plain_says before before ip i is plain) (asked_taken i.form i.values (next_of i ip) is.form is.values)

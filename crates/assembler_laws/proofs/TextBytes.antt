@@ -118,7 +118,9 @@ quoted_by b inner outer false is in_all out_all = onto_bytes b inner is in_all
 
 plain_by : (b : ℕ) (inner outer : List (List ℕ)) (comment blank quote word : Bool) → is_byte b ≡ true → list_all are_bytes inner ≡ true
     → list_all are_bytes outer ≡ true
-    → list_all are_bytes (if comment then [] else (if blank then outer else (if quote then onto_first 39 inner else (if word then onto_first b outer else (b ∷ []) ∷ outer)))) ≡ true
+    → list_all are_bytes
+    (if comment then [] else (if blank then outer else (if quote then onto_first 39 inner else (if word then onto_first b outer else (b ∷ []) ∷ outer))))
+    ≡ true
 plain_by b inner outer true blank quote word is in_all out_all = refl
 plain_by b inner outer false true quote word is in_all out_all = out_all
 plain_by b inner outer false false true word is in_all out_all = onto_bytes 39 inner quote_byte in_all
@@ -144,7 +146,8 @@ has_bytes t = true
 abbrev pub have_bytes : List Token → Bool
 have_bytes ts = list_all has_bytes ts
 
-word_is : (is_long : Bool) (m : Option Meaning) (name : Name) (t : Token) → (if is_long then None else Some (option_map_or Word m (Named name))) ≡ Some t → has_bytes t ≡ true
+word_is : (is_long : Bool) (m : Option Meaning) (name : Name) (t : Token)
+    → (if is_long then None else Some (option_map_or Word m (Named name))) ≡ Some t → has_bytes t ≡ true
 word_is true m name t is = absurd (cc)
 word_is false (Some m) name t is = let same : Word m ≡ t = cc in rw (← same) refl
 word_is false None name t is = let same : Named name ≡ t = cc in rw (← same) refl
@@ -167,7 +170,8 @@ text_in [] all = refl
 text_in (c ∷ []) all = refl
 text_in (c ∷ d ∷ ds) all = all
 
-quoted_is : (l : List ℕ) (test : Bool) (t : Token) → are_bytes l ≡ true → (if test then Some (text_token (between_quotes l)) else None) ≡ Some t → has_bytes t ≡ true
+quoted_is : (l : List ℕ) (test : Bool) (t : Token) → are_bytes l ≡ true
+    → (if test then Some (text_token (between_quotes l)) else None) ≡ Some t → has_bytes t ≡ true
 quoted_is l true t all is =
     let same : text_token (between_quotes l) ≡ t = cc in
     rw (← same) (text_in (between_quotes l) (all_taken is_byte (length l - 2) (drop 1 l) (all_dropped is_byte 1 l all)))
@@ -187,7 +191,8 @@ punctuator_in (b ∷ []) t is = punctuator_is (punctuator_of b) t is
 punctuator_in (b ∷ c ∷ cs) t is = absurd (cc)
 
 kind_in : (l : List ℕ) (t : Token) (letter digit quote : Bool) → are_bytes l ≡ true
-    → (if letter then word_token l else (if digit then number_token l else (if quote then quoted_token l else punctuator_token l))) ≡ Some t → has_bytes t ≡ true
+    → (if letter then word_token l else (if digit then number_token l else (if quote then quoted_token l else punctuator_token l))) ≡ Some t
+    → has_bytes t ≡ true
 kind_in l t true digit quote all is = word_in l t is
 kind_in l t false true quote all is = number_in l t is
 kind_in l t false false true all is = quoted_in l t all is
@@ -203,7 +208,8 @@ token_in l t all is = kind_in l t (begins_with is_letter l) (begins_with is_digi
 
 tokens_in : (text : List ℕ) (ts : List Token) → are_bytes text ≡ true → tokens_of (lexemes text) ≡ Ok ts → have_bytes ts ≡ true
 unfolding tokens_of lexemes
-tokens_in text ts all is = all_read (λ lexeme. wanted (token_of lexeme)) are_bytes has_bytes token_in (lexemes_from false text) ts (lexemes_bytes false text all) is
+tokens_in text ts all is =
+    all_read (λ lexeme. wanted (token_of lexeme)) are_bytes has_bytes token_in (lexemes_from false text) ts (lexemes_bytes false text all) is
 
 -- ---- parts of tokens
 onto_have : (t : Token) (ps : List (List Token)) → has_bytes t ≡ true → list_all have_bytes ps ≡ true → list_all have_bytes (onto_part t ps) ≡ true
@@ -212,8 +218,8 @@ onto_have t (p ∷ ps) is all =
     let both = and_parts (have_bytes p) (list_all have_bytes ps) all in
     and_from (has_bytes t && have_bytes p) (list_all have_bytes ps) (and_from (has_bytes t) (have_bytes p) is both.0) both.1
 
-parts_by : (t : Token) (ended going : List (List Token)) (here : Bool) → has_bytes t ≡ true → list_all have_bytes ended ≡ true → list_all have_bytes going ≡ true
-    → list_all have_bytes (if here then [] ∷ ended else onto_part t going) ≡ true
+parts_by : (t : Token) (ended going : List (List Token)) (here : Bool) → has_bytes t ≡ true → list_all have_bytes ended ≡ true
+    → list_all have_bytes going ≡ true → list_all have_bytes (if here then [] ∷ ended else onto_part t going) ≡ true
 parts_by t ended going true is ended_all going_all = ended_all
 parts_by t ended going false is ended_all going_all = onto_have t going is going_all
 
@@ -289,7 +295,8 @@ pieces_in : (width : DataWidth) (ts : List Token) (ps : List Piece) → have_byt
 unfolding pieces_of
 pieces_in width ts ps all is = all_read (piece_of width) have_bytes is_bytes_piece (piece_in width) (parts ts) ps (parts_in ts all) is
 
-once_by : (r : Result Piece SyntaxFault) (i : Item) → ((p : Piece) → r ≡ Ok p → is_bytes_piece p ≡ true) → (r >>= λ piece. Ok (items.Once piece)) ≡ Ok i → is_bytes_item i ≡ true
+once_by : (r : Result Piece SyntaxFault) (i : Item) → ((p : Piece) → r ≡ Ok p → is_bytes_piece p ≡ true)
+    → (r >>= λ piece. Ok (items.Once piece)) ≡ Ok i → is_bytes_item i ≡ true
 once_by (Ok p) i in_piece is = let same : items.Once p ≡ i = cc in rw (← same) (in_piece p refl)
 once_by (Err fault) i in_piece is = absurd (cc)
 
@@ -298,14 +305,15 @@ each_by : (count : List Term) (r : Result (List Piece) SyntaxFault) (i : Item) �
 each_by count (Ok ps) i in_pieces is = let same : items.Repeated count ps ≡ i = cc in rw (← same) (in_pieces ps refl)
 each_by count (Err fault) i in_pieces is = absurd (cc)
 
-repeated_by : (width : DataWidth) (r : Result (List Term) SyntaxFault) (s : Result (List Token) SyntaxFault) (i : Item) → ((inner : List Token) → s ≡ Ok inner → have_bytes inner ≡ true)
+repeated_by : (width : DataWidth) (r : Result (List Term) SyntaxFault) (s : Result (List Token) SyntaxFault) (i : Item)
+    → ((inner : List Token) → s ≡ Ok inner → have_bytes inner ≡ true)
     → (r >>= λ count. s >>= λ inner. pieces_of width inner >>= λ each. Ok (items.Repeated count each)) ≡ Ok i → is_bytes_item i ≡ true
 repeated_by width (Ok count) (Ok inner) i in_inner is = each_by count (pieces_of width inner) i (λ ps. pieces_in width inner ps (in_inner inner refl)) is
 repeated_by width (Ok count) (Err fault) i in_inner is = absurd (cc)
 repeated_by width (Err fault) s i in_inner is = absurd (cc)
 
-parenthesis_by : (ts inner : List Token) (is_open : Bool) → have_bytes ts ≡ true → (if is_open then closed (around is_close_parenthesis ts) else Err BadLine) ≡ Ok inner
-    → have_bytes inner ≡ true
+parenthesis_by : (ts inner : List Token) (is_open : Bool) → have_bytes ts ≡ true
+    → (if is_open then closed (around is_close_parenthesis ts) else Err BadLine) ≡ Ok inner → have_bytes inner ≡ true
 parenthesis_by ts inner true all is = (around_in is_close_parenthesis ts (inner, []) all (closed_is (around is_close_parenthesis ts) inner is)).front
 parenthesis_by ts inner false all is = absurd (cc)
 
@@ -341,8 +349,8 @@ unfolding data_of
 data_in width ts s all is = data_by width (items_of width ts) s (λ each. items_in width ts each all) is
 
 -- a statement that is made of what is read
-made_by : {A : Type 0} (make : A → Statement) (r : Result A SyntaxFault) (s : Statement) → ((x : A) → has_bytes_texts (make x) ≡ true) → (r >>= λ x. Ok (make x)) ≡ Ok s
-    → has_bytes_texts s ≡ true
+made_by : {A : Type 0} (make : A → Statement) (r : Result A SyntaxFault) (s : Statement)
+    → ((x : A) → has_bytes_texts (make x) ≡ true) → (r >>= λ x. Ok (make x)) ≡ Ok s → has_bytes_texts s ≡ true
 made_by make (Ok x) s each is = let same : make x ≡ s = cc in rw (← same) (each x)
 made_by make (Err fault) s each is = absurd (cc)
 
@@ -400,15 +408,18 @@ prefixes_in (Word (meanings.Register (registers.Segment s)) ∷ t ∷ ts) all =
     prefixes_by s t ts (is_colon t) (prefixes_in ts ((and_parts (has_bytes t) (have_bytes ts) all).1)) all
 prefixes_in ts all = all
 
-keyword_by : (s : Statement) (test : Bool) → ◌≡◌ {A = Result Statement SyntaxFault} (if test then Err BadLine else Err UnknownName) (Ok s) → has_bytes_texts s ≡ true
+keyword_by : (s : Statement) (test : Bool) → ◌≡◌ {A = Result Statement SyntaxFault} (if test then Err BadLine else Err UnknownName) (Ok s)
+    → has_bytes_texts s ≡ true
 keyword_by s true is = absurd (cc)
 keyword_by s false is = absurd (cc)
 
-keyword_in : (ps : List Prefix) (k : Keyword) (ts : List Token) (s : Statement) → have_bytes ts ≡ true → keyword_statement ps k ts ≡ Ok s → has_bytes_texts s ≡ true
+keyword_in : (ps : List Prefix) (k : Keyword) (ts : List Token) (s : Statement)
+    → have_bytes ts ≡ true → keyword_statement ps k ts ≡ Ok s → has_bytes_texts s ≡ true
 keyword_in [] k ts s all is = directive_in k ts s all is
 keyword_in (p ∷ ps) k ts s all is = keyword_by s (is_directive k) is
 
-word_statement_in : (ps : List Prefix) (m : Meaning) (ts : List Token) (s : Statement) → have_bytes ts ≡ true → word_statement ps m ts ≡ Ok s → has_bytes_texts s ≡ true
+word_statement_in : (ps : List Prefix) (m : Meaning) (ts : List Token) (s : Statement)
+    → have_bytes ts ≡ true → word_statement ps m ts ≡ Ok s → has_bytes_texts s ≡ true
 word_statement_in ps (meanings.Mnemonic m) ts s all is = instruction_in ps m ts s is
 word_statement_in ps (meanings.Keyword k) ts s all is = keyword_in ps k ts s all is
 word_statement_in ps m ts s all is = absurd (cc)
@@ -443,7 +454,8 @@ with_label_by : (label : Option Name) (r : Result Statement SyntaxFault) (line :
 with_label_by label (Ok s) line in_statement is = let same : record { label = label; statement = s } ≡ line = cc in rw (← same) (in_statement s refl)
 with_label_by label (Err fault) line in_statement is = absurd (cc)
 
-with_label_in : (label : Option Name) (ts : List Token) (line : Line) → have_bytes ts ≡ true → with_label label ts ≡ Ok line → has_bytes_texts line.statement ≡ true
+with_label_in : (label : Option Name) (ts : List Token) (line : Line)
+    → have_bytes ts ≡ true → with_label label ts ≡ Ok line → has_bytes_texts line.statement ≡ true
 with_label_in label ts line all is = with_label_by label (statement_of ts) line (λ s. statement_in ts s all) is
 
 named_in : (label : Name) (u : Token) (ts : List Token) (line : Line) → have_bytes (u ∷ ts) ≡ true → labelled (Named label) u ts ≡ Ok line

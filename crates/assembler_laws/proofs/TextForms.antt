@@ -79,7 +79,8 @@ said_known names (Byte n) is = ap (λ o. known.Number (number_by o)) (constant_n
 said_known names (Word n) is = ap (λ o. known.Number (number_by o)) (constant_number names n)
 said_known names (Short n) is = refl
 said_known names (Far s o) is = refl
-said_known names (Memory m) is = ap (λ d. known.Memory (record { size = said_size m.size; base = m.base; displacement = d })) (displacement_known names m.displacement)
+said_known names (Memory m) is =
+    ap (λ d. known.Memory (record { size = said_size m.size; base = m.base; displacement = d })) (displacement_known names m.displacement)
 
 displacement_valued : (names : Names) (here : ℕ) (d : Option ℕ) → displacement_value names here (option_map number d) ≡ Some (pos (displacement_by d))
 displacement_valued names here None = refl
@@ -128,9 +129,11 @@ one_said names here v is =
 two_said : (names : Names) (here : ℕ) (v w : Written) → IsWritten v → IsWritten w → AreBoth names here v w
 unfolding numbers_of
 two_said names here v w is there =
-    let os : said_operands v w ≡ operand_said v ∷ operand_said w ∷ [] = said_with_first v w is ∙ ap (λ (os : List Operand). operand_said v ∷ os) (said_is w there) in
+    let os : said_operands v w ≡ operand_said v ∷ operand_said w ∷ [] =
+    said_with_first v w is ∙ ap (λ (os : List Operand). operand_said v ∷ os) (said_is w there) in
     record {
-      asked = ap (known_operands names) os ∙ (ap (λ (x : KnownOperand). Some (x, known_operand names (operand_said w))) (said_known names v is) ∙ ap (λ (x : KnownOperand). Some (asked_by v, x)) (said_known names w there));
+      asked = ap (known_operands names) os ∙ (ap (λ (x : KnownOperand). Some (x, known_operand names (operand_said w))) (said_known names v is)
+          ∙ ap (λ (x : KnownOperand). Some (asked_by v, x)) (said_known names w there));
       numbers = ap (numbers_after names here (Some no_numbers)) os
           ∙ (ap (λ o. numbers_after names here o (operand_said w ∷ [])) (said_numbers names here no_numbers v is)
           ∙ ap (λ o. numbers_after names here o []) (said_numbers names here (numbers_by v no_numbers) w there));
@@ -298,13 +301,15 @@ plain_size (Transfer transfer.Pop) x e = cc
 plain_size (Control c) x e = cc
 plain_size _ x e = refl
 
-byte_beside : (f : Form) (v : Values) (next : ℕ) (l k : Kind) → is_byte_beside l ≡ true → register_size (asked_by (written_operand f v next l k)) ≡ Some sizes.Byte
+byte_beside : (f : Form) (v : Values) (next : ℕ) (l k : Kind) → is_byte_beside l ≡ true
+    → register_size (asked_by (written_operand f v next l k)) ≡ Some sizes.Byte
 unfolding written_operand
 byte_beside f v next kinds.Reg8 k e = refl
 byte_beside f v next kinds.Al k e = refl
 byte_beside f v next _ k e = cc
 
-word_beside : (f : Form) (v : Values) (next : ℕ) (l k : Kind) → is_word_beside l ≡ true → register_size (asked_by (written_operand f v next l k)) ≡ Some sizes.Word
+word_beside : (f : Form) (v : Values) (next : ℕ) (l k : Kind) → is_word_beside l ≡ true
+    → register_size (asked_by (written_operand f v next l k)) ≡ Some sizes.Word
 unfolding written_operand
 word_beside f v next kinds.Reg16 k e = refl
 word_beside f v next kinds.Ax k e = refl
@@ -312,32 +317,44 @@ word_beside f v next kinds.Segment k e = refl
 word_beside f v next kinds.SegmentNotCs k e = refl
 word_beside f v next _ k e = cc
 
-byte_told : (f : Form) (v : Values) (next : ℕ) (op : Operation) (l k : Kind) → (is_byte_beside l && is_plain op) ≡ true → size_beside op (asked_by (written_operand f v next l k)) ≡ Some sizes.Byte
+byte_told : (f : Form) (v : Values) (next : ℕ) (op : Operation) (l k : Kind) → (is_byte_beside l && is_plain op) ≡ true
+    → size_beside op (asked_by (written_operand f v next l k)) ≡ Some sizes.Byte
 byte_told f v next op l k e =
     let both = and_parts (is_byte_beside l) (is_plain op) e in
     plain_size op (asked_by (written_operand f v next l k)) both.1 ∙ byte_beside f v next l k both.0
 
-word_told : (f : Form) (v : Values) (next : ℕ) (op : Operation) (l k : Kind) → (is_word_beside l && is_plain op) ≡ true → size_beside op (asked_by (written_operand f v next l k)) ≡ Some sizes.Word
+word_told : (f : Form) (v : Values) (next : ℕ) (op : Operation) (l k : Kind) → (is_word_beside l && is_plain op) ≡ true
+    → size_beside op (asked_by (written_operand f v next l k)) ≡ Some sizes.Word
 word_told f v next op l k e =
     let both = and_parts (is_word_beside l) (is_plain op) e in
     plain_size op (asked_by (written_operand f v next l k)) both.1 ∙ word_beside f v next l k both.0
 
-byte_by : (told q : Bool) (beside : Option Size) → (not told || q) ≡ true → (q ≡ true → beside ≡ Some sizes.Byte) → size_or (said_size (if told then None else Some keywords.Byte)) beside ≡ Some sizes.Byte
+byte_by : (told q : Bool) (beside : Option Size) → (not told || q) ≡ true → (q ≡ true → beside ≡ Some sizes.Byte)
+    → size_or (said_size (if told then None else Some keywords.Byte)) beside ≡ Some sizes.Byte
 byte_by true q beside e says = says e
 byte_by false q beside e says = refl
 
-word_by : (told q : Bool) (beside : Option Size) → (not told || q) ≡ true → (q ≡ true → beside ≡ Some sizes.Word) → size_or (said_size (if told then None else Some keywords.Word)) beside ≡ Some sizes.Word
+word_by : (told q : Bool) (beside : Option Size) → (not told || q) ≡ true → (q ≡ true → beside ≡ Some sizes.Word)
+    → size_or (said_size (if told then None else Some keywords.Word)) beside ≡ Some sizes.Word
 word_by true q beside e says = says e
 word_by false q beside e says = refl
 
-pointer_by : (op : Operation) (q : Bool) (beside : Option Size) → (is_control op || q) ≡ true → (q ≡ true → beside ≡ Some sizes.Word) → size_or (said_size (far_size op)) beside ≡ Some (pointer_size op)
+pointer_by : (op : Operation) (q : Bool) (beside : Option Size) → (is_control op || q) ≡ true → (q ≡ true → beside ≡ Some sizes.Word)
+    → size_or (said_size (far_size op)) beside ≡ Some (pointer_size op)
 pointer_by (Control c) q beside e says = refl
 pointer_by _ q beside e says = says e
 
-pub has_size : (f : Form) (v : Values) (next : ℕ) (op : Operation) (k l : Kind) → sizes_agree op k l ≡ true → HasSize op k l (asked_by (written_operand f v next l k))
-has_size f v next op kinds.Rm8 l e = byte_by (tells_size l) (is_byte_beside l && is_plain op) (size_beside op (asked_by (written_operand f v next l kinds.Rm8))) e (byte_told f v next op l kinds.Rm8)
-has_size f v next op kinds.Rm16 l e = word_by (tells_size l) (is_word_beside l && is_plain op) (size_beside op (asked_by (written_operand f v next l kinds.Rm16))) e (word_told f v next op l kinds.Rm16)
-has_size f v next op kinds.Memory l e = pointer_by op (is_word_beside l && is_plain op) (size_beside op (asked_by (written_operand f v next l kinds.Memory))) e (word_told f v next op l kinds.Memory)
+pub has_size : (f : Form) (v : Values) (next : ℕ) (op : Operation) (k l : Kind) → sizes_agree op k l ≡ true
+    → HasSize op k l (asked_by (written_operand f v next l k))
+has_size f v next op kinds.Rm8 l e =
+    byte_by (tells_size l) (is_byte_beside l && is_plain op)
+    (size_beside op (asked_by (written_operand f v next l kinds.Rm8))) e (byte_told f v next op l kinds.Rm8)
+has_size f v next op kinds.Rm16 l e =
+    word_by (tells_size l) (is_word_beside l && is_plain op)
+    (size_beside op (asked_by (written_operand f v next l kinds.Rm16))) e (word_told f v next op l kinds.Rm16)
+has_size f v next op kinds.Memory l e =
+    pointer_by op (is_word_beside l && is_plain op)
+    (size_beside op (asked_by (written_operand f v next l kinds.Memory))) e (word_told f v next op l kinds.Memory)
 has_size f v next op kinds.At8 l e = byte_told f v next op l kinds.At8 e
 has_size f v next op kinds.At16 l e = word_told f v next op l kinds.At16 e
 has_size f v next op _ l e = tt
@@ -447,7 +464,8 @@ no_other : (b : Bool) → not (true && b) ≡ true → b ≡ false
 no_other true e = absurd (let never : false ≡ true = e in cc)
 no_other false e = refl
 
-has_first : (w u : Written) (m : Numbers) → not (is_numbered w && is_numbered u) ≡ true → not (is_remembered w && is_remembered u) ≡ true → Has w (numbers_by u (numbers_by w m))
+has_first : (w u : Written) (m : Numbers) → not (is_numbered w && is_numbered u) ≡ true → not (is_remembered w && is_remembered u) ≡ true
+    → Has w (numbers_by u (numbers_by w m))
 has_first Nothing u m e g = tt
 has_first (Register r) u m e g = tt
 has_first One u m e g = (keeps_number u (numbers_by One m) (no_other (is_numbered u) e)).0
@@ -566,13 +584,15 @@ place_far (places.Base b) d is = refl
 place_far (places.BaseByte b) d is = refl
 place_far (places.BaseWord b) d is = refl
 
-kind_far : (f : Form) (v : Values) (next : ℕ) (k l : Kind) → is_far_kind k ≡ true → far_size (operation_of f.row) ≡ Some keywords.Far → FitsKind k f.place → is_far (asked_by (written_operand f v next k l)) ≡ true
+kind_far : (f : Form) (v : Values) (next : ℕ) (k l : Kind) → is_far_kind k ≡ true → far_size (operation_of f.row) ≡ Some keywords.Far → FitsKind k f.place
+    → is_far (asked_by (written_operand f v next k l)) ≡ true
 unfolding written_operand
 kind_far f v next kinds.Far l e far fits = refl
 kind_far f v next kinds.Memory l e far fits = ap (λ s. is_far (asked_by (word_operand f.place s v.displacement))) far ∙ place_far f.place v.displacement fits
 kind_far f v next _ l e far fits = cc
 
-far_as : (f : Form) (v : Values) (next : ℕ) (op : Operation) (k l : Kind) → operation_of f.row ≡ op → far_agrees op k ≡ true → FitsKind k f.place → IsFarAs op (is_far (asked_by (written_operand f v next k l)))
+far_as : (f : Form) (v : Values) (next : ℕ) (op : Operation) (k l : Kind) → operation_of f.row ≡ op → far_agrees op k ≡ true → FitsKind k f.place
+    → IsFarAs op (is_far (asked_by (written_operand f v next k l)))
 far_as f v next (Control control.Jmp) k l is e fits = kind_near f v next k l e
 far_as f v next (Control control.Call) k l is e fits = kind_near f v next k l e
 far_as f v next (Control control.JmpFar) k l is e fits = kind_far f v next k l e (ap far_size is) fits
@@ -580,7 +600,8 @@ far_as f v next (Control control.CallFar) k l is e fits = kind_far f v next k l 
 far_as f v next _ k l is e fits = tt
 
 -- ---- the order of the operands
-pub exchanged_is : (op : Operation) (x y : KnownOperand) → is_exchanged op x y ≡ true → (op ≡ Arithmetic Test → is_memory y ≡ false) → op ≡ Transfer transfer.Xchg
+pub exchanged_is : (op : Operation) (x y : KnownOperand) → is_exchanged op x y ≡ true
+    → (op ≡ Arithmetic Test → is_memory y ≡ false) → op ≡ Transfer transfer.Xchg
 exchanged_is (Arithmetic Test) x y e not_memory = absurd (let never : false ≡ true = sym (not_memory refl) ∙ e in cc)
 exchanged_is (Transfer transfer.Xchg) x y e not_memory = refl
 exchanged_is _ x y e not_memory = absurd (let never : false ≡ true = e in cc)
@@ -599,7 +620,8 @@ pub not_true : (b : Bool) → not b ≡ true → b ≡ false
 not_true true e = absurd (let never : false ≡ true = e in cc)
 not_true false e = refl
 
-order_is : (op : Operation) (l : Kind) (w : Written) → order_agrees op l ≡ true → (has_memory l ≡ false → is_remembered w ≡ false) → op ≡ Arithmetic Test → is_memory (asked_by w) ≡ false
+order_is : (op : Operation) (l : Kind) (w : Written) → order_agrees op l ≡ true
+    → (has_memory l ≡ false → is_remembered w ≡ false) → op ≡ Arithmetic Test → is_memory (asked_by w) ≡ false
 order_is op l w e says is =
     let agrees : not (has_memory l) ≡ true = subst (λ (o : Operation). order_agrees o l ≡ true) is e in
     remembered_is w ∙ says (not_true (has_memory l) agrees)
@@ -641,8 +663,10 @@ ask_both f v next is fits =
     let memory : not (is_remembered one && is_remembered two) ≡ true =
     not_both (has_memory k) (has_memory l) (is_remembered one) (is_remembered two) has.one_memory (unremembered f v next k l) (unremembered f v next l k) in
     record {
-      first = kind_asks f v next k l (asked_by two) (numbers_said f v next) small first_fits (has_first one two no_numbers numbers memory) (has_size f v next op k l has.size_first);
-      second = kind_asks f v next l k (asked_by one) (numbers_said f v next) small second_fits (has_second two (numbers_by one no_numbers)) (has_size f v next op l k has.size_second);
+      first = kind_asks f v next k l (asked_by two) (numbers_said f v next) small first_fits
+          (has_first one two no_numbers numbers memory) (has_size f v next op k l has.size_first);
+      second = kind_asks f v next l k (asked_by one) (numbers_said f v next) small second_fits
+          (has_second two (numbers_by one no_numbers)) (has_size f v next op l k has.size_second);
       order = order_is op l two has.order (unremembered f v next l k);
       far = far_as f v next op k l refl has.far first_fits;
       has_first = has_first one two no_numbers numbers memory;
@@ -651,7 +675,8 @@ ask_both f v next is fits =
     }
 
 -- ---- what a line with both operands is asked
-pub both_said : (names : Names) (here : ℕ) (f : Form) (v : Values) (next : ℕ) → IsForm f → FitsForm f v → AreBoth names here (first_written f v next) (second_written f v next)
+pub both_said : (names : Names) (here : ℕ) (f : Form) (v : Values) (next : ℕ) → IsForm f → FitsForm f v
+    → AreBoth names here (first_written f v next) (second_written f v next)
 both_said names here f v next is fits =
     let r : Row = f.row in
     let k : Kind = first_of r in
@@ -662,18 +687,24 @@ both_said names here f v next is fits =
     let first_fits : FitsKind k f.place = kind_fits (second_part r) k f.reg f.place is.second has.place_first in
     by_first (is_none k) (is_none l) refl refl has.none first_fits
   where
-    by_second : (s : Bool) → is_solid (second_written f v next) ≡ s → IsWritten (first_written f v next) → AreBoth names here (first_written f v next) (second_written f v next)
-    by_second true e one = two_said names here (first_written f v next) (second_written f v next) one (solid_written (second_written f v next) e (operand_written f v next (second_of f.row) (first_of f.row) fits))
-    by_second false e one = subst (AreBoth names here (first_written f v next)) (sym (empty_is (second_written f v next) e)) (one_said names here (first_written f v next) one)
+    by_second : (s : Bool) → is_solid (second_written f v next) ≡ s → IsWritten (first_written f v next)
+        → AreBoth names here (first_written f v next) (second_written f v next)
+    by_second true e one =
+        two_said names here (first_written f v next) (second_written f v next) one
+        (solid_written (second_written f v next) e (operand_written f v next (second_of f.row) (first_of f.row) fits))
+    by_second false e one =
+        subst (AreBoth names here (first_written f v next)) (sym (empty_is (second_written f v next) e)) (one_said names here (first_written f v next) one)
 
-    by_first : (a b : Bool) → is_none (first_of f.row) ≡ a → is_none (second_of f.row) ≡ b → (not a || b) ≡ true → FitsKind (first_of f.row) f.place → AreBoth names here (first_written f v next) (second_written f v next)
+    by_first : (a b : Bool) → is_none (first_of f.row) ≡ a → is_none (second_of f.row) ≡ b → (not a || b) ≡ true → FitsKind (first_of f.row) f.place
+        → AreBoth names here (first_written f v next) (second_written f v next)
     by_first true true p q e first_fits =
         subst (λ (w : Written). AreBoth names here w (second_written f v next)) (sym (kind_empty f v next (first_of f.row) (second_of f.row) p))
         (subst (AreBoth names here Nothing) (sym (kind_empty f v next (second_of f.row) (first_of f.row) q)) (none_said names here))
     by_first true false p q e first_fits = absurd (let never : false ≡ true = e in cc)
     by_first false b p q e first_fits =
         by_second (is_solid (second_written f v next)) refl
-        (solid_written (first_written f v next) (kind_solid f v next (first_of f.row) (second_of f.row) p first_fits) (operand_written f v next (first_of f.row) (second_of f.row) fits))
+        (solid_written (first_written f v next) (kind_solid f v next (first_of f.row) (second_of f.row) p first_fits)
+        (operand_written f v next (first_of f.row) (second_of f.row) fits))
 
 -- ---- the form that is chosen for what is asked
 chosen_by : (b : Bool) (o : Option Asked) (a : Asked) → (if b then o else None) ≡ Some a → o ≡ Some a
@@ -683,13 +714,15 @@ chosen_by false o a e = absurd (let never : None ≡ Some a = e in cc)
 some_asked : (a b : Asked) → Some a ≡ Some b → a ≡ b
 some_asked a b e = cc
 
-asked_is : (before : Names) (i : Instr) (ip : ℕ) (x y : KnownOperand) (a : Asked) → known_operands before (operands_in i.form i.values (next_of i ip)) ≡ Some (x, y)
+asked_is : (before : Names) (i : Instr) (ip : ℕ) (x y : KnownOperand) (a : Asked)
+    → known_operands before (operands_in i.form i.values (next_of i ip)) ≡ Some (x, y)
     → instruction_asked before (said_instruction i ip) ≡ Some a → asked (mnemonic_in i.form) x y ≡ a
 unfolding instruction_asked
 asked_is before i ip x y a known_are is =
     some_asked (asked (mnemonic_in i.form) x y) a
     (sym (ap (option_map (λ os. asked (mnemonic_in i.form) os.0 os.1)) known_are)
-    ∙ chosen_by (nat_le (length (prefixes_of (said_instruction i ip))) 7) (option_map (λ os. asked (mnemonic_in i.form) os.0 os.1) (known_operands before (operands_in i.form i.values (next_of i ip)))) a is)
+    ∙ chosen_by (nat_le (length (prefixes_of (said_instruction i ip))) 7)
+    (option_map (λ os. asked (mnemonic_in i.form) os.0 os.1) (known_operands before (operands_in i.form i.values (next_of i ip)))) a is)
 
 plain_asked : (op : Operation) (x y : KnownOperand) → IsFarAs op (is_far x) → asked (said_mnemonic op) x y ≡ asked_of op x y
 unfolding asked
@@ -717,10 +750,12 @@ chosen_said before names here i f x y n a says formed =
 abbrev pub ax : KnownOperand
 ax = known.Register (registers.Word Ax)
 
-pub nop_says : (before names : Names) (here : ℕ) (i : Instr) → is_nop i.form ≡ true → Says before names here i known.Nothing known.Nothing no_numbers (asked_in_order (Transfer transfer.Xchg) ax ax)
+pub nop_says : (before names : Names) (here : ℕ) (i : Instr) → is_nop i.form ≡ true
+    → Says before names here i known.Nothing known.Nothing no_numbers (asked_in_order (Transfer transfer.Xchg) ax ax)
 unfolding asked numbers_of
 nop_says before names here i nop =
-    let none : operands_in i.form i.values (next_of i here) ≡ [] = ap (λ (b : Bool). if b then [] else said_operands (first_written i.form i.values (next_of i here)) (second_written i.form i.values (next_of i here))) nop in
+    let none : operands_in i.form i.values (next_of i here) ≡ [] =
+    ap (λ (b : Bool). if b then [] else said_operands (first_written i.form i.values (next_of i here)) (second_written i.form i.values (next_of i here))) nop in
     record {
       known_are = ap (known_operands before) none;
       numbers = ap (numbers_of names here) none;
@@ -736,7 +771,8 @@ abbrev pub second_asked : Instr → ℕ → KnownOperand
 second_asked i ip = asked_by (second_written i.form i.values (next_of i ip))
 
 pub plain_says : (before names : Names) (here : ℕ) (i : Instr) → IsInstr i → is_nop i.form ≡ false
-    → Says before names here i (first_asked i here) (second_asked i here) (numbers_said i.form i.values (next_of i here)) (asked_of (operation_of i.form.row) (first_asked i here) (second_asked i here))
+    → Says before names here i (first_asked i here) (second_asked i here) (numbers_said i.form i.values (next_of i here))
+    (asked_of (operation_of i.form.row) (first_asked i here) (second_asked i here))
 plain_says before names here i is plain =
     let next : ℕ = next_of i here in
     let op : Operation = operation_of i.form.row in
@@ -747,7 +783,8 @@ plain_says before names here i is plain =
     record {
       known_are = ap (known_operands before) operands ∙ (both_said before here i.form i.values next is.form is.values).asked;
       numbers = ap (numbers_of names here) operands ∙ are.numbers;
-      asks = ap (λ (b : Bool). asked (if b then mnemonics.Nop else said_mnemonic op) (asked_by one) (asked_by two)) plain ∙ plain_asked op (asked_by one) (asked_by two) (ask_both i.form i.values next is.form is.values).far;
+      asks = ap (λ (b : Bool). asked (if b then mnemonics.Nop else said_mnemonic op) (asked_by one) (asked_by two)) plain
+          ∙ plain_asked op (asked_by one) (asked_by two) (ask_both i.form i.values next is.form is.values).far;
       prefixes = prefixes_same i here (ap override_of operands ∙ are.override);
     }
 
@@ -755,7 +792,8 @@ plain_says before names here i is plain =
 -- the operands of the form that is chosen, by value
 values_meant : (before names : Names) (location : Location) (size : ℕ) (i : Instr) (f : Form) (v : Values) (x y : KnownOperand) (n : Numbers) (a : Asked)
     → Says before names location.offset i x y n a → AreOf a.first n → AreOf a.second n
-    → IsFormFor (instruction_asked before (said_instruction i location.offset)) (Some f) → fields_of names location size f (said_instruction i location.offset) ≡ Some v
+    → IsFormFor (instruction_asked before (said_instruction i location.offset)) (Some f)
+    → fields_of names location size f (said_instruction i location.offset) ≡ Some v
     → IsOfValues a n f v ((location.offset + size) % 65536)
 values_meant before names location size i f v x y n a says one two formed fields =
     forms_mean_what_is_asked a f v (location.offset + size) n (chosen_said before names location.offset i f x y n a says formed)
@@ -766,17 +804,19 @@ abbrev Asks' : Operation → KnownOperand → KnownOperand → Numbers → Meant
 Asks' op x y n meant = AreOf (sized op x y) n × (meant ≡ asked_meant (sized op x y) n)
 
 -- the operands in the order of the text
-in_order : (op : Operation) (i j : Instr) (ip : ℕ) (n : Numbers) (x y : KnownOperand) → IsOfValues (asked_in_order op x y) n j.form j.values ((ip + instr_length j) % 65536)
-    → op ≡ operation_of i.form.row → j.prefixes.items ≡ i.prefixes.items → first_meant i ip ≡ asked_meant (sized op x y) n → second_meant i ip ≡ asked_meant (sized op y x) n → MeansTheSame i j ip
+in_order : (op : Operation) (i j : Instr) (ip : ℕ) (n : Numbers) (x y : KnownOperand)
+    → IsOfValues (asked_in_order op x y) n j.form j.values ((ip + instr_length j) % 65536) → op ≡ operation_of i.form.row → j.prefixes.items ≡ i.prefixes.items
+    → first_meant i ip ≡ asked_meant (sized op x y) n → second_meant i ip ≡ asked_meant (sized op y x) n → MeansTheSame i j ip
 in_order op i j ip n x y is op_is prefixes first second = record {
   operation = is.operation ∙ op_is;
   prefixes = prefixes;
   operands = inl (is.first ∙ sym first, is.second ∙ sym second);
 }
 
-exchanged : (op : Operation) (i j : Instr) (ip : ℕ) (n : Numbers) (x y : KnownOperand) → IsOfValues (asked_in_order op y x) n j.form j.values ((ip + instr_length j) % 65536)
-    → op ≡ operation_of i.form.row → op ≡ Transfer transfer.Xchg → j.prefixes.items ≡ i.prefixes.items → first_meant i ip ≡ asked_meant (sized op x y) n → second_meant i ip ≡ asked_meant (sized op y x) n
-    → MeansTheSame i j ip
+exchanged : (op : Operation) (i j : Instr) (ip : ℕ) (n : Numbers) (x y : KnownOperand)
+    → IsOfValues (asked_in_order op y x) n j.form j.values ((ip + instr_length j) % 65536)
+    → op ≡ operation_of i.form.row → op ≡ Transfer transfer.Xchg → j.prefixes.items ≡ i.prefixes.items
+    → first_meant i ip ≡ asked_meant (sized op x y) n → second_meant i ip ≡ asked_meant (sized op y x) n → MeansTheSame i j ip
 exchanged op i j ip n x y is op_is xchg prefixes first second = record {
   operation = is.operation ∙ op_is;
   prefixes = prefixes;
@@ -834,12 +874,15 @@ nop_means before names location i f v is nop formed fields =
     let isnop : IsNop i.form = nop_is i.form nop in
     let says = nop_says before names ip i nop in
     in_order (Transfer transfer.Xchg) i (instr_of f said v) ip no_numbers ax ax
-    (values_meant before names location size i f v known.Nothing known.Nothing no_numbers (asked_in_order (Transfer transfer.Xchg) ax ax) says tt tt formed fields) (sym isnop.operation)
-    says.prefixes (nop_first_meant i.form i.values (next_of i ip) isnop) (nop_second_meant i.form i.values (next_of i ip) is.form isnop)
+    (values_meant before names location size i f v known.Nothing known.Nothing no_numbers
+    (asked_in_order (Transfer transfer.Xchg) ax ax) says tt tt formed fields)
+    (sym isnop.operation) says.prefixes (nop_first_meant i.form i.values (next_of i ip) isnop) (nop_second_meant i.form i.values (next_of i ip) is.form isnop)
 
 -- the two orders
-by_order : (b : Bool) (op : Operation) (i j : Instr) (ip : ℕ) (n : Numbers) (x y : KnownOperand) → is_exchanged op x y ≡ b → op ≡ operation_of i.form.row → (op ≡ Arithmetic Test → is_memory y ≡ false)
-    → ((a : Asked) → (if b then asked_in_order op y x else asked_in_order op x y) ≡ a → AreOf a.first n → AreOf a.second n → IsOfValues a n j.form j.values ((ip + instr_length j) % 65536))
+by_order : (b : Bool) (op : Operation) (i j : Instr) (ip : ℕ) (n : Numbers) (x y : KnownOperand)
+    → is_exchanged op x y ≡ b → op ≡ operation_of i.form.row → (op ≡ Arithmetic Test → is_memory y ≡ false)
+    → ((a : Asked) → (if b then asked_in_order op y x else asked_in_order op x y) ≡ a → AreOf a.first n → AreOf a.second n
+    → IsOfValues a n j.form j.values ((ip + instr_length j) % 65536))
     → j.prefixes.items ≡ i.prefixes.items → Asks' op x y n (first_meant i ip) → Asks' op y x n (second_meant i ip) → MeansTheSame i j ip
 by_order false op i j ip n x y e op_is order meant prefixes first second =
     in_order op i j ip n x y (meant (asked_in_order op x y) refl first.0 second.0) op_is prefixes first.1 second.1

@@ -57,7 +57,8 @@ pub says_then : (a : List ℕ) (c : ℕ) (b : List ℕ) (ts us : List Token) →
 says_then a c b ts us parts one two rest vs here reads =
     assoc_reads a (c ∷ b) rest ts us vs (one (c ∷ (b ++ rest)) (us ++ vs) parts (two rest vs here reads))
 
-pub says_opens : (a : List ℕ) (c : ℕ) (b : List ℕ) (ts us : List Token) → is_word_byte c ≡ false → Says a ts → Opens (c ∷ b) us → Opens (a ++ (c ∷ b)) (ts ++ us)
+pub says_opens : (a : List ℕ) (c : ℕ) (b : List ℕ) (ts us : List Token)
+    → is_word_byte c ≡ false → Says a ts → Opens (c ∷ b) us → Opens (a ++ (c ∷ b)) (ts ++ us)
 says_opens a c b ts us parts one two rest vs reads =
     assoc_reads a (c ∷ b) rest ts us vs (one (c ∷ (b ++ rest)) (us ++ vs) parts (two rest vs reads))
 
@@ -93,7 +94,8 @@ all_characters (b ∷ bs) rest all more =
     a_character : (b : ℕ) → is_word_byte b ≡ true → is_character b ≡ true
     a_character b word = grind (arith, nat_tests)
 
-word_alone : (b : ℕ) (bs rest : List ℕ) → list_all is_word_byte (b ∷ bs) ≡ true → stops rest → lexemes_from false ((b ∷ bs) ++ rest) ≡ (b ∷ bs) ∷ lexemes_from false rest
+word_alone : (b : ℕ) (bs rest : List ℕ) → list_all is_word_byte (b ∷ bs) ≡ true → stops rest
+    → lexemes_from false ((b ∷ bs) ++ rest) ≡ (b ∷ bs) ∷ lexemes_from false rest
 word_alone b [] rest all here =
     word_start b rest (and_parts (is_word_byte b) true all).0
     ∙ ap (λ (more : Bool). if more then onto_first b (lexemes_from false rest) else (b ∷ []) ∷ lexemes_from false rest) here
@@ -189,7 +191,8 @@ says_number n small =
     let three : is_word_byte (digit_glyph true (n % 256 / 16)) ≡ true = glyph_word (n % 256 / 16) j in
     let four : is_word_byte (digit_glyph true (n % 256 % 16)) ≡ true = glyph_word (n % 256 % 16) k in
     let value : ((n / 256 / 16 * 16 + n / 256 % 16) * 16 + n % 256 / 16) * 16 + n % 256 % 16 ≡ n = omega arith in
-    says_word 48 (digit_glyph true (n / 256 / 16) ∷ digit_glyph true (n / 256 % 16) ∷ digit_glyph true (n % 256 / 16) ∷ digit_glyph true (n % 256 % 16) ∷ 104 ∷ []) (Number n)
-    (rw (one, two, three, four) refl)
+    says_word 48
+    (digit_glyph true (n / 256 / 16) ∷ digit_glyph true (n / 256 % 16) ∷ digit_glyph true (n % 256 / 16) ∷ digit_glyph true (n % 256 % 16) ∷ 104 ∷ [])
+    (Number n) (rw (one, two, three, four) refl)
     (word_number (digit_glyph true (n / 256 / 16)) (digit_glyph true (n / 256 % 16)) (digit_glyph true (n % 256 / 16)) (digit_glyph true (n % 256 % 16)) n
     (four_digits (n / 256 / 16) (n / 256 % 16) (n % 256 / 16) (n % 256 % 16) h i j k ∙ ap Some value) small)

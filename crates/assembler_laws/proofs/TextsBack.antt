@@ -51,13 +51,15 @@ row_back byte names row location i is stands statement clean back =
     (subst (λ (l : Location). fields_of names l row.size back.form said ≡ Some back.numbers) place back.has_numbers) in
     record {
       again = instr_of back.form said back.numbers;
-      decodes = subst (λ (l : Location). decoded_from (code_at byte l.segment l.offset) ≡ Found (instr_of back.form said back.numbers) row.size) place back.decodes;
+      decodes =
+          subst (λ (l : Location). decoded_from (code_at byte l.segment l.offset) ≡ Found (instr_of back.form said back.numbers) row.size) place back.decodes;
       same = texts_mean_the_same known names location i back.form back.numbers is formed fields;
     }
 
 pub texts_decode_the_same : TextsAreRead → TextsDecodeTheSame
 texts_decode_the_same read source image gives byte loaded row location i within is stands reads =
-    let line : row.line ≡ said_line i location.offset = same_line (read_line (instr_text i location.offset)) row.line (said_line i location.offset) reads (read i location.offset is) in
+    let line : row.line ≡ said_line i location.offset =
+    same_line (read_line (instr_text i location.offset)) row.line (said_line i location.offset) reads (read i location.offset is) in
     let statement : row.line.statement ≡ Instruction (said_instruction i location.offset) = ap (λ (l : Line). l.statement) line in
     row_back byte (names_of gives.rows) row location i is stands statement (clean_there (text_lines source) gives.rows row gives.are_located_lines within)
     (bytes_decode_back source image gives byte loaded row (said_instruction i location.offset) within statement)

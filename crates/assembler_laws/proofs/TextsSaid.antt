@@ -258,7 +258,8 @@ module _ (words : AreRead) where
       says_opens (register_name (registers.Segment r)) 58 (32 ∷ []) (register (registers.Segment r) ∷ []) (tokens.Punctuator punctuators.Colon ∷ []) refl
       (says_register (registers.Segment r)) (opens_opens (58 ∷ []) (32 ∷ []) (tokens.Punctuator punctuators.Colon ∷ []) [] opens_colon opens_blank)
 
-  opens_prefix_word : (p : Prefix) → is_plain (prefix_name p) ≡ true → meaning_of (prefix_name p) ≡ Some (meanings.Prefix p) → Opens (prefix_name p ++ 32 ∷ []) (tokens.Word (meanings.Prefix p) ∷ [])
+  opens_prefix_word : (p : Prefix) → is_plain (prefix_name p) ≡ true → meaning_of (prefix_name p) ≡ Some (meanings.Prefix p)
+      → Opens (prefix_name p ++ 32 ∷ []) (tokens.Word (meanings.Prefix p) ∷ [])
   opens_prefix_word p plain means =
       says_opens (prefix_name p) 32 [] (tokens.Word (meanings.Prefix p) ∷ []) [] refl (says_meant (prefix_name p) (meanings.Prefix p) plain means) opens_blank
 
@@ -270,7 +271,8 @@ module _ (words : AreRead) where
 
   opens_prefixes : (ps : List Prefix) → Opens (flat_map prefix_text ps) (flat_map prefix_tokens ps)
   opens_prefixes [] = λ rest us reads. reads
-  opens_prefixes (p ∷ ps) = opens_opens (prefix_text p) (flat_map prefix_text ps) (prefix_tokens p) (flat_map prefix_tokens ps) (opens_prefix p) (opens_prefixes ps)
+  opens_prefixes (p ∷ ps) =
+      opens_opens (prefix_text p) (flat_map prefix_text ps) (prefix_tokens p) (flat_map prefix_tokens ps) (opens_prefix p) (opens_prefixes ps)
 
   -- ---- places in memory
   says_word_register : (r : WordRegister) → Says (word_register_name r) (word r ∷ [])
@@ -311,7 +313,8 @@ module _ (words : AreRead) where
       let inner : List Token = inner_tokens m.base (option_map number m.displacement) in
       opens_then (size_text m.size) (91 ∷ (address_text m.base m.displacement ++ 93 ∷ [])) (size_tokens (said_size m.size))
       (tokens.Punctuator punctuators.OpenBracket ∷ (inner ++ tokens.Punctuator punctuators.CloseBracket ∷ [])) (opens_size m.size size)
-      (opens_then (91 ∷ []) (address_text m.base m.displacement ++ 93 ∷ []) (tokens.Punctuator punctuators.OpenBracket ∷ []) (inner ++ tokens.Punctuator punctuators.CloseBracket ∷ [])
+      (opens_then (91 ∷ []) (address_text m.base m.displacement ++ 93 ∷ [])
+      (tokens.Punctuator punctuators.OpenBracket ∷ []) (inner ++ tokens.Punctuator punctuators.CloseBracket ∷ [])
       opens_bracket
       (says_then (address_text m.base m.displacement) 93 [] inner (tokens.Punctuator punctuators.CloseBracket ∷ []) refl (says_address m.base m.displacement is)
       (open_says (93 ∷ []) (tokens.Punctuator punctuators.CloseBracket ∷ []) closes_bracket)))
@@ -340,7 +343,8 @@ module _ (words : AreRead) where
       (subst (λ (xs : List ℕ). Says xs (t ∷ [])) (sym (append-nil name)) says)
   says_with name t says v w (inr is) (inl none) =
       subst (λ (x : Written). Says (name ++ operands_text v x) (t ∷ tokens_said (said_operands v x))) (sym none)
-      (subst (λ (xs : List ℕ). Says (name ++ xs) (t ∷ tokens_said (said_operands v Nothing))) (sym (text_with_first v Nothing is ∙ ap (λ (xs : List ℕ). 32 ∷ xs) (append-nil (operand_text v))))
+      (subst (λ (xs : List ℕ). Says (name ++ xs) (t ∷ tokens_said (said_operands v Nothing)))
+      (sym (text_with_first v Nothing is ∙ ap (λ (xs : List ℕ). 32 ∷ xs) (append-nil (operand_text v))))
       (subst (λ (os : List Operand). Says (name ++ 32 ∷ operand_text v) (t ∷ tokens_said os)) (sym (said_with_first v Nothing is))
       (says_then name 32 (operand_text v) (t ∷ []) (operand_tokens (operand_said v)) refl says
       (opens_then (32 ∷ []) (operand_text v) [] (operand_tokens (operand_said v)) opens_blank (says_operand v is)))))
@@ -349,10 +353,14 @@ module _ (words : AreRead) where
       (sym (text_with_first v w is ∙ ap (λ (xs : List ℕ). 32 ∷ (operand_text v ++ xs)) (text_of_second w there)))
       (subst (λ (os : List Operand). Says (name ++ 32 ∷ (operand_text v ++ 44 ∷ operand_text w)) (t ∷ tokens_said os))
       (sym (said_with_first v w is ∙ ap (λ (os : List Operand). operand_said v ∷ os) (said_is w there)))
-      (says_then name 32 (operand_text v ++ 44 ∷ operand_text w) (t ∷ []) (operand_tokens (operand_said v) ++ tokens.Punctuator punctuators.Comma ∷ operand_tokens (operand_said w)) refl says
-      (opens_then (32 ∷ []) (operand_text v ++ 44 ∷ operand_text w) [] (operand_tokens (operand_said v) ++ tokens.Punctuator punctuators.Comma ∷ operand_tokens (operand_said w)) opens_blank
-      (says_then (operand_text v) 44 (operand_text w) (operand_tokens (operand_said v)) (tokens.Punctuator punctuators.Comma ∷ operand_tokens (operand_said w)) refl (says_operand v is)
-      (opens_then (44 ∷ []) (operand_text w) (tokens.Punctuator punctuators.Comma ∷ []) (operand_tokens (operand_said w)) opens_comma (says_operand w there))))))
+      (says_then name 32 (operand_text v ++ 44 ∷ operand_text w) (t ∷ [])
+      (operand_tokens (operand_said v) ++ tokens.Punctuator punctuators.Comma ∷ operand_tokens (operand_said w)) refl says
+      (opens_then (32 ∷ []) (operand_text v ++ 44 ∷ operand_text w) []
+      (operand_tokens (operand_said v) ++ tokens.Punctuator punctuators.Comma ∷ operand_tokens (operand_said w)) opens_blank
+      (says_then (operand_text v) 44 (operand_text w) (operand_tokens (operand_said v))
+      (tokens.Punctuator punctuators.Comma ∷ operand_tokens (operand_said w)) refl (says_operand v is)
+      (opens_then (44 ∷ []) (operand_text w) (tokens.Punctuator punctuators.Comma ∷ [])
+      (operand_tokens (operand_said w)) opens_comma (says_operand w there))))))
 
   plain_means : (o : Operation) → ((c : _) → Control c ≡ o → ⊥) → ((t : _) → Transfer t ≡ o → ⊥) → Means (operation_name o) (mnemonics.Plain o)
   plain_means o not_control not_transfer =
@@ -374,23 +382,26 @@ module _ (words : AreRead) where
 
   -- ---- the body
   says_plain : (f : Form) (v : Values) (next : ℕ) → FitsForm f v
-      → Says (plain_text f v next) (mnemonic_token (said_mnemonic (operation_of f.row)) ∷ tokens_said (said_operands (first_written f v next) (second_written f v next)))
+      → Says (plain_text f v next)
+      (mnemonic_token (said_mnemonic (operation_of f.row)) ∷ tokens_said (said_operands (first_written f v next) (second_written f v next)))
   says_plain f v next fits =
       let o = operation_of f.row in
-      says_with (operation_name o) (mnemonic_token (said_mnemonic o)) (says_meant (operation_name o) (meanings.Mnemonic (said_mnemonic o)) (all_plain o) (operation_means o))
-      (first_written f v next) (second_written f v next) (operand_written f v next (first_of f.row) (second_of f.row) fits)
-      (operand_written f v next (second_of f.row) (first_of f.row) fits)
+      says_with (operation_name o) (mnemonic_token (said_mnemonic o))
+      (says_meant (operation_name o) (meanings.Mnemonic (said_mnemonic o)) (all_plain o) (operation_means o)) (first_written f v next) (second_written f v next)
+      (operand_written f v next (first_of f.row) (second_of f.row) fits) (operand_written f v next (second_of f.row) (first_of f.row) fits)
 
   says_nop : Says (mnemonic_name mnemonics.Nop) (mnemonic_token mnemonics.Nop ∷ [])
   says_nop = says_meant (mnemonic_name mnemonics.Nop) (meanings.Mnemonic mnemonics.Nop) nop_plain nop_means
 
-  says_body : (f : Form) (v : Values) (next : ℕ) → FitsForm f v → Says (body_text f v next) (mnemonic_token (mnemonic_in f) ∷ tokens_said (operands_in f v next))
+  says_body : (f : Form) (v : Values) (next : ℕ) → FitsForm f v
+      → Says (body_text f v next) (mnemonic_token (mnemonic_in f) ∷ tokens_said (operands_in f v next))
   unfolding body_text
   says_body f v next fits = by (is_nop f)
     where
       by : (b : Bool)
           → Says (if b then mnemonic_name mnemonics.Nop else plain_text f v next)
-          (mnemonic_token (if b then mnemonics.Nop else said_mnemonic (operation_of f.row)) ∷ tokens_said (if b then [] else said_operands (first_written f v next) (second_written f v next)))
+          (mnemonic_token (if b then mnemonics.Nop else said_mnemonic (operation_of f.row))
+          ∷ tokens_said (if b then [] else said_operands (first_written f v next) (second_written f v next)))
       by true = says_nop
       by false = says_plain f v next fits
 

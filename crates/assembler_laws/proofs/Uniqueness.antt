@@ -59,7 +59,8 @@ some_once o a b is also = cc
 never_found : (o : Option SourceFault) (fault : SourceFault) → o ≡ None → o ≡ Some fault → ⊥
 never_found o fault none some = cc
 
-one_text_fault : (names : Names) (location : Option Location) (text : List ℕ) (a b : SourceFault) → IsTextFault names location text a → IsTextFault names location text b → a ≡ b
+one_text_fault : (names : Names) (location : Option Location) (text : List ℕ) (a b : SourceFault)
+    → IsTextFault names location text a → IsTextFault names location text b → a ≡ b
 one_text_fault names location text a b (inl is) (inl also) = is.2 ∙ ap fault_of_line (read_once text is.0 also.0 is.1 also.1) ∙ sym also.2
 one_text_fault names location text a b (inl is) (inr also) = absurd (not_read text also.0.line is.0 also.1.reads is.1)
 one_text_fault names location text a b (inr is) (inl also) = absurd (not_read text is.0.line also.0 is.1.reads also.1)
@@ -77,8 +78,10 @@ no_text_fault before text row fault clean (inr found) =
     (subst (λ (r : LocatedLine). early_fault (names_of before) r.location r.line r.form ≡ None) same clean.clean) found.2
 
 -- clean lines have no fault of the first pass among them
-none_among : (texts : List (List ℕ)) (rows : List LocatedLine) (front : List (List ℕ)) (text : List ℕ) (back : List (List ℕ)) (before : List LocatedLine) (fault : SourceFault)
-    → texts ≡ front ++ text ∷ back → AreLocatedLines [] texts rows → AreLocatedLines [] front before → IsTextFault (names_of before) (location_following before) text fault → ⊥
+none_among : (texts : List (List ℕ)) (rows : List LocatedLine) (front : List (List ℕ))
+    (text : List ℕ) (back : List (List ℕ)) (before : List LocatedLine) (fault : SourceFault)
+    → texts ≡ front ++ text ∷ back → AreLocatedLines [] texts rows → AreLocatedLines [] front before
+    → IsTextFault (names_of before) (location_following before) text fault → ⊥
 none_among texts rows front text back before fault split are clean found =
     let own : LinesUpTo [] front text = lines_up_to [] front text back rows (subst (λ (ts : List (List ℕ)). AreLocatedLines [] ts rows) split are) in
     let same : own.rows ≡ before = one_lines [] front own.rows before own.clean clean in
@@ -105,8 +108,8 @@ never_both source a b m n early late =
     none_among (text_lines source) late.rows early.front early.text early.back early.rows a early.texts late.clean early.clean early.found
 
 -- ---- rows have one fault of placing
-faultless_there : (names : Names) (before front : List LocatedLine) (row : LocatedLine) (back : List LocatedLine) → AreFaultless names before (front ++ row ∷ back)
-    → located_fault names (before ++ front) row ≡ None
+faultless_there : (names : Names) (before front : List LocatedLine) (row : LocatedLine) (back : List LocatedLine)
+    → AreFaultless names before (front ++ row ∷ back) → located_fault names (before ++ front) row ≡ None
 faultless_there names before [] row back free = ap (λ (rs : List LocatedLine). located_fault names rs row) (append-nil before) ∙ free.0
 faultless_there names before (first ∷ front) row back free =
     ap (λ (rs : List LocatedLine). located_fault names rs row) (sym (append_assoc before (first ∷ []) front))
@@ -128,8 +131,8 @@ one_late rows a b m n is also (inr (inr longer)) =
     (faultless_there (names_of rows) [] also.front also.row longer.0 (subst (AreFaultless (names_of rows) []) longer.1 is.placed)) also.found)
 
 -- ---- the laws
-one_in_line : (source : List ℕ) (a b : SourceFault) (m n : ℕ) → IsEarlyFault source a m ⊎ IsLateFault source a m → IsEarlyFault source b n ⊎ IsLateFault source b n
-    → InLine a m ≡ InLine b n
+one_in_line : (source : List ℕ) (a b : SourceFault) (m n : ℕ) → IsEarlyFault source a m ⊎ IsLateFault source a m
+    → IsEarlyFault source b n ⊎ IsLateFault source b n → InLine a m ≡ InLine b n
 one_in_line source a b m n (inl is) (inl also) =
     one_early source a b m n is also (parted is.front is.text is.back also.front also.text also.back (sym is.texts ∙ also.texts))
 one_in_line source a b m n (inl is) (inr also) = absurd (never_both source a b m n is also)

@@ -156,11 +156,14 @@ operand_written f v next kinds.Reg16 other fits = inr tt
 operand_written f v next kinds.Segment other fits = inr tt
 operand_written f v next kinds.SegmentNotCs other fits = inr tt
 operand_written f v next kinds.Rm8 other fits =
-    byte_written (size_beside keywords.Byte other) (chosen_size (tells_size other) keywords.Byte tt) f.place v.displacement (field_small (displacement_field f.place) v.displacement 0 fits.displacement).0
+    byte_written (size_beside keywords.Byte other) (chosen_size (tells_size other) keywords.Byte tt) f.place v.displacement
+    (field_small (displacement_field f.place) v.displacement 0 fits.displacement).0
 operand_written f v next kinds.Rm16 other fits =
-    word_written (size_beside keywords.Word other) (chosen_size (tells_size other) keywords.Word tt) f.place v.displacement (field_small (displacement_field f.place) v.displacement 0 fits.displacement).0
+    word_written (size_beside keywords.Word other) (chosen_size (tells_size other) keywords.Word tt) f.place v.displacement
+    (field_small (displacement_field f.place) v.displacement 0 fits.displacement).0
 operand_written f v next kinds.Memory other fits =
-    word_written (far_size (operation_of f.row)) (far_word (operation_of f.row)) f.place v.displacement (field_small (displacement_field f.place) v.displacement 0 fits.displacement).0
+    word_written (far_size (operation_of f.row)) (far_word (operation_of f.row)) f.place v.displacement
+    (field_small (displacement_field f.place) v.displacement 0 fits.displacement).0
 operand_written f v next kinds.Imm8 other fits = inr (omega arith)
 operand_written f v next kinds.Imm16 other fits = inr (field_small (field_part f.row) v.number v.segment fits.number).0
 operand_written f v next kinds.Signed8 other fits = inr (signed_small v.number)

@@ -18,12 +18,16 @@ one_more : (n : ℕ) → 1 + n ≡ suc n
 one_more n = omega arith
 
 -- the first lexeme of a text that begins with a byte of a word
-pub word_start : (b : ℕ) (bs : List ℕ) → is_word_byte b ≡ true → lexemes_from false (b ∷ bs) ≡ (if begins_with is_word_byte bs then onto_first b (lexemes_from false bs) else (b ∷ []) ∷ lexemes_from false bs)
+pub word_start : (b : ℕ) (bs : List ℕ) → is_word_byte b ≡ true
+    → lexemes_from false (b ∷ bs) ≡ (if begins_with is_word_byte bs then onto_first b (lexemes_from false bs) else (b ∷ []) ∷ lexemes_from false bs)
 word_start b bs word =
-    chosen (b == 59) (is_blank b) (b == 39) (is_word_byte b) (begins_with is_word_byte bs) (lexemes_from false bs) _ _ _ (no_comment b word) (no_blank b word) (no_quote b word) word
+    chosen (b == 59) (is_blank b) (b == 39) (is_word_byte b) (begins_with is_word_byte bs)
+    (lexemes_from false bs) _ _ _ (no_comment b word) (no_blank b word) (no_quote b word) word
   where
-    chosen : (comment blank quote word more : Bool) (skipped quoted joined parted : List (List ℕ)) → comment ≡ false → blank ≡ false → quote ≡ false → word ≡ true
-        → (if comment then [] else (if blank then skipped else (if quote then quoted else (if word && more then joined else parted)))) ≡ (if more then joined else parted)
+    chosen : (comment blank quote word more : Bool) (skipped quoted joined parted : List (List ℕ))
+        → comment ≡ false → blank ≡ false → quote ≡ false → word ≡ true
+        → (if comment then [] else (if blank then skipped else (if quote then quoted else (if word && more then joined else parted))))
+        ≡ (if more then joined else parted)
     chosen comment blank quote word more skipped quoted joined parted p q r s = rw (p, q, r, s) refl
 
 word_by : (b c : ℕ) (cs : List ℕ) (more : Bool)
@@ -33,7 +37,8 @@ word_by : (b c : ℕ) (cs : List ℕ) (more : Bool)
 word_by b c cs true split = rw (one_more (word_size cs)) (ap (onto_first b) (split refl))
 word_by b c cs false split = refl
 
-pub word_split : (b : ℕ) (bs : List ℕ) → is_word_byte b ≡ true → lexemes_from false (b ∷ bs) ≡ (b ∷ take (word_size bs) bs) ∷ lexemes_from false (drop (word_size bs) bs)
+pub word_split : (b : ℕ) (bs : List ℕ) → is_word_byte b ≡ true
+    → lexemes_from false (b ∷ bs) ≡ (b ∷ take (word_size bs) bs) ∷ lexemes_from false (drop (word_size bs) bs)
 word_split b [] word = word_start b [] word
 word_split b (c ∷ cs) word = word_start b (c ∷ cs) word ∙ word_by b c cs (is_word_byte c) (λ is. word_split c cs is)
 

@@ -93,7 +93,9 @@ quoted_by b inner outer n true in_le out_le = omega arith
 quoted_by b inner outer n false in_le out_le = rw (onto_bytes b inner) (omega arith)
 
 plain_by : (b : ℕ) (inner outer : List (List ℕ)) (n : ℕ) (comment blank quote word : Bool) → bytes inner ≤ n → bytes outer ≤ n
-    → bytes (if comment then [] else (if blank then outer else (if quote then onto_first 39 inner else (if word then onto_first b outer else (b ∷ []) ∷ outer)))) ≤ suc n
+    → bytes
+    (if comment then [] else (if blank then outer else (if quote then onto_first 39 inner else (if word then onto_first b outer else (b ∷ []) ∷ outer))))
+    ≤ suc n
 plain_by b inner outer n true blank quote word in_le out_le = omega arith
 plain_by b inner outer n false true quote word in_le out_le = omega arith
 plain_by b inner outer n false false true word in_le out_le = rw (onto_bytes 39 inner) (omega arith)
@@ -106,7 +108,8 @@ lexemes_bytes false [] = omega arith
 lexemes_bytes true (b ∷ bs) =
     quoted_by b (lexemes_from true bs) (lexemes_from false bs) (length bs) (b == 39) (lexemes_bytes true bs) (lexemes_bytes false bs)
 lexemes_bytes false (b ∷ bs) =
-    plain_by b (lexemes_from true bs) (lexemes_from false bs) (length bs) (b == 59) (is_blank b) (b == 39) (is_word_byte b && begins_with is_word_byte bs) (lexemes_bytes true bs) (lexemes_bytes false bs)
+    plain_by b (lexemes_from true bs) (lexemes_from false bs) (length bs) (b == 59) (is_blank b) (b == 39)
+    (is_word_byte b && begins_with is_word_byte bs) (lexemes_bytes true bs) (lexemes_bytes false bs)
 
 -- a quoted text weighs more than its characters, any other token one
 abbrev pub token_weight : Token → ℕ
@@ -175,7 +178,8 @@ punctuator_le (b ∷ []) t is = let one = punctuator_is (punctuator_of b) t is i
 punctuator_le (b ∷ c ∷ cs) t is = absurd (cc)
 
 kind_le : (l : List ℕ) (t : Token) (letter digit quote : Bool) → (letter ≡ true → 1 ≤ length l) → (digit ≡ true → 1 ≤ length l)
-    → (if letter then word_token l else (if digit then number_token l else (if quote then quoted_token l else punctuator_token l))) ≡ Some t → token_weight t ≤ length l
+    → (if letter then word_token l else (if digit then number_token l else (if quote then quoted_token l else punctuator_token l))) ≡ Some t
+    → token_weight t ≤ length l
 kind_le l t true digit quote is_word is_number is = word_le l t (is_word refl) is
 kind_le l t false true quote is_word is_number is = number_le l t (is_number refl) is
 kind_le l t false false true is_word is_number is = quoted_le l t is
@@ -193,6 +197,7 @@ wanted_is None x is = absurd (cc)
 pub tokens_le : (text : List ℕ) (ts : List Token) → tokens_of (lexemes text) ≡ Ok ts → weight ts ≤ length text
 unfolding tokens_of lexemes
 tokens_le text ts is =
-    let read = all_weight (λ lexeme. wanted (token_of lexeme)) (λ (l : List ℕ). length l) token_weight (λ l t found. token_le l t (wanted_is (token_of l) t found)) (lexemes_from false text) ts is in
+    let read = all_weight (λ lexeme. wanted (token_of lexeme)) (λ (l : List ℕ). length l) token_weight
+    (λ l t found. token_le l t (wanted_is (token_of l) t found)) (lexemes_from false text) ts is in
     let all = lexemes_bytes false text in
     omega arith

@@ -21,7 +21,8 @@ too_large base n (b ∷ bs) some large =
     (too_large base (n * base + digit_of b) bs some (omega (arith, grows base n (digit_of b) some)))
 
 -- at a byte that is no digit of the base there is no number
-pub stops_at : (base n i : ℕ) (digits : List ℕ) → i < length digits → base ≤ digit_of (get_or digits i 0) → None ≡ option_and_then in_bounds (spelled base n (drop i digits))
+pub stops_at : (base n i : ℕ) (digits : List ℕ) → i < length digits → base ≤ digit_of (get_or digits i 0)
+    → None ≡ option_and_then in_bounds (spelled base n (drop i digits))
 stops_at base n i digits within high =
     let no : nat_lt (digit_of (get_or digits i 0)) base ≡ false = ltb_no (digit_of (get_or digits i 0)) base high in
     rw (drop-cons digits i 0, no) refl
@@ -30,10 +31,12 @@ stops_at base n i digits within high =
     ltb_no m k low = grind (arith, nat_tests)
 
 -- at a digit that makes it too large there is no number
-pub large_at : (base n i : ℕ) (digits : List ℕ) → 0 < base → i < length digits → 4294967296 ≤ n * base + digit_of (get_or digits i 0) → None ≡ option_and_then in_bounds (spelled base n (drop i digits))
+pub large_at : (base n i : ℕ) (digits : List ℕ) → 0 < base → i < length digits → 4294967296 ≤ n * base + digit_of (get_or digits i 0)
+    → None ≡ option_and_then in_bounds (spelled base n (drop i digits))
 large_at base n i digits some within large =
     rw (drop-cons digits i 0)
-    (sym (too_large_by (nat_lt (digit_of (get_or digits i 0)) base) (spelled base (n * base + digit_of (get_or digits i 0)) (drop (suc i) digits)) (too_large base (n * base + digit_of (get_or digits i 0)) (drop (suc i) digits) some large)))
+    (sym (too_large_by (nat_lt (digit_of (get_or digits i 0)) base) (spelled base (n * base + digit_of (get_or digits i 0)) (drop (suc i) digits))
+    (too_large base (n * base + digit_of (get_or digits i 0)) (drop (suc i) digits) some large)))
 
 drop-replicate : (n m : ℕ) → drop {A = ℕ} n (replicate m 0) ≡ replicate (m - n) 0
 drop-replicate zero m = let same : m - 0 ≡ m = omega arith in rw same refl
@@ -44,7 +47,10 @@ drop-replicate (suc n) (suc m) = let less : suc m - suc n ≡ m - n = omega arit
 pub name_is : (word copied upper : List ℕ) → copied ≡ word → upper ≡ map to_ascii_uppercase (take (length word) (copied ++ drop (length word) (replicate 31 0)))
     → upper ++ drop (length word) (copied ++ drop (length word) (replicate 31 0)) ≡ map to_ascii_uppercase word ++ replicate (31 - length word) 0
 name_is word copied upper same is =
-    let front : take (length word) (word ++ drop (length word) (replicate 31 0)) ≡ word = take_at word (drop (length word) (replicate 31 0)) (length word) refl in
-    let back : drop (length word) (word ++ drop (length word) (replicate 31 0)) ≡ drop (length word) (replicate 31 0) = drop_at word (drop (length word) (replicate 31 0)) (length word) refl in
-    let whole : upper ≡ map to_ascii_uppercase word = is ∙ ap (λ (c : List ℕ). map to_ascii_uppercase (take (length word) (c ++ drop (length word) (replicate 31 0)))) same ∙ ap (map to_ascii_uppercase) front in
+    let front : take (length word) (word ++ drop (length word) (replicate 31 0)) ≡ word =
+    take_at word (drop (length word) (replicate 31 0)) (length word) refl in
+    let back : drop (length word) (word ++ drop (length word) (replicate 31 0)) ≡ drop (length word) (replicate 31 0) =
+    drop_at word (drop (length word) (replicate 31 0)) (length word) refl in
+    let whole : upper ≡ map to_ascii_uppercase word =
+    is ∙ ap (λ (c : List ℕ). map to_ascii_uppercase (take (length word) (c ++ drop (length word) (replicate 31 0)))) same ∙ ap (map to_ascii_uppercase) front in
     rw (whole, same, back, drop-replicate (length word) 31) refl

@@ -15,6 +15,7 @@ repeated_more n bytes =
     let one_more : n + 1 ≡ suc n = omega arith in
     ap (λ (m : ℕ). repeated m bytes) one_more ∙ following n bytes
 
-pub prefixes_are : (i : Instruction) → map prefix_byte (prefixes_of i) ≡ map prefix_byte i.prefixes ++ map prefix_byte (override_prefix (override_of i.operands))
+pub prefixes_are : (i : Instruction)
+    → map prefix_byte (prefixes_of i) ≡ map prefix_byte i.prefixes ++ map prefix_byte (override_prefix (override_of i.operands))
 unfolding prefixes_of
 prefixes_are i = map-append prefix_byte i.prefixes (override_prefix (override_of i.operands))

@@ -72,8 +72,10 @@ terms_stay before all keeps [] is = (refl, refl)
 terms_stay before all keeps (term ∷ terms) is =
     let parts = and_parts (is_constant_atom before term.atom) (list_all (λ (term : Term). is_constant_atom before term.atom) terms) is in
     let first = atom_stays before all keeps term.atom parts.0 in
-    let rest = terms_stay before all keeps terms parts.1 in
-    (rw (first.0, rest.0) refl, ap (λ v. added (option_map (signed term.is_negative) v) (value_of all 0 terms)) first.1 ∙ ap (added (term_value before 0 term)) rest.1)
+    let rest = terms_stay before all keeps terms parts.1 in (
+      rw (first.0, rest.0) refl,
+      ap (λ v. added (option_map (signed term.is_negative) v) (value_of all 0 terms)) first.1 ∙ ap (added (term_value before 0 term)) rest.1,
+    )
 
 constant_by : (old new : Bool) (v w : Option ℤ) (n : ℤ) → (old ≡ true → (new ≡ true) × (w ≡ v)) → (if old then v else None) ≡ Some n
     → (if new then w else None) ≡ Some n
@@ -96,7 +98,8 @@ times_stay : (before all : Names) → Keeps before all → (item : Item) → lis
     → times_of all item ≡ times_of before item
 times_stay before all keeps (Once piece) known = refl
 times_stay before all keeps (Repeated count each) known =
-    ap (λ (n : Option ℤ). option_map_or natural n 0) (number_stays (constant_of before count) (constant_of all count) (constant_stays before all keeps count) known)
+    ap (λ (n : Option ℤ). option_map_or natural n 0)
+    (number_stays (constant_of before count) (constant_of all count) (constant_stays before all keeps count) known)
 
 -- how many bytes there are
 number_length : (width : DataWidth) (n : ℤ) → length (number_bytes width n) ≡ width_size width
@@ -131,8 +134,10 @@ items_length : (before all : Names) → Keeps before all → (here : ℕ) (width
     → length (flat_map (item_bytes all here width) items) ≡ data_size before width items
 items_length before all keeps here width [] counts known = refl
 items_length before all keeps here width (item ∷ items) counts known =
-    let parts = and_parts (list_all (is_piece_known all here) (pieces_of item)) (list_all (λ (item : Item). list_all (is_piece_known all here) (pieces_of item)) items) known in
-    let rights = or_parts (list_any (is_unknown before) (item_counts item)) (list_any (is_unknown before) (counts_of items)) (sym (list_any-append (is_unknown before) (item_counts item) (counts_of items)) ∙ counts) in
+    let parts = and_parts (list_all (is_piece_known all here) (pieces_of item))
+    (list_all (λ (item : Item). list_all (is_piece_known all here) (pieces_of item)) items) known in
+    let rights = or_parts (list_any (is_unknown before) (item_counts item)) (list_any (is_unknown before) (counts_of items))
+    (sym (list_any-append (is_unknown before) (item_counts item) (counts_of items)) ∙ counts) in
     let times = times_stay before all keeps item rights.0 in
     let each = pieces_length all here width (pieces_of item) parts.0 in
     let first : length (item_bytes all here width item) ≡ times_of before item * pieces_size width (pieces_of item) =
@@ -166,7 +171,14 @@ form_bytes f v =
     let second = second_bytes (second_part f.row) f.reg f.place in
     let displacement = field_bytes (displacement_field f.place) v.displacement 0 in
     let number = field_bytes (field_part f.row) v.number v.segment in
-    omega (arith, length-append second (displacement ++ number), length-append displacement number, second_length (second_part f.row) f.reg f.place, field_length (displacement_field f.place) v.displacement 0, field_length (field_part f.row) v.number v.segment)
+    omega (
+      arith,
+      length-append second (displacement ++ number),
+      length-append displacement number,
+      second_length (second_part f.row) f.reg f.place,
+      field_length (displacement_field f.place) v.displacement 0,
+      field_length (field_part f.row) v.number v.segment,
+    )
 
 -- an instruction
 pub code_length : (f : Form) (i : Instruction) (v : Values) → length (code_bytes f i v) ≡ instruction_size f i

@@ -130,7 +130,8 @@ part_by_alike None a part = simp term_alike
 
 part_alike : (a : Address) (part : Signed) → operand_steps.with_part a part ≡ with_part a part
 unfolding operand_steps.with_part with_part
-part_alike a part = part_by_alike (operand_steps.register_of part.tokens) a part ∙ ap (λ (r : Option RegisterType). with_part_by r a part) (register_alike part.tokens)
+part_alike a part =
+    part_by_alike (operand_steps.register_of part.tokens) a part ∙ ap (λ (r : Option RegisterType). with_part_by r a part) (register_alike part.tokens)
 
 with_parts_alike : (a : Address) (ps : List Signed) → operand_steps.with_parts a ps ≡ with_parts a ps
 with_parts_alike a [] = refl
@@ -182,7 +183,8 @@ target_alike None ts = label_alike ts
 far_or_alike : (found : Option (Option SegmentRegister × List Token)) (ts : List Token)
     → operand_steps.far_by found ts ≡ memory_or (Some sizes.Far) found (far_target (around is_colon ts) ts)
 far_or_alike (Some brackets) ts = memory_alike (Some sizes.Far) brackets.0 brackets.1
-far_or_alike None ts = target_alike (part_steps.around is_colon ts) ts ∙ ap (λ (found : Option (List Token × List Token)). far_target found ts) (around_alike is_colon ts)
+far_or_alike None ts =
+    target_alike (part_steps.around is_colon ts) ts ∙ ap (λ (found : Option (List Token × List Token)). far_target found ts) (around_alike is_colon ts)
 
 far_alike : (ts : List Token) → operand_steps.far_of ts ≡ memory_or (Some sizes.Far) (brackets_of ts) (far_target (around is_colon ts) ts)
 unfolding operand_steps.far_of
@@ -190,7 +192,8 @@ far_alike ts =
     far_or_alike (operand_steps.brackets_of ts) ts
     ∙ ap (λ (found : Option (Option SegmentRegister × List Token)). memory_or (Some sizes.Far) found (far_target (around is_colon ts) ts)) (brackets_alike ts)
 
-sized_alike : (size : Option Size) (ts : List Token) → operand_steps.memory_in size (operand_steps.brackets_of ts) ≡ memory_or size (brackets_of ts) (Err BadLine)
+sized_alike : (size : Option Size) (ts : List Token)
+    → operand_steps.memory_in size (operand_steps.brackets_of ts) ≡ memory_or size (brackets_of ts) (Err BadLine)
 sized_alike size ts =
     in_alike size (operand_steps.brackets_of ts)
     ∙ ap (λ (found : Option (Option SegmentRegister × List Token)). memory_or size found (Err BadLine)) (brackets_alike ts)

@@ -30,12 +30,14 @@ exactly_passes p tokens pass ts is = ap (list_all p) is ∙ pass
 pub turn_passes : (p : Token → Bool) (One' Other : List Token → Type 0) → EachPasses p One' → EachPasses p Other → EachPasses p (InTurn One' Other)
 turn_passes p One' Other one other ts is = ap (list_all p) is.are ∙ both_pass p is.front is.back (one is.front is.first) (other is.back is.second)
 
-pub commas_pass : {A : Type 0} (p : Token → Bool) → p (Punctuator Comma) ≡ true → (Spells : A → List Token → Type 0) → ((x : A) → EachPasses p (Spells x)) → (xs : List A) → EachPasses p (WithCommas Spells xs)
+pub commas_pass : {A : Type 0} (p : Token → Bool) → p (Punctuator Comma) ≡ true → (Spells : A → List Token → Type 0)
+    → ((x : A) → EachPasses p (Spells x)) → (xs : List A) → EachPasses p (WithCommas Spells xs)
 commas_pass p comma Spells each [] ts is = absurd is
 commas_pass p comma Spells each (x ∷ []) ts is = each x ts is
 commas_pass p comma Spells each (x ∷ y ∷ more) ts is =
     turn_passes p (Spells x) (InTurn (Exactly (Punctuator Comma ∷ [])) (WithCommas Spells (y ∷ more))) (each x)
-    (turn_passes p (Exactly (Punctuator Comma ∷ [])) (WithCommas Spells (y ∷ more)) (exactly_passes p (Punctuator Comma ∷ []) (rw comma refl)) (commas_pass p comma Spells each (y ∷ more)))
+    (turn_passes p (Exactly (Punctuator Comma ∷ [])) (WithCommas Spells (y ∷ more))
+    (exactly_passes p (Punctuator Comma ∷ []) (rw comma refl)) (commas_pass p comma Spells each (y ∷ more)))
     ts is
 
 -- the tokens of expressions: none of them parts, opens, closes or belongs to another statement
@@ -62,7 +64,8 @@ pass_too p q passes (t ∷ ts) all =
     let rest = pass_too p q passes ts ((and_parts (p t) (list_all p ts) all).1) in
     rw (first, rest) refl
 
-place_following : (p : Token → Bool) (xs : List Token) (t : Token) (ys : List Token) → list_all (fails p) xs ≡ true → p t ≡ true → position_or_len p (xs ++ t ∷ ys) ≡ length xs
+place_following : (p : Token → Bool) (xs : List Token) (t : Token) (ys : List Token)
+    → list_all (fails p) xs ≡ true → p t ≡ true → position_or_len p (xs ++ t ∷ ys) ≡ length xs
 place_following p [] t ys none is = rw is refl
 place_following p (x ∷ xs) t ys none is =
     let first = (and_parts (not (p x)) (list_all (fails p) xs) none).0 in
@@ -86,7 +89,8 @@ is_within m n less = grind (arith, nat_tests)
 is_not_within : (n : ℕ) → nat_lt n n ≡ false
 is_not_within n = grind (arith, nat_tests)
 
-pub around_one : (p : Token → Bool) (xs : List Token) (t : Token) (ys : List Token) → list_all (fails p) xs ≡ true → p t ≡ true → around p (xs ++ t ∷ ys) ≡ Some (xs, ys)
+pub around_one : (p : Token → Bool) (xs : List Token) (t : Token) (ys : List Token)
+    → list_all (fails p) xs ≡ true → p t ≡ true → around p (xs ++ t ∷ ys) ≡ Some (xs, ys)
 around_one p xs t ys none is =
     let place = place_following p xs t ys none is in
     let size : length xs < length (xs ++ t ∷ ys) = simp length-append (omega arith) in

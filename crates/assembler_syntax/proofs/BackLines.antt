@@ -81,8 +81,8 @@ dup_is t is = absurd (cc)
 abbrev InParentheses : List Token → List Token → Type 0
 InParentheses ts inner = ts ≡ Punctuator punctuators.OpenParenthesis ∷ (inner ++ Punctuator punctuators.CloseParenthesis ∷ [])
 
-parenthesis_step : (t : Token) (ts inner : List Token) (test : Bool) → is_open_parenthesis t ≡ test → (if test then closed (around is_close_parenthesis ts) else Err BadLine) ≡ Ok inner
-    → InParentheses (t ∷ ts) inner
+parenthesis_step : (t : Token) (ts inner : List Token) (test : Bool) → is_open_parenthesis t ≡ test
+    → (if test then closed (around is_close_parenthesis ts) else Err BadLine) ≡ Ok inner → InParentheses (t ∷ ts) inner
 parenthesis_step t ts inner true at is =
     let around_it = around_spelled is_close_parenthesis ts (inner, []) (closed_is (around is_close_parenthesis ts) inner is) in
     ap (λ (u : Token). u ∷ ts) (open_is t at)
@@ -94,14 +94,16 @@ parentheses_are : (ts inner : List Token) → in_parentheses ts ≡ Ok inner →
 parentheses_are [] inner is = absurd (cc)
 parentheses_are (t ∷ ts) inner is = parenthesis_step t ts inner (is_open_parenthesis t) refl is
 
-repeated_spelled : (width : DataWidth) (ts front back : List Token) (i : Item) → StandsAround is_dup ts front back → repeated width front back ≡ Ok i → SpellsItem width i ts
+repeated_spelled : (width : DataWidth) (ts front back : List Token) (i : Item)
+    → StandsAround is_dup ts front back → repeated width front back ≡ Ok i → SpellsItem width i ts
 unfolding repeated
 repeated_spelled width ts front back i around_it is =
     let of = reads (constant_of front) (λ count. in_parentheses back >>= λ inner. pieces_of width inner >>= λ each. Ok (items.Repeated count each)) i is in
     let inside = reads (in_parentheses back) (λ inner. pieces_of width inner >>= λ each. Ok (items.Repeated of.read each)) i of.then' in
     let made = reads (pieces_of width inside.read) (λ each. Ok (items.Repeated of.read each)) i inside.then' in
     let same : items.Repeated of.read made.read ≡ i = ok_is (items.Repeated of.read made.read) i made.then' in
-    let back_is : back ≡ Punctuator punctuators.OpenParenthesis ∷ (inside.read ++ Punctuator punctuators.CloseParenthesis ∷ []) = parentheses_are back inside.read inside.is in
+    let back_is : back ≡ Punctuator punctuators.OpenParenthesis ∷ (inside.read ++ Punctuator punctuators.CloseParenthesis ∷ []) =
+    parentheses_are back inside.read inside.is in
     let dup : around_it.token ≡ keyword keywords.Dup = dup_is around_it.token around_it.passes_it in
     subst (λ (j : Item). SpellsItem width j ts) same
     (record {
@@ -130,7 +132,8 @@ once_spelled width ts i is =
     let same : items.Once of.read ≡ i = ok_is (items.Once of.read) i of.then' in
     subst (λ (j : Item). SpellsItem width j ts) same (piece_spelled width ts of.read of.is)
 
-item_step : (width : DataWidth) (ts : List Token) (found : Option (List Token × List Token)) (i : Item) → around is_dup ts ≡ found → item_by found width ts ≡ Ok i → SpellsItem width i ts
+item_step : (width : DataWidth) (ts : List Token) (found : Option (List Token × List Token)) (i : Item)
+    → around is_dup ts ≡ found → item_by found width ts ≡ Ok i → SpellsItem width i ts
 item_step width ts (Some p) i at is = repeated_spelled width ts p.0 p.1 i (around_spelled is_dup ts p at) is
 item_step width ts None i at is = once_spelled width ts i is
 
@@ -143,14 +146,22 @@ unfolding items_of
 items_spelled width ts is read = commas_spelled (item_of width) (SpellsItem width) (item_spelled width) ts is read
 
 -- ---- directives
-segment_at_spelled : (name : Name) (ts : List Token) (s : Statement) → segment_at name ts ≡ Ok s → SpellsStatement s (keyword keywords.Segment ∷ Named name ∷ keyword keywords.At ∷ ts)
+segment_at_spelled : (name : Name) (ts : List Token) (s : Statement) → segment_at name ts ≡ Ok s
+    → SpellsStatement s (keyword keywords.Segment ∷ Named name ∷ keyword keywords.At ∷ ts)
 segment_at_spelled name ts s is =
     let of = reads (constant_of ts) (λ paragraph. Ok (statements.Segment name paragraph)) s is in
     let same : statements.Segment name of.read ≡ s = ok_is (statements.Segment name of.read) s of.then' in
     subst (λ (r : Statement). SpellsStatement r (keyword keywords.Segment ∷ Named name ∷ keyword keywords.At ∷ ts)) same
-    (record { front = keyword keywords.Segment ∷ Named name ∷ keyword keywords.At ∷ []; back = ts; are = refl; first = refl; second = constant_spelled ts of.read of.is })
+    (record {
+      front = keyword keywords.Segment ∷ Named name ∷ keyword keywords.At ∷ [];
+      back = ts;
+      are = refl;
+      first = refl;
+      second = constant_spelled ts of.read of.is;
+    })
 
-segment_by_spelled : (t : Token) (ts : List Token) (s : Statement) → segment_by t ts ≡ Ok s → SpellsStatement s (keyword keywords.Segment ∷ t ∷ keyword keywords.At ∷ ts)
+segment_by_spelled : (t : Token) (ts : List Token) (s : Statement) → segment_by t ts ≡ Ok s
+    → SpellsStatement s (keyword keywords.Segment ∷ t ∷ keyword keywords.At ∷ ts)
 segment_by_spelled (Named name) ts s is = segment_at_spelled name ts s is
 segment_by_spelled t ts s is = absurd (cc)
 
@@ -171,7 +182,8 @@ segment_spelled (t ∷ u ∷ ts) s is = at_step t u ts s (is_at u) refl is
 
 ends_spelled : (ts : List Token) (s : Statement) → ends_of ts ≡ Ok s → SpellsStatement s (keyword keywords.Ends ∷ ts)
 unfolding ends_of
-ends_spelled [] s is = let same : statements.Ends ≡ s = ok_is statements.Ends s is in subst (λ (r : Statement). SpellsStatement r (keyword keywords.Ends ∷ [])) same refl
+ends_spelled [] s is =
+    let same : statements.Ends ≡ s = ok_is statements.Ends s is in subst (λ (r : Statement). SpellsStatement r (keyword keywords.Ends ∷ [])) same refl
 ends_spelled (t ∷ ts) s is = absurd (cc)
 
 org_spelled : (ts : List Token) (s : Statement) → org_of ts ≡ Ok s → SpellsStatement s (keyword keywords.Org ∷ ts)
@@ -213,8 +225,8 @@ directive_spelled keywords.Dd ts s is = data_spelled widths.Double ts s is
 directive_spelled k ts s is = absurd (cc)
 
 -- ---- instructions
-instruction_spelled : (ps : List Prefix) (front : List Token) (m : Mnemonic) (ts : List Token) (s : Statement) → SpellsPrefixes ps front → instruction_of ps m ts ≡ Ok s
-    → SpellsStatement s (front ++ Word (meanings.Mnemonic m) ∷ ts)
+instruction_spelled : (ps : List Prefix) (front : List Token) (m : Mnemonic) (ts : List Token) (s : Statement)
+    → SpellsPrefixes ps front → instruction_of ps m ts ≡ Ok s → SpellsStatement s (front ++ Word (meanings.Mnemonic m) ∷ ts)
 unfolding instruction_of
 instruction_spelled ps front m ts s before is =
     let of = reads (operands_of ts) (λ each. Ok (statements.Instruction (record { prefixes = ps; mnemonic = m; operands = each }))) s is in
@@ -235,7 +247,8 @@ record HasPrefixes (ts : List Token) (p : List Prefix × List Token) : Type 0 wh
   are : ts ≡ front ++ p.1
   spelled : SpellsPrefixes p.0 front
 
-one_prefix : (own : List Token) (p : Prefix) (ts : List Token) (rest : List Prefix × List Token) → SpellsPrefix p own → HasPrefixes ts rest → HasPrefixes (own ++ ts) (onto_prefixes p rest)
+one_prefix : (own : List Token) (p : Prefix) (ts : List Token) (rest : List Prefix × List Token)
+    → SpellsPrefix p own → HasPrefixes ts rest → HasPrefixes (own ++ ts) (onto_prefixes p rest)
 one_prefix own p ts rest is has = record {
   front = own ++ has.front;
   are = ap (λ (us : List Token). own ++ us) has.are ∙ sym (append_assoc own has.front rest.1);
@@ -257,12 +270,13 @@ has_prefixes (Word (meanings.Prefix p) ∷ ts) = one_prefix (Word (meanings.Pref
 has_prefixes (Word (meanings.Register (registers.Segment s)) ∷ t ∷ ts) = segment_step s t ts (is_colon t) refl (has_prefixes ts)
 has_prefixes ts = no_prefix ts
 
-keyword_step : (s : Statement) (ts : List Token) (test : Bool) → ◌≡◌ {A = Result Statement SyntaxFault} (if test then Err BadLine else Err UnknownName) (Ok s) → SpellsStatement s ts
+keyword_step : (s : Statement) (ts : List Token) (test : Bool)
+    → ◌≡◌ {A = Result Statement SyntaxFault} (if test then Err BadLine else Err UnknownName) (Ok s) → SpellsStatement s ts
 keyword_step s ts true is = absurd (cc)
 keyword_step s ts false is = absurd (cc)
 
-keyword_spelled : (ps : List Prefix) (front : List Token) (k : Keyword) (ts : List Token) (s : Statement) → SpellsPrefixes ps front → keyword_statement ps k ts ≡ Ok s
-    → SpellsStatement s (front ++ keyword k ∷ ts)
+keyword_spelled : (ps : List Prefix) (front : List Token) (k : Keyword) (ts : List Token) (s : Statement)
+    → SpellsPrefixes ps front → keyword_statement ps k ts ≡ Ok s → SpellsStatement s (front ++ keyword k ∷ ts)
 keyword_spelled [] front k ts s before is = subst (λ (us : List Token). SpellsStatement s (us ++ keyword k ∷ ts)) (sym before) (directive_spelled k ts s is)
 keyword_spelled (p ∷ ps) front k ts s before is = keyword_step s (front ++ keyword k ∷ ts) (is_directive k) is
 
@@ -277,7 +291,8 @@ led_spelled : (ps : List Prefix) (front : List Token) (t : Token) (ts : List Tok
 led_spelled ps front (Word m) ts s before is = word_spelled ps front m ts s before is
 led_spelled ps front t ts s before is = absurd (cc)
 
-after_spelled : (ps : List Prefix) (front ts : List Token) (s : Statement) → SpellsPrefixes ps front → statement_after ps ts ≡ Ok s → SpellsStatement s (front ++ ts)
+after_spelled : (ps : List Prefix) (front ts : List Token) (s : Statement)
+    → SpellsPrefixes ps front → statement_after ps ts ≡ Ok s → SpellsStatement s (front ++ ts)
 unfolding statement_after
 after_spelled ps front [] s before is = absurd (cc)
 after_spelled ps front (t ∷ ts) s before is = led_spelled ps front t ts s before is
@@ -293,8 +308,8 @@ equ_is : (t : Token) → is_equ t ≡ true → keyword keywords.Equ ≡ t
 equ_is (Word (meanings.Keyword keywords.Equ)) is = refl
 equ_is t is = absurd (cc)
 
-equ_step : (t u : Token) (ts : List Token) (s : Statement) (test : Bool) → is_equ u ≡ test → (if test then equ_of t ts else prefixed_statement (t ∷ u ∷ ts)) ≡ Ok s
-    → SpellsStatement s (t ∷ u ∷ ts)
+equ_step : (t u : Token) (ts : List Token) (s : Statement) (test : Bool)
+    → is_equ u ≡ test → (if test then equ_of t ts else prefixed_statement (t ∷ u ∷ ts)) ≡ Ok s → SpellsStatement s (t ∷ u ∷ ts)
 equ_step t u ts s true at is = subst (λ (v : Token). SpellsStatement s (t ∷ v ∷ ts)) (equ_is u at) (equ_spelled t ts s is)
 equ_step t u ts s false at is = prefixed_spelled (t ∷ u ∷ ts) s is
 

@@ -95,7 +95,8 @@ wanted_is : {A : Type 0} (o : Option A) (x : A) → wanted o ≡ Ok x → o ≡ 
 wanted_is (Some y) x is = cc
 wanted_is None x is = absurd (cc)
 
-register_added : (a b : Address) (p : Signed) (r : WordRegister) → p.is_negative ≡ false → p.tokens ≡ word r ∷ [] → with_register a (registers.Word r) ≡ Ok b → AddsPart a b p
+register_added : (a b : Address) (p : Signed) (r : WordRegister)
+    → p.is_negative ≡ false → p.tokens ≡ word r ∷ [] → with_register a (registers.Word r) ≡ Ok b → AddsPart a b p
 register_added a b p r plus tokens is =
     let of = reads (wanted (base_with a.base r)) (λ base. Ok (record a { base = Some base })) b is in
     let same : record a { base = Some of.read } ≡ b = ok_is (record a { base = Some of.read }) b of.then' in
@@ -174,7 +175,13 @@ parts_added (p ∷ ps) a b is =
     let more = parts_added ps of.read b of.then' in
     record {
       parts = one.part ∷ more.parts;
-      spelled = record { front = sign_token p.is_negative ∷ p.tokens; back = after_signs ps; are = refl; first = next_part p one.part one.is_part; second = more.spelled };
+      spelled = record {
+        front = sign_token p.is_negative ∷ p.tokens;
+        back = after_signs ps;
+        are = refl;
+        first = next_part p one.part one.is_part;
+        second = more.spelled;
+      };
       size = one.size ∙ more.size;
       segment = one.segment ∙ more.segment;
       base = both_bases a.base of.read.base b.base (part_registers one.part) (flat_map part_registers more.parts) one.base more.base;
@@ -233,7 +240,8 @@ pub memory_spelled : (size : Option Size) (segment : Option SegmentRegister) (ts
     → SpellsOperand o (memory_tokens size segment ts)
 unfolding memory_of
 memory_spelled size segment ts o is =
-    let of = reads (closed (around is_close_bracket ts)) (λ inner. with_parts (empty_address size segment) (signed_parts inner) >>= λ a. Ok (operands.Memory a)) o is in
+    let of =
+    reads (closed (around is_close_bracket ts)) (λ inner. with_parts (empty_address size segment) (signed_parts inner) >>= λ a. Ok (operands.Memory a)) o is in
     let made = reads (with_parts (empty_address size segment) (signed_parts of.read)) (λ a. Ok (operands.Memory a)) o of.then' in
     let same : operands.Memory made.read ≡ o = ok_is (operands.Memory made.read) o made.then' in
     let inside = inner_spelled size segment of.read (signed_parts of.read) made.read (parts_are_signed of.read) made.is in
@@ -264,8 +272,9 @@ colon_is t is = absurd (cc)
 abbrev BracketsAre : List Token → Option SegmentRegister × List Token → Type 0
 BracketsAre ts b = ts ≡ segment_tokens b.0 ++ Punctuator OpenBracket ∷ b.1
 
-after_step : (s : SegmentRegister) (t u : Token) (ts : List Token) (b : Option SegmentRegister × List Token) (test : Bool) → (is_colon t && is_open_bracket u) ≡ test
-    → (if test then Some (Some s, ts) else None) ≡ Some b → BracketsAre (register (registers.Segment s) ∷ t ∷ u ∷ ts) b
+after_step : (s : SegmentRegister) (t u : Token) (ts : List Token) (b : Option SegmentRegister × List Token) (test : Bool)
+    → (is_colon t && is_open_bracket u) ≡ test → (if test then Some (Some s, ts) else None) ≡ Some b
+    → BracketsAre (register (registers.Segment s) ∷ t ∷ u ∷ ts) b
 after_step s t u ts b true at is =
     let same : (Some s, ts) ≡ b = cc in
     let both = and_parts (is_colon t) (is_open_bracket u) at in
@@ -291,13 +300,13 @@ brackets_are [] b is = absurd (cc)
 brackets_are (t ∷ ts) b is = by_first t ts b is
 
 -- an operand in memory after its size, or without one
-in_brackets : (size : Option Size) (ts : List Token) (b : Option SegmentRegister × List Token) (o : Operand) → brackets_of ts ≡ Some b → memory_of size b.0 b.1 ≡ Ok o
-    → SpellsOperand o (size_tokens size ++ ts)
+in_brackets : (size : Option Size) (ts : List Token) (b : Option SegmentRegister × List Token) (o : Operand)
+    → brackets_of ts ≡ Some b → memory_of size b.0 b.1 ≡ Ok o → SpellsOperand o (size_tokens size ++ ts)
 in_brackets size ts b o at is =
     subst (SpellsOperand o) (ap (λ (us : List Token). size_tokens size ++ us) (sym (brackets_are ts b at))) (memory_spelled size b.0 b.1 o is)
 
-sized_spelled : (size : Option Size) (ts : List Token) (found : Option (Option SegmentRegister × List Token)) (o : Operand) → brackets_of ts ≡ found → memory_in size found ≡ Ok o
-    → SpellsOperand o (size_tokens size ++ ts)
+sized_spelled : (size : Option Size) (ts : List Token) (found : Option (Option SegmentRegister × List Token)) (o : Operand)
+    → brackets_of ts ≡ found → memory_in size found ≡ Ok o → SpellsOperand o (size_tokens size ++ ts)
 sized_spelled size ts (Some b) o at is = in_brackets size ts b o at is
 sized_spelled size ts None o at is = absurd (cc)
 
@@ -327,7 +336,8 @@ far_label_spelled [] o is = absurd (cc)
 far_label_spelled (t ∷ []) o is = label_spelled t o is
 far_label_spelled (t ∷ u ∷ ts) o is = absurd (cc)
 
-pointer_spelled : (ts front back : List Token) (o : Operand) → StandsAround is_colon ts front back → far_pointer front back ≡ Ok o → SpellsOperand o (keyword keywords.Far ∷ ts)
+pointer_spelled : (ts front back : List Token) (o : Operand) → StandsAround is_colon ts front back → far_pointer front back ≡ Ok o
+    → SpellsOperand o (keyword keywords.Far ∷ ts)
 pointer_spelled ts front back o around_it is =
     let of = reads (expression_of front) (λ s. expression_of back >>= λ t. Ok (operands.FarPointer s t)) o is in
     let following = reads (expression_of back) (λ t. Ok (operands.FarPointer of.read t)) o of.then' in
@@ -367,8 +377,8 @@ far_spelled : (ts : List Token) (o : Operand) → far_of ts ≡ Ok o → SpellsO
 unfolding far_of
 far_spelled ts o is = far_by_spelled ts (brackets_of ts) o refl is
 
-place_spelled : (ts : List Token) (found : Option (Option SegmentRegister × List Token)) (o : Operand) → (ts ≡ One ∷ [] → ⊥) → brackets_of ts ≡ found → place_or_value found ts ≡ Ok o
-    → SpellsOperand o ts
+place_spelled : (ts : List Token) (found : Option (Option SegmentRegister × List Token)) (o : Operand)
+    → (ts ≡ One ∷ [] → ⊥) → brackets_of ts ≡ found → place_or_value found ts ≡ Ok o → SpellsOperand o ts
 place_spelled ts (Some b) o other at is = in_brackets None ts b o at is
 place_spelled ts None o other at is = value_spelled ts o other is
 

@@ -62,7 +62,8 @@ pub record IsTermOf (part : Signed) (term : Term) : Type 0 where
 pub term_spelled : (part : Signed) (term : Term) → term_of part ≡ Ok term → IsTermOf part term
 term_spelled part term is =
     let of = reads (atom_of part.tokens) (λ atom. Ok (record { is_negative = part.is_negative; atom = atom })) term is in
-    let same : record { is_negative = part.is_negative; atom = of.read } ≡ term = ok_is (record { is_negative = part.is_negative; atom = of.read }) term of.then' in
+    let same : record { is_negative = part.is_negative; atom = of.read } ≡ term =
+    ok_is (record { is_negative = part.is_negative; atom = of.read }) term of.then' in
     subst (IsTermOf part) same (record { sign = refl; atom = atom_spelled part.tokens of.read of.is })
 
 -- ---- parts between signs
@@ -83,7 +84,8 @@ sign_is (Punctuator Minus) next is = let same : true ≡ next = cc in rw (← sa
 sign_is t next is = absurd (cc)
 
 signed_step : (t : Token) (ts : List Token) (is_negative : Bool) (sign : Option Bool) → sign_of t ≡ sign
-    → ((next : Bool) → AreSignedParts next ts (signed_from next ts)) → AreSignedParts is_negative (t ∷ ts) (signed_by sign is_negative t (λ next. signed_from next ts))
+    → ((next : Bool) → AreSignedParts next ts (signed_from next ts))
+    → AreSignedParts is_negative (t ∷ ts) (signed_by sign is_negative t (λ next. signed_from next ts))
 signed_step t ts is_negative None is each =
     let more = each is_negative in
     record {
@@ -114,7 +116,8 @@ pub record AreParts (ts : List Token) (ps : List Signed) : Type 0 where
   pub parts_are : ps ≡ first ∷ rest
   pub tokens : leading_tokens first.is_negative ++ (first.tokens ++ after_signs rest) ≡ ts
 
-led_parts : (ts us : List Token) (is_negative : Bool) (ps : List Signed) → AreSignedParts is_negative us ps → leading_tokens is_negative ++ us ≡ ts → AreParts ts ps
+led_parts : (ts us : List Token) (is_negative : Bool) (ps : List Signed)
+    → AreSignedParts is_negative us ps → leading_tokens is_negative ++ us ≡ ts → AreParts ts ps
 led_parts ts us is_negative ps are is = record {
   first = are.first;
   rest = are.rest;
@@ -126,7 +129,8 @@ minus_is : (t : Token) → is_minus t ≡ true → Punctuator Minus ≡ t
 minus_is (Punctuator Minus) is = refl
 minus_is t is = absurd (cc)
 
-minus_step : (t : Token) (ts : List Token) (minus : Bool) → is_minus t ≡ minus → AreParts (t ∷ ts) (if minus then signed_from true ts else signed_from false (t ∷ ts))
+minus_step : (t : Token) (ts : List Token) (minus : Bool) → is_minus t ≡ minus
+    → AreParts (t ∷ ts) (if minus then signed_from true ts else signed_from false (t ∷ ts))
 minus_step t ts true is = led_parts (t ∷ ts) ts true (signed_from true ts) (signed_are ts true) (ap (λ (u : Token). u ∷ ts) (minus_is t is))
 minus_step t ts false is = led_parts (t ∷ ts) (t ∷ ts) false (signed_from false (t ∷ ts)) (signed_are (t ∷ ts) false) refl
 
@@ -142,7 +146,8 @@ pub record AreOne (B : Type 0) (r : Result B SyntaxFault) (rs : Result (List B) 
   pub is_first : r ≡ Ok first
   pub are_rest : rs ≡ Ok rest
 
-pub one_and_rest : {B : Type 0} (r : Result B SyntaxFault) (rs : Result (List B) SyntaxFault) (ys : List B) → (r >>= λ y. rs >>= λ zs. Ok (y ∷ zs)) ≡ Ok ys → AreOne B r rs ys
+pub one_and_rest : {B : Type 0} (r : Result B SyntaxFault) (rs : Result (List B) SyntaxFault) (ys : List B)
+    → (r >>= λ y. rs >>= λ zs. Ok (y ∷ zs)) ≡ Ok ys → AreOne B r rs ys
 one_and_rest (Ok y) (Ok zs) ys is = record { first = y; rest = zs; are = sym (ok_is (y ∷ zs) ys is); is_first = refl; are_rest = refl }
 one_and_rest (Ok y) (Err fault) ys is = absurd (cc)
 one_and_rest (Err fault) rs ys is = absurd (cc)
@@ -198,7 +203,8 @@ pub record HasFirst (X : Type 0) (xs : List X) : Type 0 where
   pub rest : List X
   pub are : xs ≡ first ∷ rest
 
-onto_first : (t : Token) (ps : List (List Token)) → HasFirst (List Token) ps → (with_commas (onto_part t ps) ≡ t ∷ with_commas ps) × HasFirst (List Token) (onto_part t ps)
+onto_first : (t : Token) (ps : List (List Token)) → HasFirst (List Token) ps
+    → (with_commas (onto_part t ps) ≡ t ∷ with_commas ps) × HasFirst (List Token) (onto_part t ps)
 onto_first t [] some = absurd (let never : [] ≡ some.first ∷ some.rest = some.are in cc)
 onto_first t (p ∷ []) some = (refl, record { first = t ∷ p; rest = []; are = refl })
 onto_first t (p ∷ q ∷ qs) some = (refl, record { first = t ∷ p; rest = q ∷ qs; are = refl })
@@ -215,8 +221,8 @@ comma_is false t is = absurd (cc)
 abbrev pub ArePartsOf : List Token → List (List Token) → Type 0
 ArePartsOf ts ps = (with_commas ps ≡ ts) × HasFirst (List Token) ps
 
-parts_step : (is_open : Bool) (t : Token) (ts : List Token) (ended going : List (List Token)) (here : Bool) → parts_here is_open t ≡ here → ArePartsOf ts ended → ArePartsOf ts going
-    → ArePartsOf (t ∷ ts) (if here then [] ∷ ended else onto_part t going)
+parts_step : (is_open : Bool) (t : Token) (ts : List Token) (ended going : List (List Token)) (here : Bool)
+    → parts_here is_open t ≡ here → ArePartsOf ts ended → ArePartsOf ts going → ArePartsOf (t ∷ ts) (if here then [] ∷ ended else onto_part t going)
 parts_step is_open t ts ended going true is one other =
     (comma_first ended one.1 ∙ ap₂ (λ (u : Token) (us : List Token). u ∷ us) (comma_is is_open t is) one.0, record { first = []; rest = ended; are = refl })
 parts_step is_open t ts ended going false is one other =
@@ -232,8 +238,9 @@ parts_are : (ts : List Token) → ArePartsOf ts (parts ts)
 unfolding parts
 parts_are ts = parts_from_are false ts
 
-each_spelled : {A : Type 0} (read : List Token → Result A SyntaxFault) (Spells : A → List Token → Type 0) → ((us : List Token) (x : A) → read us ≡ Ok x → Spells x us)
-    → (p : List Token) (ps : List (List Token)) (xs : List A) → all_of read (p ∷ ps) ≡ Ok xs → WithCommas Spells xs (with_commas (p ∷ ps))
+each_spelled : {A : Type 0} (read : List Token → Result A SyntaxFault) (Spells : A → List Token → Type 0)
+    → ((us : List Token) (x : A) → read us ≡ Ok x → Spells x us) → (p : List Token) (ps : List (List Token)) (xs : List A) → all_of read (p ∷ ps) ≡ Ok xs
+    → WithCommas Spells xs (with_commas (p ∷ ps))
 each_spelled read Spells each p [] xs is =
     let of = one_and_rest (read p) (Ok []) xs is in
     let none : [] ≡ of.rest = ok_is [] of.rest of.are_rest in
@@ -259,14 +266,16 @@ each_spelled read Spells each p (q ∷ qs) xs is =
       };
     })
 
-some_spelled : {A : Type 0} (read : List Token → Result A SyntaxFault) (Spells : A → List Token → Type 0) → ((us : List Token) (x : A) → read us ≡ Ok x → Spells x us)
-    → (ts : List Token) (ps : List (List Token)) (xs : List A) → ArePartsOf ts ps → all_of read ps ≡ Ok xs → WithCommas Spells xs ts
+some_spelled : {A : Type 0} (read : List Token → Result A SyntaxFault) (Spells : A → List Token → Type 0)
+    → ((us : List Token) (x : A) → read us ≡ Ok x → Spells x us) → (ts : List Token) (ps : List (List Token)) (xs : List A)
+    → ArePartsOf ts ps → all_of read ps ≡ Ok xs → WithCommas Spells xs ts
 some_spelled read Spells each ts ps xs are is =
-    subst (WithCommas Spells xs) (sym (ap with_commas are.1.are) ∙ are.0) (each_spelled read Spells each are.1.first are.1.rest xs (sym (ap (all_of read) are.1.are) ∙ is))
+    subst (WithCommas Spells xs) (sym (ap with_commas are.1.are) ∙ are.0)
+    (each_spelled read Spells each are.1.first are.1.rest xs (sym (ap (all_of read) are.1.are) ∙ is))
 
 -- what is read of each part is spelled with commas
-pub commas_spelled : {A : Type 0} (read : List Token → Result A SyntaxFault) (Spells : A → List Token → Type 0) → ((us : List Token) (x : A) → read us ≡ Ok x → Spells x us)
-    → (ts : List Token) (xs : List A) → all_of read (parts ts) ≡ Ok xs → WithCommas Spells xs ts
+pub commas_spelled : {A : Type 0} (read : List Token → Result A SyntaxFault) (Spells : A → List Token → Type 0)
+    → ((us : List Token) (x : A) → read us ≡ Ok x → Spells x us) → (ts : List Token) (xs : List A) → all_of read (parts ts) ≡ Ok xs → WithCommas Spells xs ts
 commas_spelled read Spells each ts xs is = some_spelled read Spells each ts (parts ts) xs (parts_are ts) is
 
 -- ---- what stands around a token
@@ -281,8 +290,8 @@ later_place n = omega arith
 next_place : (n : ℕ) → suc n + 1 ≡ suc (n + 1)
 next_place n = omega arith
 
-found_step : (passes : Token → Bool) (t : Token) (ts : List Token) (here : Bool) (n : ℕ) → passes t ≡ here → (n < length ts → StandsAround passes ts (take n ts) (drop (n + 1) ts))
-    → (if not here then 1 + n else 0) < suc (length ts)
+found_step : (passes : Token → Bool) (t : Token) (ts : List Token) (here : Bool) (n : ℕ)
+    → passes t ≡ here → (n < length ts → StandsAround passes ts (take n ts) (drop (n + 1) ts)) → (if not here then 1 + n else 0) < suc (length ts)
     → StandsAround passes (t ∷ ts) (take (if not here then 1 + n else 0) (t ∷ ts)) (drop ((if not here then 1 + n else 0) + 1) (t ∷ ts))
 found_step passes t ts true n is more within = record { token = t; passes_it = is; are = refl }
 found_step passes t ts false n is more within =

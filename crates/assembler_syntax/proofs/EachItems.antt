@@ -76,14 +76,18 @@ abbrev enclosed : List Token → List Token
 enclosed ts = Punctuator OpenParenthesis ∷ (ts ++ Punctuator CloseParenthesis ∷ [])
 
 enclosed_read : (ts : List Token) → AllPass is_enclosed ts → in_parentheses (enclosed ts) ≡ Ok ts
-enclosed_read ts all = ap closed (around_one is_close_parenthesis ts (Punctuator CloseParenthesis) [] (pass_too is_enclosed (fails is_close_parenthesis) enclosed_is_open ts all) refl)
+enclosed_read ts all =
+    ap closed
+    (around_one is_close_parenthesis ts (Punctuator CloseParenthesis) [] (pass_too is_enclosed (fails is_close_parenthesis) enclosed_is_open ts all) refl)
 
-repeated_read : (width : DataWidth) (count : List Term) (each : List Piece) (front ts : List Token) → SpellsConstant count front → WithCommas (SpellsPiece width) each ts
-    → repeated width front (enclosed ts) ≡ Ok (items.Repeated count each)
+repeated_read : (width : DataWidth) (count : List Term) (each : List Piece) (front ts : List Token)
+    → SpellsConstant count front → WithCommas (SpellsPiece width) each ts → repeated width front (enclosed ts) ≡ Ok (items.Repeated count each)
 unfolding repeated
 repeated_read width count each front ts is all =
-    ap (λ (r : Result (List Term) SyntaxFault). r >>= λ c. in_parentheses (enclosed ts) >>= λ inner. pieces_of width inner >>= λ ps. Ok (items.Repeated c ps)) (constant_read count front is)
-    ∙ ap (λ (r : Result (List Token) SyntaxFault). r >>= λ inner. pieces_of width inner >>= λ ps. Ok (items.Repeated count ps)) (enclosed_read ts (enclosed_pieces width each ts all))
+    ap (λ (r : Result (List Term) SyntaxFault). r >>= λ c. in_parentheses (enclosed ts) >>= λ inner. pieces_of width inner >>= λ ps. Ok (items.Repeated c ps))
+    (constant_read count front is)
+    ∙ ap (λ (r : Result (List Token) SyntaxFault). r >>= λ inner. pieces_of width inner >>= λ ps. Ok (items.Repeated count ps))
+    (enclosed_read ts (enclosed_pieces width each ts all))
     ∙ ap (λ (r : Result (List Piece) SyntaxFault). r >>= λ ps. Ok (items.Repeated count ps)) (pieces_read width each ts all)
 
 -- ---- items
@@ -94,7 +98,8 @@ no_dup_passes t is = refl
 once_read : (width : DataWidth) (piece : Piece) (ts : List Token) → SpellsPiece width piece ts → item_of width ts ≡ Ok (items.Once piece)
 unfolding item_of
 once_read width piece ts is =
-    ap (λ (found : Option (List Token × List Token)). item_by found width ts) (around_none is_dup ts (pass_too is_plain (fails is_dup) no_dup_passes ts (plain_piece width piece ts is)))
+    ap (λ (found : Option (List Token × List Token)). item_by found width ts)
+    (around_none is_dup ts (pass_too is_plain (fails is_dup) no_dup_passes ts (plain_piece width piece ts is)))
     ∙ ap (λ (r : Result Piece SyntaxFault). r >>= λ p. Ok (items.Once p)) (piece_read width piece ts is)
 
 abbrev PlainCount : List Token → Type 0
@@ -114,16 +119,19 @@ record Repeats (width : DataWidth) (count : List Term) (each : List Piece) (ts :
   counts : SpellsConstant count front
   pieces : WithCommas (SpellsPiece width) each inner
 
-repeats : (width : DataWidth) (count : List Term) (each : List Piece) (ts : List Token) → SpellsItem width (items.Repeated count each) ts → Repeats width count each ts
+repeats : (width : DataWidth) (count : List Term) (each : List Piece) (ts : List Token)
+    → SpellsItem width (items.Repeated count each) ts → Repeats width count each ts
 repeats width count each ts is =
-    let dup = led (keyword keywords.Dup ∷ Punctuator OpenParenthesis ∷ []) (InTurn (WithCommas (SpellsPiece width) each) (Exactly (Punctuator CloseParenthesis ∷ []))) is.back is.second in
+    let dup = led (keyword keywords.Dup ∷ Punctuator OpenParenthesis ∷ [])
+    (InTurn (WithCommas (SpellsPiece width) each) (Exactly (Punctuator CloseParenthesis ∷ []))) is.back is.second in
     let inside = dup.other in
     record {
       front = is.front;
       inner = inside.front;
       are = is.are
           ∙ ap (λ (us : List Token). is.front ++ us)
-          (dup.are ∙ ap (λ (us : List Token). keyword keywords.Dup ∷ Punctuator OpenParenthesis ∷ us) (inside.are ∙ ap (λ (us : List Token). inside.front ++ us) inside.second));
+          (dup.are ∙ ap (λ (us : List Token). keyword keywords.Dup ∷ Punctuator OpenParenthesis ∷ us)
+          (inside.are ∙ ap (λ (us : List Token). inside.front ++ us) inside.second));
       counts = is.first;
       pieces = inside.first;
     }
@@ -149,7 +157,8 @@ whole_item width (items.Once piece) ts is = whole_piece width piece ts is
 whole_item width (items.Repeated count each) ts is =
     let made = repeats width count each ts is in
     subst Whole (sym made.are)
-    (keeps_both false false false made.front (keyword keywords.Dup ∷ enclosed made.inner) (keeps_calm false made.front (calm_constant count made.front made.counts))
+    (keeps_both false false false made.front (keyword keywords.Dup ∷ enclosed made.inner)
+    (keeps_calm false made.front (calm_constant count made.front made.counts))
     (keeps_enclosing made.inner (enclosed_pieces width each made.inner made.pieces)))
 
 pub items_read : (width : DataWidth) (its : List Item) (ts : List Token) → WithCommas (SpellsItem width) its ts → items_of width ts ≡ Ok its
@@ -170,9 +179,11 @@ piece_no_equ width piece ts is = pass_too is_plain (fails is_equ) plain_no_equ t
 item_no_equ : (width : DataWidth) (item : Item) → EachPasses (fails is_equ) (SpellsItem width item)
 item_no_equ width (items.Once piece) = piece_no_equ width piece
 item_no_equ width (items.Repeated count each) =
-    turn_passes (fails is_equ) (SpellsConstant count) (InTurn (Exactly (keyword keywords.Dup ∷ Punctuator OpenParenthesis ∷ [])) (InTurn (WithCommas (SpellsPiece width) each) (Exactly (Punctuator CloseParenthesis ∷ []))))
+    turn_passes (fails is_equ) (SpellsConstant count) (InTurn (Exactly (keyword keywords.Dup ∷ Punctuator OpenParenthesis ∷ []))
+    (InTurn (WithCommas (SpellsPiece width) each) (Exactly (Punctuator CloseParenthesis ∷ []))))
     (constant_no_equ count)
-    (turn_passes (fails is_equ) (Exactly (keyword keywords.Dup ∷ Punctuator OpenParenthesis ∷ [])) (InTurn (WithCommas (SpellsPiece width) each) (Exactly (Punctuator CloseParenthesis ∷ [])))
+    (turn_passes (fails is_equ) (Exactly (keyword keywords.Dup ∷ Punctuator OpenParenthesis ∷ []))
+    (InTurn (WithCommas (SpellsPiece width) each) (Exactly (Punctuator CloseParenthesis ∷ [])))
     (exactly_passes (fails is_equ) (keyword keywords.Dup ∷ Punctuator OpenParenthesis ∷ []) refl)
     (turn_passes (fails is_equ) (WithCommas (SpellsPiece width) each) (Exactly (Punctuator CloseParenthesis ∷ []))
     (commas_pass (fails is_equ) refl (SpellsPiece width) (piece_no_equ width) each)

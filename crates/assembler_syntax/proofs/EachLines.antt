@@ -72,7 +72,8 @@ org_read location ts is =
     directive_read keywords.Org ts (constant_no_equ location ts is)
     ∙ ap (λ (r : Result (List Term) SyntaxFault). r >>= λ l. Ok (statements.Org l)) (constant_read location ts is)
 
-equ_read : (name : Name) (value : List Term) (ts : List Token) → SpellsConstant value ts → statement_of (Named name ∷ keyword keywords.Equ ∷ ts) ≡ Ok (statements.Equ name value)
+equ_read : (name : Name) (value : List Term) (ts : List Token) → SpellsConstant value ts
+    → statement_of (Named name ∷ keyword keywords.Equ ∷ ts) ≡ Ok (statements.Equ name value)
 unfolding statement_of equ_of
 equ_read name value ts is = ap (λ (r : Result (List Term) SyntaxFault). r >>= λ v. Ok (statements.Equ name v)) (constant_read value ts is)
 
@@ -86,7 +87,8 @@ data_is : (width : DataWidth) (its : List Item) (ts : List Token) → WithCommas
 unfolding data_of
 data_is width its ts is = ap (λ (r : Result (List Item) SyntaxFault). r >>= λ its. Ok (statements.Data width its)) (items_read width its ts is)
 
-data_read : (width : DataWidth) (its : List Item) (ts : List Token) → WithCommas (SpellsItem width) its ts → statement_of (keyword (width_keyword width) ∷ ts) ≡ Ok (statements.Data width its)
+data_read : (width : DataWidth) (its : List Item) (ts : List Token) → WithCommas (SpellsItem width) its ts
+    → statement_of (keyword (width_keyword width) ∷ ts) ≡ Ok (statements.Data width its)
 data_read width its ts is = directive_read (width_keyword width) ts (items_no_equ width its ts is) ∙ data_by width ts ∙ data_is width its ts is
 
 -- ---- prefixes stand before a mnemonic
@@ -102,7 +104,8 @@ one_prefix : (p : PrefixType) (us ts : List Token) → SpellsPrefix p us → pre
 one_prefix p us ts (inl is) = ap (λ (vs : List Token). prefixes_of (vs ++ ts)) is ∙ plain_prefix p ts
 one_prefix p us ts (inr is) = ap (λ (vs : List Token). prefixes_of (vs ++ ts)) is
 
-prefixes_read : (ps : List PrefixType) (us : List Token) (m : Mnemonic) (ts : List Token) → SpellsPrefixes ps us → prefixes_of (us ++ mnemonic m ∷ ts) ≡ (ps, mnemonic m ∷ ts)
+prefixes_read : (ps : List PrefixType) (us : List Token) (m : Mnemonic) (ts : List Token) → SpellsPrefixes ps us
+    → prefixes_of (us ++ mnemonic m ∷ ts) ≡ (ps, mnemonic m ∷ ts)
 prefixes_read [] us m ts is = ap (λ (vs : List Token). prefixes_of (vs ++ mnemonic m ∷ ts)) is
 prefixes_read (p ∷ ps) us m ts is =
     ap (λ (vs : List Token). prefixes_of (vs ++ mnemonic m ∷ ts)) is.are
@@ -114,7 +117,8 @@ following : (ps : List PrefixType) (m : Mnemonic) (ts : List Token) → statemen
 unfolding statement_after
 following ps m ts = refl
 
-prefixed_read : (ps : List PrefixType) (us : List Token) (m : Mnemonic) (ts : List Token) → SpellsPrefixes ps us → prefixed_statement (us ++ mnemonic m ∷ ts) ≡ instruction_of ps m ts
+prefixed_read : (ps : List PrefixType) (us : List Token) (m : Mnemonic) (ts : List Token) → SpellsPrefixes ps us
+    → prefixed_statement (us ++ mnemonic m ∷ ts) ≡ instruction_of ps m ts
 unfolding prefixed_statement
 prefixed_read ps us m ts is =
     ap (λ (found : List PrefixType × List Token). statement_after found.0 found.1) (prefixes_read ps us m ts is) ∙ following ps m ts
@@ -153,7 +157,8 @@ prefix_word p us (inr is) = record { meaning = meanings.Prefix p; rest = []; are
 prefixes_word : (ps : List PrefixType) (us : List Token) (m : Mnemonic) (ts : List Token) → SpellsPrefixes ps us → BeginsWord (us ++ mnemonic m ∷ ts)
 prefixes_word [] us m ts is = record { meaning = meanings.Mnemonic m; rest = ts; are = ap (λ (vs : List Token). vs ++ mnemonic m ∷ ts) is }
 prefixes_word (p ∷ ps) us m ts is =
-    subst (λ (vs : List Token). BeginsWord (vs ++ mnemonic m ∷ ts)) (sym is.are) (word_before (is.front ++ is.back) (mnemonic m ∷ ts) (word_before is.front is.back (prefix_word p is.front is.first)))
+    subst (λ (vs : List Token). BeginsWord (vs ++ mnemonic m ∷ ts)) (sym is.are)
+    (word_before (is.front ++ is.back) (mnemonic m ∷ ts) (word_before is.front is.back (prefix_word p is.front is.first)))
 
 worded_read : (ts : List Token) → BeginsWord ts → AllPass (fails is_equ) ts → statement_of ts ≡ prefixed_statement ts
 worded_read ts b none =
@@ -170,16 +175,24 @@ record Instructs (ps : List PrefixType) (m : Mnemonic) (ops : List Operand) (ts 
   prefixes : SpellsPrefixes ps front
   operands : SpellsOperands ops back
 
-instructs : (ps : List PrefixType) (m : Mnemonic) (ops : List Operand) (ts : List Token) → InTurn (SpellsPrefixes ps) (InTurn (Exactly (mnemonic m ∷ [])) (SpellsOperands ops)) ts → Instructs ps m ops ts
+instructs : (ps : List PrefixType) (m : Mnemonic) (ops : List Operand) (ts : List Token)
+    → InTurn (SpellsPrefixes ps) (InTurn (Exactly (mnemonic m ∷ [])) (SpellsOperands ops)) ts → Instructs ps m ops ts
 instructs ps m ops ts is =
     let following = led (mnemonic m ∷ []) (SpellsOperands ops) is.back is.second in
-    record { front = is.front; back = following.back; are = is.are ∙ ap (λ (us : List Token). is.front ++ us) following.are; prefixes = is.first; operands = following.other }
+    record {
+      front = is.front;
+      back = following.back;
+      are = is.are ∙ ap (λ (us : List Token). is.front ++ us) following.are;
+      prefixes = is.first;
+      operands = following.other;
+    }
 
 instruction_is : (ps : List PrefixType) (m : Mnemonic) (ops : List Operand) (ts : List Token) → SpellsOperands ops ts
     → instruction_of ps m ts ≡ Ok (statements.Instruction (record { prefixes = ps; mnemonic = m; operands = ops }))
 unfolding instruction_of
 instruction_is ps m ops ts is =
-    ap (λ (r : Result (List Operand) SyntaxFault). r >>= λ ops. Ok (statements.Instruction (record { prefixes = ps; mnemonic = m; operands = ops }))) (operands_read ops ts is)
+    ap (λ (r : Result (List Operand) SyntaxFault). r >>= λ ops. Ok (statements.Instruction (record { prefixes = ps; mnemonic = m; operands = ops })))
+    (operands_read ops ts is)
 
 instruction_read : (ps : List PrefixType) (m : Mnemonic) (ops : List Operand) (ts : List Token) → Instructs ps m ops ts
     → statement_of ts ≡ Ok (statements.Instruction (record { prefixes = ps; mnemonic = m; operands = ops }))
@@ -210,7 +223,8 @@ statement_read (statements.Equ name value) ts is =
 statement_read (statements.Org location) ts is =
     let org = led (keyword keywords.Org ∷ []) (SpellsConstant location) ts is in ap statement_of org.are ∙ org_read location org.back org.other
 statement_read (statements.Data width its) ts is =
-    let data' = led (keyword (width_keyword width) ∷ []) (WithCommas (SpellsItem width) its) ts is in ap statement_of data'.are ∙ data_read width its data'.back data'.other
+    let data' = led (keyword (width_keyword width) ∷ []) (WithCommas (SpellsItem width) its) ts is in
+    ap statement_of data'.are ∙ data_read width its data'.back data'.other
 statement_read (statements.Instruction i) ts is = instruction_read i.prefixes i.mnemonic i.operands ts (instructs i.prefixes i.mnemonic i.operands ts is)
 
 -- ---- no statement is a label
@@ -239,7 +253,8 @@ no_label (statements.Segment name paragraph) ts is =
     worded_line ts (led_word (meanings.Keyword keywords.Segment) (Named name ∷ keyword keywords.At ∷ []) (SpellsConstant paragraph) ts is)
 no_label statements.Ends ts is = worded_line ts (record { meaning = meanings.Keyword keywords.Ends; rest = []; are = is })
 no_label (statements.Equ name value) ts is =
-    let equ = led (Named name ∷ keyword keywords.Equ ∷ []) (SpellsConstant value) ts is in ap line_of equ.are ∙ equ_line name equ.back ∙ sym (ap (with_label None) equ.are)
+    let equ = led (Named name ∷ keyword keywords.Equ ∷ []) (SpellsConstant value) ts is in
+    ap line_of equ.are ∙ equ_line name equ.back ∙ sym (ap (with_label None) equ.are)
 no_label (statements.Org location) ts is = worded_line ts (led_word (meanings.Keyword keywords.Org) [] (SpellsConstant location) ts is)
 no_label (statements.Data width its) ts is = worded_line ts (led_word (meanings.Keyword (width_keyword width)) [] (WithCommas (SpellsItem width) its) ts is)
 no_label (statements.Instruction i) ts is =
@@ -259,13 +274,15 @@ spelling_read ts l is =
     let following = led (label_tokens l.label) (SpellsStatement l.statement) ts is in
     ap line_of following.are
     ∙ line_by l.label l.statement following.back following.other
-    ∙ ap (λ (r : Result Statement SyntaxFault). r >>= λ s. Ok (record { label = l.label; statement = s })) (statement_read l.statement following.back following.other)
+    ∙ ap (λ (r : Result Statement SyntaxFault). r >>= λ s. Ok (record { label = l.label; statement = s }))
+    (statement_read l.statement following.back following.other)
 
 pub each_spelling_read : EachSpellingIsRead
 each_spelling_read ts l is = sym (line_alike ts) ∙ spelling_read ts l is
 
 -- ---- texts
-said_by : (text : List ℕ) (l : Line) (test : Bool) → list_all is_character text ≡ test → (if test then (tokens_of (lexemes text) >>= line_of) else Err BadCharacter) ≡ Ok l → Says text l
+said_by : (text : List ℕ) (l : Line) (test : Bool) → list_all is_character text ≡ test
+    → (if test then (tokens_of (lexemes text) >>= line_of) else Err BadCharacter) ≡ Ok l → Says text l
 said_by text l true characters is =
     let of = reads (tokens_of (lexemes text)) line_of l is in
     record { characters = characters; tokens = of.read; are = of.is; spelled = read_is_spelled of.read l of.then' }

@@ -98,24 +98,27 @@ last_part ts whole = ap (parts_from false) (sym (append-nil ts)) ∙ whole [] �
 first_part : (ts back : List Token) → Whole ts → parts_from false (ts ++ Punctuator Comma ∷ back) ≡ ts ∷ parts_from false back
 first_part ts back whole = whole (Punctuator Comma ∷ back) ∙ onto_empty ts (parts_from false back)
 
-one_read : {A : Type 0} (read : List Token → Result A SyntaxFault) (us : List Token) (uss : List (List Token)) (x : A) (xs : List A) → read us ≡ Ok x → all_of read uss ≡ Ok xs
-    → all_of read (us ∷ uss) ≡ Ok (x ∷ xs)
+one_read : {A : Type 0} (read : List Token → Result A SyntaxFault) (us : List Token) (uss : List (List Token)) (x : A) (xs : List A)
+    → read us ≡ Ok x → all_of read uss ≡ Ok xs → all_of read (us ∷ uss) ≡ Ok (x ∷ xs)
 one_read {A = A} read us uss x xs first rest =
     ap (λ (r : Result A SyntaxFault). r >>= λ y. all_of read uss >>= λ ys. Ok (y ∷ ys)) first
     ∙ ap (λ (r : Result (List A) SyntaxFault). r >>= λ ys. Ok (x ∷ ys)) rest
 
 each_read : {A : Type 0} (read : List Token → Result A SyntaxFault) (Spells : A → List Token → Type 0) → ((x : A) (us : List Token) → Spells x us → Whole us)
-    → ((x : A) (us : List Token) → Spells x us → read us ≡ Ok x) → (xs : List A) (ts : List Token) → WithCommas Spells xs ts → all_of read (parts_from false ts) ≡ Ok xs
+    → ((x : A) (us : List Token) → Spells x us → read us ≡ Ok x) → (xs : List A) (ts : List Token) → WithCommas Spells xs ts
+    → all_of read (parts_from false ts) ≡ Ok xs
 each_read read Spells whole one [] ts is = absurd is
 each_read read Spells whole one (x ∷ []) ts is = ap (all_of read) (last_part ts (whole x ts is)) ∙ one_read read ts [] x [] (one x ts is) refl
 each_read read Spells whole one (x ∷ y ∷ more) ts is =
     let comma = led (Punctuator Comma ∷ []) (WithCommas Spells (y ∷ more)) is.back is.second in
     ap (λ (us : List Token). all_of read (parts_from false us)) (is.are ∙ ap (λ (us : List Token). is.front ++ us) comma.are)
     ∙ ap (all_of read) (first_part is.front comma.back (whole x is.front is.first))
-    ∙ one_read read is.front (parts_from false comma.back) x (y ∷ more) (one x is.front is.first) (each_read read Spells whole one (y ∷ more) comma.back comma.other)
+    ∙ one_read read is.front (parts_from false comma.back) x (y ∷ more)
+    (one x is.front is.first) (each_read read Spells whole one (y ∷ more) comma.back comma.other)
 
 -- what is read of the parts between commas
-pub commas_read : {A : Type 0} (read : List Token → Result A SyntaxFault) (Spells : A → List Token → Type 0) → ((x : A) (us : List Token) → Spells x us → Whole us)
-    → ((x : A) (us : List Token) → Spells x us → read us ≡ Ok x) → (xs : List A) (ts : List Token) → WithCommas Spells xs ts → all_of read (parts ts) ≡ Ok xs
+pub commas_read : {A : Type 0} (read : List Token → Result A SyntaxFault) (Spells : A → List Token → Type 0)
+    → ((x : A) (us : List Token) → Spells x us → Whole us) → ((x : A) (us : List Token) → Spells x us → read us ≡ Ok x)
+    → (xs : List A) (ts : List Token) → WithCommas Spells xs ts → all_of read (parts ts) ≡ Ok xs
 unfolding parts
 commas_read read Spells whole one xs ts is = each_read read Spells whole one xs ts is

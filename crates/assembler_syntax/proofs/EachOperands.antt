@@ -57,7 +57,8 @@ abbrev come_to : Address → List WordRegister → List Term → Result Address 
 come_to a rs ts = bases_with a.base rs >>= λ b. Ok (address_with a.size a.segment b (terms_more a.displacement ts))
 
 register_first : (a : Address) (w : Result Base SyntaxFault) (xs : List AddressPart) (rs : List WordRegister) (ts : List Term)
-    → ((base : Base) → put_all (address_with a.size a.segment (Some base) a.displacement) xs ≡ come_to (address_with a.size a.segment (Some base) a.displacement) rs ts)
+    → ((base : Base)
+    → put_all (address_with a.size a.segment (Some base) a.displacement) xs ≡ come_to (address_with a.size a.segment (Some base) a.displacement) rs ts)
     → ((w >>= λ base. Ok (address_with a.size a.segment (Some base) a.displacement)) >>= λ b. put_all b xs)
     ≡ ((w >>= λ b. bases_with (Some b) rs) >>= λ b. Ok (address_with a.size a.segment b (terms_more a.displacement ts)))
 register_first a (Ok base) xs rs ts more = more base
@@ -70,7 +71,8 @@ all_put (a_register r ∷ xs) a =
     (λ base. all_put xs (address_with a.size a.segment (Some base) a.displacement))
 all_put (a_term t ∷ xs) a = all_put xs (with_term a t)
 
-either_base : (b : Base) (r s : WordRegister) (rs : List WordRegister) → bases_with None (r ∷ s ∷ []) ≡ Ok (Some b) → rs ≡ r ∷ s ∷ [] → bases_with None rs ≡ Ok (Some b)
+either_base : (b : Base) (r s : WordRegister) (rs : List WordRegister)
+    → bases_with None (r ∷ s ∷ []) ≡ Ok (Some b) → rs ≡ r ∷ s ∷ [] → bases_with None rs ≡ Ok (Some b)
 either_base b r s rs of is = ap (bases_with None) is ∙ of
 
 base_is : (base : Option Base) (rs : List WordRegister) → AreOfBase base rs → bases_with None rs ≡ Ok base
@@ -117,7 +119,8 @@ term_signed : (t : Term) (us : List Token) → SpellsAtom t.atom us → IsSigned
 term_signed t us is = record {
   is = atom_is_part t.atom us is;
   unled = atom_no_minus t.atom us is;
-  read = λ a. no_register t.atom us is t.is_negative a ∙ ap (λ (r : Result Term SyntaxFault). r >>= λ t. Ok (with_term a t)) (term_read t.is_negative t.atom us is);
+  read = λ a.
+      no_register t.atom us is t.is_negative a ∙ ap (λ (r : Result Term SyntaxFault). r >>= λ t. Ok (with_term a t)) (term_read t.is_negative t.atom us is);
 }
 
 record Leads (tokens : Bool → List Token) (x : AddressPart) (ts : List Token) : Type 0 where
@@ -146,8 +149,8 @@ record AreParts (xs : List AddressPart) (ts : List Token) : Type 0 where
   each : EachIsPart parts
   read : (a : Address) → with_parts a parts ≡ put_all a xs
 
-part_put : (a : Address) (p : Signed) (ps : List Signed) (x : AddressPart) (xs : List AddressPart) → with_part a p ≡ put a x → ((b : Address) → with_parts b ps ≡ put_all b xs)
-    → with_parts a (p ∷ ps) ≡ put_all a (x ∷ xs)
+part_put : (a : Address) (p : Signed) (ps : List Signed) (x : AddressPart) (xs : List AddressPart)
+    → with_part a p ≡ put a x → ((b : Address) → with_parts b ps ≡ put_all b xs) → with_parts a (p ∷ ps) ≡ put_all a (x ∷ xs)
 part_put a p ps x xs one more = ap (λ (r : Result Address SyntaxFault). r >>= λ b. with_parts b ps) one ∙ following (put a x)
   where
     following : (r : Result Address SyntaxFault) → (r >>= λ b. with_parts b ps) ≡ (r >>= λ b. put_all b xs)
@@ -161,24 +164,27 @@ more_parts (x ∷ xs) ts is =
     let more = more_parts xs is.back is.second in
     record {
       parts = one.part ∷ more.parts;
-      are = is.are ∙ ap (λ (us : List Token). us ++ is.back) one.are ∙ ap (λ (us : List Token). sign_token one.part.is_negative ∷ (one.part.tokens ++ us)) more.are;
+      are = is.are ∙ ap (λ (us : List Token). us ++ is.back) one.are
+          ∙ ap (λ (us : List Token). sign_token one.part.is_negative ∷ (one.part.tokens ++ us)) more.are;
       each = (one.signed.is, more.each);
       read = λ a. part_put a one.part more.parts x xs (one.signed.read a) more.read;
     }
 
-inner_put : (size : Option Size) (segment : Option SegmentRegister) (x : AddressPart) (xs : List AddressPart) (ts : List Token) → InTurn (SpellsFirstPart x) (SpellsMoreParts xs) ts
+inner_put : (size : Option Size) (segment : Option SegmentRegister) (x : AddressPart) (xs : List AddressPart) (ts : List Token)
+    → InTurn (SpellsFirstPart x) (SpellsMoreParts xs) ts
     → with_parts (empty_address size segment) (signed_parts ts) ≡ put_all (empty_address size segment) (x ∷ xs)
 inner_put size segment x xs ts is =
     let one = first_leads x is.front is.first in
     let more = more_parts xs is.back is.second in
     let n : Bool = one.part.is_negative in
     ap (λ (us : List Token). with_parts (empty_address size segment) (signed_parts us))
-    (is.are ∙ ap (λ (us : List Token). us ++ is.back) one.are ∙ append_assoc (leading_tokens n) one.part.tokens is.back ∙ ap (λ (us : List Token). leading_tokens n ++ (one.part.tokens ++ us)) more.are)
+    (is.are ∙ ap (λ (us : List Token). us ++ is.back) one.are ∙ append_assoc (leading_tokens n) one.part.tokens is.back
+    ∙ ap (λ (us : List Token). leading_tokens n ++ (one.part.tokens ++ us)) more.are)
     ∙ ap (with_parts (empty_address size segment)) (parts_are one.part more.parts one.signed.is one.signed.unled more.each)
     ∙ part_put (empty_address size segment) one.part more.parts x xs (one.signed.read (empty_address size segment)) more.read
 
-inner_read : (a : Address) (xs : List AddressPart) (ts : List Token) → SpellsParts xs ts → AreOfBase a.base (flat_map part_registers xs) → a.displacement ≡ some_terms (flat_map part_terms xs)
-    → with_parts (empty_address a.size a.segment) (signed_parts ts) ≡ Ok a
+inner_read : (a : Address) (xs : List AddressPart) (ts : List Token) → SpellsParts xs ts → AreOfBase a.base (flat_map part_registers xs)
+    → a.displacement ≡ some_terms (flat_map part_terms xs) → with_parts (empty_address a.size a.segment) (signed_parts ts) ≡ Ok a
 inner_read a [] ts is base displacement = absurd is
 inner_read a (x ∷ xs) ts is base displacement =
     let rs : List WordRegister = flat_map part_registers (x ∷ xs) in
@@ -215,7 +221,8 @@ open_passes t is = refl
 memory_read : (a : Address) (ts : List Token) → SpellsInner a ts → memory_of a.size a.segment (ts ++ Punctuator CloseBracket ∷ []) ≡ Ok (operands.Memory a)
 unfolding memory_of
 memory_read a ts is =
-    ap (λ (found : Option (List Token × List Token)). closed found >>= λ inner. with_parts (empty_address a.size a.segment) (signed_parts inner) >>= λ b. Ok (operands.Memory b))
+    ap (λ (found : Option (List Token × List Token)).
+    closed found >>= λ inner. with_parts (empty_address a.size a.segment) (signed_parts inner) >>= λ b. Ok (operands.Memory b))
     (around_one is_close_bracket ts (Punctuator CloseBracket) [] (pass_too is_plain (fails is_close_bracket) open_passes ts (inner_plain a ts is)) refl)
     ∙ ap (λ (r : Result Address SyntaxFault). r >>= λ b. Ok (operands.Memory b)) (inner_read a is.parts ts is.spelled is.base is.displacement)
 
@@ -228,7 +235,8 @@ unfolding operand_of brackets_of
 open_bracket [] some = absurd (some refl)
 open_bracket (t ∷ ts) some = refl
 
-segment_bracket : (s : SegmentRegister) (ts : List Token) → operand_of (register (registers.Segment s) ∷ Punctuator Colon ∷ Punctuator OpenBracket ∷ ts) ≡ memory_of None (Some s) ts
+segment_bracket : (s : SegmentRegister) (ts : List Token)
+    → operand_of (register (registers.Segment s) ∷ Punctuator Colon ∷ Punctuator OpenBracket ∷ ts) ≡ memory_of None (Some s) ts
 unfolding operand_of brackets_of
 segment_bracket s ts = refl
 
@@ -238,7 +246,8 @@ size_bracket sizes.Byte ts = refl
 size_bracket sizes.Word ts = refl
 size_bracket sizes.Far ts = refl
 
-size_segment : (size : Size) (s : SegmentRegister) (ts : List Token) → operand_of (size_tokens (Some size) ++ (segment_tokens (Some s) ++ Punctuator OpenBracket ∷ ts)) ≡ memory_of (Some size) (Some s) ts
+size_segment : (size : Size) (s : SegmentRegister) (ts : List Token)
+    → operand_of (size_tokens (Some size) ++ (segment_tokens (Some s) ++ Punctuator OpenBracket ∷ ts)) ≡ memory_of (Some size) (Some s) ts
 unfolding operand_of brackets_of far_of
 size_segment sizes.Byte s ts = refl
 size_segment sizes.Word s ts = refl
@@ -248,7 +257,8 @@ size_segment sizes.Far s ts = refl
 abbrev opening : Option Size → Option SegmentRegister → List Token
 opening size segment = size_tokens size ++ (segment_tokens segment ++ Punctuator OpenBracket ∷ [])
 
-place_of : (size : Option Size) (segment : Option SegmentRegister) (ts : List Token) → ts ≢ [] → operand_of (opening size segment ++ ts) ≡ memory_of size segment ts
+place_of : (size : Option Size) (segment : Option SegmentRegister) (ts : List Token) → ts ≢ []
+    → operand_of (opening size segment ++ ts) ≡ memory_of size segment ts
 place_of None None ts some = open_bracket ts some
 place_of None (Some s) ts some = segment_bracket s ts
 place_of (Some sizes.Byte) None ts some = size_bracket sizes.Byte ts
@@ -301,7 +311,8 @@ short_by (t ∷ ts) some = refl
 
 short_read : (e : List Term) (ts : List Token) → SpellsExpression e ts → operand_of (keyword keywords.Short ∷ ts) ≡ Ok (operands.Short e)
 short_read e ts is =
-    short_by ts (begins_some ts (expression_begins e ts is)) ∙ ap (λ (r : Result (List Term) SyntaxFault). r >>= λ e. Ok (operands.Short e)) (expression_read e ts is)
+    short_by ts (begins_some ts (expression_begins e ts is))
+    ∙ ap (λ (r : Result (List Term) SyntaxFault). r >>= λ e. Ok (operands.Short e)) (expression_read e ts is)
 
 far_by : (ts : List Token) → ts ≢ [] → operand_of (keyword keywords.Far ∷ ts) ≡ far_of ts
 unfolding operand_of
@@ -394,7 +405,8 @@ calm_operand (operands.Memory a) =
     (exactly_passes is_calm (opening a.size a.segment) (calm_opening a.size a.segment))
     (turn_passes is_calm (SpellsInner a) (Exactly (Punctuator CloseBracket ∷ [])) (calm_inner a) (exactly_passes is_calm (Punctuator CloseBracket ∷ []) refl))
 calm_operand (operands.Short e) =
-    turn_passes is_calm (Exactly (keyword keywords.Short ∷ [])) (SpellsExpression e) (exactly_passes is_calm (keyword keywords.Short ∷ []) refl) (calm_expression e)
+    turn_passes is_calm (Exactly (keyword keywords.Short ∷ [])) (SpellsExpression e)
+    (exactly_passes is_calm (keyword keywords.Short ∷ []) refl) (calm_expression e)
 calm_operand (operands.FarLabel label) = exactly_passes is_calm (keyword keywords.Far ∷ Named label ∷ []) refl
 calm_operand (operands.FarPointer s o) =
     turn_passes is_calm (Exactly (keyword keywords.Far ∷ [])) (InTurn (SpellsExpression s) (InTurn (Exactly (Punctuator Colon ∷ [])) (SpellsExpression o)))
@@ -435,7 +447,8 @@ operand_some (operands.Value e) ts is = begins_some ts (expression_begins e ts i
 operand_some (operands.Memory a) ts is = opening_some a ts is
 operand_some (operands.Short e) ts is = led_some (keyword keywords.Short) [] (SpellsExpression e) ts is
 operand_some (operands.FarLabel label) ts is = exactly_some (keyword keywords.Far) (Named label ∷ []) ts is
-operand_some (operands.FarPointer s o) ts is = led_some (keyword keywords.Far) [] (InTurn (SpellsExpression s) (InTurn (Exactly (Punctuator Colon ∷ [])) (SpellsExpression o))) ts is
+operand_some (operands.FarPointer s o) ts is =
+    led_some (keyword keywords.Far) [] (InTurn (SpellsExpression s) (InTurn (Exactly (Punctuator Colon ∷ [])) (SpellsExpression o))) ts is
 
 front_some : (front back : List Token) → IsSome front → IsSome (front ++ back)
 front_some [] back some none = some refl

@@ -33,8 +33,9 @@ led tokens Other ts s = record { back = s.back; are = s.are ∙ ap (λ (us : Lis
 abbrev pub OfAtoms : (Atom → List Token → Type 0) → Type 0
 OfAtoms P = (a : Atom) (ts : List Token) → SpellsAtom a ts → P a ts
 
-pub of_atoms : (P : Atom → List Token → Type 0) → ((n : ℕ) → P (atoms.Number n) (Number n ∷ [])) → P (atoms.Number 1) (One ∷ []) → ((name : Name) → P (atoms.Named name) (Named name ∷ []))
-    → P atoms.Here (Punctuator Dollar ∷ []) → ((name : Name) → P (atoms.SegmentOf name) (keyword keywords.Seg ∷ Named name ∷ [])) → OfAtoms P
+pub of_atoms : (P : Atom → List Token → Type 0) → ((n : ℕ) → P (atoms.Number n) (Number n ∷ [])) → P (atoms.Number 1) (One ∷ [])
+    → ((name : Name) → P (atoms.Named name) (Named name ∷ [])) → P atoms.Here (Punctuator Dollar ∷ [])
+    → ((name : Name) → P (atoms.SegmentOf name) (keyword keywords.Seg ∷ Named name ∷ [])) → OfAtoms P
 of_atoms P number one named here segment (atoms.Number n) ts (inl is) = subst (P (atoms.Number n)) (sym is) (number n)
 of_atoms P number one named here segment (atoms.Number n) ts (inr is) =
     subst (λ (k : ℕ). P (atoms.Number k) ts) (sym is.1) (subst (P (atoms.Number 1)) (sym is.0) one)
@@ -54,7 +55,8 @@ term_read n a ts is = ap (λ (r : Result Atom SyntaxFault). r >>= λ a. Ok (reco
 
 -- tokens without a sign are a part, up to the sign that follows them
 abbrev pub IsPart : List Token → Type 0
-IsPart ts = (n : Bool) (back : List Token) (rest : List Signed) → signed_from n back ≡ signed_part n [] ∷ rest → signed_from n (ts ++ back) ≡ signed_part n ts ∷ rest
+IsPart ts =
+    (n : Bool) (back : List Token) (rest : List Signed) → signed_from n back ≡ signed_part n [] ∷ rest → signed_from n (ts ++ back) ≡ signed_part n ts ∷ rest
 
 pub atom_is_part : (a : Atom) (ts : List Token) → SpellsAtom a ts → IsPart ts
 atom_is_part = of_atoms (λ a. IsPart)
@@ -89,7 +91,8 @@ pub parts_are : (p : Signed) (ps : List Signed) → IsPart p.tokens → NoMinus 
     → signed_parts (leading_tokens p.is_negative ++ (p.tokens ++ after_signs ps)) ≡ p ∷ ps
 parts_are p ps is unled each = by_sign p.is_negative (is p.is_negative (after_signs ps) ps (more_parts ps each p.is_negative))
   where
-    by_sign : (n : Bool) → signed_from n (p.tokens ++ after_signs ps) ≡ signed_part n p.tokens ∷ ps → signed_parts (leading_tokens n ++ (p.tokens ++ after_signs ps)) ≡ signed_part n p.tokens ∷ ps
+    by_sign : (n : Bool) → signed_from n (p.tokens ++ after_signs ps) ≡ signed_part n p.tokens ∷ ps
+        → signed_parts (leading_tokens n ++ (p.tokens ++ after_signs ps)) ≡ signed_part n p.tokens ∷ ps
     by_sign false are = unled (after_signs ps) ∙ are
     by_sign true are = are
 

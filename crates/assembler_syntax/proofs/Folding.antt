@@ -16,7 +16,8 @@ read_alike : (s t : List ℕ) → list_all is_character s ≡ list_all is_charac
 unfolding read_line
 read_alike s t characters same =
     ap (λ (b : Bool). if b then (tokens_of (lexemes s) >>= line_of) else Err BadCharacter) characters
-    ∙ ap (λ (r : Result (List Token) SyntaxFault). if list_all is_character t then (r >>= line_of) else Err BadCharacter) (tokens_alike (lexemes s) (lexemes t) same)
+    ∙ ap (λ (r : Result (List Token) SyntaxFault). if list_all is_character t then (r >>= line_of) else Err BadCharacter)
+    (tokens_alike (lexemes s) (lexemes t) same)
 
 pub case_is_nothing_in_lines : CaseDoesNotCount
 case_is_nothing_in_lines s t characters same = sym (text_alike s) ∙ read_alike s t characters same ∙ text_alike t

@@ -113,7 +113,8 @@ terms_spelled (t ∷ ts) is = record {
 one_spelled : (r : WordRegister) (ts : List Term) → SpellsParts (a_register r ∷ term_parts ts) (word r ∷ signed_tokens ts)
 one_spelled r ts = record { front = word r ∷ []; back = signed_tokens ts; are = refl; first = refl; second = more_spelled ts }
 
-two_spelled : (r s : WordRegister) (ts : List Term) → SpellsParts (a_register r ∷ a_register s ∷ term_parts ts) (word r ∷ Punctuator Plus ∷ word s ∷ signed_tokens ts)
+two_spelled : (r s : WordRegister) (ts : List Term)
+    → SpellsParts (a_register r ∷ a_register s ∷ term_parts ts) (word r ∷ Punctuator Plus ∷ word s ∷ signed_tokens ts)
 two_spelled r s ts = record {
   front = word r ∷ [];
   back = Punctuator Plus ∷ word s ∷ signed_tokens ts;
@@ -201,7 +202,8 @@ operand_spelled (operands.Memory a) is =
       are = ap (λ (us : List Token). size_tokens a.size ++ us) (sym (append_assoc (segment_tokens a.segment) (Punctuator OpenBracket ∷ []) inner))
           ∙ sym (append_assoc (size_tokens a.size) (segment_tokens a.segment ++ Punctuator OpenBracket ∷ []) inner);
       first = refl;
-      second = record { front = inner_tokens a.base a.displacement; back = Punctuator CloseBracket ∷ []; are = refl; first = inner_spelled a is; second = refl };
+      second =
+          record { front = inner_tokens a.base a.displacement; back = Punctuator CloseBracket ∷ []; are = refl; first = inner_spelled a is; second = refl };
     }
 operand_spelled (operands.Short e) is =
     record { front = keyword keywords.Short ∷ []; back = expression_tokens e; are = refl; first = refl; second = expression_spelled e is }
@@ -315,7 +317,8 @@ statement_spelled (statements.Instruction i) is =
     }
 
 line_spelled : (l : Line) → IsStatement l.statement → SpellsLine l (line_tokens l)
-line_spelled l is = record { front = label_tokens l.label; back = statement_tokens l.statement; are = refl; first = refl; second = statement_spelled l.statement is }
+line_spelled l is =
+    record { front = label_tokens l.label; back = statement_tokens l.statement; are = refl; first = refl; second = statement_spelled l.statement is }
 
 pub each_line_read : EachLineIsRead
 each_line_read l is = sym (line_alike (line_tokens l)) ∙ spelling_read (line_tokens l) l (line_spelled l is)

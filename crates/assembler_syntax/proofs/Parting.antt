@@ -35,7 +35,8 @@ first_part ts =
     ∙ ap (λ (ps : List (List Token)). take (part_size false ts) ts ∷ ps) (left_same (tail_of (drop (part_size false ts) ts)))
 
 pub first_signed : (ts : List Token) (is_negative : Bool)
-    → signed_from is_negative ts ≡ signed_part is_negative (take (signed_size ts) ts) ∷ signed_left (begins_with_minus (drop (signed_size ts) ts)) (tail_of (drop (signed_size ts) ts))
+    → signed_from is_negative ts
+    ≡ signed_part is_negative (take (signed_size ts) ts) ∷ signed_left (begins_with_minus (drop (signed_size ts) ts)) (tail_of (drop (signed_size ts) ts))
 first_signed [] is_negative = refl
 first_signed (kinds.Punctuator punctuators.Plus ∷ ts) is_negative = refl
 first_signed (kinds.Punctuator punctuators.Minus ∷ ts) is_negative = refl

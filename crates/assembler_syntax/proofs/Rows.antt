@@ -39,7 +39,9 @@ use Rattle.assembler_syntax.specs.Lines.{line_of, read_line}
 
 -- what a row unfolds
 unfoldable on_texts : ⊤
-unfolding words spells meaning_of lexemes number_to number_of word_token number_token quoted_token token_of tokens_of parts atom_of expression_of constant_of with_part memory_of value_of brackets_of operand_of operands_of piece_of pieces_of repeated item_of items_of segment_of ends_of org_of data_of directive_of instruction_of statement_after statement_of line_of read_line
+unfolding words spells meaning_of lexemes number_to number_of word_token number_token quoted_token token_of tokens_of parts
+    atom_of expression_of constant_of with_part memory_of value_of brackets_of operand_of operands_of piece_of pieces_of repeated
+    item_of items_of segment_of ends_of org_of data_of directive_of instruction_of statement_after statement_of line_of read_line
 on_texts = tt
 
 abbrev plus : Atom → Term
@@ -78,11 +80,13 @@ label_and_number : read_line (codes "go: mov ax,0B000h") ≡ Ok (record {
 unfolding on_texts
 label_and_number = refl
 
-equ : read_line (codes "x EQU -5+y-10b") ≡ says (statements.Equ (name_of (codes "X")) (minus (atoms.Number 5) ∷ plus (atoms.Named (name_of (codes "Y"))) ∷ minus (atoms.Number 2) ∷ []))
+equ : read_line (codes "x EQU -5+y-10b")
+    ≡ says (statements.Equ (name_of (codes "X")) (minus (atoms.Number 5) ∷ plus (atoms.Named (name_of (codes "Y"))) ∷ minus (atoms.Number 2) ∷ []))
 unfolding on_texts
 equ = refl
 
-location : read_line (codes "DW $-SEG back") ≡ says (statements.Data widths.Word (items.Once (pieces.Value (plus atoms.Here ∷ minus (atoms.SegmentOf (name_of (codes "BACK"))) ∷ [])) ∷ []))
+location : read_line (codes "DW $-SEG back")
+    ≡ says (statements.Data widths.Word (items.Once (pieces.Value (plus atoms.Here ∷ minus (atoms.SegmentOf (name_of (codes "BACK"))) ∷ [])) ∷ []))
 unfolding on_texts
 location = refl
 

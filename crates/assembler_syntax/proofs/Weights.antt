@@ -63,7 +63,8 @@ parts_by t ended going n false ended_le going_le = rw (onto_weight t going) (ome
 parts_from_le : (is_open : Bool) (ts : List Token) → total weight (parts_from is_open ts) ≤ weight ts
 parts_from_le is_open [] = omega arith
 parts_from_le is_open (t ∷ ts) =
-    parts_by t (parts_from false ts) (parts_from (is_open_after is_open t) ts) (weight ts) (parts_here is_open t) (parts_from_le false ts) (parts_from_le (is_open_after is_open t) ts)
+    parts_by t (parts_from false ts) (parts_from (is_open_after is_open t) ts) (weight ts)
+    (parts_here is_open t) (parts_from_le false ts) (parts_from_le (is_open_after is_open t) ts)
 
 parts_le : (ts : List Token) → total weight (parts ts) ≤ weight ts
 unfolding parts
@@ -87,7 +88,8 @@ signed_from_le : (ts : List Token) (is_negative : Bool) → total signed_weight 
 signed_from_le [] is_negative = omega arith
 signed_from_le (t ∷ ts) is_negative = signed_by_le (sign_of t) is_negative t (λ next. signed_from next ts) (weight ts) (signed_from_le ts)
 
-minus_by : (t : Token) (ts : List Token) (minus : Bool) → total signed_weight (if minus then signed_from true ts else signed_from false (t ∷ ts)) ≤ weight (t ∷ ts)
+minus_by : (t : Token) (ts : List Token) (minus : Bool)
+    → total signed_weight (if minus then signed_from true ts else signed_from false (t ∷ ts)) ≤ weight (t ∷ ts)
 minus_by t ts true = let rest = signed_from_le ts true in omega arith
 minus_by t ts false = signed_from_le (t ∷ ts) false
 
@@ -174,7 +176,8 @@ register_same a b (registers.Word r) is = register_by a b (base_with a.base r) i
 register_same a b (registers.Byte r) is = absurd (cc)
 register_same a b (registers.Segment r) is = absurd (cc)
 
-unsigned : (a b : Address) (r : Register) (is_negative : Bool) → (if is_negative then Err BadLine else with_register a r) ≡ Ok b → a.displacement ≡ b.displacement
+unsigned : (a b : Address) (r : Register) (is_negative : Bool) → (if is_negative then Err BadLine else with_register a r) ≡ Ok b
+    → a.displacement ≡ b.displacement
 unsigned a b r true is = absurd (cc)
 unsigned a b r false is = register_same a b r is
 
@@ -205,7 +208,8 @@ with_parts_by (Err fault) ps b n m first rest is = absurd (cc)
 with_parts_le : (ps : List Signed) (a b : Address) → with_parts a ps ≡ Ok b → terms_size b.displacement ≤ terms_size a.displacement + total signed_weight ps
 with_parts_le [] a b is = let same : a ≡ b = cc in rw (← same) (omega arith)
 with_parts_le (part ∷ ps) a b is =
-    let all = with_parts_by (with_part a part) ps b (terms_size a.displacement + signed_weight part) (total signed_weight ps) (λ c. part_le a c part) (λ c. with_parts_le ps c b) is in
+    let all = with_parts_by (with_part a part) ps b (terms_size a.displacement + signed_weight part)
+    (total signed_weight ps) (λ c. part_le a c part) (λ c. with_parts_le ps c b) is in
     omega arith
 
 displacement_in : (n : ℕ) (terms : Option (List Term)) → terms_size terms ≤ n → is_displacement_within n terms ≡ true
@@ -230,8 +234,8 @@ inner_by n size segment (Ok inner) o le is =
     is
 inner_by n size segment (Err fault) o le is = absurd (cc)
 
-memory_in_is : (n : ℕ) (size : Option Size) (segment : Option SegmentRegister) (ts : List Token) (o : Operand) → weight ts ≤ n → memory_of size segment ts ≡ Ok o
-    → is_operand_within n o ≡ true
+memory_in_is : (n : ℕ) (size : Option Size) (segment : Option SegmentRegister) (ts : List Token) (o : Operand)
+    → weight ts ≤ n → memory_of size segment ts ≡ Ok o → is_operand_within n o ≡ true
 unfolding memory_of
 memory_in_is n size segment ts o le is =
     inner_by n size segment (closed (around is_close_bracket ts)) o
@@ -401,7 +405,8 @@ more_piece m n (kinds.Text text) le is = refl
 piece_terms : (n : ℕ) (width : DataWidth) (ts : List Token) (p : Piece) → weight ts ≤ n → piece_of width ts ≡ Ok p → is_piece_within n p ≡ true
 piece_terms n width ts p le is = more_piece (weight ts) n p le ((piece_in width ts p is).terms)
 
-pieces_terms : (n : ℕ) (width : DataWidth) (ts : List Token) (ps : List Piece) → weight ts ≤ n → pieces_of width ts ≡ Ok ps → list_all (is_piece_within n) ps ≡ true
+pieces_terms : (n : ℕ) (width : DataWidth) (ts : List Token) (ps : List Piece)
+    → weight ts ≤ n → pieces_of width ts ≡ Ok ps → list_all (is_piece_within n) ps ≡ true
 unfolding pieces_of
 pieces_terms n width ts ps le is =
     let each = parts_le ts in
@@ -419,7 +424,8 @@ record IsItemWithin (n : ℕ) (i : Item) : Type 0 where
   size : item_weight i ≤ n
   terms : is_item_within n i ≡ true
 
-once_by : (n : ℕ) (r : Result Piece SyntaxFault) (i : Item) → ((p : Piece) → r ≡ Ok p → IsPieceWithin n p) → (r >>= λ piece. Ok (items.Once piece)) ≡ Ok i → IsItemWithin n i
+once_by : (n : ℕ) (r : Result Piece SyntaxFault) (i : Item) → ((p : Piece) → r ≡ Ok p → IsPieceWithin n p)
+    → (r >>= λ piece. Ok (items.Once piece)) ≡ Ok i → IsItemWithin n i
 once_by n (Ok p) i within is =
     let same : items.Once p ≡ i = cc in
     let found = within p refl in
@@ -435,11 +441,12 @@ repeated_by n width (Ok count) (Ok inner) i first le is =
     (λ each found. pieces_terms n width inner each (le inner refl) found)
     is
   where
-    each_by : (each : Result (List Piece) SyntaxFault) → ((ps : List Piece) → each ≡ Ok ps → pieces_weight ps ≤ n) → ((ps : List Piece) → each ≡ Ok ps → list_all (is_piece_within n) ps ≡ true)
-        → (each >>= λ ps. Ok (items.Repeated count ps)) ≡ Ok i → IsItemWithin n i
+    each_by : (each : Result (List Piece) SyntaxFault) → ((ps : List Piece) → each ≡ Ok ps → pieces_weight ps ≤ n)
+        → ((ps : List Piece) → each ≡ Ok ps → list_all (is_piece_within n) ps ≡ true) → (each >>= λ ps. Ok (items.Repeated count ps)) ≡ Ok i → IsItemWithin n i
     each_by (Ok ps) size terms found =
         let same : items.Repeated count ps ≡ i = cc in
-        rw (← same) (record { size = size ps refl; terms = and_from (is_expression_within n count) (list_all (is_piece_within n) ps) (first count refl) (terms ps refl) })
+        rw (← same)
+        (record { size = size ps refl; terms = and_from (is_expression_within n count) (list_all (is_piece_within n) ps) (first count refl) (terms ps refl) })
     each_by (Err fault) size terms found = absurd (cc)
 repeated_by n width (Ok count) (Err fault) i first le is = absurd (cc)
 repeated_by n width (Err fault) s i first le is = absurd (cc)
@@ -453,7 +460,8 @@ parentheses_le : (ts inner : List Token) → in_parentheses ts ≡ Ok inner → 
 parentheses_le [] inner is = absurd (cc)
 parentheses_le (t ∷ ts) inner is = parenthesis_by t ts inner (is_open_parenthesis t) is
 
-repeated_in : (n : ℕ) (width : DataWidth) (front back : List Token) (i : Item) → weight front + weight back ≤ n → repeated width front back ≡ Ok i → IsItemWithin n i
+repeated_in : (n : ℕ) (width : DataWidth) (front back : List Token) (i : Item)
+    → weight front + weight back ≤ n → repeated width front back ≡ Ok i → IsItemWithin n i
 unfolding repeated
 repeated_in n width front back i le is =
     repeated_by n width (constant_of front) (in_parentheses back) i
@@ -500,8 +508,9 @@ items_size width ts is read =
     omega arith
 
 -- a statement holds no more than its tokens
-data_by : (n : ℕ) (width : DataWidth) (r : Result (List Item) SyntaxFault) (s : Statement) → ((is : List Item) → r ≡ Ok is → list_all (is_item_within n) is ≡ true)
-    → ((is : List Item) → r ≡ Ok is → items_weight is ≤ n) → (r >>= λ items. Ok (statements.Data width items)) ≡ Ok s → IsWithin n s
+data_by : (n : ℕ) (width : DataWidth) (r : Result (List Item) SyntaxFault) (s : Statement)
+    → ((is : List Item) → r ≡ Ok is → list_all (is_item_within n) is ≡ true) → ((is : List Item) → r ≡ Ok is → items_weight is ≤ n)
+    → (r >>= λ items. Ok (statements.Data width items)) ≡ Ok s → IsWithin n s
 data_by n width (Ok is) s terms size read =
     let same : statements.Data width is ≡ s = cc in rw (← same) (record { terms = terms is refl; pieces = size is refl })
 data_by n width (Err fault) s terms size read = absurd (cc)
@@ -511,7 +520,8 @@ unfolding data_of
 data_in n width ts s le is =
     data_by n width (items_of width ts) s (λ each. items_terms n width ts each le) (λ each read. let size = items_size width ts each read in omega arith) is
 
-segment_at_by : (n : ℕ) (name : Name) (r : Result (List Term) SyntaxFault) (s : Statement) → ((terms : List Term) → r ≡ Ok terms → is_expression_within n terms ≡ true)
+segment_at_by : (n : ℕ) (name : Name) (r : Result (List Term) SyntaxFault) (s : Statement)
+    → ((terms : List Term) → r ≡ Ok terms → is_expression_within n terms ≡ true)
     → (r >>= λ paragraph. Ok (statements.Segment name paragraph)) ≡ Ok s → IsWithin n s
 segment_at_by n name (Ok terms) s within is =
     let same : statements.Segment name terms ≡ s = cc in rw (← same) (record { terms = within terms refl; pieces = omega arith })
@@ -521,7 +531,8 @@ segment_by_in : (n : ℕ) (t : Token) (ts : List Token) (s : Statement) → weig
 segment_by_in n (Named name) ts s le is = segment_at_by n name (constant_of ts) s (λ terms. constant_in n ts terms le) is
 segment_by_in n t ts s le is = absurd (cc)
 
-at_by : (n : ℕ) (t : Token) (ts : List Token) (s : Statement) (test : Bool) → weight ts ≤ n → (if test then segment_by t ts else Err BadLine) ≡ Ok s → IsWithin n s
+at_by : (n : ℕ) (t : Token) (ts : List Token) (s : Statement) (test : Bool)
+    → weight ts ≤ n → (if test then segment_by t ts else Err BadLine) ≡ Ok s → IsWithin n s
 at_by n t ts s true le is = segment_by_in n t ts s le is
 at_by n t ts s false le is = absurd (cc)
 
@@ -587,7 +598,8 @@ prefixes_le (Word (meanings.Prefix p) ∷ ts) = let rest = prefixes_le ts in ome
 prefixes_le (Word (meanings.Register (registers.Segment s)) ∷ t ∷ ts) = prefixes_by s t ts (is_colon t) (prefixes_le ts)
 prefixes_le ts = omega arith
 
-keyword_by : (n : ℕ) (s : Statement) (test : Bool) → ◌≡◌ {A = Result Statement SyntaxFault} (if test then Err BadLine else Err UnknownName) (Ok s) → IsWithin n s
+keyword_by : (n : ℕ) (s : Statement) (test : Bool)
+    → ◌≡◌ {A = Result Statement SyntaxFault} (if test then Err BadLine else Err UnknownName) (Ok s) → IsWithin n s
 keyword_by n s true is = absurd (cc)
 keyword_by n s false is = absurd (cc)
 

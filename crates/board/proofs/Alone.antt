@@ -26,11 +26,13 @@ use Rattle.board.proofs.Works.{no_step, none_in_all}
 
 -- the processor does nothing, whatever the timer does
 
-begins_nothing : (s : Plain) (i : ℕ) → WiresHold s.chips → BeginsNothing s → boundary_of s.cpu (is_requested (wires.after_clocks s.chips i)) ≡ boundaries.Nothing
+begins_nothing : (s : Plain) (i : ℕ) → WiresHold s.chips → BeginsNothing s
+    → boundary_of s.cpu (is_requested (wires.after_clocks s.chips i)) ≡ boundaries.Nothing
 begins_nothing s i holds (inl despite_timer) = despite_timer (is_requested (wires.after_clocks s.chips i))
 begins_nothing s i holds (inr now) = ap (boundary_of s.cpu) (request_stays s.chips i holds.settled holds.keys now.1) ∙ now.0
 
-idle_act : (s : Plain) (n i : ℕ) → i < n → WiresHold s.chips → StaysIdleDespiteTimer s n → next_act (record s { busy = s.busy - i; chips = wires.after_clocks s.chips i }) ≡ Nothing
+idle_act : (s : Plain) (n i : ℕ) → i < n → WiresHold s.chips → StaysIdleDespiteTimer s n
+    → next_act (record s { busy = s.busy - i; chips = wires.after_clocks s.chips i }) ≡ Nothing
 unfolding next_act
 idle_act s n i before holds (inl busy) = busy_by (nat_eq (s.busy - i) 0) _ (not_free (s.busy - i) (omega (arith, before, busy)))
 idle_act s n i before holds (inr idle) =
@@ -108,7 +110,8 @@ alone_unseen s n holds alone = record {
   entries = none_gathered after_clock trail_next n s (λ i before. nothing_begins (after_clocks s i) (does_nothing s n i holds alone before));
   steps = none_in_all after_clock steps_next n s (λ i before. no_step (after_clocks s i) (does_nothing s n i holds alone before));
   conditions = λ stops k before. holding_stays stops s n k before holds alone;
-  quiet = λ k before. quiet_clock s n k before holds alone.no_key (alone_leaps s n k (omega (arith, before)) holds alone) (does_nothing s n k holds alone before);
+  quiet = λ k before.
+      quiet_clock s n k before holds alone.no_key (alone_leaps s n k (omega (arith, before)) holds alone) (does_nothing s n k holds alone before);
   cpu = λ k within. ap (λ (p : Plain). p.cpu) (alone_leaps s n k within holds alone) ∙ cpu_of_passed s k;
   keyboard = λ k within. ap (λ (p : Plain). p.chips.keyboard) (alone_leaps s n k within holds alone) ∙ keyboard_of_passed s k holds;
 }

@@ -30,13 +30,17 @@ same_level s quietly =
 
 -- an act of the board, with what it lists, and the leap over the other clocks of its step
 
-rest_on : (within : ℕ) (p : Plain) (new : BoardState) → PassesOver within p new.plain → (new ≡ record new { plain = p }) ⊎ ((1 ≤ p.busy) × IsLeapOn within 0 (record new { plain = p }) new)
+rest_on : (within : ℕ) (p : Plain) (new : BoardState) → PassesOver within p new.plain
+    → (new ≡ record new { plain = p }) ⊎ ((1 ≤ p.busy) × IsLeapOn within 0 (record new { plain = p }) new)
 rest_on within p new (inl same) = inl (ap (λ q. record new { plain = q }) same)
 rest_on within p new (inr rest) =
     inr (rest.0, record { leap = rest.1; changes = refl; trail = refl; room = refl; turns = omega arith })
 
 -- `listed` is the board with the change of that clock in its list
-pub act_on : (within : ℕ) (old listed new : BoardState) → listed.plain ≡ old.plain → listed.trail ≡ old.trail → listed.turns ≡ old.turns → listed.changes ≡ old.changes ++ change_next old.plain → old.room + length old.changes ≤ listed.room + length listed.changes → 1 ≤ work_next old.plain → PassesOver within (after_clock listed.plain) new.plain → new.trail ≡ last 32 (listed.trail ++ trail_next listed.plain) → new.changes ≡ listed.changes → new.room ≡ listed.room → new.turns ≡ listed.turns + 1 → IsActOn within old new
+pub act_on : (within : ℕ) (old listed new : BoardState) → listed.plain ≡ old.plain → listed.trail ≡ old.trail → listed.turns ≡ old.turns
+    → listed.changes ≡ old.changes ++ change_next old.plain → old.room + length old.changes ≤ listed.room + length listed.changes
+    → 1 ≤ work_next old.plain → PassesOver within (after_clock listed.plain) new.plain → new.trail ≡ last 32 (listed.trail ++ trail_next listed.plain)
+    → new.changes ≡ listed.changes → new.room ≡ listed.room → new.turns ≡ listed.turns + 1 → IsActOn within old new
 act_on within old listed new plain trail turns changes room work passed entries same same_room more = record {
   begun = record new { plain = after_clock old.plain };
   first = record {
@@ -51,9 +55,11 @@ act_on within old listed new plain trail turns changes room work passed entries 
   rest = rest_on within (after_clock old.plain) new (subst (λ p. PassesOver within (after_clock p) new.plain) plain passed);
 }
 
-pub act_made : (end : ℕ) (old new : BoardState) → ActsQuietly old.plain → PassesOver end (after_clock old.plain) new.plain → new.changes ≡ old.changes → new.trail ≡ last 32 (old.trail ++ trail_next old.plain) → new.room ≡ old.room → new.turns ≡ old.turns + 1 → IsActOn end old new
+pub act_made : (end : ℕ) (old new : BoardState) → ActsQuietly old.plain → PassesOver end (after_clock old.plain) new.plain → new.changes ≡ old.changes
+    → new.trail ≡ last 32 (old.trail ++ trail_next old.plain) → new.room ≡ old.room → new.turns ≡ old.turns + 1 → IsActOn end old new
 act_made end old new quietly passed changes trail room turns =
-    act_on end old old new refl refl refl (nothing_listed old.changes old.plain (same_level old.plain quietly)) (omega arith) (acts_now old.plain quietly.act.some) passed trail changes room turns
+    act_on end old old new refl refl refl (nothing_listed old.changes old.plain (same_level old.plain quietly))
+    (omega arith) (acts_now old.plain quietly.act.some) passed trail changes room turns
 
 -- time goes on by a clock at least, and not past the end
 pub record GoesOn (end : ℕ) (s t : Plain) : Type 0 where
@@ -71,7 +77,8 @@ pub goes_over : (end : ℕ) (s t : Plain) → clock_of s < end → PassesOver en
 goes_over end s t before passed = goes_over_from end s (after_clock s) t (clock_goes_by s) before passed
 
 -- the plain board's clock, by what the processor does in it
-pub clock_by_act : (s : Plain) (a : Act) (acted : StepResult ChipsState) → a ≡ next_act s → acted ≡ after_act s.clocks s.cpu s.busy s.chips a → record { cpu = acted.cpu; busy = acted.clocks - 1; chips = chips_after_clock acted.bus s.keys; keys = s.keys; clocks = s.clocks } ≡ after_clock s
+pub clock_by_act : (s : Plain) (a : Act) (acted : StepResult ChipsState) → a ≡ next_act s → acted ≡ after_act s.clocks s.cpu s.busy s.chips a
+    → record { cpu = acted.cpu; busy = acted.clocks - 1; chips = chips_after_clock acted.bus s.keys; keys = s.keys; clocks = s.clocks } ≡ after_clock s
 unfolding after_clock
 clock_by_act s a acted now is =
     ap (λ (r : StepResult ChipsState). record { cpu = r.cpu; busy = r.clocks - 1; chips = chips_after_clock r.bus s.keys; keys = s.keys; clocks = s.clocks })

@@ -11,7 +11,8 @@ not_later stamp other early = grind (arith, nat_tests, early)
 is_later : (stamp other : ℕ) → stamp + 1 ≤ other → nat_le other stamp ≡ false
 is_later stamp other late = grind (arith, nat_tests, late)
 
-pub inserted_at : (place : ℕ) (ks : List StampedKey) (key : StampedKey) → place ≤ length ks → All (λ k. k.stamp < key.stamp + 1) (take place ks) → All (λ k. key.stamp + 1 ≤ k.stamp) (drop place ks) → take place ks ++ (key ∷ drop place ks) ≡ inserted ks key
+pub inserted_at : (place : ℕ) (ks : List StampedKey) (key : StampedKey) → place ≤ length ks → All (λ k. k.stamp < key.stamp + 1) (take place ks)
+    → All (λ k. key.stamp + 1 ≤ k.stamp) (drop place ks) → take place ks ++ (key ∷ drop place ks) ≡ inserted ks key
 inserted_at zero [] key within past to_come = refl
 inserted_at zero (k ∷ ks) key within past to_come =
     sym (ap (λ (b : Bool). if b then k ∷ inserted ks key else key ∷ k ∷ ks) (is_later key.stamp k.stamp (to_come 0 key (omega arith))))

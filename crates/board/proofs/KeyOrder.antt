@@ -34,15 +34,19 @@ past_at next clock keys awaits j d within =
     subst (λ (k : StampedKey). k.stamp < clock) (get_or-take next keys j d within) (awaits.past j d (in_take next j keys within awaits.within))
 
 -- keys from a place in the list on come at a clock or later
-pub later_at : (next clock : ℕ) (keys : List StampedKey) → All (λ k. clock ≤ k.stamp) (drop next keys) → (j : ℕ) (d : StampedKey) → next ≤ j → j < length keys → clock ≤ (get_or keys j d).stamp
+pub later_at : (next clock : ℕ) (keys : List StampedKey) → All (λ k. clock ≤ k.stamp) (drop next keys)
+    → (j : ℕ) (d : StampedKey) → next ≤ j → j < length keys → clock ≤ (get_or keys j d).stamp
 later_at next clock keys later j d from within =
     let place : next + (j - next) ≡ j = omega (arith, from) in
-    subst (λ (k : StampedKey). clock ≤ k.stamp) (get_or-drop next keys (j - next) d ∙ ap (λ i. get_or keys i d) place) (later (j - next) d (in_drop next j keys from within))
+    subst (λ (k : StampedKey). clock ≤ k.stamp) (get_or-drop next keys (j - next) d ∙ ap (λ i. get_or keys i d) place)
+    (later (j - next) d (in_drop next j keys from within))
 
-pub to_come_at : (next clock : ℕ) (keys : List StampedKey) → Awaits next clock keys → (j : ℕ) (d : StampedKey) → next ≤ j → j < length keys → clock ≤ (get_or keys j d).stamp
+pub to_come_at : (next clock : ℕ) (keys : List StampedKey) → Awaits next clock keys
+    → (j : ℕ) (d : StampedKey) → next ≤ j → j < length keys → clock ≤ (get_or keys j d).stamp
 to_come_at next clock keys awaits = later_at next clock keys awaits.to_come
 
-pub awaits_from : (next clock : ℕ) (keys : List StampedKey) → next ≤ length keys → ((j : ℕ) (d : StampedKey) → j < next → (get_or keys j d).stamp < clock) → ((j : ℕ) (d : StampedKey) → next ≤ j → j < length keys → clock ≤ (get_or keys j d).stamp) → Awaits next clock keys
+pub awaits_from : (next clock : ℕ) (keys : List StampedKey) → next ≤ length keys → ((j : ℕ) (d : StampedKey) → j < next → (get_or keys j d).stamp < clock)
+    → ((j : ℕ) (d : StampedKey) → next ≤ j → j < length keys → clock ≤ (get_or keys j d).stamp) → Awaits next clock keys
 awaits_from next clock keys within past to_come = record {
   within = within;
   past = λ j d inside.
@@ -67,7 +71,8 @@ codes_none next clock keys awaits =
     none_due clock (take next keys) (λ i d within e. let past = awaits.past i d within in absurd (omega (arith, past, e)))
 
 -- one more of them has arrived
-pub arrived_more : (next index clock : ℕ) (keys : List StampedKey) (d : StampedKey) → Arrived next index clock keys → index < length keys → (get_or keys index d).stamp ≡ clock → Arrived next (index + 1) clock keys
+pub arrived_more : (next index clock : ℕ) (keys : List StampedKey) (d : StampedKey)
+    → Arrived next index clock keys → index < length keys → (get_or keys index d).stamp ≡ clock → Arrived next (index + 1) clock keys
 arrived_more next index clock keys d so_far within is = record {
   from = let f = so_far.from in omega arith;
   within = omega (arith, within);
@@ -82,7 +87,8 @@ arrived_more next index clock keys d so_far within is = record {
 }
 
 -- the key at `index` isn't due, so none after it is
-later_than : (next index clock : ℕ) (keys : List StampedKey) (d : StampedKey) → IsInOrder keys → Awaits next clock keys → next ≤ index → index < length keys → (get_or keys index d).stamp ≢ clock → (j : ℕ) (e : StampedKey) → index ≤ j → j < length keys → clock + 1 ≤ (get_or keys j e).stamp
+later_than : (next index clock : ℕ) (keys : List StampedKey) (d : StampedKey) → IsInOrder keys → Awaits next clock keys → next ≤ index
+    → index < length keys → (get_or keys index d).stamp ≢ clock → (j : ℕ) (e : StampedKey) → index ≤ j → j < length keys → clock + 1 ≤ (get_or keys j e).stamp
 later_than next index clock keys d in_order awaits from within differs j e after inside =
     let here = to_come_at next clock keys awaits index d from within in
     let same : (get_or keys index e).stamp ≡ (get_or keys index d).stamp = ap (λ (k : StampedKey). k.stamp) (get_or_default keys index e d within) in
@@ -92,7 +98,8 @@ later_than next index clock keys d in_order awaits from within differs j e after
       | inr past ↦ let order = in_order.stamps index j e (omega (arith, after, past.1)) inside in omega arith
     ]
 
-none_after : (index clock : ℕ) (keys : List StampedKey) → ((j : ℕ) (e : StampedKey) → index ≤ j → j < length keys → clock + 1 ≤ (get_or keys j e).stamp) → codes_at keys clock ≡ codes_at (take index keys) clock
+none_after : (index clock : ℕ) (keys : List StampedKey) → ((j : ℕ) (e : StampedKey) → index ≤ j → j < length keys → clock + 1 ≤ (get_or keys j e).stamp)
+    → codes_at keys clock ≡ codes_at (take index keys) clock
 none_after index clock keys later =
     ap (λ xs. codes_at xs clock) (sym (take-append-drop index keys))
     ∙ codes_append clock (take index keys) (drop index keys)
@@ -109,7 +116,8 @@ pub record AllArrived (next clock : ℕ) (keys : List StampedKey) : Type 0 where
   pub awaits : Awaits next (clock + 1) keys
   pub codes : codes_at keys clock ≡ codes_at (take next keys) clock
 
-pub arrived_before : (next index clock : ℕ) (keys : List StampedKey) (d : StampedKey) → IsInOrder keys → Awaits next clock keys → Arrived next index clock keys → index < length keys → (get_or keys index d).stamp ≢ clock → AllArrived index clock keys
+pub arrived_before : (next index clock : ℕ) (keys : List StampedKey) (d : StampedKey) → IsInOrder keys → Awaits next clock keys
+    → Arrived next index clock keys → index < length keys → (get_or keys index d).stamp ≢ clock → AllArrived index clock keys
 arrived_before next index clock keys d in_order awaits so_far within differs =
     let later = later_than next index clock keys d in_order awaits so_far.from within differs in record {
       awaits = awaits_from index (clock + 1) keys so_far.within so_far.due later;
@@ -118,21 +126,25 @@ arrived_before next index clock keys d in_order awaits so_far within differs =
 
 pub arrived_all : (next clock : ℕ) (keys : List StampedKey) → Arrived next (length keys) clock keys → AllArrived (length keys) clock keys
 arrived_all next clock keys so_far =
-    let later : (j : ℕ) (e : StampedKey) → length keys ≤ j → j < length keys → clock + 1 ≤ (get_or keys j e).stamp = λ j e after inside. absurd (omega (arith, after, inside)) in record {
+    let later : (j : ℕ) (e : StampedKey) → length keys ≤ j → j < length keys → clock + 1 ≤ (get_or keys j e).stamp = λ j e after inside.
+    absurd (omega (arith, after, inside)) in
+    record {
       awaits = awaits_from (length keys) (clock + 1) keys so_far.within so_far.due later;
       codes = none_after (length keys) clock keys later;
     }
 
 -- the keys between those before a clock and those after it are the clock's
 
-all_due : (clock : ℕ) (keys : List StampedKey) → ((i : ℕ) (d : StampedKey) → i < length keys → (get_or keys i d).stamp ≡ clock) → codes_at keys clock ≡ map (λ (k : StampedKey). k.code) keys
+all_due : (clock : ℕ) (keys : List StampedKey) → ((i : ℕ) (d : StampedKey) → i < length keys → (get_or keys i d).stamp ≡ clock)
+    → codes_at keys clock ≡ map (λ (k : StampedKey). k.code) keys
 all_due clock [] all = refl
 all_due clock (k ∷ keys) all =
     let first : k.stamp ≡ clock = all 0 k (omega arith) in
     let rest : codes_at keys clock ≡ map (λ (k : StampedKey). k.code) keys = all_due clock keys (λ i d within. all (suc i) d (omega (arith, within))) in
     grind (arith, common_steps)
 
-pub codes_between : (from to clock : ℕ) (keys : List StampedKey) → from ≤ to → Awaits from clock keys → Awaits to (clock + 1) keys → map (λ (k : StampedKey). k.code) (take (to - from) (drop from keys)) ≡ codes_at keys clock
+pub codes_between : (from to clock : ℕ) (keys : List StampedKey) → from ≤ to → Awaits from clock keys → Awaits to (clock + 1) keys
+    → map (λ (k : StampedKey). k.code) (take (to - from) (drop from keys)) ≡ codes_at keys clock
 codes_between from to clock keys order first last =
     let due : List StampedKey = take (to - from) (drop from keys) in
     let whole : from + (to - from) ≡ to = omega (arith, order) in
@@ -156,11 +168,13 @@ codes_between from to clock keys order first last =
     ∙ all_due clock due stamps)
 
 -- the keys up to one that comes before a clock come before it, too
-pub earlier_than : (index clock : ℕ) (keys : List StampedKey) (d : StampedKey) → IsInOrder keys → index < length keys → (get_or keys index d).stamp < clock → (j : ℕ) (e : StampedKey) → j < index + 1 → (get_or keys j e).stamp < clock
+pub earlier_than : (index clock : ℕ) (keys : List StampedKey) (d : StampedKey) → IsInOrder keys → index < length keys
+    → (get_or keys index d).stamp < clock → (j : ℕ) (e : StampedKey) → j < index + 1 → (get_or keys j e).stamp < clock
 earlier_than index clock keys d in_order within before j e up_to =
     let same : (get_or keys index e).stamp ≡ (get_or keys index d).stamp = ap (λ (k : StampedKey). k.stamp) (get_or_default keys index e d within) in
     elim (eqb_tells j index) [
-      | inl here ↦ let stamp : (get_or keys j e).stamp ≡ (get_or keys index e).stamp = ap (λ i. (get_or keys i e).stamp) here.1 in omega (arith, stamp, same, before)
+      | inl here ↦
+          let stamp : (get_or keys j e).stamp ≡ (get_or keys index e).stamp = ap (λ i. (get_or keys i e).stamp) here.1 in omega (arith, stamp, same, before)
       | inr apart ↦ let order = in_order.stamps j index e (omega (arith, up_to, apart.1)) within in omega (arith, order, same, before)
     ]
 
@@ -177,7 +191,8 @@ pub awaits_on : (next clock late : ℕ) (keys other : List StampedKey) → Await
 awaits_on next clock late keys other awaits same is = subst (λ ks. Awaits next (clock + 1) ks) same (subst (λ c. Awaits next c keys) is awaits)
 
 -- clocks at which none comes
-pub awaits_later : (next clock n late : ℕ) (keys : List StampedKey) → Awaits next (clock + 1) keys → All (λ k. (k.stamp ≤ clock) ⊎ (clock + n < k.stamp)) keys → late ≡ clock + n → Awaits next (late + 1) keys
+pub awaits_later : (next clock n late : ℕ) (keys : List StampedKey) → Awaits next (clock + 1) keys
+    → All (λ k. (k.stamp ≤ clock) ⊎ (clock + n < k.stamp)) keys → late ≡ clock + n → Awaits next (late + 1) keys
 awaits_later next clock n late keys awaits no_key is =
     awaits_from next (late + 1) keys awaits.within
     (λ j d within. let past = past_at next (clock + 1) keys awaits j d within in omega (arith, past, is))
@@ -188,11 +203,13 @@ awaits_later next clock n late keys awaits no_key is =
       | inr after ↦ omega (arith, after, is)
     ])
 
-pub have_on : (a : SoFar) (clock late : ℕ) (keys other : List StampedKey) → HaveArrived a late keys → keys ≡ other → late ≡ clock + 1 → HaveArrived a (clock + 1) other
+pub have_on : (a : SoFar) (clock late : ℕ) (keys other : List StampedKey)
+    → HaveArrived a late keys → keys ≡ other → late ≡ clock + 1 → HaveArrived a (clock + 1) other
 have_on a clock late keys other have same at =
     subst (HaveArrived a (clock + 1)) same (subst (λ n. HaveArrived a n keys) at have)
 
-pub have_later : (a : SoFar) (clock n late : ℕ) (keys : List StampedKey) → HaveArrived a (clock + 1) keys → All (λ k. (k.stamp ≤ clock) ⊎ (clock + n < k.stamp)) keys → late ≡ clock + n → HaveArrived a (late + 1) keys
+pub have_later : (a : SoFar) (clock n late : ℕ) (keys : List StampedKey) → HaveArrived a (clock + 1) keys
+    → All (λ k. (k.stamp ≤ clock) ⊎ (clock + n < k.stamp)) keys → late ≡ clock + n → HaveArrived a (late + 1) keys
 have_later a clock n late keys have none at =
     record { awaits = awaits_later a.count clock n late keys have.awaits none at; next = have.next }
 
@@ -202,7 +219,8 @@ next_of a clock keys have = have.next clock have.awaits
 
 -- no key comes before the next stamp
 
-pub no_key_by : (clock n : ℕ) (keys : List StampedKey) (p : Option ℕ) → IsNextStamp clock keys p → ComesAfter (clock + n) p → All (λ k. (k.stamp ≤ clock) ⊎ (clock + n < k.stamp)) keys
+pub no_key_by : (clock n : ℕ) (keys : List StampedKey) (p : Option ℕ) → IsNextStamp clock keys p → ComesAfter (clock + n) p
+    → All (λ k. (k.stamp ≤ clock) ⊎ (clock + n < k.stamp)) keys
 no_key_by clock n keys None all after = λ j d inside. inl (all j d inside)
 no_key_by clock n keys (Some at) next after = λ j d inside.
     elim (next.1 j d inside) [
@@ -215,7 +233,8 @@ unfolding clock_of
 no_key s n p next after = no_key_by s.chips.clock n s.keys p next after
 
 -- no more keys have arrived after all clocks of a step
-pub still_arrived : (a : SoFar) (clock busy free late : ℕ) (keys : List StampedKey) → HaveArrived a (clock + 1) keys → free ≡ clock + max busy 1 → ComesAfter free a.next → late ≡ free → HaveArrived a (late + 1) keys
+pub still_arrived : (a : SoFar) (clock busy free late : ℕ) (keys : List StampedKey)
+    → HaveArrived a (clock + 1) keys → free ≡ clock + max busy 1 → ComesAfter free a.next → late ≡ free → HaveArrived a (late + 1) keys
 still_arrived a clock busy free late keys have is later at =
     have_later a clock (max busy 1) late keys have
     (no_key_by clock (max busy 1) keys a.next (next_of a clock keys have) (subst (λ to. ComesAfter to a.next) is later)) (at ∙ is)

@@ -48,14 +48,20 @@ not_free n some = grind (arith, nat_tests)
 pub busy_by : (free : Bool) (a : Act) → free ≡ false → (if free then a else Nothing) ≡ Nothing
 busy_by free a is = ap (λ f. if f then a else Nothing) is
 
-idle_clock : (s : Plain) (b : ℕ) (c : ChipsState) → next_act (record s { busy = b; chips = c }) ≡ Nothing → chips_after_clock c s.keys ≡ wires.after_clock c → after_clock (record s { busy = b; chips = c }) ≡ record s { busy = b - 1; chips = wires.after_clock c }
+idle_clock : (s : Plain) (b : ℕ) (c : ChipsState) → next_act (record s { busy = b; chips = c }) ≡ Nothing → chips_after_clock c s.keys ≡ wires.after_clock c
+    → after_clock (record s { busy = b; chips = c }) ≡ record s { busy = b - 1; chips = wires.after_clock c }
 unfolding after_clock
 idle_clock s b c nothing alone =
-    ap (λ (a : Act). let acted : StepResult ChipsState = after_act s.clocks s.cpu b c a in record { cpu = acted.cpu; busy = acted.clocks - 1; chips = chips_after_clock acted.bus s.keys; keys = s.keys; clocks = s.clocks }) nothing
+    ap (λ (a : Act).
+    let acted : StepResult ChipsState = after_act s.clocks s.cpu b c a in
+    record { cpu = acted.cpu; busy = acted.clocks - 1; chips = chips_after_clock acted.bus s.keys; keys = s.keys; clocks = s.clocks })
+    nothing
     ∙ ap (λ t. record s { busy = b - 1; chips = t }) alone
 
 -- clocks in each of which it does nothing, while no key comes; `most` is their number at the end
-pub idle_clocks : (most n : ℕ) (s : Plain) → n ≤ most → WiresHold s.chips → NoKeyComes s most → ((i : ℕ) → i < n → next_act (record s { busy = s.busy - i; chips = wires.after_clocks s.chips i }) ≡ Nothing) → after_clocks s n ≡ record s { busy = s.busy - n; chips = wires.after_clocks s.chips n }
+pub idle_clocks : (most n : ℕ) (s : Plain) → n ≤ most → WiresHold s.chips → NoKeyComes s most
+    → ((i : ℕ) → i < n → next_act (record s { busy = s.busy - i; chips = wires.after_clocks s.chips i }) ≡ Nothing)
+    → after_clocks s n ≡ record s { busy = s.busy - n; chips = wires.after_clocks s.chips n }
 unfolding iterate clock_of
 idle_clocks most zero s within holds no_key nothing =
     let same : s.busy ≡ s.busy - 0 = omega arith in ap (λ b. record s { busy = b }) same
@@ -89,7 +95,8 @@ are_uneventful_for s n k within are_uneventful = record {
 requests_stay : (s : Plain) (n : ℕ) → WiresHold s.chips → AreUneventful s n → is_requested (wires.after_clocks s.chips n) ≡ is_requested s.chips
 requests_stay s n holds are_uneventful = ap (λ (c : ChipsState). is_requested c) (clocks_leap n s.chips holds.settled are_uneventful.out_0)
 
-idle_act : (s : Plain) (n i : ℕ) → WiresHold s.chips → AreUneventful s n → i < n → StaysIdle s n → next_act (record s { busy = s.busy - i; chips = wires.after_clocks s.chips i }) ≡ Nothing
+idle_act : (s : Plain) (n i : ℕ) → WiresHold s.chips → AreUneventful s n → i < n → StaysIdle s n
+    → next_act (record s { busy = s.busy - i; chips = wires.after_clocks s.chips i }) ≡ Nothing
 unfolding next_act
 idle_act s n i holds are_uneventful before (inl busy) =
     busy_by (nat_eq (s.busy - i) 0) _ (not_free (s.busy - i) (omega (arith, before, busy)))
@@ -97,7 +104,8 @@ idle_act s n i holds are_uneventful before (inr idle) =
     nothing_by (nat_eq (s.busy - i) 0) s.cpu (wires.after_clocks s.chips i) _
     (ap (boundary_of s.cpu) (requests_stay s i holds (are_uneventful_for s n i (omega (arith, before)) are_uneventful)) ∙ idle.1)
 
-idle_then : (s : Plain) (n k : ℕ) → k ≤ n → WiresHold s.chips → AreUneventful s n → after_clocks s k ≡ record s { busy = s.busy - k; chips = wires.after_clocks s.chips k }
+idle_then : (s : Plain) (n k : ℕ) → k ≤ n → WiresHold s.chips → AreUneventful s n
+    → after_clocks s k ≡ record s { busy = s.busy - k; chips = wires.after_clocks s.chips k }
 idle_then s n k within holds are_uneventful =
     idle_clocks n k s within holds are_uneventful.no_key (λ i before. idle_act s n i holds are_uneventful (omega (arith, before, within)) are_uneventful.idle)
 
@@ -141,7 +149,8 @@ level_stays s n k within holds are_uneventful =
 
 -- nothing is listed
 
-pub none_gathered : {S A : Type 0} (step : S → S) (seen : S → List A) (n : ℕ) (s : S) → ((i : ℕ) → i < n → seen (iterate step i s) ≡ []) → gathered step seen n s ≡ []
+pub none_gathered : {S A : Type 0} (step : S → S) (seen : S → List A) (n : ℕ) (s : S)
+    → ((i : ℕ) → i < n → seen (iterate step i s) ≡ []) → gathered step seen n s ≡ []
 none_gathered step seen zero s none = gathered_zero step seen s
 none_gathered step seen (suc n) s none =
     let more : suc n ≡ n + 1 = omega arith in
@@ -192,7 +201,8 @@ holding_same stops s t same =
     same_position (λ condition. holds condition t) (λ condition. holds condition s) 1 stops (λ condition. one_same condition s t same)
 
 -- bytes stay while only the beam moves
-pub bytes_stay : (s t : Plain) (beam : ℕ) → t.chips.memory ≡ s.chips.memory → t.chips.mda ≡ record s.chips.mda { raster = beam } → (address : ℕ) → byte_of t address ≡ byte_of s address
+pub bytes_stay : (s t : Plain) (beam : ℕ) → t.chips.memory ≡ s.chips.memory
+    → t.chips.mda ≡ record s.chips.mda { raster = beam } → (address : ℕ) → byte_of t address ≡ byte_of s address
 unfolding byte_of byte_at text_byte
 bytes_stay s t beam memory mda address =
     λ k. if is_text_address address then text_byte (mda k) (address - 0xB0000) else map.byte_at (memory k) address
@@ -217,7 +227,8 @@ looks_same s n k before are_uneventful level = record {
   level = level;
 }
 
-pub holding_stays : (stops : List Condition) (s : Plain) (n k : ℕ) → k < n → WiresHold s.chips → AreUneventful s n → holding stops (after_clocks s k) ≡ holding stops s
+pub holding_stays : (stops : List Condition) (s : Plain) (n k : ℕ) → k < n → WiresHold s.chips → AreUneventful s n
+    → holding stops (after_clocks s k) ≡ holding stops s
 holding_stays stops s n k before wired are_uneventful =
     let less : AreUneventful s k = are_uneventful_for s n k (omega (arith, before)) are_uneventful in
     let level : speaker_level (after_leap s k) ≡ speaker_level s = level_with s k (out_2_stays s k less) in

@@ -43,23 +43,28 @@ no_start s (Found i size) is = absurd (cc)
 no_start s NoRow is = refl
 
 -- an instruction that has a size begins
-pub sized_begins : (s : Plain) (bytes : List ℕ) (d : Decoding) (n : ℕ) → n ≡ size_of d → IsDecoded bytes d → 0 < n → begun_now s None ∷ [] ≡ map begun_of (entry_at s (start_of s.cpu s.chips d))
+pub sized_begins : (s : Plain) (bytes : List ℕ) (d : Decoding) (n : ℕ) → n ≡ size_of d → IsDecoded bytes d → 0 < n
+    → begun_now s None ∷ [] ≡ map begun_of (entry_at s (start_of s.cpu s.chips d))
 sized_begins s bytes d n is found some =
     let more : nat_lt 0 n ≡ true = grind (arith, nat_tests, some) in
     sym (starts s d (sym (found_by_size bytes d n is found) ∙ more))
 
 -- what was decoded as no row begins nothing
-pub sizeless_begins : (s : Plain) (bytes : List ℕ) (d : Decoding) (n : ℕ) → n ≡ size_of d → IsDecoded bytes d → n ≤ 0 → [] ≡ map begun_of (entry_at s (start_of s.cpu s.chips d))
+pub sizeless_begins : (s : Plain) (bytes : List ℕ) (d : Decoding) (n : ℕ) → n ≡ size_of d → IsDecoded bytes d → n ≤ 0
+    → [] ≡ map begun_of (entry_at s (start_of s.cpu s.chips d))
 sizeless_begins s bytes d n is found none =
     let more : nat_lt 0 n ≡ false = grind (arith, nat_tests, none) in
     sym (no_start s d (sym (found_by_size bytes d n is found) ∙ more))
 
-pub begins_by : (s : Plain) (act : Act) (begun : List Begun) → act ≡ next_act s → begun ≡ map begun_of (entry_at s (event_of s.cpu s.chips act)) → begun ≡ map begun_of (trail_next s)
+pub begins_by : (s : Plain) (act : Act) (begun : List Begun) → act ≡ next_act s
+    → begun ≡ map begun_of (entry_at s (event_of s.cpu s.chips act)) → begun ≡ map begun_of (trail_next s)
 unfolding trail_next
 begins_by s act begun next is = is ∙ ap (λ (a : Act). map begun_of (entry_at s (event_of s.cpu s.chips a))) next
 
 -- a turn that is a leap
-once_leap : (edges : Bool) (within end : ℕ) (s u : BoardState) (begun : Option Begun) → length s.trail ≤ 32 → clock_of s.plain < end → IsLeapOn end 1 s u → (¬ (IsTrue edges) → WiresStayThen within s.plain u.plain) → option_to_list begun ≡ map begun_of (trail_next s.plain) → IfSome begun (λ b. b.clock ≡ clock_of s.plain) → IsOneTurn edges within end s u begun
+once_leap : (edges : Bool) (within end : ℕ) (s u : BoardState) (begun : Option Begun)
+    → length s.trail ≤ 32 → clock_of s.plain < end → IsLeapOn end 1 s u → (¬ (IsTrue edges) → WiresStayThen within s.plain u.plain)
+    → option_to_list begun ≡ map begun_of (trail_next s.plain) → IfSome begun (λ b. b.clock ≡ clock_of s.plain) → IsOneTurn edges within end s u begun
 once_leap edges within end s u begun few before on stay is clock =
     let leap = on.leap in
     let few_clocks = leap.within in
@@ -88,7 +93,9 @@ once_leap edges within end s u begun few before on stay is clock =
     }
 
 -- a turn that is one clock
-once_ticked : (edges : Bool) (within end : ℕ) (s u : BoardState) (begun : Option Begun) → length s.trail ≤ 32 → clock_of s.plain < within → within ≤ end → IsTickOn s u → (¬ (IsTrue edges) → WiresStayThen within s.plain u.plain) → option_to_list begun ≡ map begun_of (trail_next s.plain) → IfSome begun (λ b. b.clock ≡ clock_of s.plain) → IsOneTurn edges within end s u begun
+once_ticked : (edges : Bool) (within end : ℕ) (s u : BoardState) (begun : Option Begun)
+    → length s.trail ≤ 32 → clock_of s.plain < within → within ≤ end → IsTickOn s u → (¬ (IsTrue edges) → WiresStayThen within s.plain u.plain)
+    → option_to_list begun ≡ map begun_of (trail_next s.plain) → IfSome begun (λ b. b.clock ≡ clock_of s.plain) → IsOneTurn edges within end s u begun
 once_ticked edges within end s u begun few before order tick stay is clock =
     let passed = tick.clock in record {
       passed = 1;
@@ -105,7 +112,9 @@ once_ticked edges within end s u begun few before order tick stay is clock =
     }
 
 -- a turn that is an act with a leap after it
-once_acted : (edges : Bool) (within end : ℕ) (s b u : BoardState) (begun : Option Begun) → length s.trail ≤ 32 → clock_of s.plain < within → within ≤ end → IsTickOn s b → (u ≡ b) ⊎ ((1 ≤ b.plain.busy) × IsLeapOn within 0 b u) → (¬ (IsTrue edges) → WiresStayThen within s.plain u.plain) → option_to_list begun ≡ map begun_of (trail_next s.plain) → IfSome begun (λ x. x.clock ≡ clock_of s.plain) → IsOneTurn edges within end s u begun
+once_acted : (edges : Bool) (within end : ℕ) (s b u : BoardState) (begun : Option Begun) → length s.trail ≤ 32 → clock_of s.plain < within
+    → within ≤ end → IsTickOn s b → (u ≡ b) ⊎ ((1 ≤ b.plain.busy) × IsLeapOn within 0 b u) → (¬ (IsTrue edges) → WiresStayThen within s.plain u.plain)
+    → option_to_list begun ≡ map begun_of (trail_next s.plain) → IfSome begun (λ x. x.clock ≡ clock_of s.plain) → IsOneTurn edges within end s u begun
 once_acted edges within end s b u begun few before order tick (inl same) stay is clock =
     once_ticked edges within end s u begun few before order (subst (IsTickOn s) (sym same) tick) stay is clock
 once_acted edges within end s b u begun few before order tick (inr rest) stay is clock =
@@ -139,9 +148,13 @@ once_acted edges within end s b u begun few before order tick (inr rest) stay is
       leap = λ past_within. absurd (omega (arith, few_clocks, first, past, past_within));
     }
 
-pub once_turned : (edges : Bool) (within end : ℕ) (s u : BoardState) (begun : Option Begun) → length s.trail ≤ 32 → clock_of s.plain < within → within ≤ end → IsTurnOn within end s u → (¬ (IsTrue edges) → WiresStayThen within s.plain u.plain) → option_to_list begun ≡ map begun_of (trail_next s.plain) → IfSome begun (λ b. b.clock ≡ clock_of s.plain) → IsOneTurn edges within end s u begun
-once_turned edges within end s u begun few before order (inl leap) stay is clock = once_leap edges within end s u begun few (omega (arith, before, order)) leap stay is clock
-once_turned edges within end s u begun few before order (inr act) stay is clock = once_acted edges within end s act.begun u begun few before order act.first act.rest stay is clock
+pub once_turned : (edges : Bool) (within end : ℕ) (s u : BoardState) (begun : Option Begun)
+    → length s.trail ≤ 32 → clock_of s.plain < within → within ≤ end → IsTurnOn within end s u → (¬ (IsTrue edges) → WiresStayThen within s.plain u.plain)
+    → option_to_list begun ≡ map begun_of (trail_next s.plain) → IfSome begun (λ b. b.clock ≡ clock_of s.plain) → IsOneTurn edges within end s u begun
+once_turned edges within end s u begun few before order (inl leap) stay is clock =
+    once_leap edges within end s u begun few (omega (arith, before, order)) leap stay is clock
+once_turned edges within end s u begun few before order (inr act) stay is clock =
+    once_acted edges within end s act.begun u begun few before order act.first act.rest stay is clock
 
 -- the wires after the first clock
 
@@ -184,7 +197,10 @@ passes_within within s t before (inr leap) =
     let here = leap.1.unseen.clock in omega (arith, before, first, here, clocks)
 
 -- a turn that isn't refused
-pub turned_once : {E : Type 0} (edges : Bool) (within end by to : ℕ) (s u : BoardState) (answer : Result (Option Begun) E) → length s.trail ≤ 32 → clock_of s.plain < within → within ≤ end → by ≡ within → to ≡ end → OnOk answer (IsTurnOn by to s u) → (¬ (IsTrue edges) → OnOk answer (WiresStayThen by s.plain u.plain)) → IfOk answer (λ begun. option_to_list begun ≡ map begun_of (trail_next s.plain)) → IfOk answer (λ begun. IfSome begun (λ b. b.clock ≡ clock_of s.plain)) → IfOk answer (IsOneTurn edges within end s u)
+pub turned_once : {E : Type 0} (edges : Bool) (within end by to : ℕ) (s u : BoardState) (answer : Result (Option Begun) E)
+    → length s.trail ≤ 32 → clock_of s.plain < within → within ≤ end → by ≡ within → to ≡ end → OnOk answer (IsTurnOn by to s u)
+    → (¬ (IsTrue edges) → OnOk answer (WiresStayThen by s.plain u.plain)) → IfOk answer (λ begun. option_to_list begun ≡ map begun_of (trail_next s.plain))
+    → IfOk answer (λ begun. IfSome begun (λ b. b.clock ≡ clock_of s.plain)) → IfOk answer (IsOneTurn edges within end s u)
 turned_once edges within end by to s u (Ok begun) few before order is at turn stay begins clock =
     once_turned edges within end s u begun few before order (subst (λ n. IsTurnOn n end s u) is (subst (λ n. IsTurnOn by n s u) at turn))
     (λ not. subst (λ n. WiresStayThen n s.plain u.plain) is (stay not)) begins clock

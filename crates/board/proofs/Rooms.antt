@@ -42,7 +42,8 @@ not_after Keys at = omega arith
 not_after Processor at = omega arith
 not_after End at = omega arith
 
-not_later : (source : Source) (place at when : ℕ) → 1 ≤ when → (at < when) ⊎ ((at ≡ when) × (place_of source ≤ place)) → place ≤ 2 → last_of (acts_before source) at < when
+not_later : (source : Source) (place at when : ℕ) → 1 ≤ when → (at < when) ⊎ ((at ≡ when) × (place_of source ≤ place)) → place ≤ 2
+    → last_of (acts_before source) at < when
 not_later Counter0 place at when some (inl sooner) few = omega (arith, sooner)
 not_later Counter0 place at when some (inr tie) few = omega (arith, some, tie.0)
 not_later Counter2 place at when some (inl sooner) few = omega (arith, sooner)
@@ -54,7 +55,8 @@ not_later Processor place at when some (inr tie) few = absurd (omega (arith, tie
 not_later End place at when some (inl sooner) few = sooner
 not_later End place at when some (inr tie) few = absurd (omega (arith, tie.1, few))
 
-before_it : (d : DeadlinesState) (last : ℕ) (other : Source) (when : ℕ) → IsLastToLeap d last → acts_before other ≡ true → deadline_of d other ≡ Some when → 1 ≤ when → last < when
+before_it : (d : DeadlinesState) (last : ℕ) (other : Source) (when : ℕ)
+    → IsLastToLeap d last → acts_before other ≡ true → deadline_of d other ≡ Some when → 1 ≤ when → last < when
 before_it d last other when are_uneventful acts due some =
     subst (λ l. l < when) (sym are_uneventful.is)
     (not_later are_uneventful.source (place_of other) are_uneventful.at when some (are_uneventful.next.first other when due) (early other acts))
@@ -70,7 +72,8 @@ up_to_it d last other when are_uneventful due =
 
 -- the processor
 
-same_act : (free : Bool) (cpu : CpuState) (chips : ChipsState) (b : Boundary) → free ≡ true → (if free then act_at cpu chips b else Nothing) ≡ Nothing → b ≡ boundaries.Nothing
+same_act : (free : Bool) (cpu : CpuState) (chips : ChipsState) (b : Boundary)
+    → free ≡ true → (if free then act_at cpu chips b else Nothing) ≡ Nothing → b ≡ boundaries.Nothing
 same_act false cpu chips b is nothing = absurd (cc)
 same_act true cpu chips boundaries.Request is nothing = absurd (cc)
 same_act true cpu chips boundaries.SingleStep is nothing = absurd (cc)
@@ -85,14 +88,16 @@ pub idle_boundary : (s : Plain) → s.busy ≡ 0 → next_act s ≡ Nothing → 
 unfolding next_act
 idle_boundary s free nothing = same_act (is_free s) s.cpu s.chips (boundary_of s.cpu (is_requested s.chips)) (free_at s.busy free) nothing
 
-idle_by : (s : Plain) (last : ℕ) (p : Option ℕ) → IsFreeClock s p → next_act s ≡ Nothing → ((when : ℕ) → p ≡ Some when → last ≤ when) → last ≤ 2 ^ 40 → StaysIdle s (last - s.chips.clock)
+idle_by : (s : Plain) (last : ℕ) (p : Option ℕ) → IsFreeClock s p → next_act s ≡ Nothing
+    → ((when : ℕ) → p ≡ Some when → last ≤ when) → last ≤ 2 ^ 40 → StaysIdle s (last - s.chips.clock)
 idle_by s last None (inl free) nothing upto within = inr (free, idle_boundary s free nothing)
 idle_by s last None (inr past) nothing upto within = inl (omega (arith, past, within))
 idle_by s last (Some when) free nothing upto within = let le = upto when refl in inl (omega (arith, free.1, le))
 
 -- the keys
 
-no_key_by : (clock last : ℕ) (keys : List StampedKey) (p : Option ℕ) → IsNextStamp clock keys p → ((when : ℕ) → p ≡ Some when → 1 ≤ when → last < when) → clock ≤ last → All (λ k. (k.stamp ≤ clock) ⊎ (clock + (last - clock) < k.stamp)) keys
+no_key_by : (clock last : ℕ) (keys : List StampedKey) (p : Option ℕ) → IsNextStamp clock keys p
+    → ((when : ℕ) → p ≡ Some when → 1 ≤ when → last < when) → clock ≤ last → All (λ k. (k.stamp ≤ clock) ⊎ (clock + (last - clock) < k.stamp)) keys
 no_key_by clock last keys None all before from = λ j d inside. inl (all j d inside)
 no_key_by clock last keys (Some when) next before from = λ j d inside.
     let first = next.0 in
@@ -102,13 +107,15 @@ no_key_by clock last keys (Some when) next before from = λ j d inside.
       | inr later ↦ inr (omega (arith, later, less, from))
     ]
 
-no_key_of : (s : Plain) (last : ℕ) (p : Option ℕ) → IsNextStamp s.chips.clock s.keys p → ((when : ℕ) → p ≡ Some when → 1 ≤ when → last < when) → s.chips.clock ≤ last → NoKeyComes s (last - s.chips.clock)
+no_key_of : (s : Plain) (last : ℕ) (p : Option ℕ) → IsNextStamp s.chips.clock s.keys p
+    → ((when : ℕ) → p ≡ Some when → 1 ≤ when → last < when) → s.chips.clock ≤ last → NoKeyComes s (last - s.chips.clock)
 unfolding clock_of
 no_key_of s last p next before from = no_key_by s.chips.clock last s.keys p next before from
 
 -- the counters
 
-steady_by : (c : CounterState) (clock last : ℕ) (p : Option ℕ) → IsEdgeOf c clock p → ((when : ℕ) → p ≡ Some when → 1 ≤ when → last < when) → clock ≤ last → last ≤ 2 ^ 40 → IsSteady after_ticks out_of c (ticks_between clock (clock + (last - clock)))
+steady_by : (c : CounterState) (clock last : ℕ) (p : Option ℕ) → IsEdgeOf c clock p → ((when : ℕ) → p ≡ Some when → 1 ≤ when → last < when)
+    → clock ≤ last → last ≤ 2 ^ 40 → IsSteady after_ticks out_of c (ticks_between clock (clock + (last - clock)))
 steady_by c clock last None steady before from within = λ k few. steady k (omega (arith, few, from, within))
 steady_by c clock last (Some when) edge before from within = λ k few.
     let first = edge.later in
@@ -117,7 +124,8 @@ steady_by c clock last (Some when) edge before from within = λ k few.
     edge.turns.before k (omega (arith, few, less, from, first, fourth))
 
 -- the least deadline isn't in the past
-from_now : (s : Plain) (end : ℕ) (d : DeadlinesState) (source : Source) (at : ℕ) → AreDeadlines s end d → s.chips.clock ≤ end → deadline_of d source ≡ Some at → s.chips.clock ≤ last_of (acts_before source) at
+from_now : (s : Plain) (end : ℕ) (d : DeadlinesState) (source : Source) (at : ℕ)
+    → AreDeadlines s end d → s.chips.clock ≤ end → deadline_of d source ≡ Some at → s.chips.clock ≤ last_of (acts_before source) at
 from_now s end d Counter0 at deadlines within due =
     let edge : TurnsIn s.chips.pit.counter_0 s.chips.clock at = subst (λ p. IsEdgeOf s.chips.pit.counter_0 s.chips.clock p) due deadlines.counter_0 in
     let first = edge.later in omega (arith, first)
@@ -140,11 +148,13 @@ pub record IsRoom (limit : ℕ) (s : Plain) (n : ℕ) : Type 0 where
   pub are_uneventful : AreUneventful s n
   pub maximal : IsMaximal limit s n
 
-keys_then : (s : Plain) (n at : ℕ) → at ≡ s.chips.clock + n + 1 → 1 ≤ length (codes_at s.keys at) → 1 ≤ length (codes_at (after_leap s n).keys (clock_of (after_leap s n) + 1))
+keys_then : (s : Plain) (n at : ℕ) → at ≡ s.chips.clock + n + 1 → 1 ≤ length (codes_at s.keys at)
+    → 1 ≤ length (codes_at (after_leap s n).keys (clock_of (after_leap s n) + 1))
 unfolding after_leap clock_of
 keys_then s n at is some = subst (λ c. 1 ≤ length (codes_at s.keys c)) is some
 
-maximal_by : (s : Plain) (end : ℕ) (d : DeadlinesState) (source : Source) (at n : ℕ) → WiresHold s.chips → AreDeadlines s end d → deadline_of d source ≡ Some at → s.chips.clock + n ≡ last_of (acts_before source) at → AreUneventful s n → IsMaximal (end - s.chips.clock) s n
+maximal_by : (s : Plain) (end : ℕ) (d : DeadlinesState) (source : Source) (at n : ℕ) → WiresHold s.chips → AreDeadlines s end d
+    → deadline_of d source ≡ Some at → s.chips.clock + n ≡ last_of (acts_before source) at → AreUneventful s n → IsMaximal (end - s.chips.clock) s n
 maximal_by s end d Counter0 at n holds deadlines due is are_uneventful =
     let edge : TurnsIn s.chips.pit.counter_0 s.chips.clock at = subst (λ p. IsEdgeOf s.chips.pit.counter_0 s.chips.clock p) due deadlines.counter_0 in
     let first = edge.later in inr (inr (edge_0_works s n at holds are_uneventful (omega (arith, first, is)) edge))
@@ -162,7 +172,8 @@ maximal_by s end d End at n holds deadlines due is are_uneventful =
     let same : Some end ≡ Some at = sym deadlines.end ∙ due in
     let when : end ≡ at = cc in inl (omega (arith, when, is))
 
-pub room : (s : Plain) (end : ℕ) (d : DeadlinesState) (last : ℕ) → WiresHold s.chips → AreDeadlines s end d → s.chips.clock ≤ end → end ≤ 2 ^ 40 → next_act s ≡ Nothing → IsLastToLeap d last → (s.chips.clock ≤ last) × IsRoom (end - s.chips.clock) s (last - s.chips.clock)
+pub room : (s : Plain) (end : ℕ) (d : DeadlinesState) (last : ℕ) → WiresHold s.chips → AreDeadlines s end d → s.chips.clock ≤ end
+    → end ≤ 2 ^ 40 → next_act s ≡ Nothing → IsLastToLeap d last → (s.chips.clock ≤ last) × IsRoom (end - s.chips.clock) s (last - s.chips.clock)
 room s end d last holds deadlines within limit nothing next =
     let from : s.chips.clock ≤ last = subst (λ l. s.chips.clock ≤ l) (sym next.is) (from_now s end d next.source next.at deadlines within next.next.due) in
     let upto : last ≤ end = up_to_it d last End end next deadlines.end in
@@ -170,8 +181,10 @@ room s end d last holds deadlines within limit nothing next =
     let are_uneventful : AreUneventful s (last - s.chips.clock) = record {
       idle = idle_by s last d.processor deadlines.processor nothing (λ when due. up_to_it d last Processor when next due) most;
       no_key = no_key_of s last d.keys deadlines.keys (λ when due some. before_it d last Keys when next refl due some) from;
-      out_0 = steady_by s.chips.pit.counter_0 s.chips.clock last d.counter_0 deadlines.counter_0 (λ when due some. before_it d last Counter0 when next refl due some) from most;
-      out_2 = steady_by s.chips.pit.counter_2 s.chips.clock last d.counter_2 deadlines.counter_2 (λ when due some. before_it d last Counter2 when next refl due some) from most;
+      out_0 = steady_by s.chips.pit.counter_0 s.chips.clock last d.counter_0 deadlines.counter_0
+          (λ when due some. before_it d last Counter0 when next refl due some) from most;
+      out_2 = steady_by s.chips.pit.counter_2 s.chips.clock last d.counter_2 deadlines.counter_2
+          (λ when due some. before_it d last Counter2 when next refl due some) from most;
     } in
     let whole : s.chips.clock + (last - s.chips.clock) ≡ last_of (acts_before next.source) next.at = let is = next.is in omega (arith, from, is) in (
       from,
@@ -184,7 +197,8 @@ room s end d last holds deadlines within limit nothing next =
 
 -- after keys have arrived up to a place, the next stamp is that of the key there
 
-not_sooner : (next j : ℕ) (keys : List StampedKey) (d e : StampedKey) → IsInOrder keys → next ≤ j → j < length keys → (get_or keys next d).stamp ≤ (get_or keys j e).stamp
+not_sooner : (next j : ℕ) (keys : List StampedKey) (d e : StampedKey) → IsInOrder keys → next ≤ j → j < length keys
+    → (get_or keys next d).stamp ≤ (get_or keys j e).stamp
 not_sooner next j keys d e in_order from inside =
     elim (eqb_tells j next) [
       | inl here ↦
@@ -193,12 +207,14 @@ not_sooner next j keys d e in_order from inside =
           omega (arith, same)
       | inr past ↦
           let order = in_order.stamps next j e (omega (arith, from, past.1)) inside in
-          let same : (get_or keys next e).stamp ≡ (get_or keys next d).stamp = ap (λ (k : StampedKey). k.stamp) (get_or_default keys next e d (omega (arith, from, inside))) in
+          let same : (get_or keys next e).stamp ≡ (get_or keys next d).stamp =
+          ap (λ (k : StampedKey). k.stamp) (get_or_default keys next e d (omega (arith, from, inside))) in
           omega (arith, order, same)
     ]
 
 -- a key that is due in the front of a list is due in the whole list
-some_due : (keys : List StampedKey) (next at : ℕ) (d : StampedKey) → codes_at (take (next + 1) keys) at ≡ codes_at (take next keys) at ++ (get_or keys next d).code ∷ [] → 1 ≤ length (codes_at keys at)
+some_due : (keys : List StampedKey) (next at : ℕ) (d : StampedKey)
+    → codes_at (take (next + 1) keys) at ≡ codes_at (take next keys) at ++ (get_or keys next d).code ∷ [] → 1 ≤ length (codes_at keys at)
 some_due keys next at d more =
     let parts : codes_at keys at ≡ codes_at (take (next + 1) keys) at ++ codes_at (drop (next + 1) keys) at =
     ap (λ ks. codes_at ks at) (sym (take-append-drop (next + 1) keys)) ∙ codes_append at (take (next + 1) keys) (drop (next + 1) keys) in
@@ -208,7 +224,8 @@ some_due keys next at d more =
     ap length more ∙ length-append (codes_at (take next keys) at) ((get_or keys next d).code ∷ []) in
     omega (arith, all, first)
 
-stamp_after : (clock next : ℕ) (keys : List StampedKey) (d : StampedKey) → IsInOrder keys → Awaits next (clock + 1) keys → next < length keys → IsNextStamp clock keys (Some (get_or keys next d).stamp)
+stamp_after : (clock next : ℕ) (keys : List StampedKey) (d : StampedKey) → IsInOrder keys → Awaits next (clock + 1) keys → next < length keys
+    → IsNextStamp clock keys (Some (get_or keys next d).stamp)
 stamp_after clock next keys d in_order awaits within =
     let at : ℕ = (get_or keys next d).stamp in
     let first = to_come_at next (clock + 1) keys awaits next d (omega arith) within in (
@@ -222,7 +239,8 @@ stamp_after clock next keys d in_order awaits within =
           some_due keys next at d more,
     )
 
-pub stamp_told : (clock next : ℕ) (keys : List StampedKey) (key : StampedKey) → IsInOrder keys → Awaits next (clock + 1) keys → next < length keys → key ≡ get_or keys next key → IsNextStamp clock keys (Some key.stamp)
+pub stamp_told : (clock next : ℕ) (keys : List StampedKey) (key : StampedKey)
+    → IsInOrder keys → Awaits next (clock + 1) keys → next < length keys → key ≡ get_or keys next key → IsNextStamp clock keys (Some key.stamp)
 stamp_told clock next keys key in_order awaits within is =
     subst (λ (k : StampedKey). IsNextStamp clock keys (Some k.stamp)) (sym is) (stamp_after clock next keys key in_order awaits within)
 
@@ -231,7 +249,10 @@ no_stamp clock next keys awaits all = λ j e inside.
     let past = past_at next (clock + 1) keys awaits j e (omega (arith, inside, all)) in omega (arith, past)
 
 -- all deadlines, one set after another
-pub all_set : (s : Plain) (until : ℕ) (e0 e2 k p : Option ℕ) (d0 d1 d2 d3 d4 d5 : DeadlinesState) → d0 ≡ no_deadlines → d1 ≡ with_deadline d0 Counter0 e0 → d2 ≡ with_deadline d1 Counter2 e2 → d3 ≡ with_deadline d2 Keys k → d4 ≡ with_deadline d3 Processor p → d5 ≡ with_deadline d4 End (Some until) → IsEdgeOf s.chips.pit.counter_0 s.chips.clock e0 → IsEdgeOf s.chips.pit.counter_2 s.chips.clock e2 → IsNextStamp s.chips.clock s.keys k → IsFreeClock s p → AreDeadlines s until d5
+pub all_set : (s : Plain) (until : ℕ) (e0 e2 k p : Option ℕ) (d0 d1 d2 d3 d4 d5 : DeadlinesState)
+    → d0 ≡ no_deadlines → d1 ≡ with_deadline d0 Counter0 e0 → d2 ≡ with_deadline d1 Counter2 e2 → d3 ≡ with_deadline d2 Keys k
+    → d4 ≡ with_deadline d3 Processor p → d5 ≡ with_deadline d4 End (Some until) → IsEdgeOf s.chips.pit.counter_0 s.chips.clock e0
+    → IsEdgeOf s.chips.pit.counter_2 s.chips.clock e2 → IsNextStamp s.chips.clock s.keys k → IsFreeClock s p → AreDeadlines s until d5
 all_set s until e0 e2 k p d0 d1 d2 d3 d4 d5 new first second third fourth fifth edge_0 edge_2 key free =
     let whole : d5 ≡ record { counter_0 = e0; counter_2 = e2; keys = k; processor = p; end = Some until } =
     fifth

@@ -26,7 +26,8 @@ pub record Searched (stops : List Condition) (end : ℕ) (s t : BoardState) : Ty
   pub some : 1 ≤ so_far.passed
   pub none : NoStop stops (so_far.passed - 1) s.plain
 
-pub searched_first : (stops : List Condition) (end : ℕ) (s u : BoardState) → length s.trail ≤ 32 → clock_of s.plain < end → IsTickOn s u → Searched stops end s u
+pub searched_first : (stops : List Condition) (end : ℕ) (s u : BoardState)
+    → length s.trail ≤ 32 → clock_of s.plain < end → IsTickOn s u → Searched stops end s u
 unfolding so_far_first
 searched_first stops end s u few before on = record {
   so_far = so_far_first end s u few before on;
@@ -35,7 +36,8 @@ searched_first stops end s u few before on = record {
 }
 
 -- nothing holds at the clock at which it looks
-pub none_here : (stops : List Condition) (end : ℕ) (s t : BoardState) → (searched : Searched stops end s t) → holding stops t.plain ≡ None → NoStop stops searched.so_far.passed s.plain
+pub none_here : (stops : List Condition) (end : ℕ) (s t : BoardState)
+    → (searched : Searched stops end s t) → holding stops t.plain ≡ None → NoStop stops searched.so_far.passed s.plain
 none_here stops end s t searched here =
     let some = searched.some in
     let n : ℕ = searched.so_far.passed in
@@ -45,7 +47,8 @@ none_here stops end s t searched here =
     (ap (λ k. holding stops (after_clocks s.plain k)) whole ∙ ap (holding stops) (sym searched.so_far.ran.plain) ∙ here))
 
 -- nothing holds during a leap, before its end
-none_in_leap : (stops : List Condition) (n end count : ℕ) (s t u : BoardState) → Ran n s t → NoStop stops n s.plain → holding stops t.plain ≡ None → (on : IsLeapOn end count t u) → NoStop stops (n + on.leap.clocks - 1) s.plain
+none_in_leap : (stops : List Condition) (n end count : ℕ) (s t u : BoardState)
+    → Ran n s t → NoStop stops n s.plain → holding stops t.plain ≡ None → (on : IsLeapOn end count t u) → NoStop stops (n + on.leap.clocks - 1) s.plain
 none_in_leap stops n end count s t u ran none here on j first within =
     elim (leb_tells j n) [
       | inl before ↦ none j first before.1
@@ -59,7 +62,8 @@ none_in_leap stops n end count s t u ran none here on j first within =
           ∙ here
     ]
 
-searched_leap : (stops : List Condition) (end count : ℕ) (s t u : BoardState) → count ≤ 1 → Searched stops end s t → holding stops t.plain ≡ None → clock_of t.plain < end → IsLeapOn end count t u → Searched stops end s u
+searched_leap : (stops : List Condition) (end count : ℕ) (s t u : BoardState)
+    → count ≤ 1 → Searched stops end s t → holding stops t.plain ≡ None → clock_of t.plain < end → IsLeapOn end count t u → Searched stops end s u
 unfolding so_far_leap
 searched_leap stops end count s t u one searched here before leap = record {
   so_far = so_far_leap 2 end count s t u one searched.so_far before leap;
@@ -67,7 +71,8 @@ searched_leap stops end count s t u one searched here before leap = record {
   none = none_in_leap stops searched.so_far.passed end count s t u searched.so_far.ran (none_here stops end s t searched here) here leap;
 }
 
-searched_tick : (stops : List Condition) (end : ℕ) (s t u : BoardState) → Searched stops end s t → holding stops t.plain ≡ None → clock_of t.plain < end → IsTickOn t u → 1 ≤ work_next t.plain → Searched stops end s u
+searched_tick : (stops : List Condition) (end : ℕ) (s t u : BoardState)
+    → Searched stops end s t → holding stops t.plain ≡ None → clock_of t.plain < end → IsTickOn t u → 1 ≤ work_next t.plain → Searched stops end s u
 unfolding so_far_tick
 searched_tick stops end s t u searched here before tick work = record {
   so_far = so_far_tick 2 end s t u searched.so_far before tick work;
@@ -75,7 +80,8 @@ searched_tick stops end s t u searched here before tick work = record {
   none = subst (λ n. NoStop stops n s.plain) (omega arith) (none_here stops end s t searched here);
 }
 
-searched_short : (stops : List Condition) (end : ℕ) (s t u : BoardState) → Searched stops end s t → holding stops t.plain ≡ None → clock_of t.plain < end → IsTurnOn (clock_of t.plain + 1) end t u → Searched stops end s u
+searched_short : (stops : List Condition) (end : ℕ) (s t u : BoardState) → Searched stops end s t
+    → holding stops t.plain ≡ None → clock_of t.plain < end → IsTurnOn (clock_of t.plain + 1) end t u → Searched stops end s u
 searched_short stops end s t u searched here before (inl leap) = searched_leap stops end 1 s t u (omega arith) searched here before leap
 searched_short stops end s t u searched here before (inr act) =
     let tick = act_alone t u act in searched_tick stops end s t u searched here before tick.0 tick.1
@@ -98,23 +104,28 @@ unfolding holding
 none_held stops s some waits =
     none_there (λ (condition : Condition). holds condition s) 1 stops Free (λ k below. one_not_held (slice_index_or stops k Free) s some (waits k below))
 
-searched_rest : (stops : List Condition) (end : ℕ) (s b u : BoardState) → AllAwaitFree stops → Searched stops end s b → (u ≡ b) ⊎ ((1 ≤ b.plain.busy) × IsLeapOn end 0 b u) → Searched stops end s u
+searched_rest : (stops : List Condition) (end : ℕ) (s b u : BoardState)
+    → AllAwaitFree stops → Searched stops end s b → (u ≡ b) ⊎ ((1 ≤ b.plain.busy) × IsLeapOn end 0 b u) → Searched stops end s u
 searched_rest stops end s b u waits searched (inl same) = subst (Searched stops end s) (sym same) searched
 searched_rest stops end s b u waits searched (inr rest) =
     searched_leap stops end 0 s b u (omega arith) searched (none_held stops b.plain rest.0 waits) (before_rest end b u rest.1) rest.1
 
-searched_over : (stops : List Condition) (end : ℕ) (s t u : BoardState) → AllAwaitFree stops → Searched stops end s t → holding stops t.plain ≡ None → clock_of t.plain < end → IsTurnOn end end t u → Searched stops end s u
+searched_over : (stops : List Condition) (end : ℕ) (s t u : BoardState) → AllAwaitFree stops → Searched stops end s t
+    → holding stops t.plain ≡ None → clock_of t.plain < end → IsTurnOn end end t u → Searched stops end s u
 searched_over stops end s t u waits searched here before (inl leap) = searched_leap stops end 1 s t u (omega arith) searched here before leap
 searched_over stops end s t u waits searched here before (inr act) =
     searched_rest stops end s act.begun u waits (searched_tick stops end s t act.begun searched here before act.first act.work) act.rest
 
 -- nothing holds between steps, at an IP that may be passed
-pub none_between : (unwatched : ℕ → Type 0) (stops : List Condition) (n end : ℕ) (t w : Traced) → StopsNowhere unwatched stops → holding stops t.plain ≡ None → AreQuietSteps unwatched n end t w → MayGoOn unwatched n w → holding stops w.plain ≡ None
+pub none_between : (unwatched : ℕ → Type 0) (stops : List Condition) (n end : ℕ) (t w : Traced)
+    → StopsNowhere unwatched stops → holding stops t.plain ≡ None → AreQuietSteps unwatched n end t w → MayGoOn unwatched n w → holding stops w.plain ≡ None
 unfolding AreQuietSteps
 none_between unwatched stops zero end t w none here same goes_on = ap (λ (x : Traced). holding stops x.plain) same ∙ here
 none_between unwatched stops (suc n) end t w none here steps goes_on = none w.plain goes_on
 
-searched_each : (unwatched : ℕ → Type 0) (n : ℕ) (stops : List Condition) (end : ℕ) (s t : BoardState) (v : Traced) → AllAwaitFree stops → StopsNowhere unwatched stops → Searched stops end s t → holding stops t.plain ≡ None → AreQuietSteps unwatched n end (record { plain = t.plain; trail = t.trail }) v → Searched stops end s (following t n v)
+searched_each : (unwatched : ℕ → Type 0) (n : ℕ) (stops : List Condition) (end : ℕ) (s t : BoardState) (v : Traced)
+    → AllAwaitFree stops → StopsNowhere unwatched stops → Searched stops end s t → holding stops t.plain ≡ None
+    → AreQuietSteps unwatched n end (record { plain = t.plain; trail = t.trail }) v → Searched stops end s (following t n v)
 unfolding AreQuietSteps
 searched_each unwatched zero stops end s t v waits none searched here same =
     let counted : t.turns ≡ t.turns + 0 = omega arith in
@@ -126,23 +137,29 @@ searched_each unwatched (suc n) stops end s t v waits none searched here steps =
     (none_between unwatched stops n end (record { plain = t.plain; trail = t.trail }) w none here steps.1 steps.3) steps.2.before
     (inr (one_more n end t w v steps.2))
 
-searched_steps : (unwatched : ℕ → Type 0) (stops : List Condition) (end : ℕ) (s t u : BoardState) → AllAwaitFree stops → StopsNowhere unwatched stops → Searched stops end s t → holding stops t.plain ≡ None → AreStepsOn unwatched end t u → Searched stops end s u
+searched_steps : (unwatched : ℕ → Type 0) (stops : List Condition) (end : ℕ) (s t u : BoardState) → AllAwaitFree stops
+    → StopsNowhere unwatched stops → Searched stops end s t → holding stops t.plain ≡ None → AreStepsOn unwatched end t u → Searched stops end s u
 searched_steps unwatched stops end s t u waits none searched here on =
     subst (λ b. Searched stops end s b) (steps_lead unwatched end t u on)
     (searched_each unwatched on.count stops end s t (record { plain = u.plain; trail = u.trail }) waits none searched here on.steps)
 
-pub searched_between : (unwatched : ℕ → Type 0) (stops : List Condition) (end : ℕ) (whole : Bool) (s t u : BoardState) → (IsTrue whole → AllAwaitFree stops) → StopsNowhere unwatched stops → Searched stops end s t → holding stops t.plain ≡ None → clock_of t.plain < end → IsTurnBetween whole unwatched end t u → Searched stops end s u
-searched_between unwatched stops end true s t u waits none searched here before (inl on) = searched_steps unwatched stops end s t u (waits refl) none searched here on.0
+pub searched_between : (unwatched : ℕ → Type 0) (stops : List Condition) (end : ℕ) (whole : Bool) (s t u : BoardState)
+    → (IsTrue whole → AllAwaitFree stops) → StopsNowhere unwatched stops → Searched stops end s t
+    → holding stops t.plain ≡ None → clock_of t.plain < end → IsTurnBetween whole unwatched end t u → Searched stops end s u
+searched_between unwatched stops end true s t u waits none searched here before (inl on) =
+    searched_steps unwatched stops end s t u (waits refl) none searched here on.0
 searched_between unwatched stops end true s t u waits none searched here before (inr on) = searched_over stops end s t u (waits refl) searched here before on
 searched_between unwatched stops end false s t u waits none searched here before on = searched_short stops end s t u searched here before on
 
-pub between_moves : (unwatched : ℕ → Type 0) (end : ℕ) (whole : Bool) (t u : BoardState) → clock_of t.plain < end → IsTurnBetween whole unwatched end t u → end - clock_of u.plain < end - clock_of t.plain
+pub between_moves : (unwatched : ℕ → Type 0) (end : ℕ) (whole : Bool) (t u : BoardState)
+    → clock_of t.plain < end → IsTurnBetween whole unwatched end t u → end - clock_of u.plain < end - clock_of t.plain
 between_moves unwatched end true t u before (inl on) = let moved = on.1 in omega (arith, before, moved)
 between_moves unwatched end true t u before (inr on) = turn_moves end t u before on
 between_moves unwatched end false t u before on = short_moves end t u before on
 
 -- a condition holds at the clock at which it looks
-pub stop_found : (stops : List Condition) (end count : ℕ) (s t : BoardState) (number clock : ℕ) → Searched stops end s t → end ≡ clock_of s.plain + count → holding stops t.plain ≡ Some number → clock ≡ clock_of t.plain → StopsAt stops count s.plain (record { number = number; clock = clock })
+pub stop_found : (stops : List Condition) (end count : ℕ) (s t : BoardState) (number clock : ℕ) → Searched stops end s t → end ≡ clock_of s.plain + count
+    → holding stops t.plain ≡ Some number → clock ≡ clock_of t.plain → StopsAt stops count s.plain (record { number = number; clock = clock })
 stop_found stops end count s t number clock searched is here at =
     let n : ℕ = searched.so_far.passed in
     let some = searched.some in
@@ -152,7 +169,8 @@ stop_found stops end count s t number clock searched is here at =
     (subst (λ k. Ran k s t) (omega (arith, some)) searched.so_far.ran) here at
 
 -- none holds up to the end
-pub none_found : (stops : List Condition) (end count : ℕ) (s t : BoardState) → (searched : Searched stops end s t) → end ≡ clock_of s.plain + count → end ≤ clock_of t.plain → holding stops t.plain ≡ None → NoStop stops count s.plain
+pub none_found : (stops : List Condition) (end count : ℕ) (s t : BoardState) → (searched : Searched stops end s t)
+    → end ≡ clock_of s.plain + count → end ≤ clock_of t.plain → holding stops t.plain ≡ None → NoStop stops count s.plain
 none_found stops end count s t searched is past here =
     let gone = searched.so_far.ran.clock in
     let within = searched.so_far.within in
@@ -164,7 +182,8 @@ pub record HeldSearch (stops : List Condition) (count : ℕ) (s u : BoardState) 
   pub none : NoStop stops (clock_of u.plain - clock_of s.plain) s.plain
   pub fits : FitsRoom stops count s → ⊥
 
-pub held_search : (stops : List Condition) (end count : ℕ) (s t u : BoardState) → Searched stops end s t → holding stops t.plain ≡ None → end ≡ clock_of s.plain + count → clock_of t.plain < end → IsHeldBack t u → HeldSearch stops count s u
+pub held_search : (stops : List Condition) (end count : ℕ) (s t u : BoardState) → Searched stops end s t
+    → holding stops t.plain ≡ None → end ≡ clock_of s.plain + count → clock_of t.plain < end → IsHeldBack t u → HeldSearch stops count s u
 held_search stops end count s t u searched here is before held =
     let n : ℕ = searched.so_far.passed in
     let unheld = none_here stops end s t searched here in
@@ -175,7 +194,8 @@ held_search stops end count s t u searched here is before held =
     }
 
 -- no stop comes before the first clock
-pub held_at_once : (stops : List Condition) (end count : ℕ) (s u : BoardState) → length s.trail ≤ 32 → end ≡ clock_of s.plain + count → clock_of s.plain < end → IsHeldBack s u → HeldSearch stops count s u
+pub held_at_once : (stops : List Condition) (end count : ℕ) (s u : BoardState)
+    → length s.trail ≤ 32 → end ≡ clock_of s.plain + count → clock_of s.plain < end → IsHeldBack s u → HeldSearch stops count s u
 held_at_once stops end count s u few is before held =
     let so_far = so_far_none end s few (omega (arith, before)) in
     let ran = ran_none s few in
@@ -191,7 +211,8 @@ pub record Found (stops : List Condition) (count number clock : ℕ) (s t : Boar
   pub ran : Ran (clock - clock_of s.plain) s t
   pub counts : Counts s t
 
-pub found : (stops : List Condition) (end count : ℕ) (s t : BoardState) (number clock : ℕ) → Searched stops end s t → end ≡ clock_of s.plain + count → holding stops t.plain ≡ Some number → clock ≡ clock_of t.plain → Found stops count number clock s t
+pub found : (stops : List Condition) (end count : ℕ) (s t : BoardState) (number clock : ℕ) → Searched stops end s t
+    → end ≡ clock_of s.plain + count → holding stops t.plain ≡ Some number → clock ≡ clock_of t.plain → Found stops count number clock s t
 found stops end count s t number clock searched is here at = record {
   stop = stop_found stops end count s t number clock searched is here at;
   ran = ran_to_stop searched.so_far.passed s t clock searched.so_far.ran at;
@@ -204,7 +225,8 @@ pub record NotFound (stops : List Condition) (count : ℕ) (s t : BoardState) : 
   pub ran : Ran count s t
   pub counts : Counts s t
 
-pub not_found : (stops : List Condition) (end count : ℕ) (s t : BoardState) → Searched stops end s t → end ≡ clock_of s.plain + count → end ≤ clock_of t.plain → holding stops t.plain ≡ None → NotFound stops count s t
+pub not_found : (stops : List Condition) (end count : ℕ) (s t : BoardState)
+    → Searched stops end s t → end ≡ clock_of s.plain + count → end ≤ clock_of t.plain → holding stops t.plain ≡ None → NotFound stops count s t
 not_found stops end count s t searched is past here = record {
   none = none_found stops end count s t searched is past here;
   ran = ran_whole 2 end count s t searched.so_far is past;

@@ -67,11 +67,14 @@ changes_more n p = ap length (gathered_more after_clock change_next n p) ∙ len
 -- a run with room for all its changes isn't held back
 pub not_held : (n passed : ℕ) (s t u : BoardState) → passed < n → Ran passed s t → IsHeldBack t u → length (changes_in s.plain n) ≤ s.room → ⊥
 not_held n passed s t u within so_far held enough =
-    let last : length (change_next (after_clocks s.plain passed)) ≡ 1 = subst (λ p. length (change_next p) ≡ 1) so_far.plain (one_change t.plain held.changes_next) in
+    let last : length (change_next (after_clocks s.plain passed)) ≡ 1 =
+    subst (λ p. length (change_next p) ≡ 1) so_far.plain (one_change t.plain held.changes_next) in
     let more = changes_more passed s.plain in
     let rest = changes_add (passed + 1) (n - (passed + 1)) s.plain in
-    let whole : length (changes_in s.plain (passed + 1 + (n - (passed + 1)))) ≡ length (changes_in s.plain n) = ap (λ k. length (changes_in s.plain k)) (omega (arith, within)) in
-    let listed : length t.changes ≡ length s.changes + length (changes_in s.plain passed) = ap length so_far.changes ∙ length-append s.changes (changes_in s.plain passed) in
+    let whole : length (changes_in s.plain (passed + 1 + (n - (passed + 1)))) ≡ length (changes_in s.plain n) =
+    ap (λ k. length (changes_in s.plain k)) (omega (arith, within)) in
+    let listed : length t.changes ≡ length s.changes + length (changes_in s.plain passed) =
+    ap length so_far.changes ∙ length-append s.changes (changes_in s.plain passed) in
     let kept = so_far.room in
     let none = held.full in
     omega arith
@@ -98,7 +101,8 @@ unfolding change_next
 no_change p same = rw (same_to _ _ same) refl
 
 -- if the level changes, the clock and the level are listed
-pub change_listed : (p : Plain) (level : Line) → speaker_level (after_clock p) ≢ speaker_level p → level ≡ speaker_level (after_clock p) → (record { clock = clock_of p + 1; level = level }) ∷ [] ≡ change_next p
+pub change_listed : (p : Plain) (level : Line) → speaker_level (after_clock p) ≢ speaker_level p → level ≡ speaker_level (after_clock p)
+    → (record { clock = clock_of p + 1; level = level }) ∷ [] ≡ change_next p
 unfolding change_next
 change_listed p level differs is = rw (not_same _ _ differs) (ap (λ l. record { clock = clock_of p + 1; level = l } ∷ []) is)
 

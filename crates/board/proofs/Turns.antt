@@ -49,10 +49,12 @@ work_of_first : (m : ℕ) (p : Plain) → 1 ≤ m → work_next p ≤ work_in p 
 work_of_first m p some =
     let whole : work_in p m ≡ work_in p (1 + (m - 1)) = ap (work_in p) (omega (arith, some)) in
     let parts : work_in p (1 + (m - 1)) ≡ work_in p 1 + work_in (after_clocks p 1) (m - 1) = total_add after_clock work_next 1 (m - 1) p in
-    let first : work_in p 1 ≡ work_in p 0 + work_next p = total_more after_clock work_next 0 p ∙ ap (λ q. work_in p 0 + work_next q) (iterate_zero after_clock p) in
+    let first : work_in p 1 ≡ work_in p 0 + work_next p =
+    total_more after_clock work_next 0 p ∙ ap (λ q. work_in p 0 + work_next q) (iterate_zero after_clock p) in
     omega (arith, whole, parts, first)
 
-pub work_leap : (n end count : ℕ) (s t u : BoardState) → Ran n s t → (on : IsLeapOn end count t u) → work_in s.plain n + work_next t.plain ≤ work_in s.plain (n + on.leap.clocks)
+pub work_leap : (n end count : ℕ) (s t u : BoardState) → Ran n s t → (on : IsLeapOn end count t u)
+    → work_in s.plain n + work_next t.plain ≤ work_in s.plain (n + on.leap.clocks)
 work_leap n end count s t u ran on =
     let first = work_of_first on.leap.clocks t.plain on.leap.some in
     let parts : work_in s.plain (n + on.leap.clocks) ≡ work_in s.plain n + work_in t.plain on.leap.clocks =
@@ -110,7 +112,8 @@ so_far_first end s u few before on =
       least = omega (arith, turns, steps, none, one);
     }
 
-unfoldable pub so_far_tick : (spare end : ℕ) (s t u : BoardState) → SoFar spare end s t → clock_of t.plain < end → IsTickOn t u → 1 ≤ work_next t.plain → SoFar spare end s u
+unfoldable pub so_far_tick : (spare end : ℕ) (s t u : BoardState)
+    → SoFar spare end s t → clock_of t.plain < end → IsTickOn t u → 1 ≤ work_next t.plain → SoFar spare end s u
 so_far_tick spare end s t u so_far before on some =
     let n : ℕ = so_far.passed in
     let clock = on.clock in
@@ -136,7 +139,8 @@ work_after_leap limit n p q (inr (inl ends)) less some busy =
     let last = ends.1 in omega (arith, busy, first, last)
 work_after_leap limit n p q (inr (inr works)) less some busy = omega (arith, busy, works)
 
-unfoldable pub so_far_leap : (spare end count : ℕ) (s t u : BoardState) → count ≤ 1 → SoFar spare end s t → clock_of t.plain < end → IsLeapOn end count t u → SoFar spare end s u
+unfoldable pub so_far_leap : (spare end count : ℕ) (s t u : BoardState)
+    → count ≤ 1 → SoFar spare end s t → clock_of t.plain < end → IsLeapOn end count t u → SoFar spare end s u
 so_far_leap spare end count s t u one so_far before on =
     let n : ℕ = so_far.passed in
     let m : ℕ = on.leap.clocks in
@@ -151,7 +155,8 @@ so_far_leap spare end count s t u one so_far before on =
       ran = ran_leap n end count s t u so_far.ran on;
       within = omega (arith, clock, before, fits);
       before_end = λ early.
-          let then = work_after_leap (end - clock_of t.plain) m t.plain u.plain on.leap.maximal (omega (arith, clock, early, before)) on.leap.some on.leap.unseen.busy in
+          let then =
+          work_after_leap (end - clock_of t.plain) m t.plain u.plain on.leap.maximal (omega (arith, clock, early, before)) on.leap.some on.leap.unseen.busy in
           omega (arith, turns, work, spent, then, one);
       whole = omega (arith, turns, work, spent, one);
       least = omega (arith, turns, steps, least);
@@ -171,7 +176,8 @@ so_far_turn spare end s t u so_far before (inr act) =
 
 -- at the end of a run, or at the clock that it has reached
 
-pub ran_whole : (spare end count : ℕ) (s t : BoardState) → (so_far : SoFar spare end s t) → end ≡ clock_of s.plain + count → end ≤ clock_of t.plain → Ran count s t
+pub ran_whole : (spare end count : ℕ) (s t : BoardState) → (so_far : SoFar spare end s t)
+    → end ≡ clock_of s.plain + count → end ≤ clock_of t.plain → Ran count s t
 ran_whole spare end count s t so_far is past =
     let clock = so_far.ran.clock in
     let within = so_far.within in
@@ -212,7 +218,8 @@ room_held n s t u ran held = subst (λ b. s.room + length s.changes ≤ b.room +
 passed_before : (n end count : ℕ) (s t : BoardState) → Ran n s t → end ≡ clock_of s.plain + count → clock_of t.plain < end → n < count
 passed_before n end count s t ran is before = let clock = ran.clock in omega (arith, clock, is, before)
 
-pub held_run : (spare end count : ℕ) (s t u : BoardState) → SoFar spare end s t → spare ≤ 2 → end ≡ clock_of s.plain + count → clock_of t.plain < end → IsHeldBack t u → HeldRun count s u
+pub held_run : (spare end count : ℕ) (s t u : BoardState) → SoFar spare end s t → spare ≤ 2
+    → end ≡ clock_of s.plain + count → clock_of t.plain < end → IsHeldBack t u → HeldRun count s u
 held_run spare end count s t u so_far few is before held =
     let n : ℕ = so_far.passed in
     let less : n < count = passed_before n end count s t so_far.ran is before in record {
@@ -227,7 +234,8 @@ pub record WholeRun (count : ℕ) (s t : BoardState) : Type 0 where
   pub ran : Ran count s t
   pub counts : Counts s t
 
-pub whole_run : (spare end count : ℕ) (s t : BoardState) → SoFar spare end s t → spare ≤ 2 → end ≡ clock_of s.plain + count → end ≤ clock_of t.plain → WholeRun count s t
+pub whole_run : (spare end count : ℕ) (s t : BoardState) → SoFar spare end s t
+    → spare ≤ 2 → end ≡ clock_of s.plain + count → end ≤ clock_of t.plain → WholeRun count s t
 whole_run spare end count s t so_far few is past = record {
   ran = ran_whole spare end count s t so_far is past;
   counts = counted spare end s t so_far few;
@@ -273,9 +281,11 @@ leap_moves end count t u before on =
     let clock = on.leap.unseen.clock in
     let some = on.leap.some in omega (arith, clock, some, before)
 
-rest_moves : (end : ℕ) (t b u : BoardState) → clock_of t.plain < end → IsTickOn t b → (u ≡ b) ⊎ ((1 ≤ b.plain.busy) × IsLeapOn end 0 b u) → end - clock_of u.plain < end - clock_of t.plain
+rest_moves : (end : ℕ) (t b u : BoardState) → clock_of t.plain < end → IsTickOn t b → (u ≡ b) ⊎ ((1 ≤ b.plain.busy) × IsLeapOn end 0 b u)
+    → end - clock_of u.plain < end - clock_of t.plain
 rest_moves end t b u before first (inl same) =
-    let clock = first.clock in let here : clock_of u.plain ≡ clock_of b.plain = ap (λ (x : BoardState). clock_of x.plain) same in omega (arith, clock, here, before)
+    let clock = first.clock in
+    let here : clock_of u.plain ≡ clock_of b.plain = ap (λ (x : BoardState). clock_of x.plain) same in omega (arith, clock, here, before)
 rest_moves end t b u before first (inr rest) =
     let clock = first.clock in
     let less = leap_moves end 0 b u (before_rest end b u rest.1) rest.1 in omega (arith, clock, before, less)
@@ -284,7 +294,8 @@ pub turn_moves : (end : ℕ) (t u : BoardState) → clock_of t.plain < end → I
 turn_moves end t u before (inl leap) = leap_moves end 1 t u before leap
 turn_moves end t u before (inr act) = rest_moves end t act.begun u before act.first act.rest
 
-pub short_moves : (end : ℕ) (t u : BoardState) → clock_of t.plain < end → IsTurnOn (clock_of t.plain + 1) end t u → end - clock_of u.plain < end - clock_of t.plain
+pub short_moves : (end : ℕ) (t u : BoardState) → clock_of t.plain < end → IsTurnOn (clock_of t.plain + 1) end t u
+    → end - clock_of u.plain < end - clock_of t.plain
 short_moves end t u before (inl leap) = leap_moves end 1 t u before leap
 short_moves end t u before (inr act) = let clock = (act_alone t u act).0.clock in omega (arith, clock, before)
 
@@ -298,7 +309,8 @@ pub one_more : (n end : ℕ) (t : BoardState) (w v : Traced) → IsQuietStep end
 one_more n end t w v step =
     act_made end (following t n w) (following t (suc n) v) step.quietly step.passed refl step.entries refl (omega arith)
 
-so_far_each : (unwatched : ℕ → Type 0) (n spare end : ℕ) (s t : BoardState) (v : Traced) → AreQuietSteps unwatched n end (record { plain = t.plain; trail = t.trail }) v → SoFar spare end s t → SoFar spare end s (following t n v)
+so_far_each : (unwatched : ℕ → Type 0) (n spare end : ℕ) (s t : BoardState) (v : Traced)
+    → AreQuietSteps unwatched n end (record { plain = t.plain; trail = t.trail }) v → SoFar spare end s t → SoFar spare end s (following t n v)
 unfolding AreQuietSteps
 so_far_each unwatched zero spare end s t v same so_far =
     let counted : t.turns ≡ t.turns + 0 = omega arith in
@@ -310,7 +322,8 @@ so_far_each unwatched (suc n) spare end s t v steps so_far =
     (inr (one_more n end t w v steps.2))
 
 -- the board to which steps lead
-pub steps_lead : (unwatched : ℕ → Type 0) (end : ℕ) (t u : BoardState) → (on : AreStepsOn unwatched end t u) → following t on.count (record { plain = u.plain; trail = u.trail }) ≡ u
+pub steps_lead : (unwatched : ℕ → Type 0) (end : ℕ) (t u : BoardState) → (on : AreStepsOn unwatched end t u)
+    → following t on.count (record { plain = u.plain; trail = u.trail }) ≡ u
 steps_lead unwatched end t u on = λ k. record u { changes = sym on.changes k; room = sym on.room k; turns = sym on.turns k }
 
 pub so_far_steps : (unwatched : ℕ → Type 0) (spare end : ℕ) (s t u : BoardState) → SoFar spare end s t → AreStepsOn unwatched end t u → SoFar spare end s u
@@ -324,7 +337,8 @@ steps_move unwatched end t u on =
     let some = gone.some in omega (arith, some)
 
 -- steps that end with the next clock are one
-one_alone : (unwatched : ℕ → Type 0) (n : ℕ) (t : BoardState) (v : Traced) → clock_of t.plain < clock_of v.plain → AreQuietSteps unwatched n (clock_of t.plain + 1) (record { plain = t.plain; trail = t.trail }) v → IsActOn (clock_of t.plain + 1) t (following t n v)
+one_alone : (unwatched : ℕ → Type 0) (n : ℕ) (t : BoardState) (v : Traced) → clock_of t.plain < clock_of v.plain
+    → AreQuietSteps unwatched n (clock_of t.plain + 1) (record { plain = t.plain; trail = t.trail }) v → IsActOn (clock_of t.plain + 1) t (following t n v)
 unfolding AreQuietSteps
 one_alone unwatched zero t v moved same =
     let here : clock_of v.plain ≡ clock_of t.plain = ap (λ (x : Traced). clock_of x.plain) same in absurd (omega (arith, here, moved))
@@ -337,22 +351,26 @@ one_alone unwatched (suc (suc n)) t v moved steps =
     let some = gone.some in
     let before = steps.2.before in absurd (omega (arith, some, before))
 
-pub steps_alone : (unwatched : ℕ → Type 0) (t u : BoardState) → clock_of t.plain < clock_of u.plain → AreStepsOn unwatched (clock_of t.plain + 1) t u → IsActOn (clock_of t.plain + 1) t u
+pub steps_alone : (unwatched : ℕ → Type 0) (t u : BoardState) → clock_of t.plain < clock_of u.plain
+    → AreStepsOn unwatched (clock_of t.plain + 1) t u → IsActOn (clock_of t.plain + 1) t u
 steps_alone unwatched t u moved on =
     subst (IsActOn (clock_of t.plain + 1) t) (steps_lead unwatched (clock_of t.plain + 1) t u on)
     (one_alone unwatched on.count t (record { plain = u.plain; trail = u.trail }) moved on.steps)
 
 -- a leap, as a turn, from the view of the engine within
-pub board_leaps : (end : ℕ) (old seen new : BoardState) → old ≡ seen → IsLeap end old.plain new.plain → new.changes ≡ old.changes → new.trail ≡ old.trail → new.room ≡ old.room → new.turns ≡ old.turns + 1 → IsLeapOn end 1 seen new
+pub board_leaps : (end : ℕ) (old seen new : BoardState) → old ≡ seen → IsLeap end old.plain new.plain
+    → new.changes ≡ old.changes → new.trail ≡ old.trail → new.room ≡ old.room → new.turns ≡ old.turns + 1 → IsLeapOn end 1 seen new
 board_leaps end old seen new same leap changes trail room turns =
     subst (λ b. IsLeapOn end 1 b new) same (record { leap = leap; changes = changes; trail = trail; room = room; turns = turns })
 
 -- a turn between two looks for a stop that may be whole
-pub if_whole : {E : Type 0} (unwatched : ℕ → Type 0) (end : ℕ) (old new : BoardState) (result : Result Unit E) → OnOk result (IsTurnOn end end old new) → OnOk result (IsTurnBetween true unwatched end old new)
+pub if_whole : {E : Type 0} (unwatched : ℕ → Type 0) (end : ℕ) (old new : BoardState) (result : Result Unit E)
+    → OnOk result (IsTurnOn end end old new) → OnOk result (IsTurnBetween true unwatched end old new)
 if_whole unwatched end old new (Ok x) turn = inr turn
 if_whole unwatched end old new (Err e) turn = turn
 
 -- an act is a turn
-pub if_act : {T E : Type 0} (within end : ℕ) (old left new : BoardState) (result : Result T E) → left ≡ old → OnOk result (IsActOn within left new) → OnOk result (IsTurnOn within end old new)
+pub if_act : {T E : Type 0} (within end : ℕ) (old left new : BoardState) (result : Result T E)
+    → left ≡ old → OnOk result (IsActOn within left new) → OnOk result (IsTurnOn within end old new)
 if_act within end old left new (Ok x) same act = inr (subst (λ b. IsActOn within b new) same act)
 if_act within end old left new (Err e) same act = act

@@ -50,11 +50,14 @@ sent_none : (latch first : Option ℕ) → is_none latch ≡ true → first ≡ 
 sent_none None first is same = same
 sent_none (Some code) first is same = let never : false ≡ true = is in cc
 
-not_sent : (k : KeyboardState) (sent : Bool) → sent ≡ is_none k.latch → (if sent then after_sending k else k) ≡ k → (if sent then slice_get k.waiting 0 else None) ≡ None
+not_sent : (k : KeyboardState) (sent : Bool) → sent ≡ is_none k.latch → (if sent then after_sending k else k) ≡ k
+    → (if sent then slice_get k.waiting 0 else None) ≡ None
 not_sent k true is same = sent_none k.latch (slice_get k.waiting 0) (sym is) (ap (λ (t : KeyboardState). t.latch) same)
 not_sent k false is same = refl
 
-no_code_by : (k : KeyboardState) (cleared line : Bool) → (if cleared then after_clearing k else (if line && is_none k.latch then after_sending k else k)) ≡ k → (if cleared then None else (if line && is_none k.latch then slice_get k.waiting 0 else None)) ≡ None
+no_code_by : (k : KeyboardState) (cleared line : Bool)
+    → (if cleared then after_clearing k else (if line && is_none k.latch then after_sending k else k)) ≡ k
+    → (if cleared then None else (if line && is_none k.latch then slice_get k.waiting 0 else None)) ≡ None
 no_code_by k true line same = refl
 no_code_by k false true same = not_sent k (is_none k.latch) refl same
 no_code_by k false false same = refl
@@ -86,10 +89,12 @@ unfolding iterate
 settled_once c holds = holds.keys
 
 -- nothing happens in clocks in which the processor does nothing and no key comes
-pub quiet_clock : (s : Plain) (n k : ℕ) → k < n → WiresHold s.chips → NoKeyComes s n → after_clocks s k ≡ passed_by s k → next_act (after_clocks s k) ≡ Nothing → unwired_next (after_clocks s k) ≡ []
+pub quiet_clock : (s : Plain) (n k : ℕ) → k < n → WiresHold s.chips → NoKeyComes s n
+    → after_clocks s k ≡ passed_by s k → next_act (after_clocks s k) ≡ Nothing → unwired_next (after_clocks s k) ≡ []
 unfolding clock_of passed_by
 quiet_clock s n k before holds no_key here nothing =
     let p : Plain = after_clocks s k in
     uneventful p nothing
-    (ap (λ (q : Plain). codes_at q.keys (q.chips.clock + 1)) here ∙ ap (λ clock. codes_at s.keys (clock + 1)) (clock_of_clocks k s.chips) ∙ none_comes s.keys s.chips.clock n k before no_key)
+    (ap (λ (q : Plain). codes_at q.keys (q.chips.clock + 1)) here
+    ∙ ap (λ clock. codes_at s.keys (clock + 1)) (clock_of_clocks k s.chips) ∙ none_comes s.keys s.chips.clock n k before no_key)
     (settled_once p.chips (holds_later 1 p.chips (all_hold k s holds)))

@@ -34,7 +34,9 @@ leap_unseen s n holds are_uneventful = record {
   entries = no_entries s n holds are_uneventful;
   steps = none_to_step s n holds are_uneventful;
   conditions = λ stops k before. holding_stays stops s n k before holds are_uneventful;
-  quiet = λ k before. quiet_clock s n k before holds are_uneventful.no_key (leap_passes s n k (omega (arith, before)) holds are_uneventful) (does_nothing s n k holds are_uneventful before);
+  quiet = λ k before.
+      quiet_clock s n k before holds are_uneventful.no_key
+      (leap_passes s n k (omega (arith, before)) holds are_uneventful) (does_nothing s n k holds are_uneventful before);
   cpu = λ k within. ap (λ (p : Plain). p.cpu) (leap_passes s n k within holds are_uneventful) ∙ cpu_of_passed s k;
   keyboard = λ k within. ap (λ (p : Plain). p.chips.keyboard) (leap_passes s n k within holds are_uneventful) ∙ keyboard_of_passed s k holds;
 }
@@ -53,7 +55,8 @@ idle_of : (s : Plain) (n : ℕ) → StaysIdleDespiteTimer s n → StaysIdle s n
 idle_of s n (inl busy) = inl busy
 idle_of s n (inr idle) = inr (idle.0, begins_now s idle.1)
 
-pub quiet_leaps : (s : Plain) (n to : ℕ) (p : Option ℕ) → to ≡ s.chips.clock + n → StaysIdleDespiteTimer s n → IsNextStamp s.chips.clock s.keys p → ComesAfter to p → IsQuiet s.chips to → AreUneventful s n
+pub quiet_leaps : (s : Plain) (n to : ℕ) (p : Option ℕ) → to ≡ s.chips.clock + n → StaysIdleDespiteTimer s n
+    → IsNextStamp s.chips.clock s.keys p → ComesAfter to p → IsQuiet s.chips to → AreUneventful s n
 quiet_leaps s n to p is idle next after quiet =
     let here : IsQuiet s.chips (s.chips.clock + n) = subst (IsQuiet s.chips) is quiet in
     record {
@@ -63,7 +66,8 @@ quiet_leaps s n to p is idle next after quiet =
       out_2 = here.out_2;
     }
 
-pub may_leap : (s : Plain) (n to : ℕ) (p : Option ℕ) → to ≡ s.chips.clock + n → StaysIdleDespiteTimer s n → IsNextStamp s.chips.clock s.keys p → ComesAfter to p → GoUnseen s.chips to → MayLeap s n
+pub may_leap : (s : Plain) (n to : ℕ) (p : Option ℕ) → to ≡ s.chips.clock + n → StaysIdleDespiteTimer s n
+    → IsNextStamp s.chips.clock s.keys p → ComesAfter to p → GoUnseen s.chips to → MayLeap s n
 may_leap s n to p is idle next after (inl quiet) = inl (quiet_leaps s n to p is idle next after quiet)
 may_leap s n to p is idle next after (inr alone) =
     inr (record { idle = idle; no_key = no_key s n p next (subst (λ k. ComesAfter k p) is after); alone = alone })
@@ -113,12 +117,14 @@ stay_here s t same = λ j few.
 
 -- the parts after a leap over unseen clocks
 
-pub left_by : (s : Plain) (n to busy : ℕ) (c : ChipsState) → to ≡ s.chips.clock + n → c ≡ wires.after_clocks s.chips (to - s.chips.clock) → busy ≡ s.busy - (to - s.chips.clock) → record s { busy = busy; chips = c } ≡ passed_by s n
+pub left_by : (s : Plain) (n to busy : ℕ) (c : ChipsState) → to ≡ s.chips.clock + n → c ≡ wires.after_clocks s.chips (to - s.chips.clock)
+    → busy ≡ s.busy - (to - s.chips.clock) → record s { busy = busy; chips = c } ≡ passed_by s n
 unfolding passed_by
 left_by s n to busy c is chips left =
     let whole : to - s.chips.clock ≡ n = omega (arith, is) in
     λ k. record s { busy = (left ∙ ap (λ m. s.busy - m) whole) k; chips = (chips ∙ ap (wires.after_clocks s.chips) whole) k }
 
-pub arrived_by : (a : Arrived) (s : Plain) (n late : ℕ) → HaveArrived a (s.chips.clock + 1) s.keys → NoKeyComes s n → late ≡ s.chips.clock + n → HaveArrived a (late + 1) s.keys
+pub arrived_by : (a : Arrived) (s : Plain) (n late : ℕ) → HaveArrived a (s.chips.clock + 1) s.keys
+    → NoKeyComes s n → late ≡ s.chips.clock + n → HaveArrived a (late + 1) s.keys
 unfolding clock_of
 arrived_by a s n late have none at = have_later a s.chips.clock n late s.keys have none at

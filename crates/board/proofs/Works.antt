@@ -38,7 +38,8 @@ same_level Low High same = absurd (cc)
 same_level High Low same = absurd (cc)
 same_level High High same = refl
 
-no_work : (p : Plain) → next_act p ≡ Nothing → (after_clock p).chips.pit.counter_0.out ≡ p.chips.pit.counter_0.out → (after_clock p).chips.pit.counter_2.out ≡ p.chips.pit.counter_2.out → codes_at p.keys (clock_of p + 1) ≡ [] → work_next p ≡ 0
+no_work : (p : Plain) → next_act p ≡ Nothing → (after_clock p).chips.pit.counter_0.out ≡ p.chips.pit.counter_0.out
+    → (after_clock p).chips.pit.counter_2.out ≡ p.chips.pit.counter_2.out → codes_at p.keys (clock_of p + 1) ≡ [] → work_next p ≡ 0
 unfolding work_next steps_next edges_next keys_next
 no_work p nothing same_0 same_2 no_codes =
     let steps : steps_of (next_act p) ≡ 0 = ap steps_of nothing in
@@ -74,7 +75,8 @@ keys_of_leap : (s : Plain) (n : ℕ) → (after_leap s n).keys ≡ s.keys
 unfolding after_leap
 keys_of_leap s n = refl
 
-codes_then : (p : Plain) (keys : List StampedKey) (clock : ℕ) → p.keys ≡ keys → clock_of p ≡ clock → codes_at keys (clock + 1) ≡ [] → codes_at p.keys (clock_of p + 1) ≡ []
+codes_then : (p : Plain) (keys : List StampedKey) (clock : ℕ) → p.keys ≡ keys → clock_of p ≡ clock → codes_at keys (clock + 1) ≡ []
+    → codes_at p.keys (clock_of p + 1) ≡ []
 codes_then p keys clock same is none = ap (λ ks. codes_at ks (clock_of p + 1)) same ∙ ap (λ c. codes_at keys (c + 1)) is ∙ none
 
 no_codes : (s : Plain) (n i : ℕ) → i < n → NoKeyComes s n → codes_at s.keys (clock_of s + i + 1) ≡ []
@@ -91,15 +93,18 @@ one_leap : (s : Plain) (n i : ℕ) → WiresHold s.chips → AreUneventful s n �
 one_leap s n i holds are_uneventful before =
     let next = iterate_more after_clock i s in
     no_work (after_clocks s i) (does_nothing s n i holds are_uneventful before)
-    (ap (λ (p : Plain). p.chips.pit.counter_0.out) (sym next) ∙ out_0_at s n (i + 1) (omega (arith, before)) holds are_uneventful ∙ sym (out_0_at s n i (omega (arith, before)) holds are_uneventful))
-    (ap (λ (p : Plain). p.chips.pit.counter_2.out) (sym next) ∙ out_2_at s n (i + 1) (omega (arith, before)) holds are_uneventful ∙ sym (out_2_at s n i (omega (arith, before)) holds are_uneventful))
+    (ap (λ (p : Plain). p.chips.pit.counter_0.out) (sym next) ∙ out_0_at s n (i + 1) (omega (arith, before)) holds are_uneventful
+    ∙ sym (out_0_at s n i (omega (arith, before)) holds are_uneventful))
+    (ap (λ (p : Plain). p.chips.pit.counter_2.out) (sym next) ∙ out_2_at s n (i + 1) (omega (arith, before)) holds are_uneventful
+    ∙ sym (out_2_at s n i (omega (arith, before)) holds are_uneventful))
     (codes_in_leap s n i before holds are_uneventful)
 
 pub none_to_do : (s : Plain) (n : ℕ) → WiresHold s.chips → AreUneventful s n → work_in s n ≡ 0
 none_to_do s n holds are_uneventful = none_in_all after_clock work_next n s (λ i before. one_leap s n i holds are_uneventful before)
 
 pub none_to_step : (s : Plain) (n : ℕ) → WiresHold s.chips → AreUneventful s n → steps_in s n ≡ 0
-none_to_step s n holds are_uneventful = none_in_all after_clock steps_next n s (λ i before. no_step (after_clocks s i) (does_nothing s n i holds are_uneventful before))
+none_to_step s n holds are_uneventful =
+    none_in_all after_clock steps_next n s (λ i before. no_step (after_clocks s i) (does_nothing s n i holds are_uneventful before))
 
 pub first_has_none : (s : Plain) (n : ℕ) → 1 ≤ n → WiresHold s.chips → AreUneventful s n → work_next s ≡ 0
 first_has_none s n some holds are_uneventful = ap work_next (sym (iterate_zero after_clock s)) ∙ one_leap s n 0 holds are_uneventful (omega (arith, some))
@@ -119,7 +124,8 @@ unfolding work_next steps_next
 acts_now p not = let some = act_works (next_act p) not in omega (arith, some)
 
 -- a processor that does something at its boundary does work
-pub acts_there : (s : Plain) (boundary : Boundary) → act_at s.cpu s.chips boundary ≡ next_act s → is_idle (act_at s.cpu s.chips boundary) ≡ false → 1 ≤ work_next s
+pub acts_there : (s : Plain) (boundary : Boundary) → act_at s.cpu s.chips boundary ≡ next_act s
+    → is_idle (act_at s.cpu s.chips boundary) ≡ false → 1 ≤ work_next s
 acts_there s boundary at acts = acts_now s (ap is_idle (sym at) ∙ acts)
 
 nothing_done : (a : Act) → is_idle a ≡ true → a ≡ Nothing
@@ -186,7 +192,8 @@ one_ticks s still =
     ap (λ (t : ChipsState). t.pit) (sym (iterate_more wires.after_clock 0 s ∙ ap wires.after_clock (iterate_zero wires.after_clock s)))
     ∙ clocks_tick s 1 still
 
-pit_of_clock : (s : ChipsState) (keys : List StampedKey) → after_settling s ≡ s → (chips_after_clock s keys).pit ≡ pit.after_ticks s.pit (ticks_between s.clock (s.clock + 1))
+pit_of_clock : (s : ChipsState) (keys : List StampedKey) → after_settling s ≡ s
+    → (chips_after_clock s keys).pit ≡ pit.after_ticks s.pit (ticks_between s.clock (s.clock + 1))
 unfolding chips_after_clock
 pit_of_clock s keys still =
     let c : ChipsState = wires.after_clock s in
@@ -206,7 +213,8 @@ ticks_add : (p : PitState) (a b c : ℕ) → a + b ≡ c → pit.after_ticks (pi
 ticks_add p a b c is = sym (iterate_add pit.after_tick a b p) ∙ ap (λ k. pit.after_ticks p k) is
 
 -- the timer at the end of the clock after those that may be leapt over
-pit_then : (s : Plain) (n : ℕ) → WiresHold s.chips → AreUneventful s n → next_act (after_leap s n) ≡ Nothing → (after_clock (after_leap s n)).chips.pit ≡ pit.after_ticks s.chips.pit (ticks_between s.chips.clock (s.chips.clock + n + 1))
+pit_then : (s : Plain) (n : ℕ) → WiresHold s.chips → AreUneventful s n → next_act (after_leap s n) ≡ Nothing
+    → (after_clock (after_leap s n)).chips.pit ≡ pit.after_ticks s.chips.pit (ticks_between s.chips.clock (s.chips.clock + n + 1))
 unfolding after_leap
 pit_then s n holds are_uneventful nothing =
     let c : ChipsState = leaps.after_leap s.chips n in
@@ -215,7 +223,8 @@ pit_then s n holds are_uneventful nothing =
     ∙ ticks_add s.chips.pit (ticks_between s.chips.clock (s.chips.clock + n)) (ticks_between (s.chips.clock + n) (s.chips.clock + n + 1))
     (ticks_between s.chips.clock (s.chips.clock + n + 1)) (omega arith)
 
-pub edge_0_works : (s : Plain) (n at : ℕ) → WiresHold s.chips → AreUneventful s n → at ≡ s.chips.clock + n + 1 → TurnsIn s.chips.pit.counter_0 s.chips.clock at → 1 ≤ work_next (after_leap s n)
+pub edge_0_works : (s : Plain) (n at : ℕ) → WiresHold s.chips → AreUneventful s n
+    → at ≡ s.chips.clock + n + 1 → TurnsIn s.chips.pit.counter_0 s.chips.clock at → 1 ≤ work_next (after_leap s n)
 edge_0_works s n at holds are_uneventful is edge =
     unless_it_acts (after_leap s n) (is_idle (next_act (after_leap s n))) refl (λ nothing.
     turn_0_works (after_leap s n) (λ same.
@@ -225,7 +234,8 @@ edge_0_works s n at holds are_uneventful is edge =
     ∙ sym (ap (λ (q : PitState). q.counter_0.out) (pit_then s n holds are_uneventful nothing))
     ∙ same ∙ out_0_stays s n are_uneventful)))
 
-pub edge_2_works : (s : Plain) (n at : ℕ) → WiresHold s.chips → AreUneventful s n → at ≡ s.chips.clock + n + 1 → TurnsIn s.chips.pit.counter_2 s.chips.clock at → 1 ≤ work_next (after_leap s n)
+pub edge_2_works : (s : Plain) (n at : ℕ) → WiresHold s.chips → AreUneventful s n
+    → at ≡ s.chips.clock + n + 1 → TurnsIn s.chips.pit.counter_2 s.chips.clock at → 1 ≤ work_next (after_leap s n)
 edge_2_works s n at holds are_uneventful is edge =
     unless_it_acts (after_leap s n) (is_idle (next_act (after_leap s n))) refl (λ nothing.
     turn_2_works (after_leap s n) (λ same.

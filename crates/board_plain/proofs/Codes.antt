@@ -21,7 +21,8 @@ codes_append c xs ys =
 one_due : (c : ℕ) (k : StampedKey) → k.stamp ≡ c → codes_at (k ∷ []) c ≡ k.code ∷ []
 one_due c k is = grind (arith, common_steps)
 
-pub codes_more : (c : ℕ) (ks : List StampedKey) (i : ℕ) (d : StampedKey) → i < length ks → (get_or ks i d).stamp ≡ c → codes_at (take (i + 1) ks) c ≡ codes_at (take i ks) c ++ (get_or ks i d).code ∷ []
+pub codes_more : (c : ℕ) (ks : List StampedKey) (i : ℕ) (d : StampedKey) → i < length ks → (get_or ks i d).stamp ≡ c
+    → codes_at (take (i + 1) ks) c ≡ codes_at (take i ks) c ++ (get_or ks i d).code ∷ []
 codes_more c ks i d within is =
     ap (λ xs. codes_at xs c) (take_more ks i d within)
     ∙ codes_append c (take i ks) (get_or ks i d ∷ [])

@@ -24,7 +24,8 @@ record IsFirst (t : Condition → Bool) (i : ℕ) (stops : List Condition) (numb
 abbrev FirstIsTold : (Condition → Bool) → ℕ → List Condition → Option ℕ → Type 0
 FirstIsTold t i stops told = MatchOption told (All (λ c. t c ≡ false) stops) (IsFirst t i stops)
 
-later : (t : Condition → Bool) (i : ℕ) (x : Condition) (xs : List Condition) (told : Option ℕ) → t x ≡ false → FirstIsTold t (i + 1) xs told → FirstIsTold t i (x ∷ xs) told
+later : (t : Condition → Bool) (i : ℕ) (x : Condition) (xs : List Condition) (told : Option ℕ)
+    → t x ≡ false → FirstIsTold t (i + 1) xs told → FirstIsTold t i (x ∷ xs) told
 later t i x xs None fails none = All-cons (λ c. t c ≡ false) x xs fails none
 later t i x xs (Some number) fails is = record {
   before = x ∷ is.before;
@@ -36,7 +37,8 @@ later t i x xs (Some number) fails is = record {
   passes = is.passes;
 }
 
-one_more : (t : Condition → Bool) (i : ℕ) (x : Condition) (xs : List Condition) (told : Option ℕ) (passes : Bool) → t x ≡ passes → FirstIsTold t (i + 1) xs told → FirstIsTold t i (x ∷ xs) (cond passes (Some i) told)
+one_more : (t : Condition → Bool) (i : ℕ) (x : Condition) (xs : List Condition) (told : Option ℕ) (passes : Bool)
+    → t x ≡ passes → FirstIsTold t (i + 1) xs told → FirstIsTold t i (x ∷ xs) (cond passes (Some i) told)
 one_more t i x xs told true e rest = record {
   before = [];
   first = x;
@@ -52,7 +54,8 @@ first_is_told : (t : Condition → Bool) (i : ℕ) (stops : List Condition) → 
 first_is_told t i [] = none_of_none t
 first_is_told t i (x ∷ xs) = one_more t i x xs (position_from t (i + 1) xs) (t x) refl (first_is_told t (i + 1) xs)
 
-from_one : (stops : List Condition) (s : Plain) (told : Option ℕ) → FirstIsTold (λ condition. holds condition s) 1 stops told → MatchOption told (All (λ condition. holds condition s ≡ false) stops) (IsFirstHolding stops s)
+from_one : (stops : List Condition) (s : Plain) (told : Option ℕ) → FirstIsTold (λ condition. holds condition s) 1 stops told
+    → MatchOption told (All (λ condition. holds condition s ≡ false) stops) (IsFirstHolding stops s)
 from_one stops s None none = none
 from_one stops s (Some number) is = record {
   before = is.before;

@@ -77,7 +77,8 @@ accesses_settle = record {
 
 -- if the wires have settled, only port writes change what the level depends on
 
-sounding_by : (b : Bool) (rest s t u : ChipsState) → sounding rest t ≡ sounding rest s → sounding rest u ≡ sounding rest s → sounding rest (if b then t else u) ≡ sounding rest s
+sounding_by : (b : Bool) (rest s t u : ChipsState) → sounding rest t ≡ sounding rest s → sounding rest u ≡ sounding rest s
+    → sounding rest (if b then t else u) ≡ sounding rest s
 sounding_by true rest s t u first second = first
 sounding_by false rest s t u first second = second
 
@@ -93,7 +94,8 @@ writes_alone rest = record {
 }
 
 -- port writes leave that part alike, whether they are made on it alone or on all
-writes_sound : (rest s t : ChipsState) (writes : List (ℕ × ℕ)) → SoundsAlike t s → SoundsAlike (after_port_writes (λ u port byte. sounding rest (after_output u port byte)) t writes) (after_port_writes after_output s writes)
+writes_sound : (rest s t : ChipsState) (writes : List (ℕ × ℕ)) → SoundsAlike t s
+    → SoundsAlike (after_port_writes (λ u port byte. sounding rest (after_output u port byte)) t writes) (after_port_writes after_output s writes)
 writes_sound rest s t [] alike = alike
 writes_sound rest s t (w ∷ writes) alike =
     writes_sound rest (after_output s w.0 w.1) (sounding rest (after_output t w.0 w.1)) writes
@@ -103,12 +105,14 @@ none_more : (s : ChipsState) (writes : List (ℕ × ℕ)) → is_speaker_high_af
 unfolding is_speaker_high_after
 none_more s writes = refl
 
-step_predicted : (table : ClockTable) (cpu : CpuState) (s : ChipsState) (decoded : Decoded) → after_settling s ≡ s → is_speaker_high_after (after_step chips_bus table cpu s decoded).bus [] ≡ is_speaker_high_after s (port_writes_of cpu decoded)
+step_predicted : (table : ClockTable) (cpu : CpuState) (s : ChipsState) (decoded : Decoded) → after_settling s ≡ s
+    → is_speaker_high_after (after_step chips_bus table cpu s decoded).bus [] ≡ is_speaker_high_after s (port_writes_of cpu decoded)
 step_predicted table cpu s decoded still =
     let after : ChipsState = (after_step chips_bus table cpu s decoded).bus in
     let writes : List (ℕ × ℕ) = port_writes_of cpu decoded in
     depends_on_writes after (sounding s after) [] (sounds_from s after)
-    ∙ ap (λ t. is_speaker_high_after t []) (port_writes_tell chips_bus after_settling (λ t. t) (sounding s) (λ t port byte. sounding s (after_output t port byte)) accesses_settle (writes_alone s) table cpu s decoded still)
+    ∙ ap (λ t. is_speaker_high_after t []) (port_writes_tell chips_bus after_settling (λ t. t) (sounding s)
+    (λ t port byte. sounding s (after_output t port byte)) accesses_settle (writes_alone s) table cpu s decoded still)
     ∙ depends_on_writes _ (after_port_writes after_output s writes) [] (writes_sound s s (sounding s s) writes (sounds_as s s))
     ∙ none_more s writes
 
@@ -117,14 +121,17 @@ byte_alike : (s : ChipsState) (address byte : ℕ) → SoundsAlike (with_byte s 
 byte_alike s address byte =
     alike_then _ _ _ (sounds_from s (with_byte s address byte)) (subst (λ t. SoundsAlike t s) (sym (sounding_with_byte s s address byte)) (sounds_as s s))
 
-byte_predicted : (s t : ChipsState) (address byte : ℕ) → is_speaker_high_after t [] ≡ is_speaker_high_after s [] → is_speaker_high_after (with_byte t address byte) [] ≡ is_speaker_high_after s []
+byte_predicted : (s t : ChipsState) (address byte : ℕ) → is_speaker_high_after t [] ≡ is_speaker_high_after s []
+    → is_speaker_high_after (with_byte t address byte) [] ≡ is_speaker_high_after s []
 byte_predicted s t address byte same = depends_on_writes (with_byte t address byte) t [] (byte_alike t address byte) ∙ same
 
-enter_predicted : (table : ClockTable) (cpu : CpuState) (s : ChipsState) (kind : ℕ) (cause : Cause) → is_speaker_high_after (after_enter chips_bus table cpu s kind cause).bus [] ≡ is_speaker_high_after s []
+enter_predicted : (table : ClockTable) (cpu : CpuState) (s : ChipsState) (kind : ℕ) (cause : Cause)
+    → is_speaker_high_after (after_enter chips_bus table cpu s kind cause).bus [] ≡ is_speaker_high_after s []
 enter_predicted table cpu s kind cause =
     enter_keeps_any chips_bus table (λ (t : ChipsState). is_speaker_high_after t [] ≡ is_speaker_high_after s []) (byte_predicted s) cpu s kind cause refl
 
-act_predicted : (table : ClockTable) (cpu : CpuState) (busy : ℕ) (s : ChipsState) (next : Act) → after_settling s ≡ s → is_speaker_high_after (after_act table cpu busy s next).bus [] ≡ is_speaker_high_after s (writes_of cpu next)
+act_predicted : (table : ClockTable) (cpu : CpuState) (busy : ℕ) (s : ChipsState) (next : Act) → after_settling s ≡ s
+    → is_speaker_high_after (after_act table cpu busy s next).bus [] ≡ is_speaker_high_after s (writes_of cpu next)
 act_predicted table cpu busy s Nothing still = refl
 act_predicted table cpu busy s Request still = enter_predicted table cpu (after_acknowledge s) (requested_type s) causes.Request ∙ no_entry_touches s []
 act_predicted table cpu busy s SingleStep still = enter_predicted table cpu s 1 causes.SingleStep
@@ -139,7 +146,10 @@ clock_predicted s keys = no_key_touches s [] (codes_at keys (s.clock + 1))
 pub predicted : LevelIsPredicted
 unfolding after_clock speaker_level
 predicted s holds =
-    ap from_bool (clock_predicted (after_act s.clocks s.cpu s.busy s.chips (next_act s)).bus s.keys ∙ act_predicted s.clocks s.cpu s.busy s.chips (next_act s) holds.settled)
+    ap from_bool
+    (clock_predicted (after_act s.clocks s.cpu s.busy s.chips (next_act s)).bus s.keys ∙ act_predicted s.clocks s.cpu s.busy s.chips (next_act s) holds.settled)
 
-pub predicted_by : (s : Plain) (next : Act) (high : Bool) → WiresHold s.chips → next ≡ next_act s → high ≡ is_speaker_high_after s.chips (writes_of s.cpu next) → from_bool high ≡ speaker_level (after_clock s)
-predicted_by s next high holds is told = ap from_bool told ∙ ap (λ n. from_bool (is_speaker_high_after s.chips (writes_of s.cpu n))) is ∙ sym (predicted s holds)
+pub predicted_by : (s : Plain) (next : Act) (high : Bool) → WiresHold s.chips → next ≡ next_act s
+    → high ≡ is_speaker_high_after s.chips (writes_of s.cpu next) → from_bool high ≡ speaker_level (after_clock s)
+predicted_by s next high holds is told =
+    ap from_bool told ∙ ap (λ n. from_bool (is_speaker_high_after s.chips (writes_of s.cpu n))) is ∙ sym (predicted s holds)

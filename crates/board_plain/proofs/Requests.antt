@@ -19,7 +19,9 @@ use Rattle.board_plain.specs.BoardLaws.{IsRequested, IsTakenWithin, MayTakeReque
 use Rattle.board_plain.specs.Plain.{Plain, act_at, after_clocks, is_free, next_act}
 
 -- the cases of a boundary other than a request
-other_by : (due halted repeats : Bool) → (if due then boundaries.SingleStep else (if halted then boundaries.Nothing else (if repeats then boundaries.Iteration else boundaries.Instruction))) ≢ boundaries.Request
+other_by : (due halted repeats : Bool)
+    → (if due then boundaries.SingleStep else (if halted then boundaries.Nothing else (if repeats then boundaries.Iteration else boundaries.Instruction)))
+    ≢ boundaries.Request
 other_by true halted repeats is = cc
 other_by false true repeats is = cc
 other_by false false true is = cc
@@ -32,7 +34,9 @@ act_back cpu chips boundaries.Nothing is = absurd (cc)
 act_back cpu chips boundaries.Iteration is = absurd (cc)
 act_back cpu chips boundaries.Instruction is = absurd (cc)
 
-taken_only : (free jammed asked : Bool) (cpu : CpuState) (chips : ChipsState) (other : Boundary) → other ≢ boundaries.Request → (if free then act_at cpu chips (if jammed then boundaries.Nothing else (if asked then boundaries.Request else other)) else Nothing) ≡ Request → (free ≡ true) × (jammed ≡ false) × (asked ≡ true)
+taken_only : (free jammed asked : Bool) (cpu : CpuState) (chips : ChipsState) (other : Boundary) → other ≢ boundaries.Request
+    → (if free then act_at cpu chips (if jammed then boundaries.Nothing else (if asked then boundaries.Request else other)) else Nothing) ≡ Request
+    → (free ≡ true) × (jammed ≡ false) × (asked ≡ true)
 taken_only false jammed asked cpu chips other differs is = absurd (cc)
 taken_only true true asked cpu chips other differs is = absurd (cc)
 taken_only true false true cpu chips other differs is = (refl, refl, refl)
@@ -62,7 +66,8 @@ differs_by state is jammed = let never : true ≡ false = sym (ap is_jammed jamm
 free_by : (busy : ℕ) → (busy == 0) ≡ true → busy ≡ 0
 free_by busy is = grind (arith, nat_tests)
 
-may_by : (s : Plain) → (is_free s ≡ true) × (is_jammed s.cpu.state ≡ false) × ((is_requested s.chips && takes_requests s.cpu) ≡ true) → IsRequested s × MayTakeRequest s
+may_by : (s : Plain) → (is_free s ≡ true) × (is_jammed s.cpu.state ≡ false) × ((is_requested s.chips && takes_requests s.cpu) ≡ true)
+    → IsRequested s × MayTakeRequest s
 may_by s told =
     let asked = both (is_requested s.chips) (takes_requests s.cpu) told.2 in
     let lets = both s.cpu.registers.flags.interrupt_enable (lets_requests s.cpu.shadow) asked.1 in (
@@ -81,7 +86,8 @@ stands_and_may s takes =
     may_by s (taken_only (is_free s) (is_jammed s.cpu.state) (is_requested s.chips && takes_requests s.cpu) s.cpu s.chips _
     (other_by (takes_single_step s.cpu) (is_halted s.cpu.state) (is_some s.cpu.repeat)) takes)
 
-taken_by : (free jammed asked : Bool) (cpu : CpuState) (chips : ChipsState) (other : Boundary) → free ≡ true → jammed ≡ false → asked ≡ true → (if free then act_at cpu chips (if jammed then boundaries.Nothing else (if asked then boundaries.Request else other)) else Nothing) ≡ Request
+taken_by : (free jammed asked : Bool) (cpu : CpuState) (chips : ChipsState) (other : Boundary) → free ≡ true → jammed ≡ false → asked ≡ true
+    → (if free then act_at cpu chips (if jammed then boundaries.Nothing else (if asked then boundaries.Request else other)) else Nothing) ≡ Request
 taken_by free jammed asked cpu chips other first second third =
     ap (λ b. if b then act_at cpu chips (if jammed then boundaries.Nothing else (if asked then boundaries.Request else other)) else Nothing) first
     ∙ ap (λ b. act_at cpu chips (if b then boundaries.Nothing else (if asked then boundaries.Request else other))) second
@@ -92,7 +98,8 @@ unfolding next_act boundary_of
 takes s stands may =
     taken_by (is_free s) (is_jammed s.cpu.state) (is_requested s.chips && takes_requests s.cpu) s.cpu s.chips _
     (ap (λ n. n == 0) may.free) (not_jammed s.cpu.state may.running_or_halted)
-    (all_three (is_requested s.chips) s.cpu.registers.flags.interrupt_enable (lets_requests s.cpu.shadow) stands may.enabled (ap lets_requests may.nothing_kept_off))
+    (all_three (is_requested s.chips) s.cpu.registers.flags.interrupt_enable
+    (lets_requests s.cpu.shadow) stands may.enabled (ap lets_requests may.nothing_kept_off))
 
 pub request_is_taken : RequestIsTaken
 request_is_taken s = (stands_and_may s, λ both. takes s both.0 both.1)
@@ -143,7 +150,8 @@ no_request_by : (a : Act) → is_request a ≡ false → a ≢ Request
 no_request_by a none is = let never : true ≡ false = sym (ap is_request is) ∙ none in cc
 
 -- if no request was taken before, none could be
-taken_first : (s : Plain) (n passed : ℕ) → RequestStays s n → passed ≤ n → TakesRequest (after_clocks s passed) → ((i : ℕ) → i < passed → ¬ (TakesRequest (after_clocks s i))) → IsTakenWithin s n
+taken_first : (s : Plain) (n passed : ℕ) → RequestStays s n → passed ≤ n → TakesRequest (after_clocks s passed)
+    → ((i : ℕ) → i < passed → ¬ (TakesRequest (after_clocks s i))) → IsTakenWithin s n
 taken_first s n passed stays within taken none = record {
   passed = passed;
   within = within;
@@ -159,7 +167,8 @@ pub staying_request_is_taken : StayingRequestIsTaken
 staying_request_is_taken s n stays may =
     elim (first_of (λ i. is_request (next_act (after_clocks s i))) n) [
       | inl found ↦
-          taken_first s n found.place stays (let w = found.within in omega arith) (request_by _ found.passes) (λ i before. no_request_by _ (found.before i before))
+          taken_first s n found.place stays (let w = found.within in omega arith)
+          (request_by _ found.passes) (λ i before. no_request_by _ (found.before i before))
       | inr none ↦
           let before : (i : ℕ) → i < n → ¬ (TakesRequest (after_clocks s i)) = λ i within. no_request_by _ (none i within) in
           taken_first s n n stays (omega arith) (takes (after_clocks s n) (stays n (omega arith) before) may) before

@@ -54,7 +54,8 @@ clock_by s act is = ap (after_acting s) is
 work_acting : Plain → Act → ℕ
 work_acting s act =
     steps_of act + jams_of act
-    + (edges_of s.chips.pit.counter_0.out (after_acting s act).chips.pit.counter_0.out + edges_of s.chips.pit.counter_2.out (after_acting s act).chips.pit.counter_2.out)
+    + (edges_of s.chips.pit.counter_0.out (after_acting s act).chips.pit.counter_0.out
+    + edges_of s.chips.pit.counter_2.out (after_acting s act).chips.pit.counter_2.out)
     + keys_next s
 
 work_by : (s : Plain) (act : Act) (n : ℕ) → next_act s ≡ act → work_acting s act ≡ n → work_next s ≡ n
@@ -63,7 +64,10 @@ work_by s act n is told = ap (work_acting s) is ∙ told
 
 -- what a row unfolds
 unfoldable on_clocks : ⊤
-unfolding rows row_at form_at values_at decoded_after decoded_from form_length encoding clocks_of clocks_in data_words whole_words boundary_of popped_flags after_found after_operation after_step after_whole is_taken lacks_quotient after_flag_operation keyboard.after_settling pic.level_to_take pic.after_line counter.after_tick counter.after_gate pit.power_on pit.after_tick pit.after_gate chips.power_on wires.after_settling wires.after_clock wires.after_key_settling chips_after_clock clock_of keys_next power_on next_act after_acting work_acting
+unfolding rows row_at form_at values_at decoded_after decoded_from form_length encoding clocks_of clocks_in data_words whole_words boundary_of
+    popped_flags after_found after_operation after_step after_whole is_taken lacks_quotient after_flag_operation keyboard.after_settling
+    pic.level_to_take pic.after_line counter.after_tick counter.after_gate pit.power_on pit.after_tick pit.after_gate chips.power_on
+    wires.after_settling wires.after_clock wires.after_key_settling chips_after_clock clock_of keys_next power_on next_act after_acting work_acting
 on_clocks = tt
 
 abbrev image : List (ℕ × ℕ)

@@ -13,10 +13,12 @@ no_stop_none stops s j first within = absurd (omega (arith, first, within))
 -- nothing holds at one clock more
 pub no_stop_more : (stops : List Condition) (n : ℕ) (s : Plain) → NoStop stops n s → holding stops (after_clocks s (n + 1)) ≡ None → NoStop stops (n + 1) s
 no_stop_more stops n s none here j first within =
-    below_more (λ k. 1 ≤ k → holding stops (after_clocks s k) ≡ None) (n + 1) (λ k below from. none k from (omega (arith, below))) (λ _. here) j (omega (arith, within)) first
+    below_more (λ k. 1 ≤ k → holding stops (after_clocks s k) ≡ None) (n + 1)
+    (λ k below from. none k from (omega (arith, below))) (λ _. here) j (omega (arith, within)) first
 
 -- a stop lies after the clocks at which nothing holds
-pub stop_is_later : (stops : List Condition) (n passed : ℕ) (s : Plain) (stop : Stop) → NoStop stops passed s → (is : StopsAt stops n s stop) → passed < is.passed
+pub stop_is_later : (stops : List Condition) (n passed : ℕ) (s : Plain) (stop : Stop)
+    → NoStop stops passed s → (is : StopsAt stops n s stop) → passed < is.passed
 stop_is_later stops n passed s stop none is =
     let not_before : is.passed ≤ passed → ⊥ = λ before. let never : Some stop.number ≡ None = sym is.holds_there ∙ none is.passed is.after_start before in cc in
     omega (arith, not_before)
@@ -25,7 +27,8 @@ none_stops : (stops : List Condition) (n : ℕ) (s : Plain) (stop : Stop) → No
 none_stops stops n s stop none is = let later = stop_is_later stops n n s stop none is in let within = is.within in absurd (omega (arith, later, within))
 
 -- every run has one end
-ends : (stops : List Condition) (n : ℕ) (s : Plain) (stopped : Option ℕ) → holding stops (after_clocks s (n + 1)) ≡ stopped → (end : Option Stop) → IsStopOf stops n s end → (other : Option Stop) × IsStopOf stops (n + 1) s other
+ends : (stops : List Condition) (n : ℕ) (s : Plain) (stopped : Option ℕ) → holding stops (after_clocks s (n + 1)) ≡ stopped
+    → (end : Option Stop) → IsStopOf stops n s end → (other : Option Stop) × IsStopOf stops (n + 1) s other
 ends stops n s stopped here (Some stop) is = (
   Some stop,
   record {

@@ -32,12 +32,15 @@ fixed_after_arrivals : (codes : List ℕ) (s : ChipsState) → FixedWires s → 
 fixed_after_arrivals [] s holds = holds
 fixed_after_arrivals (code ∷ codes) s holds = fixed_after_arrivals codes (after_arrival s code) (wires_stay.key s code holds)
 
-fixed_after_enter : (table : ClockTable) (cpu : CpuState) (s : ChipsState) (kind : ℕ) (cause : Cause) → FixedWires s → FixedWires (after_enter chips_bus table cpu s kind cause).bus
+fixed_after_enter : (table : ClockTable) (cpu : CpuState) (s : ChipsState) (kind : ℕ) (cause : Cause) → FixedWires s
+    → FixedWires (after_enter chips_bus table cpu s kind cause).bus
 fixed_after_enter table cpu s kind cause holds = enter_keeps_any chips_bus table FixedWires wires_stay.byte cpu s kind cause holds
 
-fixed_after_act : (table : ClockTable) (cpu : CpuState) (busy : ℕ) (s : ChipsState) (next : Act) → FixedWires s → FixedWires (after_act table cpu busy s next).bus
+fixed_after_act : (table : ClockTable) (cpu : CpuState) (busy : ℕ) (s : ChipsState) (next : Act) → FixedWires s
+    → FixedWires (after_act table cpu busy s next).bus
 fixed_after_act table cpu busy s Nothing holds = holds
-fixed_after_act table cpu busy s Request holds = fixed_after_enter table cpu (after_acknowledge s) (requested_type s) causes.Request (wires_stay.request s holds)
+fixed_after_act table cpu busy s Request holds =
+    fixed_after_enter table cpu (after_acknowledge s) (requested_type s) causes.Request (wires_stay.request s holds)
 fixed_after_act table cpu busy s SingleStep holds = fixed_after_enter table cpu s 1 causes.SingleStep holds
 fixed_after_act table cpu busy s Iteration holds = again_keeps_any chips_bus table FixedWires wires_stay.byte cpu s holds
 fixed_after_act table cpu busy s (Instruction decoded) holds =
@@ -58,7 +61,9 @@ unfolding chips_after_clock
 keys_after_clock s keys = keys_settle_once _
 
 -- the chips after a clock, whatever the processor did in it
-pub holds_next : (table : ClockTable) (cpu : CpuState) (busy : ℕ) (s : ChipsState) (next : Act) (acted : StepResult ChipsState) (keys : List StampedKey) (t : ChipsState) → acted ≡ after_act table cpu busy s next → t ≡ chips_after_clock acted.bus keys → WiresHold s → WiresHold t
+pub holds_next : (table : ClockTable) (cpu : CpuState) (busy : ℕ) (s : ChipsState)
+    (next : Act) (acted : StepResult ChipsState) (keys : List StampedKey) (t : ChipsState)
+    → acted ≡ after_act table cpu busy s next → t ≡ chips_after_clock acted.bus keys → WiresHold s → WiresHold t
 holds_next table cpu busy s next acted keys t is after holds =
     let fixed : FixedWires acted.bus = subst (λ (r : StepResult ChipsState). FixedWires r.bus) (sym is) (fixed_after_act table cpu busy s next holds.fixed) in
     let all : WiresHold (chips_after_clock acted.bus keys) = record {
@@ -79,14 +84,16 @@ all_hold (suc n) s holds = one_holds (after_clocks s n) (all_hold n s holds)
 
 -- at power-on
 
-first_holds : (image : List (ℕ × ℕ)) (size sw1 sw2 : ℕ) (kind : TimerKind) (codes : List ℕ) → WiresHold (after_arrivals (chips.power_on image size sw1 sw2 kind) codes)
+first_holds : (image : List (ℕ × ℕ)) (size sw1 sw2 : ℕ) (kind : TimerKind) (codes : List ℕ)
+    → WiresHold (after_arrivals (chips.power_on image size sw1 sw2 kind) codes)
 first_holds image size sw1 sw2 kind codes = record {
   settled = power_on_settled image size sw1 sw2 kind codes;
   keys = power_on_keys_settled image size sw1 sw2 kind codes;
   fixed = fixed_after_arrivals codes _ (wires_stay.first image size sw1 sw2 kind);
 }
 
-pub holds_first : (image : List (ℕ × ℕ)) (size sw1 sw2 : ℕ) (kind : TimerKind) (codes : List ℕ) (s t : ChipsState) → s ≡ chips.power_on image size sw1 sw2 kind → t ≡ after_arrivals s codes → WiresHold t
+pub holds_first : (image : List (ℕ × ℕ)) (size sw1 sw2 : ℕ) (kind : TimerKind) (codes : List ℕ) (s t : ChipsState)
+    → s ≡ chips.power_on image size sw1 sw2 kind → t ≡ after_arrivals s codes → WiresHold t
 holds_first image size sw1 sw2 kind codes s t is after =
     subst WiresHold (sym (after ∙ ap (λ (u : ChipsState). after_arrivals u codes) is)) (first_holds image size sw1 sw2 kind codes)
 

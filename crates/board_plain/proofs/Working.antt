@@ -66,7 +66,11 @@ no_edge_by before after same = ap (edges_of before) same ∙ no_edge before
 
 -- the keys
 
-more : (c : ℕ) (k : StampedKey) (ks : List StampedKey) (b : Bool) → nat_eq k.stamp c ≡ b → length (map (λ (x : StampedKey). x.code) (cond b (k ∷ filter (λ (x : StampedKey). nat_eq x.stamp c) ks) (filter (λ (x : StampedKey). nat_eq x.stamp c) ks))) ≡ 0 → (k.stamp ≢ c) × (length (codes_at ks c) ≡ 0)
+more : (c : ℕ) (k : StampedKey) (ks : List StampedKey) (b : Bool) → nat_eq k.stamp c ≡ b
+    → length
+    (map (λ (x : StampedKey). x.code) (cond b (k ∷ filter (λ (x : StampedKey). nat_eq x.stamp c) ks) (filter (λ (x : StampedKey). nat_eq x.stamp c) ks)))
+    ≡ 0
+    → (k.stamp ≢ c) × (length (codes_at ks c) ≡ 0)
 more c k ks true is none = absurd (omega (arith, none))
 more c k ks false is none = (λ same. grind (arith, nat_tests), none)
 

@@ -47,7 +47,8 @@ same_after_keys s = record { memory = refl; text = refl }
 
 after_codes : (codes : List ℕ) (s : ChipsState) (address : ℕ) → is_writable (after_arrivals s codes) address ≡ is_writable s address
 after_codes [] s address = refl
-after_codes (code ∷ codes) s address = after_codes codes (after_arrival s code) address ∙ same_writable (after_arrival s code) s address (same_after_arrival s code)
+after_codes (code ∷ codes) s address =
+    after_codes codes (after_arrival s code) address ∙ same_writable (after_arrival s code) s address (same_after_arrival s code)
 
 chips_take : (s : ChipsState) (keys : List StampedKey) (address : ℕ) → is_writable (chips_after_clock s keys) address ≡ is_writable s address
 unfolding chips_after_clock
@@ -56,24 +57,30 @@ chips_take s keys address =
     ∙ after_codes (codes_at keys (s.clock + 1)) (wires.after_clock s) address
     ∙ same_writable (wires.after_clock s) s address (same_after_clock s)
 
-byte_takes : (s t : ChipsState) (address other byte : ℕ) → is_writable t address ≡ is_writable s address → is_writable (chips_bus.after_write t other byte) address ≡ is_writable s address
+byte_takes : (s t : ChipsState) (address other byte : ℕ) → is_writable t address ≡ is_writable s address
+    → is_writable (chips_bus.after_write t other byte) address ≡ is_writable s address
 byte_takes s t address other byte same = chips_keep_bytes.fixed t other byte address ∙ same
 
-enter_takes : (table : ClockTable) (cpu : CpuState) (s : ChipsState) (kind : ℕ) (cause : Cause) (address : ℕ) → is_writable (after_enter chips_bus table cpu s kind cause).bus address ≡ is_writable s address
+enter_takes : (table : ClockTable) (cpu : CpuState) (s : ChipsState) (kind : ℕ) (cause : Cause) (address : ℕ)
+    → is_writable (after_enter chips_bus table cpu s kind cause).bus address ≡ is_writable s address
 enter_takes table cpu s kind cause address =
-    enter_keeps_any chips_bus table (λ (t : ChipsState). is_writable t address ≡ is_writable s address) (λ t other byte same. byte_takes s t address other byte same) cpu s kind cause refl
+    enter_keeps_any chips_bus table (λ (t : ChipsState). is_writable t address ≡ is_writable s address)
+    (λ t other byte same. byte_takes s t address other byte same) cpu s kind cause refl
 
 same_after_acknowledge : (s : ChipsState) → SameBytes (after_acknowledge s) s
 unfolding after_acknowledge
 same_after_acknowledge s = record { memory = refl; text = refl }
 
-act_takes : (table : ClockTable) (cpu : CpuState) (busy : ℕ) (s : ChipsState) (next : Act) (address : ℕ) → is_writable (after_act table cpu busy s next).bus address ≡ is_writable s address
+act_takes : (table : ClockTable) (cpu : CpuState) (busy : ℕ) (s : ChipsState) (next : Act) (address : ℕ)
+    → is_writable (after_act table cpu busy s next).bus address ≡ is_writable s address
 act_takes table cpu busy s Nothing address = refl
 act_takes table cpu busy s Request address =
-    enter_takes table cpu (after_acknowledge s) (requested_type s) causes.Request address ∙ same_writable (after_acknowledge s) s address (same_after_acknowledge s)
+    enter_takes table cpu (after_acknowledge s) (requested_type s) causes.Request address
+    ∙ same_writable (after_acknowledge s) s address (same_after_acknowledge s)
 act_takes table cpu busy s SingleStep address = enter_takes table cpu s 1 causes.SingleStep address
 act_takes table cpu busy s Iteration address =
-    again_keeps_any chips_bus table (λ (t : ChipsState). is_writable t address ≡ is_writable s address) (λ t other byte same. byte_takes s t address other byte same) cpu s refl
+    again_keeps_any chips_bus table (λ (t : ChipsState). is_writable t address ≡ is_writable s address)
+    (λ t other byte same. byte_takes s t address other byte same) cpu s refl
 act_takes table cpu busy s (Instruction decoded) address =
     step_keeps_any chips_bus table (λ (t : ChipsState). is_writable t address ≡ is_writable s address)
     (λ t other byte same. byte_takes s t address other byte same)
@@ -93,7 +100,8 @@ all_take (suc n) s address = one_takes (after_clocks s n) address ∙ all_take n
 
 -- at power-on
 
-text_first : (image : List (ℕ × ℕ)) (size sw1 sw2 : ℕ) (kind : TimerKind) (address : ℕ) → IsTextAddress address → is_writable (chips.power_on image size sw1 sw2 kind) address ≡ true
+text_first : (image : List (ℕ × ℕ)) (size sw1 sw2 : ℕ) (kind : TimerKind) (address : ℕ) → IsTextAddress address
+    → is_writable (chips.power_on image size sw1 sw2 kind) address ≡ true
 unfolding is_writable chips.power_on
 text_first image size sw1 sw2 kind address text = let whole = is_blank.size in grind (arith, nat_tests, common_steps, whole)
 
@@ -104,20 +112,24 @@ ram_within : (image : List (ℕ × ℕ)) (size address : ℕ) → address < size
 unfolding map.power_on
 ram_within image size address within = within
 
-ram_first : (image : List (ℕ × ℕ)) (size sw1 sw2 : ℕ) (kind : TimerKind) (address : ℕ) → size ≤ 0xA0000 → address < size → is_writable (chips.power_on image size sw1 sw2 kind) address ≡ true
+ram_first : (image : List (ℕ × ℕ)) (size sw1 sw2 : ℕ) (kind : TimerKind) (address : ℕ) → size ≤ 0xA0000 → address < size
+    → is_writable (chips.power_on image size sw1 sw2 kind) address ≡ true
 unfolding is_writable chips.power_on
 ram_first image size sw1 sw2 kind address least within =
-    ap (λ b. if b then nat_lt (address - 0xB0000) (length mda.power_on.bytes) else map.is_writable (map.power_on image size) address) (not_text address (omega arith))
+    ap (λ b. if b then nat_lt (address - 0xB0000) (length mda.power_on.bytes) else map.is_writable (map.power_on image size) address)
+    (not_text address (omega arith))
     ∙ ram_written (map.power_on image size) address (whole_at_power_on image size least) (ram_within image size address within)
 
-takes_first : (image : List (ℕ × ℕ)) (config : Config) (address : ℕ) → IsRamSize config.ram_kb → (address < 1024 * config.ram_kb) ⊎ IsTextAddress address → is_writable (chips.power_on image (1024 * config.ram_kb) config.sw1 config.sw2 config.timer) address ≡ true
+takes_first : (image : List (ℕ × ℕ)) (config : Config) (address : ℕ) → IsRamSize config.ram_kb → (address < 1024 * config.ram_kb) ⊎ IsTextAddress address
+    → is_writable (chips.power_on image (1024 * config.ram_kb) config.sw1 config.sw2 config.timer) address ≡ true
 takes_first image config address size at =
     elim at [
       | inl ram ↦ ram_first image (1024 * config.ram_kb) config.sw1 config.sw2 config.timer address (let most = size.most in omega arith) ram
       | inr text ↦ text_first image (1024 * config.ram_kb) config.sw1 config.sw2 config.timer address text
     ]
 
-power_on_takes : (image : List (ℕ × ℕ)) (config : Config) (keys : List StampedKey) (address : ℕ) → IsRamSize config.ram_kb → (address < 1024 * config.ram_kb) ⊎ IsTextAddress address → is_writable (power_on image config keys).chips address ≡ true
+power_on_takes : (image : List (ℕ × ℕ)) (config : Config) (keys : List StampedKey) (address : ℕ)
+    → IsRamSize config.ram_kb → (address < 1024 * config.ram_kb) ⊎ IsTextAddress address → is_writable (power_on image config keys).chips address ≡ true
 unfolding power_on
 power_on_takes image config keys address size at = after_codes (codes_at keys 0) _ address ∙ takes_first image config address size at
 

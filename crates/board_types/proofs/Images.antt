@@ -7,7 +7,8 @@ use Rattle.std.specs.Map.{keys_of}
 use Rattle.std.proofs.lemmas.Map.Views.{All-keys-insert_entry, All-values-insert_entry}
 use Rattle.board_types.specs.Image.{IsImage, IsLoadable}
 
-pub image_put : (image put : List (ℕ × ℕ)) (address byte : ℕ) → put ≡ insert_entry nat_cmp image address byte → IsStrictlySortedBy nat_cmp (keys_of put) → IsImage image → IsLoadable address → byte < 256 → IsImage put
+pub image_put : (image put : List (ℕ × ℕ)) (address byte : ℕ) → put ≡ insert_entry nat_cmp image address byte
+    → IsStrictlySortedBy nat_cmp (keys_of put) → IsImage image → IsLoadable address → byte < 256 → IsImage put
 image_put image put address byte is rising whole loadable small = record {
   loadable = rw is (All-keys-insert_entry nat_cmp address byte IsLoadable image whole.loadable loadable);
   rising = rising;

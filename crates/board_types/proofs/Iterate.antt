@@ -37,14 +37,17 @@ pub gathered_zero : {S A : Type 0} (step : S → S) (seen : S → List A) (s : S
 unfolding gathered
 gathered_zero step seen s = refl
 
-gathered_suc : {S A : Type 0} (step : S → S) (seen : S → List A) (n : ℕ) (s : S) → gathered step seen (suc n) s ≡ gathered step seen n s ++ seen (iterate step n s)
+gathered_suc : {S A : Type 0} (step : S → S) (seen : S → List A) (n : ℕ) (s : S)
+    → gathered step seen (suc n) s ≡ gathered step seen n s ++ seen (iterate step n s)
 unfolding gathered
 gathered_suc step seen n s = refl
 
-pub gathered_more : {S A : Type 0} (step : S → S) (seen : S → List A) (n : ℕ) (s : S) → gathered step seen (n + 1) s ≡ gathered step seen n s ++ seen (iterate step n s)
+pub gathered_more : {S A : Type 0} (step : S → S) (seen : S → List A) (n : ℕ) (s : S)
+    → gathered step seen (n + 1) s ≡ gathered step seen n s ++ seen (iterate step n s)
 gathered_more step seen n s = ap (λ k. gathered step seen k s) (one_more n) ∙ gathered_suc step seen n s
 
-pub gathered_add : {S A : Type 0} (step : S → S) (seen : S → List A) (a b : ℕ) (s : S) → gathered step seen (a + b) s ≡ gathered step seen a s ++ gathered step seen b (iterate step a s)
+pub gathered_add : {S A : Type 0} (step : S → S) (seen : S → List A) (a b : ℕ) (s : S)
+    → gathered step seen (a + b) s ≡ gathered step seen a s ++ gathered step seen b (iterate step a s)
 gathered_add step seen a zero s =
     ap (λ k. gathered step seen k s) (none_after a) ∙ sym (append-nil (gathered step seen a s))
     ∙ ap (λ xs. gathered step seen a s ++ xs) (sym (gathered_zero step seen (iterate step a s)))
@@ -72,7 +75,8 @@ total_suc step cost n s = refl
 pub total_more : {S : Type 0} (step : S → S) (cost : S → ℕ) (n : ℕ) (s : S) → total step cost (n + 1) s ≡ total step cost n s + cost (iterate step n s)
 total_more step cost n s = ap (λ k. total step cost k s) (one_more n) ∙ total_suc step cost n s
 
-pub total_add : {S : Type 0} (step : S → S) (cost : S → ℕ) (a b : ℕ) (s : S) → total step cost (a + b) s ≡ total step cost a s + total step cost b (iterate step a s)
+pub total_add : {S : Type 0} (step : S → S) (cost : S → ℕ) (a b : ℕ) (s : S)
+    → total step cost (a + b) s ≡ total step cost a s + total step cost b (iterate step a s)
 total_add step cost a zero s =
     ap (λ k. total step cost k s) (none_after a) ∙ sym (none_after (total step cost a s))
     ∙ ap (λ k. total step cost a s + k) (sym (total_zero step cost (iterate step a s)))

@@ -20,7 +20,8 @@ strip_parts l = strip_by (slice_index l (length l - 1) == 13) (length l - 1) l
 pub last_parts : (s : List ℕ) (n : ℕ) (back : List ℕ) → back ≡ drop n s → (ending : List ℕ) × (s ≡ take n s ++ (ending ++ back))
 last_parts s n back is = ([], rw is (sym (take-append-drop n s)))
 
-joined : (s front line ending back rest : List ℕ) (c : ℕ) → front ++ back ≡ s → back ≡ c ∷ rest → front ≡ line ++ ending → s ≡ line ++ ((ending ++ c ∷ []) ++ rest)
+joined : (s front line ending back rest : List ℕ) (c : ℕ) → front ++ back ≡ s → back ≡ c ∷ rest → front ≡ line ++ ending
+    → s ≡ line ++ ((ending ++ c ∷ []) ++ rest)
 joined s front line ending back rest c whole is parts =
     sym whole ∙ ap (λ (b : List ℕ). front ++ b) is ∙ ap (λ (f : List ℕ). f ++ c ∷ rest) parts
     ∙ append_assoc line ending (c ∷ rest) ∙ ap (λ (b : List ℕ). line ++ b) (sym (append_assoc ending (c ∷ []) rest))
@@ -29,5 +30,8 @@ pub ended_parts : (s : List ℕ) (n : ℕ) (back : List ℕ) → back ≡ drop n
     → (ending : List ℕ) × (s ≡ strip_carriage_return (take n s) ++ (ending ++ take (length back - 1) (drop 1 back)))
 ended_parts s n [] is some = absurd (omega arith)
 ended_parts s n (c ∷ cs) is some =
-    let line = strip_parts (take n s) in
-    (line.0 ++ c ∷ [], rw (take_all cs) (joined s (take n s) (strip_carriage_return (take n s)) line.0 (c ∷ cs) cs c (ap (λ (b : List ℕ). take n s ++ b) is ∙ take-append-drop n s) refl line.1))
+    let line = strip_parts (take n s) in (
+      line.0 ++ c ∷ [],
+      rw (take_all cs) (joined s (take n s) (strip_carriage_return (take n s)) line.0
+          (c ∷ cs) cs c (ap (λ (b : List ℕ). take n s ++ b) is ∙ take-append-drop n s) refl line.1),
+    )

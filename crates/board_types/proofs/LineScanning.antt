@@ -55,12 +55,13 @@ strip_return : (b : ℕ) → (b == 13) ≡ true → strip_carriage_return (b ∷
 strip_return b is = rw is refl
 
 ended_one : (b c : ℕ) (rest : List ℕ) (ends returns : Bool) → drop (if ends then 0 else 1 + 0) (b ∷ []) ≡ c ∷ rest
-    → (if ends then [] ∷ [] else (if returns && false then [] else (b ∷ []) ∷ [])) ≡ strip_carriage_return (take (if ends then 0 else 1 + 0) (b ∷ [])) ∷ text_lines rest
+    → (if ends then [] ∷ [] else (if returns && false then [] else (b ∷ []) ∷ []))
+    ≡ strip_carriage_return (take (if ends then 0 else 1 + 0) (b ∷ [])) ∷ text_lines rest
 ended_one b c rest true returns is = let none : [] ≡ rest = cc in ap (λ (r : List ℕ). [] ∷ text_lines r) none
 ended_one b c rest false returns is = cc
 
-ended_next : (b d : ℕ) (ds lines : List ℕ) (more : List (List ℕ)) (size : ℕ) (returns next : Bool) → (b == 13) ≡ returns → (next ≡ true → size ≡ 0) → (next ≡ false → 0 < size)
-    → text_lines (d ∷ ds) ≡ strip_carriage_return (take size (d ∷ ds)) ∷ more
+ended_next : (b d : ℕ) (ds lines : List ℕ) (more : List (List ℕ)) (size : ℕ) (returns next : Bool)
+    → (b == 13) ≡ returns → (next ≡ true → size ≡ 0) → (next ≡ false → 0 < size) → text_lines (d ∷ ds) ≡ strip_carriage_return (take size (d ∷ ds)) ∷ more
     → (if returns && next then text_lines (d ∷ ds) else onto_first b (text_lines (d ∷ ds))) ≡ strip_carriage_return (b ∷ take size (d ∷ ds)) ∷ more
 ended_next b d ds lines more size true true is at_feed past first = rw (at_feed refl, strip_return b is) (rw (at_feed refl) at first)
 ended_next b d ds lines more size false true is at_feed past first = rw (at_feed refl, strip_other b is) (ap (onto_first b) (rw (at_feed refl) at first))
@@ -71,17 +72,20 @@ no_feed_size : (d : ℕ) (ds : List ℕ) → (d == 10) ≡ false → 0 < size_be
 no_feed_size d ds is = rw is (omega arith)
 
 ended_by : (b c d : ℕ) (ds rest : List ℕ) (ends returns : Bool) → (b == 13) ≡ returns
-    → (drop (size_before 10 (d ∷ ds)) (d ∷ ds) ≡ c ∷ rest → text_lines (d ∷ ds) ≡ strip_carriage_return (take (size_before 10 (d ∷ ds)) (d ∷ ds)) ∷ text_lines rest)
+    → (drop (size_before 10 (d ∷ ds)) (d ∷ ds) ≡ c ∷ rest
+    → text_lines (d ∷ ds) ≡ strip_carriage_return (take (size_before 10 (d ∷ ds)) (d ∷ ds)) ∷ text_lines rest)
     → drop (if ends then 0 else 1 + size_before 10 (d ∷ ds)) (b ∷ d ∷ ds) ≡ c ∷ rest
     → (if ends then [] ∷ text_lines (d ∷ ds) else (if returns && (d == 10) then text_lines (d ∷ ds) else onto_first b (text_lines (d ∷ ds))))
     ≡ strip_carriage_return (take (if ends then 0 else 1 + size_before 10 (d ∷ ds)) (b ∷ d ∷ ds)) ∷ text_lines rest
 ended_by b c d ds rest true returns was lines is = let same : d ∷ ds ≡ rest = cc in ap (λ (r : List ℕ). [] ∷ text_lines r) same
 ended_by b c d ds rest false returns was lines is =
     rw (one_more (size_before 10 (d ∷ ds)))
-    (ended_next b d ds [] (text_lines rest) (size_before 10 (d ∷ ds)) returns (d == 10) was (feed_size d ds) (no_feed_size d ds) (lines (rw (one_more (size_before 10 (d ∷ ds))) at is)))
+    (ended_next b d ds [] (text_lines rest) (size_before 10 (d ∷ ds)) returns (d == 10) was
+    (feed_size d ds) (no_feed_size d ds) (lines (rw (one_more (size_before 10 (d ∷ ds))) at is)))
 
 -- the text's first line ends at its first line feed
-pub line_ended : (bs : List ℕ) (c : ℕ) (rest : List ℕ) → drop (size_before 10 bs) bs ≡ c ∷ rest → text_lines bs ≡ strip_carriage_return (take (size_before 10 bs) bs) ∷ text_lines rest
+pub line_ended : (bs : List ℕ) (c : ℕ) (rest : List ℕ) → drop (size_before 10 bs) bs ≡ c ∷ rest
+    → text_lines bs ≡ strip_carriage_return (take (size_before 10 bs) bs) ∷ text_lines rest
 line_ended [] c rest is = cc
 line_ended (b ∷ []) c rest is = ended_one b c rest (b == 10) (b == 13) is
 line_ended (b ∷ d ∷ ds) c rest is = ended_by b c d ds rest (b == 10) (b == 13) refl (line_ended (d ∷ ds) c rest) is

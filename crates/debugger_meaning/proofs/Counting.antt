@@ -9,16 +9,19 @@ use Rattle.debugger_meaning.specs.CommandWords.{at_most_greatest}
 more : (base n d m : ℕ) → 1 ≤ base → m ≤ n → m ≤ n * base + d
 more base n d m some large = grind arith
 
-same_by : (fits : Bool) (a b : Option ℕ) → at_most_greatest a ≡ at_most_greatest b → at_most_greatest (if fits then a else None) ≡ at_most_greatest (if fits then b else None)
+same_by : (fits : Bool) (a b : Option ℕ) → at_most_greatest a ≡ at_most_greatest b
+    → at_most_greatest (if fits then a else None) ≡ at_most_greatest (if fits then b else None)
 same_by true a b same = same
 same_by false a b same = refl
 
 -- two numbers above the greatest count as that, whatever digits follow
-both_large : (base a b : ℕ) (bs : List ℕ) → 1 ≤ base → 2 ^ 64 - 1 ≤ a → 2 ^ 64 - 1 ≤ b → at_most_greatest (spelled base a bs) ≡ at_most_greatest (spelled base b bs)
+both_large : (base a b : ℕ) (bs : List ℕ) → 1 ≤ base → 2 ^ 64 - 1 ≤ a → 2 ^ 64 - 1 ≤ b
+    → at_most_greatest (spelled base a bs) ≡ at_most_greatest (spelled base b bs)
 both_large base a b [] some p q = ap Some (min-eq_right p ∙ sym (min-eq_right q))
 both_large base a b (d ∷ ds) some p q =
     same_by (nat_lt (digit_of d) base) (spelled base (a * base + digit_of d) ds) (spelled base (b * base + digit_of d) ds)
-    (both_large base (a * base + digit_of d) (b * base + digit_of d) ds some (more base a (digit_of d) (2 ^ 64 - 1) some p) (more base b (digit_of d) (2 ^ 64 - 1) some q))
+    (both_large base (a * base + digit_of d) (b * base + digit_of d) ds some
+    (more base a (digit_of d) (2 ^ 64 - 1) some p) (more base b (digit_of d) (2 ^ 64 - 1) some q))
 
 not_larger : (a b : ℕ) → nat_lt a b ≡ false → b ≤ a
 not_larger a b isnt = grind (arith, nat_tests)
@@ -27,7 +30,8 @@ larger : (a b : ℕ) → nat_lt a b ≡ true → a ≤ b
 larger a b is = grind (arith, nat_tests)
 
 -- a number above the greatest may be cut down to that before more digits follow
-cut_by : (large : Bool) (base n : ℕ) (bs : List ℕ) → 1 ≤ base → nat_lt (2 ^ 64 - 1) n ≡ large → at_most_greatest (spelled base (min n (2 ^ 64 - 1)) bs) ≡ at_most_greatest (spelled base n bs)
+cut_by : (large : Bool) (base n : ℕ) (bs : List ℕ) → 1 ≤ base → nat_lt (2 ^ 64 - 1) n ≡ large
+    → at_most_greatest (spelled base (min n (2 ^ 64 - 1)) bs) ≡ at_most_greatest (spelled base n bs)
 cut_by true base n bs some is =
     let over : 2 ^ 64 - 1 ≤ n = larger (2 ^ 64 - 1) n is in
     rw (min-eq_right over) (both_large base (2 ^ 64 - 1) n bs some (omega arith) over)
@@ -54,14 +58,16 @@ fits n base is = grind (arith, nat_tests)
 
 -- one more digit
 pub digit_more : (base n i : ℕ) (digits : List ℕ) → 1 ≤ base → i < length digits → digit_of (get_or digits i 0) < base
-    → at_most_greatest (spelled base (min (min (n * base) (2 ^ 64 - 1) + digit_of (get_or digits i 0)) (2 ^ 64 - 1)) (drop (suc i) digits)) ≡ at_most_greatest (spelled base n (drop i digits))
+    → at_most_greatest (spelled base (min (min (n * base) (2 ^ 64 - 1) + digit_of (get_or digits i 0)) (2 ^ 64 - 1)) (drop (suc i) digits))
+    ≡ at_most_greatest (spelled base n (drop i digits))
 digit_more base n i digits some in_list low =
     let is : nat_lt (digit_of (get_or digits i 0)) base ≡ true = fits (digit_of (get_or digits i 0)) base low in
     rw (cut_twice_by (nat_lt (2 ^ 64 - 1) (n * base)) (n * base) (digit_of (get_or digits i 0)) (2 ^ 64 - 1) refl)
     (cut_front base (n * base + digit_of (get_or digits i 0)) (drop (suc i) digits) some ∙ rw (drop-cons digits i 0, is) refl)
 
 -- at a byte that is no digit of the base there is no number
-pub stops_at : (base n i : ℕ) (digits : List ℕ) → i < length digits → base ≤ digit_of (get_or digits i 0) → None ≡ at_most_greatest (spelled base n (drop i digits))
+pub stops_at : (base n i : ℕ) (digits : List ℕ) → i < length digits → base ≤ digit_of (get_or digits i 0)
+    → None ≡ at_most_greatest (spelled base n (drop i digits))
 stops_at base n i digits in_list high =
     let no : nat_lt (digit_of (get_or digits i 0)) base ≡ false = too_high (digit_of (get_or digits i 0)) base high in
     rw (drop-cons digits i 0, no) refl
@@ -75,9 +81,11 @@ hex_step n front d p low below = grind arith
 none_some : (n : ℕ) (A : Type 0) → None ≡ Some n → A
 none_some n A never = cc
 
-below_by : (low : Bool) (b front n : ℕ) (bs : List ℕ) → nat_lt (digit_of b) 16 ≡ low → (spelled 16 (front * 16 + digit_of b) bs ≡ Some n → n < (front * 16 + digit_of b + 1) * 16 ^ length bs)
+below_by : (low : Bool) (b front n : ℕ) (bs : List ℕ) → nat_lt (digit_of b) 16 ≡ low
+    → (spelled 16 (front * 16 + digit_of b) bs ≡ Some n → n < (front * 16 + digit_of b + 1) * 16 ^ length bs)
     → (if low then spelled 16 (front * 16 + digit_of b) bs else None) ≡ Some n → n < (front + 1) * 16 ^ suc (length bs)
-below_by true b front n bs low rest was = rw (pow-succ' 16 (length bs)) (hex_step n front (digit_of b) (16 ^ length bs) (ltb-true (digit_of b) 16 low) (rest was))
+below_by true b front n bs low rest was =
+    rw (pow-succ' 16 (length bs)) (hex_step n front (digit_of b) (16 ^ length bs) (ltb-true (digit_of b) 16 low) (rest was))
 below_by false b front n bs low rest was = none_some n _ was
 
 -- a number of n digits is below 16 ^ n

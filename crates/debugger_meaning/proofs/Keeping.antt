@@ -17,16 +17,20 @@ one_more old board copy place same =
     All-append (IsKept old board) (take place old) (copy ∷ drop place old) (All-take (IsKept old board) place old (old_kept old board))
     (All-cons (IsKept old board) copy (drop place old) (inr same) (All-drop (IsKept old board) place old (old_kept old board)))
 
-kept_by : (ok : Bool) (old : List BoardState) (board copy : BoardState) (place : ℕ) → shown_of copy ≡ shown_of board → AreKept old board (if ok then insert old place copy else old)
+kept_by : (ok : Bool) (old : List BoardState) (board copy : BoardState) (place : ℕ) → shown_of copy ≡ shown_of board
+    → AreKept old board (if ok then insert old place copy else old)
 kept_by true old board copy place same = one_more old board copy place same
 kept_by false old board copy place same = old_kept old board
 
-pub kept_more : (ok : Bool) (old mid new : List BoardState) (board copy : BoardState) (place : ℕ) → mid ≡ old → shown_of copy ≡ shown_of board → new ≡ (if ok then insert mid place copy else mid) → AreKept old board new
+pub kept_more : (ok : Bool) (old mid new : List BoardState) (board copy : BoardState) (place : ℕ)
+    → mid ≡ old → shown_of copy ≡ shown_of board → new ≡ (if ok then insert mid place copy else mid) → AreKept old board new
 kept_more ok old mid new board copy place is same made =
     All-same (IsKept old board) new (if ok then insert mid place copy else mid) made
     (subst (λ (xs : List BoardState). AreKept old board (if ok then insert xs place copy else xs)) (sym is) (kept_by ok old board copy place same))
 
-pub kept_less : (old mid new : List BoardState) (board : BoardState) (place : ℕ) → new ≡ take place mid ++ drop (place + 1) mid → AreKept old board mid → AreKept old board new
+pub kept_less : (old mid new : List BoardState) (board : BoardState) (place : ℕ)
+    → new ≡ take place mid ++ drop (place + 1) mid → AreKept old board mid → AreKept old board new
 kept_less old mid new board place made are =
     All-same (IsKept old board) new (take place mid ++ drop (place + 1) mid) made
-    (All-append (IsKept old board) (take place mid) (drop (place + 1) mid) (All-take (IsKept old board) place mid are) (All-drop (IsKept old board) (place + 1) mid are))
+    (All-append (IsKept old board) (take place mid) (drop (place + 1) mid)
+    (All-take (IsKept old board) place mid are) (All-drop (IsKept old board) (place + 1) mid are))

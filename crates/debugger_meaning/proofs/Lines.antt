@@ -43,7 +43,8 @@ some_same : {X : Type 0} (x y : X) → Some x ≡ Some y → x ≡ y
 some_same x y is = cc
 
 -- one more element
-pub entry_more : {X : Type 0} (f : X → List ℕ) (xs : List X) (i : ℕ) (x : X) → slice_get xs i ≡ Some x → flat_map f (take (i + 1) xs) ≡ flat_map f (take i xs) ++ f x
+pub entry_more : {X : Type 0} (f : X → List ℕ) (xs : List X) (i : ℕ) (x : X) → slice_get xs i ≡ Some x
+    → flat_map f (take (i + 1) xs) ≡ flat_map f (take i xs) ++ f x
 entry_more f xs i x is =
     let within : i < length xs = slice_get_within xs i x is in
     let same : get_or xs i x ≡ x = some_same (get_or xs i x) x (sym (slice_get-get_or xs i x within) ∙ is) in

@@ -93,8 +93,8 @@ apart [] at = tt
 apart (c ∷ cs) at = space_is c (not_false (is_space c) at)
 
 -- a word that is longer by its first byte
-longer_by : (b c : ℕ) (cs w : List ℕ) (ws : List (List ℕ)) (spaces following : List ℕ) → b ≢ 32 → c ≢ 32 → c ∷ cs ≡ spaces ++ (w ++ following) → AreSpaces spaces
-    → IsWord w → IsApart following → HasWords ws following → HasWords ((b ∷ w) ∷ ws) (b ∷ c ∷ cs)
+longer_by : (b c : ℕ) (cs w : List ℕ) (ws : List (List ℕ)) (spaces following : List ℕ) → b ≢ 32 → c ≢ 32 → c ∷ cs ≡ spaces ++ (w ++ following)
+    → AreSpaces spaces → IsWord w → IsApart following → HasWords ws following → HasWords ((b ∷ w) ∷ ws) (b ∷ c ∷ cs)
 longer_by b c cs w ws [] following other not_space are spaces word ends more = record {
   spaces = [];
   following = following;
@@ -110,7 +110,8 @@ longer : (b : ℕ) (bs : List ℕ) (ws : List (List ℕ)) → begins_word bs ≡
 longer b [] ws at other more = absurd (cc)
 longer b (c ∷ cs) [] at other more = absurd (other_is c (not_true (is_space c) at) more.0)
 longer b (c ∷ cs) (w ∷ ws) at other more =
-    longer_by b c cs w ws more.spaces more.following other (other_is c (not_true (is_space c) at)) more.are more.are_spaces more.is_word more.is_apart more.is_following
+    longer_by b c cs w ws more.spaces more.following other
+    (other_is c (not_true (is_space c) at)) more.are more.are_spaces more.is_word more.is_apart more.is_following
 
 begun : (b : ℕ) (bs : List ℕ) (begins : Bool) → begins_word bs ≡ begins → b ≢ 32 → HasWords (words_from bs) bs
     → HasWords (if begins then onto_first b (words_from bs) else (b ∷ []) ∷ words_from bs) (b ∷ bs)

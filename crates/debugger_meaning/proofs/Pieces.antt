@@ -50,9 +50,11 @@ further stops a n s stop more at = record {
 }
 
 -- the search of one more piece, joined to what has passed
-search_on : (count left piece : ℕ) (s t u : SessionState) (stopped : Option Stop) → Went count left s t → OnePiece piece t u stopped → IsStopOf s.stops (count - left + piece) s.board.plain stopped
+search_on : (count left piece : ℕ) (s t u : SessionState) (stopped : Option Stop) → Went count left s t → OnePiece piece t u stopped
+    → IsStopOf s.stops (count - left + piece) s.board.plain stopped
 search_on count left piece s t u stopped went on =
-    searches_join s.stops (count - left) piece s.board t.board stopped went.ran went.none (subst (λ stops. IsStopOf stops piece t.board.plain stopped) went.stops on.runs.stop)
+    searches_join s.stops (count - left) piece s.board t.board stopped went.ran went.none
+    (subst (λ stops. IsStopOf stops piece t.board.plain stopped) went.stops on.runs.stop)
 
 run_on : (count left piece : ℕ) (s t u : SessionState) (stopped : Option Stop) → Went count left s t → OnePiece piece t u stopped
     → Ran (run_length (count - left + piece) s.board.plain stopped) s.board u.board
@@ -71,14 +73,15 @@ went_on count left piece s t u few went on =
       first = on.first ∙ went.first;
     }
 
-pub goes_to_stop : (count left piece : ℕ) (s t u : SessionState) (stop : Stop) (answer : Answer) → piece ≤ left → Went count left s t → OnePiece piece t u (Some stop)
-    → answer ≡ told_of (Some stop) (clock_of u.board.plain) → Goes count s u answer
+pub goes_to_stop : (count left piece : ℕ) (s t u : SessionState) (stop : Stop) (answer : Answer)
+    → piece ≤ left → Went count left s t → OnePiece piece t u (Some stop) → answer ≡ told_of (Some stop) (clock_of u.board.plain) → Goes count s u answer
 goes_to_stop count left piece s t u stop answer few went on is =
     let less = went.left_is in record {
       stopped = Some stop;
       runs = record {
         within = went.within;
-        stop = further s.stops (count - left + piece) count s.board.plain stop (omega (arith, few, less)) (search_on count left piece s t u (Some stop) went on);
+        stop =
+            further s.stops (count - left + piece) count s.board.plain stop (omega (arith, few, less)) (search_on count left piece s t u (Some stop) went on);
         ran = run_on count left piece s t u (Some stop) went on;
       };
       stops = on.stops ∙ went.stops;
@@ -110,13 +113,15 @@ early_by b n s t more early = record {
   full = early.full;
 }
 
-lacks_on : (count left piece clock : ℕ) (s t : SessionState) (u : BoardState) → piece ≤ left → Went count left s t → FindsNoMemory t.stops piece t.board u clock → FindsNoMemory s.stops count s.board u clock
+lacks_on : (count left piece clock : ℕ) (s t : SessionState) (u : BoardState)
+    → piece ≤ left → Went count left s t → FindsNoMemory t.stops piece t.board u clock → FindsNoMemory s.stops count s.board u clock
 lacks_on count left piece clock s t u few went lacks =
     let less = went.left_is in
     let first = went.ran.clock in
     let second = lacks.early.ran.clock in record {
       within = went.within;
-      early = early_by (count - left + piece) count s.board u (omega (arith, few, less)) (early_join (count - left) piece s.board t.board u went.ran lacks.early);
+      early =
+          early_by (count - left + piece) count s.board u (omega (arith, few, less)) (early_join (count - left) piece s.board t.board u went.ran lacks.early);
       none_passed = subst (λ n. NoStop s.stops n s.board.plain) (omega (arith, first, second))
           (no_stop_add s.stops (count - left) (clock_of u.plain - clock_of t.board.plain) s.board.plain t.board.plain went.ran.plain went.none
           (subst (λ stops. NoStop stops (clock_of u.plain - clock_of t.board.plain) t.board.plain) went.stops lacks.none_passed));
@@ -130,13 +135,14 @@ not_past count left piece s t few went past =
     let within = went.within in
     omega (arith, less, gone, within, few, past)
 
-pub refuses_go : (count left piece : ℕ) (s t u : SessionState) (fault : DebugFault) → piece ≤ left → Went count left s t → RefusesRun t.stops piece t.board u.board fault → u.stops ≡ t.stops → u.first ≡ t.first
-    → RefusesGo count s u fault
+pub refuses_go : (count left piece : ℕ) (s t u : SessionState) (fault : DebugFault) → piece ≤ left → Went count left s t
+    → RefusesRun t.stops piece t.board u.board fault → u.stops ≡ t.stops → u.first ≡ t.first → RefusesGo count s u fault
 refuses_go count left piece s t u ClockLimit few went is stops first = absurd (not_past count left piece s t few went is.0)
 refuses_go count left piece s t u BadScan few went is stops first = absurd is
 refuses_go count left piece s t u StampsFall few went is stops first = absurd is
 refuses_go count left piece s t u BadCommand few went is stops first = absurd is
 refuses_go count left piece s t u TooManyStops few went is stops first = absurd is
 refuses_go count left piece s t u (Memory None) few went is stops first = absurd is
-refuses_go count left piece s t u (Memory (Some clock)) few went is stops first = (lacks_on count left piece clock s t u.board few went is, stops ∙ went.stops, first ∙ went.first)
+refuses_go count left piece s t u (Memory (Some clock)) few went is stops first =
+    (lacks_on count left piece clock s t u.board few went is, stops ∙ went.stops, first ∙ went.first)
 refuses_go count left piece s t u BeforeStart few went is stops first = absurd is

@@ -70,7 +70,8 @@ decimal_no_space n low =
     (λ m ds large front. no_space_more ds (48 + m % 10) front (decimal_no_space_digit (m % 10)))
     n low
 
-hex_back : (most n : ℕ) (word : List ℕ) → (nat_le 1 (length word) && nat_le (length word) most) ≡ true → spelled 16 0 word ≡ Some n → hex_number most word ≡ Some n
+hex_back : (most n : ℕ) (word : List ℕ) → (nat_le 1 (length word) && nat_le (length word) most) ≡ true → spelled 16 0 word ≡ Some n
+    → hex_number most word ≡ Some n
 unfolding hex_number
 hex_back most n word size is = rw (size, is) refl
 
@@ -85,7 +86,8 @@ address_back a low =
     let bank : a / 65536 % 16 < 16 = omega arith in
     let rest : a % 65536 < 65536 = omega arith in
     let whole : (0 * 16 + a / 65536 % 16) * 65536 + a % 65536 ≡ a = omega arith in
-    hex_back 5 a (address_text a) refl (digit_spelled 0 (a / 65536 % 16) (hex_word (a % 65536)) bank ∙ word_spelled (0 * 16 + a / 65536 % 16) (a % 65536) [] rest ∙ ap Some whole)
+    hex_back 5 a (address_text a) refl
+    (digit_spelled 0 (a / 65536 % 16) (hex_word (a % 65536)) bank ∙ word_spelled (0 * 16 + a / 65536 % 16) (a % 65536) [] rest ∙ ap Some whole)
 
 some_length : (n : ℕ) → 0 < n → nat_le 1 n ≡ true
 some_length n some = grind (arith, nat_tests)
@@ -132,10 +134,12 @@ byte_command_back address byte first second = rw (address_back address first, by
 dump_by : (within : Bool) (first count : ℕ) → within ≡ true → (if within then Some (Dump first count) else None) ≡ Some (Dump first count)
 dump_by within first count is = rw is refl
 
-dump_test : (first count : ℕ) → 1 ≤ count → count ≤ 4096 → first + count ≤ 1048576 → (nat_le 1 count && (nat_le count 4096 && nat_le (first + count) 1048576)) ≡ true
+dump_test : (first count : ℕ) → 1 ≤ count → count ≤ 4096 → first + count ≤ 1048576
+    → (nat_le 1 count && (nat_le count 4096 && nat_le (first + count) 1048576)) ≡ true
 dump_test first count some most within = grind (arith, nat_tests)
 
-dump_back : (first count : ℕ) → first < 1048576 → 1 ≤ count → count ≤ 4096 → first + count ≤ 1048576 → dump_command (address_text first) (decimal count) ≡ Some (Dump first count)
+dump_back : (first count : ℕ) → first < 1048576 → 1 ≤ count → count ≤ 4096 → first + count ≤ 1048576
+    → dump_command (address_text first) (decimal count) ≡ Some (Dump first count)
 unfolding dump_command
 dump_back first count low some most within =
     let small : count < 2 ^ 64 = omega arith in
@@ -173,8 +177,8 @@ unfolding command_of words_of
 two_words name word command p q r t is =
     ap command_in (first_by name word p q ∙ ap (λ (ws : List (List ℕ)). name ∷ ws) (last_by word r t)) ∙ is
 
-three_words : (name first second : List ℕ) (command : Option Command) → 0 < length name → NoSpace name → 0 < length first → NoSpace first → 0 < length second → NoSpace second
-    → command_with_two name first second ≡ command → command_of (name ++ 32 ∷ (first ++ 32 ∷ second)) ≡ command
+three_words : (name first second : List ℕ) (command : Option Command) → 0 < length name → NoSpace name → 0 < length first → NoSpace first
+    → 0 < length second → NoSpace second → command_with_two name first second ≡ command → command_of (name ++ 32 ∷ (first ++ 32 ∷ second)) ≡ command
 unfolding command_of words_of
 three_words name first second command p q r t u v is =
     ap command_in (first_by name (first ++ 32 ∷ second) p q
@@ -205,11 +209,13 @@ pub back_stop_line : command_with (codes "back") (codes "stop") ≡ Some BackSto
 unfolding command_with back_command
 back_stop_line = refl
 
-byte_line : (address byte : ℕ) → address < 1048576 → byte < 256 → command_with_two (codes "byte") (address_text address) (hex_byte_text byte) ≡ Some (Byte address byte)
+byte_line : (address byte : ℕ) → address < 1048576 → byte < 256
+    → command_with_two (codes "byte") (address_text address) (hex_byte_text byte) ≡ Some (Byte address byte)
 unfolding command_with_two
 byte_line address byte first second = byte_command_back address byte first second
 
-dump_line : (first count : ℕ) → first < 1048576 → 1 ≤ count → count ≤ 4096 → first + count ≤ 1048576 → command_with_two (codes "dump") (address_text first) (decimal count) ≡ Some (Dump first count)
+dump_line : (first count : ℕ) → first < 1048576 → 1 ≤ count → count ≤ 4096 → first + count ≤ 1048576
+    → command_with_two (codes "dump") (address_text first) (decimal count) ≡ Some (Dump first count)
 unfolding command_with_two
 dump_line first count low some most within = dump_back first count low some most within
 
@@ -242,21 +248,28 @@ below_all count most = omega arith
 
 pub read_back : CommandsReadBack
 read_back (Break segment offset) meant =
-    two_words (codes "break") (place_of segment offset) _ (omega arith) (refl, (refl, (refl, (refl, (refl, tt))))) (omega arith) (place_no_space segment offset) (break_line segment offset meant.0 meant.1)
+    two_words (codes "break") (place_of segment offset) _ (omega arith) (refl, (refl, (refl, (refl, (refl, tt)))))
+    (omega arith) (place_no_space segment offset) (break_line segment offset meant.0 meant.1)
 read_back (Byte address byte) meant =
-    three_words (codes "byte") (address_text address) (hex_byte_text byte) _ (omega arith) (refl, (refl, (refl, (refl, tt)))) (omega arith) (address_no_space address) (omega arith) (byte_no_space byte) (byte_line address byte meant.0 meant.1)
+    three_words (codes "byte") (address_text address) (hex_byte_text byte) _ (omega arith) (refl, (refl, (refl, (refl, tt))))
+    (omega arith) (address_no_space address) (omega arith) (byte_no_space byte) (byte_line address byte meant.0 meant.1)
 read_back Sound meant = one_word (codes "sound") _ (omega arith) (refl, (refl, (refl, (refl, (refl, tt))))) sound_line
 read_back Halted meant = one_word (codes "halted") _ (omega arith) (refl, (refl, (refl, (refl, (refl, (refl, tt)))))) halted_line
-read_back (Go count) meant = two_words (codes "go") (decimal count) _ (omega arith) (refl, (refl, tt)) (decimal_nonempty count meant) (decimal_no_space count meant) (go_line count meant)
+read_back (Go count) meant =
+    two_words (codes "go") (decimal count) _ (omega arith) (refl, (refl, tt))
+    (decimal_nonempty count meant) (decimal_no_space count meant) (go_line count meant)
 read_back Step meant = one_word (codes "step") _ (omega arith) (refl, (refl, (refl, (refl, tt)))) step_line
 read_back Regs meant = one_word (codes "regs") _ (omega arith) (refl, (refl, (refl, (refl, tt)))) regs_line
 read_back Screen meant = one_word (codes "screen") _ (omega arith) (refl, (refl, (refl, (refl, (refl, (refl, tt)))))) screen_line
 read_back (Dump first count) meant =
     let small : count < 2 ^ 64 = below_all count meant.1.1.0 in
-    three_words (codes "dump") (address_text first) (decimal count) _ (omega arith) (refl, (refl, (refl, (refl, tt)))) (omega arith) (address_no_space first) (decimal_nonempty count small) (decimal_no_space count small)
-    (dump_line first count meant.0 meant.1.0 meant.1.1.0 meant.1.1.1)
+    three_words (codes "dump") (address_text first) (decimal count) _ (omega arith) (refl, (refl, (refl, (refl, tt)))) (omega arith)
+    (address_no_space first) (decimal_nonempty count small) (decimal_no_space count small) (dump_line first count meant.0 meant.1.0 meant.1.1.0 meant.1.1.1)
 read_back Trail meant = one_word (codes "trail") _ (omega arith) (refl, (refl, (refl, (refl, (refl, tt))))) trail_line
 read_back (Back count) meant =
-    two_words (codes "back") (decimal count) _ (omega arith) (refl, (refl, (refl, (refl, tt)))) (decimal_nonempty count meant.1) (decimal_no_space count meant.1) (back_line count meant.0 meant.1)
-read_back BackStep meant = two_words (codes "back") (codes "step") _ (omega arith) (refl, (refl, (refl, (refl, tt)))) (omega arith) (refl, (refl, (refl, (refl, tt)))) back_step_line
-read_back BackStop meant = two_words (codes "back") (codes "stop") _ (omega arith) (refl, (refl, (refl, (refl, tt)))) (omega arith) (refl, (refl, (refl, (refl, tt)))) back_stop_line
+    two_words (codes "back") (decimal count) _ (omega arith) (refl, (refl, (refl, (refl, tt))))
+    (decimal_nonempty count meant.1) (decimal_no_space count meant.1) (back_line count meant.0 meant.1)
+read_back BackStep meant =
+    two_words (codes "back") (codes "step") _ (omega arith) (refl, (refl, (refl, (refl, tt)))) (omega arith) (refl, (refl, (refl, (refl, tt)))) back_step_line
+read_back BackStop meant =
+    two_words (codes "back") (codes "stop") _ (omega arith) (refl, (refl, (refl, (refl, tt)))) (omega arith) (refl, (refl, (refl, (refl, tt)))) back_stop_line

@@ -14,8 +14,8 @@ use Rattle.debugger_meaning.specs.declared.fault.DebugFault.TheVariants.{BadScan
 use Rattle.debugger_meaning.specs.SessionInvariant.{FindsNone, StandsNow}
 use Rattle.debugger_meaning.specs.Stands.{SessionState, StandsAt, gone}
 
-pub goes_back : (n clock told : ℕ) (old new : SessionState) → 1 ≤ n → clock_of old.first.plain + n ≤ clock_of old.board.plain → clock ≡ clock_of old.board.plain - n → StandsNow clock old new
-    → told ≡ clock_of new.board.plain → GoesBack n old new (Clock told)
+pub goes_back : (n clock told : ℕ) (old new : SessionState) → 1 ≤ n → clock_of old.first.plain + n ≤ clock_of old.board.plain
+    → clock ≡ clock_of old.board.plain - n → StandsNow clock old new → told ≡ clock_of new.board.plain → GoesBack n old new (Clock told)
 goes_back n clock told old new some within is now tells =
     let place = now.clock_is in
     let at = now.stands.clock in
@@ -28,8 +28,8 @@ goes_back n clock told old new some within is now tells =
       answer_is = ap Clock (omega (arith, tells, at, place, is));
     }
 
-pub goes_back_to : (sought : List Condition) (tell : ℕ → ℕ → Answer) (clock number : ℕ) (old new : SessionState) (answer : Answer) → HeldLast sought (gone old) old.first.plain clock number → StandsNow clock old new
-    → answer ≡ tell number clock → GoesBackTo sought tell old new answer
+pub goes_back_to : (sought : List Condition) (tell : ℕ → ℕ → Answer) (clock number : ℕ) (old new : SessionState) (answer : Answer)
+    → HeldLast sought (gone old) old.first.plain clock number → StandsNow clock old new → answer ≡ tell number clock → GoesBackTo sought tell old new answer
 goes_back_to sought tell clock number old new answer last now tells =
     let place = now.clock_is in
     let at = now.stands.clock in
@@ -50,13 +50,16 @@ goes_back_to sought tell clock number old new answer last now tells =
     }
 
 -- ---- refusals
-pub lacks_back : (n : ℕ) (old new : SessionState) (fault : DebugFault) → fault ≡ Memory None → clock_of old.first.plain + n ≤ clock_of old.board.plain → new ≡ old → RefusesBack n old new fault
+pub lacks_back : (n : ℕ) (old new : SessionState) (fault : DebugFault)
+    → fault ≡ Memory None → clock_of old.first.plain + n ≤ clock_of old.board.plain → new ≡ old → RefusesBack n old new fault
 lacks_back n old new fault is within same = subst (RefusesBack n old new) (sym is) (within, same)
 
-pub lacks_back_to : (sought : List Condition) (old new : SessionState) (fault : DebugFault) → fault ≡ Memory None → 1 ≤ length sought → new ≡ old → RefusesBackTo sought old new fault
+pub lacks_back_to : (sought : List Condition) (old new : SessionState) (fault : DebugFault)
+    → fault ≡ Memory None → 1 ≤ length sought → new ≡ old → RefusesBackTo sought old new fault
 lacks_back_to sought old new fault is some same = subst (RefusesBackTo sought old new) (sym is) (some, same)
 
-pub finds_none : (sought : List Condition) (old new : SessionState) (fault : DebugFault) → FindsNone sought old fault → 1 ≤ length sought → new ≡ old → RefusesBackTo sought old new fault
+pub finds_none : (sought : List Condition) (old new : SessionState) (fault : DebugFault)
+    → FindsNone sought old fault → 1 ≤ length sought → new ≡ old → RefusesBackTo sought old new fault
 finds_none sought old new ClockLimit is some same = absurd is
 finds_none sought old new BadScan is some same = absurd is
 finds_none sought old new StampsFall is some same = absurd is

@@ -38,7 +38,8 @@ size_tests size most is =
 size_passes : (size most : ℕ) → 1 ≤ size → size ≤ most → (nat_le 1 size && nat_le size most) ≡ true
 size_passes size most some few = both_pass (nat_le 1 size) (nat_le size most) (passes 1 size some) (passes size most few)
 
-hex_by : (most n : ℕ) (word : List ℕ) (test : Bool) → (nat_le 1 (length word) && nat_le (length word) most) ≡ test → (if test then spelled 16 0 word else None) ≡ Some n → SpellsHex most n word
+hex_by : (most n : ℕ) (word : List ℕ) (test : Bool) → (nat_le 1 (length word) && nat_le (length word) most) ≡ test
+    → (if test then spelled 16 0 word else None) ≡ Some n → SpellsHex most n word
 hex_by most n word true at is = let size = size_tests (length word) most at in record { some = size.0; few = size.1; number = is }
 hex_by most n word false at is = absurd (cc)
 
@@ -51,9 +52,10 @@ unfolding hex_number
 hex_read most n word is =
     ap (λ (test : Bool). if test then spelled 16 0 word else None) (size_passes (length word) most is.some is.few) ∙ is.number
 
-count_by : (n : ℕ) (word : List ℕ) (test : Bool) (found : Option ℕ) → nat_le 1 (length word) ≡ test → spelled 10 0 word ≡ found → (if test then at_most_greatest found else None) ≡ Some n
-    → SpellsCount n word
-count_by n word true (Some m) at spells is = record { number = m; some = at_most 1 (length word) at; spells = spells; is = sym (some_is (min m (2 ^ 64 - 1)) n is) }
+count_by : (n : ℕ) (word : List ℕ) (test : Bool) (found : Option ℕ) → nat_le 1 (length word) ≡ test
+    → spelled 10 0 word ≡ found → (if test then at_most_greatest found else None) ≡ Some n → SpellsCount n word
+count_by n word true (Some m) at spells is =
+    record { number = m; some = at_most 1 (length word) at; spells = spells; is = sym (some_is (min m (2 ^ 64 - 1)) n is) }
 count_by n word true None at spells is = absurd (cc)
 count_by n word false found at spells is = absurd (cc)
 
@@ -86,12 +88,13 @@ found_step b bs false n is more within =
     let rest = more (omega (arith, within)) in
     rw (later_place n) (rw (next_place n) (record { are = ap (λ (cs : List ℕ). b ∷ cs) rest.are }))
 
-found_at : (bs : List ℕ) → position_or_len is_colon bs < length bs → IsAround bs (take (position_or_len is_colon bs) bs) (drop (position_or_len is_colon bs + 1) bs)
+found_at : (bs : List ℕ) → position_or_len is_colon bs < length bs
+    → IsAround bs (take (position_or_len is_colon bs) bs) (drop (position_or_len is_colon bs + 1) bs)
 found_at [] within = absurd (omega (arith, within))
 found_at (b ∷ bs) within = found_step b bs (is_colon b) (position_or_len is_colon bs) refl (found_at bs) within
 
-break_found : (segment offset : Option ℕ) (c : Command) (place front back : List ℕ) → hex_number 4 front ≡ segment → hex_number 4 back ≡ offset → IsAround place front back
-    → break_of segment offset ≡ Some c → SpellsCommand c (codes "break" ∷ place ∷ [])
+break_found : (segment offset : Option ℕ) (c : Command) (place front back : List ℕ) → hex_number 4 front ≡ segment
+    → hex_number 4 back ≡ offset → IsAround place front back → break_of segment offset ≡ Some c → SpellsCommand c (codes "break" ∷ place ∷ [])
 break_found (Some s) (Some o) c place front back at_front at_back around is =
     subst (λ (d : Command). SpellsCommand d (codes "break" ∷ place ∷ [])) (some_is (Break s o) c is)
     (record {
@@ -106,7 +109,8 @@ break_step : (place : List ℕ) (c : Command) (test : Bool) → nat_lt (position
     → break_round place (if test then Some (position_or_len is_colon place) else None) ≡ Some c → SpellsCommand c (codes "break" ∷ place ∷ [])
 break_step place c true at is =
     let k : ℕ = position_or_len is_colon place in
-    break_found (hex_number 4 (take k place)) (hex_number 4 (drop (k + 1) place)) c place (take k place) (drop (k + 1) place) refl refl (found_at place (ltb-true k (length place) at)) is
+    break_found (hex_number 4 (take k place)) (hex_number 4 (drop (k + 1) place)) c place
+    (take k place) (drop (k + 1) place) refl refl (found_at place (ltb-true k (length place) at)) is
 break_step place c false at is = absurd (cc)
 
 break_spelled : (place : List ℕ) (c : Command) → break_command place ≡ Some c → SpellsCommand c (codes "break" ∷ place ∷ [])
@@ -118,7 +122,8 @@ abbrev NoColon : List ℕ → Type 0
 NoColon bs = list_all (λ b. not (is_colon b)) bs ≡ true
 
 colon_by : (b : ℕ) (test : Bool) → is_colon b ≡ test → nat_lt (digit_of b) 16 ≡ true → not test ≡ true
-colon_by b true at digit = absurd (let same : b ≡ 58 = (Decides-eqb b 58).0 at in let never : false ≡ true = subst (λ (c : ℕ). nat_lt (digit_of c) 16 ≡ true) same digit in cc)
+colon_by b true at digit =
+    absurd (let same : b ≡ 58 = (Decides-eqb b 58).0 at in let never : false ≡ true = subst (λ (c : ℕ). nat_lt (digit_of c) 16 ≡ true) same digit in cc)
 colon_by b false at digit = refl
 
 digits_step : (b front n : ℕ) (bs : List ℕ) (test : Bool) → nat_lt (digit_of b) 16 ≡ test → ((m : ℕ) → spelled 16 m bs ≡ Some n → NoColon bs)
@@ -169,8 +174,8 @@ go_found (Some n) word c at is =
     subst (λ (d : Command). SpellsCommand d (codes "go" ∷ word ∷ [])) (some_is (Go n) c is) (record { word = word; are = refl; says = count_spelled n word at })
 go_found None word c at is = absurd (cc)
 
-byte_found : (address byte : Option ℕ) (first second : List ℕ) (c : Command) → hex_number 5 first ≡ address → hex_number 2 second ≡ byte → byte_of address byte ≡ Some c
-    → SpellsCommand c (codes "byte" ∷ first ∷ second ∷ [])
+byte_found : (address byte : Option ℕ) (first second : List ℕ) (c : Command)
+    → hex_number 5 first ≡ address → hex_number 2 second ≡ byte → byte_of address byte ≡ Some c → SpellsCommand c (codes "byte" ∷ first ∷ second ∷ [])
 byte_found (Some a) (Some b) first second c at_first at_second is =
     subst (λ (d : Command). SpellsCommand d (codes "byte" ∷ first ∷ second ∷ [])) (some_is (Byte a b) c is)
     (record { first = first; second = second; are = refl; says_first = hex_spelled 5 a first at_first; says_second = hex_spelled 2 b second at_second })
@@ -181,7 +186,8 @@ byte_spelled : (first second : List ℕ) (c : Command) → byte_command first se
 unfolding byte_command
 byte_spelled first second c is = byte_found (hex_number 5 first) (hex_number 2 second) first second c refl refl is
 
-byte_read : (address byte : ℕ) (first second : List ℕ) → SpellsHex 5 address first → SpellsHex 2 byte second → byte_command first second ≡ Some (Byte address byte)
+byte_read : (address byte : ℕ) (first second : List ℕ) → SpellsHex 5 address first → SpellsHex 2 byte second
+    → byte_command first second ≡ Some (Byte address byte)
 unfolding byte_command
 byte_read address byte first second one two = ap₂ byte_of (hex_read 5 address first one) (hex_read 2 byte second two)
 
@@ -196,17 +202,18 @@ shown_passes first count is =
     both_pass (nat_le 1 count) (nat_le count 4096 && nat_le (first + count) (2 ^ 20)) (passes 1 count is.0)
     (both_pass (nat_le count 4096) (nat_le (first + count) (2 ^ 20)) (passes count 4096 is.1.0) (passes (first + count) (2 ^ 20) is.1.1))
 
-dump_by : (a n : ℕ) (first second : List ℕ) (c : Command) (test : Bool) → (nat_le 1 n && (nat_le n 4096 && nat_le (a + n) (2 ^ 20))) ≡ test → SpellsHex 5 a first → SpellsCount n second
-    → (if test then Some (Dump a n) else None) ≡ Some c → SpellsCommand c (codes "dump" ∷ first ∷ second ∷ [])
+dump_by : (a n : ℕ) (first second : List ℕ) (c : Command) (test : Bool) → (nat_le 1 n && (nat_le n 4096 && nat_le (a + n) (2 ^ 20))) ≡ test
+    → SpellsHex 5 a first → SpellsCount n second → (if test then Some (Dump a n) else None) ≡ Some c → SpellsCommand c (codes "dump" ∷ first ∷ second ∷ [])
 dump_by a n first second c true at one two is =
     subst (λ (d : Command). SpellsCommand d (codes "dump" ∷ first ∷ second ∷ [])) (some_is (Dump a n) c is)
     (record { first = first; second = second; are = refl; says_first = one; says_second = two }, shown_tests a n at)
 dump_by a n first second c false at one two is = absurd (cc)
 
-dump_found : (address count : Option ℕ) (first second : List ℕ) (c : Command) → hex_number 5 first ≡ address → count_of second ≡ count → dump_of address count ≡ Some c
-    → SpellsCommand c (codes "dump" ∷ first ∷ second ∷ [])
+dump_found : (address count : Option ℕ) (first second : List ℕ) (c : Command)
+    → hex_number 5 first ≡ address → count_of second ≡ count → dump_of address count ≡ Some c → SpellsCommand c (codes "dump" ∷ first ∷ second ∷ [])
 dump_found (Some a) (Some n) first second c at_first at_second is =
-    dump_by a n first second c (nat_le 1 n && (nat_le n 4096 && nat_le (a + n) (2 ^ 20))) refl (hex_spelled 5 a first at_first) (count_spelled n second at_second) is
+    dump_by a n first second c (nat_le 1 n && (nat_le n 4096 && nat_le (a + n) (2 ^ 20))) refl
+    (hex_spelled 5 a first at_first) (count_spelled n second at_second) is
 dump_found (Some a) None first second c at_first at_second is = absurd (cc)
 dump_found None n first second c at_first at_second is = absurd (cc)
 
@@ -221,7 +228,8 @@ dump_read a n first second one two shown =
     ∙ ap (λ (test : Bool). if test then Some (Dump a n) else None) (shown_passes a n shown)
 
 -- ---- by the name
-branch : {P : Type 0} (test : Bool) (one rest : Option Command) (c : Command) → (test ≡ true → one ≡ Some c → P) → (rest ≡ Some c → P) → (if test then one else rest) ≡ Some c → P
+branch : {P : Type 0} (test : Bool) (one rest : Option Command) (c : Command)
+    → (test ≡ true → one ≡ Some c → P) → (rest ≡ Some c → P) → (if test then one else rest) ≡ Some c → P
 branch true one rest c here others is = here refl is
 branch false one rest c here others is = others is
 
@@ -231,7 +239,8 @@ named name word is = sym ((bytes_eq-Decides name word).0 is)
 one_spelled : (name word rest : List ℕ) (c : Command) → bytes_eq name word ≡ true → SpellsCommand c (word ∷ rest ∷ []) → SpellsCommand c (name ∷ rest ∷ [])
 one_spelled name word rest c at is = subst (λ (n : List ℕ). SpellsCommand c (n ∷ rest ∷ [])) (named name word at) is
 
-two_spelled : (name word first second : List ℕ) (c : Command) → bytes_eq name word ≡ true → SpellsCommand c (word ∷ first ∷ second ∷ []) → SpellsCommand c (name ∷ first ∷ second ∷ [])
+two_spelled : (name word first second : List ℕ) (c : Command) → bytes_eq name word ≡ true → SpellsCommand c (word ∷ first ∷ second ∷ [])
+    → SpellsCommand c (name ∷ first ∷ second ∷ [])
 two_spelled name word first second c at is = subst (λ (n : List ℕ). SpellsCommand c (n ∷ first ∷ second ∷ [])) (named name word at) is
 
 alone : (name word : List ℕ) (d c : Command) → SpellsCommand d (word ∷ []) → bytes_eq name word ≡ true → Some d ≡ Some c → SpellsCommand c (name ∷ [])
@@ -242,13 +251,17 @@ none_is : {P : Type 0} (c : Command) → ◌≡◌ {A = Option Command} None (So
 none_is c is = absurd (cc)
 
 -- a way back
-way_spelled : (way word : List ℕ) (d c : Command) → SpellsCommand d (codes "back" ∷ word ∷ []) → bytes_eq way word ≡ true → Some d ≡ Some c → SpellsCommand c (codes "back" ∷ way ∷ [])
+way_spelled : (way word : List ℕ) (d c : Command) → SpellsCommand d (codes "back" ∷ word ∷ []) → bytes_eq way word ≡ true → Some d ≡ Some c
+    → SpellsCommand c (codes "back" ∷ way ∷ [])
 way_spelled way word d c spells at is =
-    subst (λ (e : Command). SpellsCommand e (codes "back" ∷ way ∷ [])) (some_is d c is) (subst (λ (n : List ℕ). SpellsCommand d (codes "back" ∷ n ∷ [])) (named way word at) spells)
+    subst (λ (e : Command). SpellsCommand e (codes "back" ∷ way ∷ [])) (some_is d c is)
+    (subst (λ (n : List ℕ). SpellsCommand d (codes "back" ∷ n ∷ [])) (named way word at) spells)
 
-way_by : (n : ℕ) (word : List ℕ) (c : Command) (test : Bool) → nat_le 1 n ≡ test → SpellsCount n word → (if test then Some (Back n) else None) ≡ Some c → SpellsCommand c (codes "back" ∷ word ∷ [])
+way_by : (n : ℕ) (word : List ℕ) (c : Command) (test : Bool) → nat_le 1 n ≡ test → SpellsCount n word
+    → (if test then Some (Back n) else None) ≡ Some c → SpellsCommand c (codes "back" ∷ word ∷ [])
 way_by n word c true at count is =
-    subst (λ (d : Command). SpellsCommand d (codes "back" ∷ word ∷ [])) (some_is (Back n) c is) (record { word = word; are = refl; says = count }, at_most 1 n at)
+    subst (λ (d : Command). SpellsCommand d (codes "back" ∷ word ∷ []))
+    (some_is (Back n) c is) (record { word = word; are = refl; says = count }, at_most 1 n at)
 way_by n word c false at count is = absurd (cc)
 
 way_found : (found : Option ℕ) (word : List ℕ) (c : Command) → count_of word ≡ found → back_by found ≡ Some c → SpellsCommand c (codes "back" ∷ word ∷ [])
@@ -276,14 +289,20 @@ with_spelled : (name rest : List ℕ) (c : Command) → command_with name rest �
 unfolding command_with
 with_spelled name rest c is =
     branch (bytes_eq name (codes "break")) (break_command rest) _ c (λ at is. one_spelled name (codes "break") rest c at (break_spelled rest c is))
-    (λ is. branch (bytes_eq name (codes "go")) (go_command rest) _ c (λ at is. one_spelled name (codes "go") rest c at (go_found (count_of rest) rest c refl is))
-    (λ is. branch (bytes_eq name (codes "back")) (back_command rest) None c (λ at is. one_spelled name (codes "back") rest c at (back_spelled rest c is)) (none_is c) is) is) is
+    (λ is.
+    branch (bytes_eq name (codes "go")) (go_command rest) _ c (λ at is. one_spelled name (codes "go") rest c at (go_found (count_of rest) rest c refl is))
+    (λ is. branch (bytes_eq name (codes "back")) (back_command rest) None c
+    (λ at is. one_spelled name (codes "back") rest c at (back_spelled rest c is)) (none_is c) is)
+    is)
+    is
 
 two_words_spelled : (name first second : List ℕ) (c : Command) → command_with_two name first second ≡ Some c → SpellsCommand c (name ∷ first ∷ second ∷ [])
 unfolding command_with_two
 two_words_spelled name first second c is =
-    branch (bytes_eq name (codes "byte")) (byte_command first second) _ c (λ at is. two_spelled name (codes "byte") first second c at (byte_spelled first second c is))
-    (λ is. branch (bytes_eq name (codes "dump")) (dump_command first second) None c (λ at is. two_spelled name (codes "dump") first second c at (dump_spelled first second c is)) (none_is c) is) is
+    branch (bytes_eq name (codes "byte")) (byte_command first second) _ c
+    (λ at is. two_spelled name (codes "byte") first second c at (byte_spelled first second c is)) (λ is. branch (bytes_eq name (codes "dump"))
+    (dump_command first second) None c (λ at is. two_spelled name (codes "dump") first second c at (dump_spelled first second c is)) (none_is c) is)
+    is
 
 command_spelled : (ws : List (List ℕ)) (c : Command) → command_in ws ≡ Some c → SpellsCommand c ws
 command_spelled [] c is = absurd (cc)
@@ -314,7 +333,8 @@ dump_with first second = refl
 
 command_read : (c : Command) (ws : List (List ℕ)) → SpellsCommand c ws → command_in ws ≡ Some c
 command_read (Break segment offset) ws is = ap command_in is.are ∙ break_with is.word ∙ break_read segment offset is.word is.says
-command_read (Byte address byte) ws is = ap command_in is.are ∙ byte_with is.first is.second ∙ byte_read address byte is.first is.second is.says_first is.says_second
+command_read (Byte address byte) ws is =
+    ap command_in is.are ∙ byte_with is.first is.second ∙ byte_read address byte is.first is.second is.says_first is.says_second
 command_read Sound ws is = ap command_in is ∙ sound_line
 command_read Halted ws is = ap command_in is ∙ halted_line
 command_read (Go count) ws is = ap command_in is.are ∙ go_with is.word ∙ ap (option_map Go) (count_read count is.word is.says)

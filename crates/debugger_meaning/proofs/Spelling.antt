@@ -23,14 +23,16 @@ byte_spelled front b bs low =
     let high_digit : b / 16 < 16 = omega arith in
     let low_digit : b % 16 < 16 = omega arith in
     let whole : (front * 16 + b / 16) * 16 + b % 16 ≡ front * 256 + b = omega arith in
-    digit_spelled front (b / 16) (digit_glyph true (b % 16) ∷ bs) high_digit ∙ digit_spelled (front * 16 + b / 16) (b % 16) bs low_digit ∙ ap (λ (n : ℕ). spelled 16 n bs) whole
+    digit_spelled front (b / 16) (digit_glyph true (b % 16) ∷ bs) high_digit
+    ∙ digit_spelled (front * 16 + b / 16) (b % 16) bs low_digit ∙ ap (λ (n : ℕ). spelled 16 n bs) whole
 
 pub word_spelled : (front w : ℕ) (bs : List ℕ) → w < 65536 → spelled 16 front (hex_word w ++ bs) ≡ spelled 16 (front * 65536 + w) bs
 word_spelled front w bs low =
     let high_byte : w / 256 < 256 = omega arith in
     let low_byte : w % 256 < 256 = omega arith in
     let whole : (front * 256 + w / 256) * 256 + w % 256 ≡ front * 65536 + w = omega arith in
-    byte_spelled front (w / 256) (hex_byte_text (w % 256) ++ bs) high_byte ∙ byte_spelled (front * 256 + w / 256) (w % 256) bs low_byte ∙ ap (λ (n : ℕ). spelled 16 n bs) whole
+    byte_spelled front (w / 256) (hex_byte_text (w % 256) ++ bs) high_byte
+    ∙ byte_spelled (front * 256 + w / 256) (w % 256) bs low_byte ∙ ap (λ (n : ℕ). spelled 16 n bs) whole
 
 decimal_glyph : (d : ℕ) → d < 10 → digit_of (48 + d) ≡ d
 decimal_glyph d low = grind (arith, nat_tests)
@@ -42,7 +44,8 @@ spelled_by true base front c d bs n is low rest was = rest was
 spelled_by false base front c d bs n is low rest was = cc
 
 -- a last digit
-last_digit : (base front c d : ℕ) (bs : List ℕ) (n : ℕ) → digit_of c ≡ d → d < base → spelled base front bs ≡ Some n → spelled base front (bs ++ c ∷ []) ≡ Some (n * base + d)
+last_digit : (base front c d : ℕ) (bs : List ℕ) (n : ℕ) → digit_of c ≡ d → d < base → spelled base front bs ≡ Some n
+    → spelled base front (bs ++ c ∷ []) ≡ Some (n * base + d)
 last_digit base front c d [] n is low was =
     let same : front ≡ n = cc in
     one_digit base front c d [] is low ∙ ap (λ (k : ℕ). Some (k * base + d)) same
@@ -53,7 +56,8 @@ pub decimal_spelled : (n : ℕ) → n < 2 ^ 64 → spelled 10 0 (decimal n) ≡ 
 decimal_spelled n low =
     decimal_by_steps (λ (m : ℕ) (ds : List ℕ). spelled 10 0 ds ≡ Some m)
     (λ m small. one_digit 10 0 (48 + m) m [] (decimal_glyph m small) small ∙ ap Some (from_zero m))
-    (λ m ds large front. let digit : m % 10 < 10 = omega arith in last_digit 10 0 (48 + m % 10) (m % 10) ds (m / 10) (decimal_glyph (m % 10) digit) digit front ∙ ap Some (whole m))
+    (λ m ds large front.
+    let digit : m % 10 < 10 = omega arith in last_digit 10 0 (48 + m % 10) (m % 10) ds (m / 10) (decimal_glyph (m % 10) digit) digit front ∙ ap Some (whole m))
     n low
   where
     from_zero : (m : ℕ) → 0 * 10 + m ≡ m

@@ -23,7 +23,8 @@ board_of first = record { plain = first.plain; changes = first.changes; room = 0
 
 longer : (first : Shown) (n : ℕ) (board : BoardState) → StandsAt n first board → length first.changes ≤ 0 + length board.changes
 longer first n board at =
-    let size : length board.changes ≡ length first.changes + length (changes_in first.plain n) = ap length at.changes ∙ length-append first.changes (changes_in first.plain n) in
+    let size : length board.changes ≡ length first.changes + length (changes_in first.plain n) =
+    ap length at.changes ∙ length-append first.changes (changes_in first.plain n) in
     omega (arith, size)
 
 run_of : (first : Shown) (n : ℕ) (board : BoardState) → StandsAt n first board → Ran n (board_of first) board
@@ -56,7 +57,8 @@ stands_later first k b c at ran = (at.0 + k, stands_on first at.0 k b c at.1 ran
 pub stands_early : (first : Shown) (k : ℕ) (b c : BoardState) → StandsAfter first b → StoppedEarly k b c → StandsAfter first c
 stands_early first k b c at early = stands_later first early.passed b c at early.ran
 
-pub stands_refused : (first : Shown) (stops : List Condition) (k : ℕ) (b c : BoardState) (fault : DebugFault) → StandsAfter first b → RefusesRun stops k b c fault → StandsAfter first c
+pub stands_refused : (first : Shown) (stops : List Condition) (k : ℕ) (b c : BoardState) (fault : DebugFault)
+    → StandsAfter first b → RefusesRun stops k b c fault → StandsAfter first c
 stands_refused first stops k b c ClockLimit at is = subst (StandsAfter first) (sym is.1) at
 stands_refused first stops k b c BadScan at is = absurd is
 stands_refused first stops k b c StampsFall at is = absurd is
@@ -78,32 +80,38 @@ stands_same first b c is at = (
   },
 )
 
-kept_stands : (first : Shown) (old : List BoardState) (board kept : BoardState) → All (StandsAfter first) old → StandsAfter first board → Contains old kept ⊎ (shown_of kept ≡ shown_of board) → StandsAfter first kept
+kept_stands : (first : Shown) (old : List BoardState) (board kept : BoardState)
+    → All (StandsAfter first) old → StandsAfter first board → Contains old kept ⊎ (shown_of kept ≡ shown_of board) → StandsAfter first kept
 kept_stands first old board kept all at (inl there) = All-contains (StandsAfter first) old kept all there
 kept_stands first old board kept all at (inr same) = stands_same first board kept same at
 
-pub all_stand : (first : Shown) (old new : List BoardState) (board : BoardState) → All (StandsAfter first) old → StandsAfter first board → AreKept old board new → All (StandsAfter first) new
+pub all_stand : (first : Shown) (old new : List BoardState) (board : BoardState)
+    → All (StandsAfter first) old → StandsAfter first board → AreKept old board new → All (StandsAfter first) new
 all_stand first old new board all at are =
-    All-weaker (λ (kept : BoardState). Contains old kept ⊎ (shown_of kept ≡ shown_of board)) (StandsAfter first) (λ kept is. kept_stands first old board kept all at is) new are
+    All-weaker (λ (kept : BoardState). Contains old kept ⊎ (shown_of kept ≡ shown_of board))
+    (StandsAfter first) (λ kept is. kept_stands first old board kept all at is) new are
 
-pub copied : (first : Shown) (board : BoardState) (result : Result BoardState DebugFault) → IfOk result (λ copy. shown_of copy ≡ shown_of board) → StandsAfter first board → IfOk result (StandsAfter first)
+pub copied : (first : Shown) (board : BoardState) (result : Result BoardState DebugFault)
+    → IfOk result (λ copy. shown_of copy ≡ shown_of board) → StandsAfter first board → IfOk result (StandsAfter first)
 copied first board (Ok copy) same at = stands_same first board copy same at
 copied first board (Err fault) same at = tt
 
 -- the parts of a session stand as what it shows does
-pub board_stands : (first board : BoardState) (kept : List BoardState) (stops : List Condition) (s : SessionState) → record { first = shown_of first; board = board; stops = stops } ≡ s → IsSession first board kept stops → Stands s
+pub board_stands : (first board : BoardState) (kept : List BoardState) (stops : List Condition) (s : SessionState)
+    → record { first = shown_of first; board = board; stops = stops } ≡ s → IsSession first board kept stops → Stands s
 board_stands first board kept stops s is all = subst Stands is all.stands
 
-pub kept_stand : (first board : BoardState) (kept : List BoardState) (stops : List Condition) (s : SessionState) (one : BoardState) → record { first = shown_of first; board = board; stops = stops } ≡ s
-    → IsSession first board kept stops → Contains kept one → StandsAfter s.first one
+pub kept_stand : (first board : BoardState) (kept : List BoardState) (stops : List Condition) (s : SessionState) (one : BoardState)
+    → record { first = shown_of first; board = board; stops = stops } ≡ s → IsSession first board kept stops → Contains kept one → StandsAfter s.first one
 kept_stand first board kept stops s one is all there =
     subst (λ (s : SessionState). StandsAfter s.first one) is (All-contains (StandsAfter (shown_of first)) kept one all.copies there)
 
-pub first_stands : (first board : BoardState) (kept : List BoardState) (stops : List Condition) (s : SessionState) → record { first = shown_of first; board = board; stops = stops } ≡ s → length first.trail ≤ 32
-    → StandsAfter s.first first
+pub first_stands : (first board : BoardState) (kept : List BoardState) (stops : List Condition) (s : SessionState)
+    → record { first = shown_of first; board = board; stops = stops } ≡ s → length first.trail ≤ 32 → StandsAfter s.first first
 first_stands first board kept stops s is few = stands_none s.first first (ap (λ (s : SessionState). s.first) is) few
 
-pub new_session : (first board : BoardState) (kept : List BoardState) (stops : List Condition) → shown_of first ≡ shown_of board → length board.trail ≤ 32 → kept ≡ [] → stops ≡ [] → IsSession first board kept stops
+pub new_session : (first board : BoardState) (kept : List BoardState) (stops : List Condition)
+    → shown_of first ≡ shown_of board → length board.trail ≤ 32 → kept ≡ [] → stops ≡ [] → IsSession first board kept stops
 new_session first board kept stops same few none no_stops = record {
   addresses = All-same HasAddress stops [] no_stops (All-nil HasAddress);
   stands = stands_none (shown_of first) board (sym same) few;
@@ -111,28 +119,34 @@ new_session first board kept stops same few none no_stops = record {
 }
 
 -- a session whose board is another one
-pub at_board : (first board next : BoardState) (kept : List BoardState) (stops : List Condition) → IsSession first board kept stops → StandsAfter (shown_of first) next → IsSession first next kept stops
+pub at_board : (first board next : BoardState) (kept : List BoardState) (stops : List Condition)
+    → IsSession first board kept stops → StandsAfter (shown_of first) next → IsSession first next kept stops
 at_board first board next kept stops all at = record { addresses = all.addresses; stands = at; copies = all.copies }
 
-pub after_refusal : (first board next : BoardState) (kept : List BoardState) (stops sought : List Condition) (count : ℕ) (fault : DebugFault) → IsSession first board kept stops → RefusesRun sought count board next fault
-    → IsSession first next kept stops
-after_refusal first board next kept stops sought count fault all is = at_board first board next kept stops all (stands_refused (shown_of first) sought count board next fault all.stands is)
+pub after_refusal : (first board next : BoardState) (kept : List BoardState) (stops sought : List Condition) (count : ℕ) (fault : DebugFault)
+    → IsSession first board kept stops → RefusesRun sought count board next fault → IsSession first next kept stops
+after_refusal first board next kept stops sought count fault all is =
+    at_board first board next kept stops all (stands_refused (shown_of first) sought count board next fault all.stands is)
 
-pub after_run : (first board next : BoardState) (kept more : List BoardState) (stops sought : List Condition) (count : ℕ) (stopped : Option Stop) → IsSession first board kept stops → Runs sought count board next stopped
-    → AreKept kept next more → IsSession first next more stops
+pub after_run : (first board next : BoardState) (kept more : List BoardState) (stops sought : List Condition) (count : ℕ) (stopped : Option Stop)
+    → IsSession first board kept stops → Runs sought count board next stopped → AreKept kept next more → IsSession first next more stops
 after_run first board next kept more stops sought count stopped all runs are =
     let at : StandsAfter (shown_of first) next = stands_later (shown_of first) (run_length count board.plain stopped) board next all.stands runs.ran in
     record { addresses = all.addresses; stands = at; copies = all_stand (shown_of first) kept more next all.copies at are }
 
 -- a session after a turn of the board, after which the board may be kept
-pub after_turn : (first board next : BoardState) (kept : List BoardState) (stops : List Condition) (n : ℕ) → IsSession first board kept stops → Ran n board next → IsSession first next kept stops
+pub after_turn : (first board next : BoardState) (kept : List BoardState) (stops : List Condition) (n : ℕ)
+    → IsSession first board kept stops → Ran n board next → IsSession first next kept stops
 after_turn first board next kept stops n all ran = at_board first board next kept stops all (stands_later (shown_of first) n board next all.stands ran)
 
-pub after_keeping : (first board : BoardState) (kept more : List BoardState) (stops : List Condition) → IsSession first board kept stops → AreKept kept board more → IsSession first board more stops
-after_keeping first board kept more stops all are = record { addresses = all.addresses; stands = all.stands; copies = all_stand (shown_of first) kept more board all.copies all.stands are }
+pub after_keeping : (first board : BoardState) (kept more : List BoardState) (stops : List Condition)
+    → IsSession first board kept stops → AreKept kept board more → IsSession first board more stops
+after_keeping first board kept more stops all are =
+    record { addresses = all.addresses; stands = all.stands; copies = all_stand (shown_of first) kept more board all.copies all.stands are }
 
 -- a session at another clock: the board there, and the same first board and stops
-pub at_clock : (clock left : ℕ) (old : SessionState) (first b c : BoardState) (stops : List Condition) → StandsAfter old.first b → clock ≡ clock_of b.plain + left → Ran left b c → shown_of first ≡ old.first → stops ≡ old.stops
+pub at_clock : (clock left : ℕ) (old : SessionState) (first b c : BoardState) (stops : List Condition)
+    → StandsAfter old.first b → clock ≡ clock_of b.plain + left → Ran left b c → shown_of first ≡ old.first → stops ≡ old.stops
     → StandsNow clock old (record { first = shown_of first; board = c; stops = stops })
 at_clock clock left old first b c stops at is ran same_first same_stops =
     let from = at.1.clock in record {
@@ -143,9 +157,10 @@ at_clock clock left old first b c stops at is ran same_first same_stops =
       stops = same_stops;
     }
 
-pub stands_from : (first board : BoardState) (stops : List Condition) (s : SessionState) (left : ℕ) (b c : BoardState) → record { first = shown_of first; board = board; stops = stops } ≡ s → StandsAfter s.first b → Ran left b c
-    → StandsAfter (shown_of first) c
-stands_from first board stops s left b c is at ran = subst (λ (f : Shown). StandsAfter f c) (sym (ap (λ (s : SessionState). s.first) is)) (stands_later s.first left b c at ran)
+pub stands_from : (first board : BoardState) (stops : List Condition) (s : SessionState) (left : ℕ) (b c : BoardState)
+    → record { first = shown_of first; board = board; stops = stops } ≡ s → StandsAfter s.first b → Ran left b c → StandsAfter (shown_of first) c
+stands_from first board stops s left b c is at ran =
+    subst (λ (f : Shown). StandsAfter f c) (sym (ap (λ (s : SessionState). s.first) is)) (stands_later s.first left b c at ran)
 
 pub earlier : (first board : BoardState) → StandsAfter (shown_of first) board → clock_of first.plain ≤ clock_of board.plain
 earlier first board at = let clock = at.1.clock in omega (arith, clock)

@@ -40,7 +40,8 @@ displacement_fits (seconds.Addressing part named) m = displacement_few (place_at
 row_short : (r : Row) (b m : ℕ) → Contains rows r → form_length (form_at r b m) ≤ 6
 unfolding form_length form_at
 row_short r b m within =
-    let most = leb-true (1 + second_size (second_part r) + displacement_most (second_part r) + field_size (field_part r)) 6 (each is_short rows r all_are_short within) in
+    let most =
+    leb-true (1 + second_size (second_part r) + displacement_most (second_part r) + field_size (field_part r)) 6 (each is_short rows r all_are_short within) in
     let fits = displacement_fits (second_part r) m in omega (arith, most, fits)
 
 row_some : (r : Row) (b m : ℕ) → 0 < form_length (form_at r b m)
@@ -86,7 +87,8 @@ short_from : (bytes : List ℕ) (d : Decoding) → 0 < size_of d → IsDecoded b
 short_from bytes (Found i size) some is = sym (complete bytes i size is.stands)
 short_from bytes NoRow some is = absurd (omega arith)
 
-bare_size : (bytes : List ℕ) (r : Row) (d : Decoding) → d ≡ found_or_none [] bytes (Some r) → size_of d ≡ form_length (form_at r (slice_index bytes 0) (slice_index bytes 1))
+bare_size : (bytes : List ℕ) (r : Row) (d : Decoding) → d ≡ found_or_none [] bytes (Some r)
+    → size_of d ≡ form_length (form_at r (slice_index bytes 0) (slice_index bytes 1))
 bare_size bytes r d found =
     let size : size_of d ≡ 0 + form_length (form_at r (slice_index bytes 0) (slice_index bytes 1)) = ap size_of found in omega (arith, size)
 
@@ -94,7 +96,8 @@ pub record Again (bytes : List ℕ) (d : Decoding) : Type 0 where
   pub value : d ≡ decoded_from bytes
   pub exact : IsDecoded bytes d
 
-found_again : (front bytes : List ℕ) (r : Row) (d : Decoding) → take 6 front ≡ take 6 bytes → row_at (slice_index front 0) (slice_index front 1) ≡ Some r → d ≡ found_or_none [] front (Some r) → IsDecoded front d → Again bytes d
+found_again : (front bytes : List ℕ) (r : Row) (d : Decoding) → take 6 front ≡ take 6 bytes
+    → row_at (slice_index front 0) (slice_index front 1) ≡ Some r → d ≡ found_or_none [] front (Some r) → IsDecoded front d → Again bytes d
 unfolding row_at
 found_again front bytes r d same row found is =
     let b = slice_index front 0 in
@@ -110,7 +113,8 @@ same_byte : (front bytes : List ℕ) (k : ℕ) → k < 6 → take 6 front ≡ ta
 same_byte front bytes k within same =
     sym (get_or-take 6 front k 0 within) ∙ ap (λ xs. slice_index xs k) same ∙ get_or-take 6 bytes k 0 within
 
-none_again : (front bytes : List ℕ) (d : Decoding) → take 6 front ≡ take 6 bytes → prefix_of (slice_index front 0) ≡ None → row_at (slice_index front 0) (slice_index front 1) ≡ None → d ≡ NoRow → Again bytes d
+none_again : (front bytes : List ℕ) (d : Decoding) → take 6 front ≡ take 6 bytes → prefix_of (slice_index front 0) ≡ None
+    → row_at (slice_index front 0) (slice_index front 1) ≡ None → d ≡ NoRow → Again bytes d
 unfolding decoded_after
 none_again front bytes d same bare row found =
     let first = same_byte front bytes 0 (omega arith) same in
@@ -123,10 +127,12 @@ none_again front bytes d same bare row found =
       exact = rw found (λ other n stands. let stood = complete bytes other n stands in absurd (cc));
     }
 
-pub bare_again : (front bytes : List ℕ) (d : Decoding) → take 6 front ≡ take 6 bytes → prefix_of (slice_index front 0) ≡ None → d ≡ decoded_after [] front → IsDecoded front d → Again bytes d
+pub bare_again : (front bytes : List ℕ) (d : Decoding) → take 6 front ≡ take 6 bytes
+    → prefix_of (slice_index front 0) ≡ None → d ≡ decoded_after [] front → IsDecoded front d → Again bytes d
 unfolding decoded_after
 bare_again front bytes d same bare found is =
-    elim (row_at (slice_index front 0) (slice_index front 1)) as (λ o. row_at (slice_index front 0) (slice_index front 1) ≡ o → d ≡ found_or_none [] front o → Again bytes d) [
+    elim (row_at (slice_index front 0) (slice_index front 1))
+    as (λ o. row_at (slice_index front 0) (slice_index front 1) ≡ o → d ≡ found_or_none [] front o → Again bytes d) [
       | None ↦ λ row here. none_again front bytes d same bare row here
       | Some r ↦ λ row here. found_again front bytes r d same row here is
     ] refl found

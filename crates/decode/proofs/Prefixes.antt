@@ -19,7 +19,8 @@ prefix_again Lock = refl
 prefix_again (Repeat Repne) = refl
 prefix_again (Repeat Rep) = refl
 
-one_of : (byte wanted : ℕ) (q p : Prefix) (rest : Option Prefix) → prefix_byte q ≡ wanted → (rest ≡ Some p → prefix_byte p ≡ byte) → cond (byte == wanted) (Some q) rest ≡ Some p → prefix_byte p ≡ byte
+one_of : (byte wanted : ℕ) (q p : Prefix) (rest : Option Prefix)
+    → prefix_byte q ≡ wanted → (rest ≡ Some p → prefix_byte p ≡ byte) → cond (byte == wanted) (Some q) rest ≡ Some p → prefix_byte p ≡ byte
 one_of byte wanted q p rest is others e =
     elim (byte == wanted) as (λ b. (byte == wanted) ≡ b → cond b (Some q) rest ≡ Some p → prefix_byte p ≡ byte) [
       | true ↦ λ same found. let at : byte ≡ wanted = eqb-true byte wanted same in let this : q ≡ p = cc in ap prefix_byte (sym this) ∙ is ∙ sym at
@@ -51,7 +52,8 @@ pub stand_at : (n : ℕ) (bytes : List ℕ) → map prefix_byte (prefixes_at n b
 stand_at zero bytes = refl
 stand_at (suc n) [] = refl
 stand_at (suc n) (b ∷ bs) =
-    elim (prefix_of b) as (λ o. prefix_of b ≡ o → map prefix_byte (and_then o (prefixes_at n bs)) ++ drop (length (and_then o (prefixes_at n bs))) (b ∷ bs) ≡ b ∷ bs) [
+    elim (prefix_of b)
+    as (λ o. prefix_of b ≡ o → map prefix_byte (and_then o (prefixes_at n bs)) ++ drop (length (and_then o (prefixes_at n bs))) (b ∷ bs) ≡ b ∷ bs) [
       | None ↦ λ _. refl
       | Some p ↦ λ e.
           ap (λ x. x ∷ (map prefix_byte (prefixes_at n bs) ++ drop (length (prefixes_at n bs)) bs)) (prefix_from b p e)
@@ -69,7 +71,8 @@ at_most (suc n) (b ∷ bs) =
     ]
 
 -- one more is read, or none is left
-more : (n : ℕ) (b : ℕ) (bs : List ℕ) (ps : List Prefix) (p : Prefix) → prefix_of b ≡ Some p → (ps ++ (p ∷ [])) ++ prefixes_at n bs ≡ ps ++ prefixes_at (suc n) (b ∷ bs)
+more : (n : ℕ) (b : ℕ) (bs : List ℕ) (ps : List Prefix) (p : Prefix) → prefix_of b ≡ Some p
+    → (ps ++ (p ∷ [])) ++ prefixes_at n bs ≡ ps ++ prefixes_at (suc n) (b ∷ bs)
 more n b bs ps p is = append_assoc ps (p ∷ []) (prefixes_at n bs) ∙ ap (λ o. ps ++ and_then o (prefixes_at n bs)) (sym is)
 
 front_few : (code : List ℕ) (i : ℕ) → 7 ≤ length code → i < length (take 7 code) → i < 7
@@ -81,19 +84,24 @@ front_within code i long here = let e = length-take 7 code in omega (arith, e, h
 front_same : (code : List ℕ) (i : ℕ) → 7 ≤ length code → i < length (take 7 code) → get_or code i 0 ≡ get_or (take 7 code) i 0
 front_same code i long here = sym (get_or-take 7 code i 0 (front_few code i long here))
 
-pub read_more : (code : List ℕ) (i byte : ℕ) (ps qs : List Prefix) (p : Prefix) → 7 ≤ length code → i < length (take 7 code) → get_or (take 7 code) i 0 ≡ byte → prefix_of byte ≡ Some p → qs ≡ ps ++ (p ∷ []) → qs ++ prefixes_at (7 - (i + 1)) (drop (i + 1) code) ≡ ps ++ prefixes_at (7 - i) (drop i code)
+pub read_more : (code : List ℕ) (i byte : ℕ) (ps qs : List Prefix) (p : Prefix)
+    → 7 ≤ length code → i < length (take 7 code) → get_or (take 7 code) i 0 ≡ byte → prefix_of byte ≡ Some p → qs ≡ ps ++ (p ∷ [])
+    → qs ++ prefixes_at (7 - (i + 1)) (drop (i + 1) code) ≡ ps ++ prefixes_at (7 - i) (drop i code)
 read_more code i byte ps qs p long here front_at is now =
     let left : 7 - i ≡ suc (7 - (i + 1)) = omega (arith, front_few code i long here) in
-    let split : drop i code ≡ byte ∷ drop (i + 1) code = drop_more code i 0 (front_within code i long here) ∙ ap (λ b. b ∷ drop (i + 1) code) (front_same code i long here ∙ front_at) in
+    let split : drop i code ≡ byte ∷ drop (i + 1) code =
+    drop_more code i 0 (front_within code i long here) ∙ ap (λ b. b ∷ drop (i + 1) code) (front_same code i long here ∙ front_at) in
     ap (λ xs. xs ++ prefixes_at (7 - (i + 1)) (drop (i + 1) code)) now
     ∙ more (7 - (i + 1)) byte (drop (i + 1) code) ps p is
     ∙ ap (λ n. ps ++ prefixes_at n (byte ∷ drop (i + 1) code)) (sym left)
     ∙ ap (λ xs. ps ++ prefixes_at (7 - i) xs) (sym split)
 
-pub read_none : (code : List ℕ) (i byte : ℕ) (ps : List Prefix) → 7 ≤ length code → i < length (take 7 code) → get_or (take 7 code) i 0 ≡ byte → prefix_of byte ≡ None → ps ++ prefixes_at (7 - i) (drop i code) ≡ ps
+pub read_none : (code : List ℕ) (i byte : ℕ) (ps : List Prefix) → 7 ≤ length code → i < length (take 7 code)
+    → get_or (take 7 code) i 0 ≡ byte → prefix_of byte ≡ None → ps ++ prefixes_at (7 - i) (drop i code) ≡ ps
 read_none code i byte ps long here front_at is =
     let left : 7 - i ≡ suc (7 - (i + 1)) = omega (arith, front_few code i long here) in
-    let split : drop i code ≡ byte ∷ drop (i + 1) code = drop_more code i 0 (front_within code i long here) ∙ ap (λ b. b ∷ drop (i + 1) code) (front_same code i long here ∙ front_at) in
+    let split : drop i code ≡ byte ∷ drop (i + 1) code =
+    drop_more code i 0 (front_within code i long here) ∙ ap (λ b. b ∷ drop (i + 1) code) (front_same code i long here ∙ front_at) in
     ap (λ n. ps ++ prefixes_at n (drop i code)) left
     ∙ ap (λ xs. ps ++ prefixes_at (suc (7 - (i + 1))) xs) split
     ∙ ap (λ o. ps ++ and_then o (prefixes_at (7 - (i + 1)) (drop (i + 1) code))) is

@@ -40,7 +40,8 @@ right_true : (s t : Bool) → (s && t) ≡ true → t ≡ true
 right_true true t e = e
 right_true false t e = absurd (cc)
 
-other_at : (d : Entry) (es : List Entry) (j : ℕ) (e : Entry) → list_all (λ (e : Entry). not (spells d.0 e.0)) es ≡ true → slice_get es j ≡ Some e → not (spells d.0 e.0) ≡ true
+other_at : (d : Entry) (es : List Entry) (j : ℕ) (e : Entry)
+    → list_all (λ (e : Entry). not (spells d.0 e.0)) es ≡ true → slice_get es j ≡ Some e → not (spells d.0 e.0) ≡ true
 other_at d [] j e all at = absurd (cc)
 other_at d (x ∷ es) zero e all at =
     let same : x ≡ e = cc in

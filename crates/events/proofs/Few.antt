@@ -73,20 +73,24 @@ four_are_few a c is = omega (arith, is)
 
 -- a word, a push, an entry, and a value that is put at a location
 
-word_few : {S : Type 0} (bus : BusMeaning S) (count : S → ℕ) → Counts bus count → (s : S) (segment offset word : ℕ) → count (with_word_at bus s segment offset word) ≤ count s + 2
+word_few : {S : Type 0} (bus : BusMeaning S) (count : S → ℕ) → Counts bus count → (s : S) (segment offset word : ℕ)
+    → count (with_word_at bus s segment offset word) ≤ count s + 2
 unfolding with_word_at
 word_few bus count counts s segment offset word = more _ _ _ 1 1 (counts.write _ _ _) (counts.write _ _ _)
 
-push_few : {S : Type 0} (bus : BusMeaning S) (count : S → ℕ) → Counts bus count → (m : Machine S) (word : ℕ) → count (after_push bus m word).bus ≤ count m.bus + 2
+push_few : {S : Type 0} (bus : BusMeaning S) (count : S → ℕ) → Counts bus count → (m : Machine S) (word : ℕ)
+    → count (after_push bus m word).bus ≤ count m.bus + 2
 unfolding after_push
 push_few bus count counts m word = word_few bus count counts m.bus _ _ word
 
-entry_few : {S : Type 0} (bus : BusMeaning S) (count : S → ℕ) → Counts bus count → (m : Machine S) (kind : ℕ) → count (after_entry bus m kind).bus ≤ count m.bus + 6
+entry_few : {S : Type 0} (bus : BusMeaning S) (count : S → ℕ) → Counts bus count → (m : Machine S) (kind : ℕ)
+    → count (after_entry bus m kind).bus ≤ count m.bus + 6
 unfolding after_entry after_vector after_entry_pushes
 entry_few bus count counts m kind =
     more _ _ _ 2 4 (push_few bus count counts _ _) (more _ _ _ 2 2 (push_few bus count counts _ _) (push_few bus count counts m _))
 
-put_few : {S : Type 0} (bus : BusMeaning S) (count : S → ℕ) → Counts bus count → (m : Machine S) (l : OperandLocation) (value : ℕ) → count (with_value_at bus m l value).bus ≤ count m.bus + 2
+put_few : {S : Type 0} (bus : BusMeaning S) (count : S → ℕ) → Counts bus count → (m : Machine S) (l : OperandLocation) (value : ℕ)
+    → count (with_value_at bus m l value).bus ≤ count m.bus + 2
 unfolding with_value_at
 put_few bus count counts m locations.Nothing value = none (count m.bus) 2
 put_few bus count counts m (locations.Byte _) value = none (count m.bus) 2
@@ -98,45 +102,54 @@ put_few bus count counts m (locations.Number _) value = none (count m.bus) 2
 
 -- each operation
 
-arithmetic_few : {S : Type 0} (bus : BusMeaning S) (count : S → ℕ) → Counts bus count → (m : Machine S) (op : Arithmetic) (i : Instr) → count (after_arithmetic bus m op i).bus ≤ count m.bus + 6
+arithmetic_few : {S : Type 0} (bus : BusMeaning S) (count : S → ℕ) → Counts bus count → (m : Machine S) (op : Arithmetic) (i : Instr)
+    → count (after_arithmetic bus m op i).bus ≤ count m.bus + 6
 unfolding after_arithmetic
 arithmetic_few bus count counts m Cmp i = none (count m.bus) 6
 arithmetic_few bus count counts m Test i = none (count m.bus) 6
 arithmetic_few bus count counts m op i = two_are_few _ _ (put_few bus count counts _ _ _)
 
-unary_few : {S : Type 0} (bus : BusMeaning S) (count : S → ℕ) → Counts bus count → (m : Machine S) (op : Unary) (i : Instr) → count (after_unary bus m op i).bus ≤ count m.bus + 6
+unary_few : {S : Type 0} (bus : BusMeaning S) (count : S → ℕ) → Counts bus count → (m : Machine S) (op : Unary) (i : Instr)
+    → count (after_unary bus m op i).bus ≤ count m.bus + 6
 unfolding after_unary
 unary_few bus count counts m op i = two_are_few _ _ (put_few bus count counts _ _ _)
 
-shift_few : {S : Type 0} (bus : BusMeaning S) (count : S → ℕ) → Counts bus count → (m : Machine S) (op : Shift) (i : Instr) → count (after_shift bus m op i).bus ≤ count m.bus + 6
+shift_few : {S : Type 0} (bus : BusMeaning S) (count : S → ℕ) → Counts bus count → (m : Machine S) (op : Shift) (i : Instr)
+    → count (after_shift bus m op i).bus ≤ count m.bus + 6
 unfolding after_shift
 shift_few bus count counts m op i = two_are_few _ _ (put_few bus count counts _ _ _)
 
-division_few : {S : Type 0} (bus : BusMeaning S) (count : S → ℕ) → Counts bus count → (m : Machine S) (width : Width) (d : Option Division) → count (after_division bus m width d).bus ≤ count m.bus + 6
+division_few : {S : Type 0} (bus : BusMeaning S) (count : S → ℕ) → Counts bus count → (m : Machine S) (width : Width) (d : Option Division)
+    → count (after_division bus m width d).bus ≤ count m.bus + 6
 unfolding after_division
 division_few bus count counts m width None = entry_few bus count counts m 0
 division_few bus count counts m width (Some d) = none (count m.bus) 6
 
-product_few : {S : Type 0} (bus : BusMeaning S) (count : S → ℕ) → Counts bus count → (m : Machine S) (op : Product) (i : Instr) → count (after_product bus m op i).bus ≤ count m.bus + 6
+product_few : {S : Type 0} (bus : BusMeaning S) (count : S → ℕ) → Counts bus count → (m : Machine S) (op : Product) (i : Instr)
+    → count (after_product bus m op i).bus ≤ count m.bus + 6
 unfolding after_product product.after_operation
 product_few bus count counts m Mul i = none (count m.bus) 6
 product_few bus count counts m Imul i = none (count m.bus) 6
 product_few bus count counts m Div i = division_few bus count counts m _ _
 product_few bus count counts m Idiv i = division_few bus count counts m _ _
 
-movs_few : {S : Type 0} (bus : BusMeaning S) (count : S → ℕ) → Counts bus count → (m : Machine S) (width : Width) (i : Instr) → count (after_movs bus m width i).bus ≤ count m.bus + 6
+movs_few : {S : Type 0} (bus : BusMeaning S) (count : S → ℕ) → Counts bus count → (m : Machine S) (width : Width) (i : Instr)
+    → count (after_movs bus m width i).bus ≤ count m.bus + 6
 unfolding after_movs
 movs_few bus count counts m width i = two_are_few _ _ (put_few bus count counts m _ _)
 
-stos_few : {S : Type 0} (bus : BusMeaning S) (count : S → ℕ) → Counts bus count → (m : Machine S) (width : Width) → count (after_stos bus m width).bus ≤ count m.bus + 6
+stos_few : {S : Type 0} (bus : BusMeaning S) (count : S → ℕ) → Counts bus count → (m : Machine S) (width : Width)
+    → count (after_stos bus m width).bus ≤ count m.bus + 6
 unfolding after_stos
 stos_few bus count counts m width = two_are_few _ _ (put_few bus count counts m _ _)
 
-lods_few : {S : Type 0} (bus : BusMeaning S) (count : S → ℕ) → Counts bus count → (m : Machine S) (width : Width) (i : Instr) → count (after_lods bus m width i).bus ≤ count m.bus + 6
+lods_few : {S : Type 0} (bus : BusMeaning S) (count : S → ℕ) → Counts bus count → (m : Machine S) (width : Width) (i : Instr)
+    → count (after_lods bus m width i).bus ≤ count m.bus + 6
 unfolding after_lods
 lods_few bus count counts m width i = two_are_few _ _ (put_few bus count counts m _ _)
 
-element_few : {S : Type 0} (bus : BusMeaning S) (count : S → ℕ) → Counts bus count → (m : Machine S) (op : Strings) (i : Instr) → count (after_element bus m op i).bus ≤ count m.bus + 6
+element_few : {S : Type 0} (bus : BusMeaning S) (count : S → ℕ) → Counts bus count → (m : Machine S) (op : Strings) (i : Instr)
+    → count (after_element bus m op i).bus ≤ count m.bus + 6
 unfolding after_element after_cmps after_scas
 element_few bus count counts m Movsb i = movs_few bus count counts m Byte i
 element_few bus count counts m Movsw i = movs_few bus count counts m Word i
@@ -149,7 +162,8 @@ element_few bus count counts m Lodsw i = lods_few bus count counts m Word i
 element_few bus count counts m Scasb i = none (count m.bus) 6
 element_few bus count counts m Scasw i = none (count m.bus) 6
 
-pointer_few : {S : Type 0} (bus : BusMeaning S) (count : S → ℕ) → Counts bus count → (m : Machine S) (segment : SegmentRegister) (i : Instr) → count (after_pointer_load bus m segment i).bus ≤ count m.bus + 6
+pointer_few : {S : Type 0} (bus : BusMeaning S) (count : S → ℕ) → Counts bus count → (m : Machine S) (segment : SegmentRegister) (i : Instr)
+    → count (after_pointer_load bus m segment i).bus ≤ count m.bus + 6
 unfolding after_pointer_load
 pointer_few bus count counts m segment i = four_are_few _ _ (more _ _ _ 2 2 (put_few bus count counts _ _ _) (put_few bus count counts m _ _))
 
@@ -157,16 +171,19 @@ xchg_few : {S : Type 0} (bus : BusMeaning S) (count : S → ℕ) → Counts bus 
 unfolding after_xchg
 xchg_few bus count counts m i = four_are_few _ _ (more _ _ _ 2 2 (put_few bus count counts _ _ _) (put_few bus count counts m _ _))
 
-input_few : {S : Type 0} (bus : BusMeaning S) (count : S → ℕ) → Counts bus count → (m : Machine S) (port : ℕ) (both : Bool) → count (if both then after_word_input bus m port else after_byte_input bus m port).bus ≤ count m.bus + 6
+input_few : {S : Type 0} (bus : BusMeaning S) (count : S → ℕ) → Counts bus count → (m : Machine S) (port : ℕ) (both : Bool)
+    → count (if both then after_word_input bus m port else after_byte_input bus m port).bus ≤ count m.bus + 6
 unfolding after_word_input after_byte_input
 input_few bus count counts m port true = two_are_few _ _ (more _ _ _ 1 1 (counts.input _ _) (counts.input _ _))
 input_few bus count counts m port false = one_is_few _ _ (counts.input _ _)
 
-output_few : {S : Type 0} (bus : BusMeaning S) (count : S → ℕ) → Counts bus count → (s : S) (port ax : ℕ) (both : Bool) → count (after_port_writes bus.after_output s (outputs_at port ax both)) ≤ count s + 6
+output_few : {S : Type 0} (bus : BusMeaning S) (count : S → ℕ) → Counts bus count → (s : S) (port ax : ℕ) (both : Bool)
+    → count (after_port_writes bus.after_output s (outputs_at port ax both)) ≤ count s + 6
 output_few bus count counts s port ax true = two_are_few _ _ (more _ _ _ 1 1 (counts.output _ _ _) (counts.output _ _ _))
 output_few bus count counts s port ax false = one_is_few _ _ (counts.output _ _ _)
 
-transfer_few : {S : Type 0} (bus : BusMeaning S) (count : S → ℕ) → Counts bus count → (m : Machine S) (op : Transfer) (i : Instr) → count (after_transfer bus m op i).bus ≤ count m.bus + 6
+transfer_few : {S : Type 0} (bus : BusMeaning S) (count : S → ℕ) → Counts bus count → (m : Machine S) (op : Transfer) (i : Instr)
+    → count (after_transfer bus m op i).bus ≤ count m.bus + 6
 unfolding after_transfer after_mov after_lea after_push_operand after_pop_operand after_pop after_popf after_xlat after_in after_out outputs_of
 transfer_few bus count counts m Mov i = two_are_few _ _ (put_few bus count counts _ _ _)
 transfer_few bus count counts m Xchg i = xchg_few bus count counts m i
@@ -180,14 +197,17 @@ transfer_few bus count counts m Popf i = none (count m.bus) 6
 transfer_few bus count counts m Sahf i = none (count m.bus) 6
 transfer_few bus count counts m Lahf i = none (count m.bus) 6
 transfer_few bus count counts m Xlat i = none (count m.bus) 6
-transfer_few bus count counts m In i = input_few bus count counts m (port_of (second_of i.form.row) m.registers.dx i.values.number) (is_ax (first_of i.form.row))
+transfer_few bus count counts m In i =
+    input_few bus count counts m (port_of (second_of i.form.row) m.registers.dx i.values.number) (is_ax (first_of i.form.row))
 transfer_few bus count counts m Out i = output_few bus count counts m.bus _ _ _
 
-into_few : {S : Type 0} (bus : BusMeaning S) (count : S → ℕ) → Counts bus count → (m : Machine S) (taken : Bool) → count (if taken then after_entry bus m 4 else m).bus ≤ count m.bus + 6
+into_few : {S : Type 0} (bus : BusMeaning S) (count : S → ℕ) → Counts bus count → (m : Machine S) (taken : Bool)
+    → count (if taken then after_entry bus m 4 else m).bus ≤ count m.bus + 6
 into_few bus count counts m true = entry_few bus count counts m 4
 into_few bus count counts m false = none (count m.bus) 6
 
-control_few : {S : Type 0} (bus : BusMeaning S) (count : S → ℕ) → Counts bus count → (m : Machine S) (op : Control) (i : Instr) → count (after_control bus m op i).bus ≤ count m.bus + 6
+control_few : {S : Type 0} (bus : BusMeaning S) (count : S → ℕ) → Counts bus count → (m : Machine S) (op : Control) (i : Instr)
+    → count (after_control bus m op i).bus ≤ count m.bus + 6
 unfolding after_control after_call after_return after_interrupt_return after_far_pop after_ip_pop after_pop
 control_few bus count counts m Jmp i = none (count m.bus) 6
 control_few bus count counts m Call i = two_are_few _ _ (push_few bus count counts m _)
@@ -200,7 +220,8 @@ control_few bus count counts m Int i = entry_few bus count counts m _
 control_few bus count counts m Into i = into_few bus count counts m m.registers.flags.overflow
 control_few bus count counts m Iret i = none (count m.bus) 6
 
-operation_few : {S : Type 0} (bus : BusMeaning S) (count : S → ℕ) → Counts bus count → (m : Machine S) (op : Operation) (i : Instr) → count (after_operation bus m op i).bus ≤ count m.bus + 6
+operation_few : {S : Type 0} (bus : BusMeaning S) (count : S → ℕ) → Counts bus count → (m : Machine S) (op : Operation) (i : Instr)
+    → count (after_operation bus m op i).bus ≤ count m.bus + 6
 unfolding after_operation
 operation_few bus count counts m (operations.Arithmetic op) i = arithmetic_few bus count counts m op i
 operation_few bus count counts m (operations.Shift op) i = shift_few bus count counts m op i
@@ -216,11 +237,13 @@ operation_few bus count counts m (operations.Processor _) i = none (count m.bus)
 
 -- a step
 
-whole_few : {S : Type 0} (bus : BusMeaning S) (count : S → ℕ) → Counts bus count → (table : ClockTable) (p : CpuState) (s : S) (op : Operation) (i : Instr) → count (after_whole bus table p s op i).bus ≤ count s + 6
+whole_few : {S : Type 0} (bus : BusMeaning S) (count : S → ℕ) → Counts bus count → (table : ClockTable) (p : CpuState) (s : S) (op : Operation) (i : Instr)
+    → count (after_whole bus table p s op i).bus ≤ count s + 6
 unfolding after_whole
 whole_few bus count counts table p s op i = operation_few bus count counts (machine p.registers s) op i
 
-iterating_few : {S : Type 0} (bus : BusMeaning S) (count : S → ℕ) → Counts bus count → (table : ClockTable) (p : CpuState) (s : S) (op : Strings) (i : Instr) (first : Bool) → count (after_iterating bus table p s op i first).bus ≤ count s + 6
+iterating_few : {S : Type 0} (bus : BusMeaning S) (count : S → ℕ) → Counts bus count
+    → (table : ClockTable) (p : CpuState) (s : S) (op : Strings) (i : Instr) (first : Bool) → count (after_iterating bus table p s op i first).bus ≤ count s + 6
 unfolding after_iterating after_iteration
 iterating_few bus count counts table p s op i first = element_few bus count counts (machine p.registers s) op i
 
@@ -228,23 +251,28 @@ if_few : {S : Type 0} (count : S → ℕ) (n : ℕ) (b : Bool) (x y : StepResult
 if_few count n true x y first second = first
 if_few count n false x y first second = second
 
-repeat_few : {S : Type 0} (bus : BusMeaning S) (count : S → ℕ) → Counts bus count → (table : ClockTable) (p : CpuState) (s : S) (op : Strings) (i : Instr) → count (after_repeat bus table p s op i).bus ≤ count s + 6
+repeat_few : {S : Type 0} (bus : BusMeaning S) (count : S → ℕ) → Counts bus count → (table : ClockTable) (p : CpuState) (s : S) (op : Strings) (i : Instr)
+    → count (after_repeat bus table p s op i).bus ≤ count s + 6
 unfolding after_repeat
 repeat_few bus count counts table p s op i = if_few count _ (p.registers.cx == 0) _ _ (none (count s) 6) (iterating_few bus count counts table p s op i true)
 
-begun_few : {S : Type 0} (bus : BusMeaning S) (count : S → ℕ) → Counts bus count → (table : ClockTable) (p : CpuState) (s : S) (op : Operation) (i : Instr) → count (after_begun bus table p s op i).bus ≤ count s + 6
+begun_few : {S : Type 0} (bus : BusMeaning S) (count : S → ℕ) → Counts bus count → (table : ClockTable) (p : CpuState) (s : S) (op : Operation) (i : Instr)
+    → count (after_begun bus table p s op i).bus ≤ count s + 6
 begun_few bus count counts table p s (operations.Strings op) i =
     if_few count _ (is_repeated i) _ _ (repeat_few bus count counts table p s op i) (whole_few bus count counts table p s (operations.Strings op) i)
 begun_few bus count counts table p s op i = whole_few bus count counts table p s op i
 
-step_few : {S : Type 0} (bus : BusMeaning S) (count : S → ℕ) → Counts bus count → (table : ClockTable) (p : CpuState) (s : S) (decoded : Decoded) → count (after_step bus table p s decoded).bus ≤ count s + 6
+step_few : {S : Type 0} (bus : BusMeaning S) (count : S → ℕ) → Counts bus count → (table : ClockTable) (p : CpuState) (s : S) (decoded : Decoded)
+    → count (after_step bus table p s decoded).bus ≤ count s + 6
 unfolding after_step after_found
 step_few bus count counts table p s NoRow = none (count s) 6
 step_few bus count counts table p s (Found i size) = begun_few bus count counts table (after_fetch p size) s (operation_of i.form.row) i
 
-again_of_few : {S : Type 0} (bus : BusMeaning S) (count : S → ℕ) → Counts bus count → (table : ClockTable) (p : CpuState) (s : S) (repeat : Option Repeating) → count (after_again_of bus table p s repeat).bus ≤ count s + 6
+again_of_few : {S : Type 0} (bus : BusMeaning S) (count : S → ℕ) → Counts bus count
+    → (table : ClockTable) (p : CpuState) (s : S) (repeat : Option Repeating) → count (after_again_of bus table p s repeat).bus ≤ count s + 6
 again_of_few bus count counts table p s None = none (count s) 6
-again_of_few bus count counts table p s (Some r) = iterating_few bus count counts table (after_fetch p (size_from_last_prefix r.instr)) s r.operation r.instr false
+again_of_few bus count counts table p s (Some r) =
+    iterating_few bus count counts table (after_fetch p (size_from_last_prefix r.instr)) s r.operation r.instr false
 
 -- the bus that notes accesses has noted no more
 

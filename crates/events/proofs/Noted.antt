@@ -11,11 +11,13 @@ use Rattle.events.specs.declared.access.Access.TheVariants.{Write, In, Out}
 use Rattle.events.specs.Noting.{Noted, after_access, noting, unnoted, with_access}
 use Rattle.events.specs.EventLaws.{AreOwn, IsNoted, IsOwn, MakesAccesses}
 
-made_more : {S : Type 0} (bus : BusMeaning S) (s : S) (xs : List Access) (a : Access) → fold (after_access bus) s (xs ++ a ∷ []) ≡ after_access bus (fold (after_access bus) s xs) a
+made_more : {S : Type 0} (bus : BusMeaning S) (s : S) (xs : List Access) (a : Access)
+    → fold (after_access bus) s (xs ++ a ∷ []) ≡ after_access bus (fold (after_access bus) s xs) a
 made_more bus s [] a = refl
 made_more bus s (x ∷ xs) a = made_more bus (after_access bus s x) xs a
 
-own_more : {S : Type 0} (bus : BusMeaning S) (s : S) (xs : List Access) (a : Access) → AreOwn bus s xs → IsOwn bus (fold (after_access bus) s xs) a → AreOwn bus s (xs ++ a ∷ [])
+own_more : {S : Type 0} (bus : BusMeaning S) (s : S) (xs : List Access) (a : Access)
+    → AreOwn bus s xs → IsOwn bus (fold (after_access bus) s xs) a → AreOwn bus s (xs ++ a ∷ [])
 own_more bus s [] a own is = (is, tt)
 own_more bus s (x ∷ xs) a own is = (own.0, own_more bus (after_access bus s x) xs a own.1 is)
 
@@ -25,7 +27,8 @@ pub record Notes {S : Type 0} (bus : BusMeaning S) (start : S) (s : S) (n : Note
   pub made : s ≡ fold (after_access bus) start n.accesses
   pub own : AreOwn bus start n.accesses
 
-pub notes_more : {S : Type 0} (bus : BusMeaning S) (start s : S) (n : Noted S) (a : Access) → Notes bus start s n → IsOwn bus s a → Notes bus start (after_access bus s a) (with_access n (after_access bus n.reached a) a)
+pub notes_more : {S : Type 0} (bus : BusMeaning S) (start s : S) (n : Noted S) (a : Access) → Notes bus start s n → IsOwn bus s a
+    → Notes bus start (after_access bus s a) (with_access n (after_access bus n.reached a) a)
 notes_more bus start s n a notes is = record {
   reached = ap (λ t. after_access bus t a) notes.reached;
   made = ap (λ t. after_access bus t a) notes.made ∙ sym (made_more bus start n.accesses a);
@@ -48,12 +51,16 @@ notes_ports bus start = record {
 notes_none : {S : Type 0} (bus : BusMeaning S) (s : S) → Notes bus s s (unnoted s)
 notes_none bus s = record { reached = refl; made = refl; own = tt }
 
-is_noted : {S : Type 0} (bus : BusMeaning S) (s : S) (done : StepResult S) (noted : StepResult (Noted S)) → SameStep (Notes bus s) done noted → IsNoted bus s done noted
+is_noted : {S : Type 0} (bus : BusMeaning S) (s : S) (done : StepResult S) (noted : StepResult (Noted S))
+    → SameStep (Notes bus s) done noted → IsNoted bus s done noted
 is_noted bus s done noted same = record { cpu = same.cpu; clocks = same.clocks; reached = same.bus.reached; made = same.bus.made; own = same.bus.own }
 
 pub makes_accesses : {S : Type 0} (bus : BusMeaning S) → MakesAccesses bus
 makes_accesses bus = record {
-  step = λ table p s decoded. is_noted bus s _ _ (same_by_step bus (noting bus) table (λ port. true) (λ port. true) (Notes bus s) (notes_alike bus s) (notes_ports bus s) p s (unnoted s) decoded (λ k d within. refl) (λ k d within. refl) (notes_none bus s));
+  step = λ table p s decoded.
+      is_noted bus s _ _ (same_by_step bus (noting bus) table (λ port. true) (λ port. true) (Notes bus s) (notes_alike bus s)
+      (notes_ports bus s) p s (unnoted s) decoded (λ k d within. refl) (λ k d within. refl) (notes_none bus s));
   again = λ table p s. is_noted bus s _ _ (same_by_again bus (noting bus) table (Notes bus s) (notes_alike bus s) p s (unnoted s) (notes_none bus s));
-  enter = λ table p s kind cause. is_noted bus s _ _ (same_by_enter bus (noting bus) table (Notes bus s) (notes_alike bus s) p s (unnoted s) kind cause (notes_none bus s));
+  enter = λ table p s kind cause.
+      is_noted bus s _ _ (same_by_enter bus (noting bus) table (Notes bus s) (notes_alike bus s) p s (unnoted s) kind cause (notes_none bus s));
 }

@@ -46,7 +46,8 @@ settled_queue : (s : ChipsState) → SameQueue (after_settling s).keyboard s.key
 unfolding after_settling
 settled_queue s = cleared_by (has_bit (lines_b s.ppi) 7) s.keyboard
 
-byte_queue : (b : Bool) (s t u : ChipsState) → SameQueue s.keyboard u.keyboard → SameQueue t.keyboard u.keyboard → SameQueue (if b then s else t).keyboard u.keyboard
+byte_queue : (b : Bool) (s t u : ChipsState) → SameQueue s.keyboard u.keyboard → SameQueue t.keyboard u.keyboard
+    → SameQueue (if b then s else t).keyboard u.keyboard
 byte_queue true s t u first second = first
 byte_queue false s t u first second = second
 
@@ -80,16 +81,19 @@ acknowledged_queue : (s : ChipsState) → SameQueue (after_acknowledge s).keyboa
 unfolding after_acknowledge
 acknowledged_queue s = same_queue s.keyboard
 
-entered_queue : (table : ClockTable) (cpu : CpuState) (s : ChipsState) (kind : ℕ) (cause : Cause) → SameQueue (after_enter chips_bus table cpu s kind cause).bus.keyboard s.keyboard
+entered_queue : (table : ClockTable) (cpu : CpuState) (s : ChipsState) (kind : ℕ) (cause : Cause)
+    → SameQueue (after_enter chips_bus table cpu s kind cause).bus.keyboard s.keyboard
 entered_queue table cpu s kind cause =
-    enter_keeps_any chips_bus table (λ (t : ChipsState). SameQueue t.keyboard s.keyboard) (λ t address byte same. queue_then _ _ _ (written_queue t address byte) same) cpu s kind cause (same_queue s.keyboard)
+    enter_keeps_any chips_bus table (λ (t : ChipsState). SameQueue t.keyboard s.keyboard)
+    (λ t address byte same. queue_then _ _ _ (written_queue t address byte) same) cpu s kind cause (same_queue s.keyboard)
 
 acted_queue : (table : ClockTable) (cpu : CpuState) (busy : ℕ) (s : ChipsState) (act : Act) → SameQueue (after_act table cpu busy s act).bus.keyboard s.keyboard
 acted_queue table cpu busy s Nothing = same_queue s.keyboard
 acted_queue table cpu busy s Request = queue_then _ _ _ (entered_queue table cpu (after_acknowledge s) (requested_type s) causes.Request) (acknowledged_queue s)
 acted_queue table cpu busy s SingleStep = entered_queue table cpu s 1 causes.SingleStep
 acted_queue table cpu busy s Iteration =
-    again_keeps_any chips_bus table (λ (t : ChipsState). SameQueue t.keyboard s.keyboard) (λ t address byte same. queue_then _ _ _ (written_queue t address byte) same) cpu s (same_queue s.keyboard)
+    again_keeps_any chips_bus table (λ (t : ChipsState). SameQueue t.keyboard s.keyboard)
+    (λ t address byte same. queue_then _ _ _ (written_queue t address byte) same) cpu s (same_queue s.keyboard)
 acted_queue table cpu busy s (Instruction decoded) =
     step_keeps_any chips_bus table (λ (t : ChipsState). SameQueue t.keyboard s.keyboard)
     (λ t address byte same. queue_then _ _ _ (written_queue t address byte) same)
@@ -103,7 +107,8 @@ clocked_queue s = settled_queue _
 
 -- the chips that a clock's codes reach have the queue of the clock before
 pub reached_queue : (s : Plain) → SameQueue (chips_reached s).keyboard s.chips.keyboard
-reached_queue s = queue_then _ _ _ (clocked_queue (after_act s.clocks s.cpu s.busy s.chips (next_act s)).bus) (acted_queue s.clocks s.cpu s.busy s.chips (next_act s))
+reached_queue s =
+    queue_then _ _ _ (clocked_queue (after_act s.clocks s.cpu s.busy s.chips (next_act s)).bus) (acted_queue s.clocks s.cpu s.busy s.chips (next_act s))
 
 -- the codes arrive
 
@@ -128,4 +133,6 @@ unfolding after_key_settling
 key_settled c = settled_queue _
 
 pub next_queue : (s : Plain) → SameQueue (after_clock s).chips.keyboard (keys.after_settling (gathered_in s).keyboard (lines_b (gathered_in s).ppi))
-next_queue s = subst (λ (c : ChipsState). SameQueue c.keyboard (keys.after_settling (gathered_in s).keyboard (lines_b (gathered_in s).ppi))) (sym (next_chips s)) (key_settled (gathered_in s))
+next_queue s =
+    subst (λ (c : ChipsState). SameQueue c.keyboard (keys.after_settling (gathered_in s).keyboard (lines_b (gathered_in s).ppi)))
+    (sym (next_chips s)) (key_settled (gathered_in s))

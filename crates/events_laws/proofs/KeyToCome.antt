@@ -26,26 +26,34 @@ not_now stamp clock before = grind (arith, nat_tests, before)
 
 passed_over : (key : StampedKey) (ks : List StampedKey) (clock : ℕ) → nat_eq key.stamp clock ≡ false → codes_at (key ∷ ks) clock ≡ codes_at ks clock
 passed_over key ks clock is =
-    ap (λ (due : Bool). map (λ (k : StampedKey). k.code) (cond due (key ∷ filter (λ (k : StampedKey). k.stamp == clock) ks) (filter (λ (k : StampedKey). k.stamp == clock) ks))) is
+    ap (λ (due : Bool).
+    map (λ (k : StampedKey). k.code) (cond due (key ∷ filter (λ (k : StampedKey). k.stamp == clock) ks) (filter (λ (k : StampedKey). k.stamp == clock) ks)))
+    is
 
-same_following : (k : StampedKey) (xs ys : List StampedKey) (clock : ℕ) (due : Bool) → codes_at xs clock ≡ codes_at ys clock → map (λ (k : StampedKey). k.code) (cond due (k ∷ filter (λ (k : StampedKey). k.stamp == clock) xs) (filter (λ (k : StampedKey). k.stamp == clock) xs)) ≡ map (λ (k : StampedKey). k.code) (cond due (k ∷ filter (λ (k : StampedKey). k.stamp == clock) ys) (filter (λ (k : StampedKey). k.stamp == clock) ys))
+same_following : (k : StampedKey) (xs ys : List StampedKey) (clock : ℕ) (due : Bool) → codes_at xs clock ≡ codes_at ys clock
+    → map (λ (k : StampedKey). k.code) (cond due (k ∷ filter (λ (k : StampedKey). k.stamp == clock) xs) (filter (λ (k : StampedKey). k.stamp == clock) xs))
+    ≡ map (λ (k : StampedKey). k.code) (cond due (k ∷ filter (λ (k : StampedKey). k.stamp == clock) ys) (filter (λ (k : StampedKey). k.stamp == clock) ys))
 same_following k xs ys clock true same = ap (λ cs. k.code ∷ cs) same
 same_following k xs ys clock false same = same
 
-inserted_by : (b : Bool) (k key : StampedKey) (ks : List StampedKey) (clock : ℕ) → nat_eq key.stamp clock ≡ false → codes_at (inserted ks key) clock ≡ codes_at ks clock → codes_at (if b then k ∷ inserted ks key else key ∷ k ∷ ks) clock ≡ codes_at (k ∷ ks) clock
+inserted_by : (b : Bool) (k key : StampedKey) (ks : List StampedKey) (clock : ℕ) → nat_eq key.stamp clock ≡ false
+    → codes_at (inserted ks key) clock ≡ codes_at ks clock → codes_at (if b then k ∷ inserted ks key else key ∷ k ∷ ks) clock ≡ codes_at (k ∷ ks) clock
 inserted_by true k key ks clock is same = same_following k (inserted ks key) ks clock (nat_eq k.stamp clock) same
 inserted_by false k key ks clock is same = passed_over key (k ∷ ks) clock is
 
-other_codes : (keys : List StampedKey) (key : StampedKey) (clock : ℕ) → nat_eq key.stamp clock ≡ false → codes_at (inserted keys key) clock ≡ codes_at keys clock
+other_codes : (keys : List StampedKey) (key : StampedKey) (clock : ℕ) → nat_eq key.stamp clock ≡ false
+    → codes_at (inserted keys key) clock ≡ codes_at keys clock
 other_codes [] key clock is = passed_over key [] clock is
 other_codes (k ∷ ks) key clock is = inserted_by (nat_le k.stamp key.stamp) k key ks clock is (other_codes ks key clock is)
 
 -- a clock before the stamp
 
-chips_same : (c : ChipsState) (keys : List StampedKey) (key : StampedKey) (clock : ℕ) → c.clock ≡ clock → clock + 1 < key.stamp → chips_after_clock c (inserted keys key) ≡ chips_after_clock c keys
+chips_same : (c : ChipsState) (keys : List StampedKey) (key : StampedKey) (clock : ℕ) → c.clock ≡ clock → clock + 1 < key.stamp
+    → chips_after_clock c (inserted keys key) ≡ chips_after_clock c keys
 unfolding chips_after_clock
 chips_same c keys key clock is before =
-    ap (λ codes. after_key_settling (after_arrivals (wires.after_clock c) codes)) (other_codes keys key (c.clock + 1) (not_now key.stamp (c.clock + 1) (omega (arith, is, before))))
+    ap (λ codes. after_key_settling (after_arrivals (wires.after_clock c) codes))
+    (other_codes keys key (c.clock + 1) (not_now key.stamp (c.clock + 1) (omega (arith, is, before))))
 
 next_clock : (s : Plain) (key : StampedKey) → clock_of s + 1 < key.stamp → after_clock (with_key s key) ≡ with_key (after_clock s) key
 unfolding after_clock with_key next_act clock_of
@@ -100,10 +108,14 @@ entries_stay (suc n) s key before =
 
 -- from power-on
 
-first_with : (image : List (ℕ × ℕ)) (config : Config) (keys : List StampedKey) (key : StampedKey) → 0 < key.stamp → power_on image config (inserted keys key) ≡ with_key (power_on image config keys) key
+first_with : (image : List (ℕ × ℕ)) (config : Config) (keys : List StampedKey) (key : StampedKey) → 0 < key.stamp
+    → power_on image config (inserted keys key) ≡ with_key (power_on image config keys) key
 unfolding power_on with_key
 first_with image config keys key later =
-    ap (λ codes. record (power_on image config keys) { chips = after_arrivals (chips.power_on image (1024 * config.ram_kb) config.sw1 config.sw2 config.timer) codes; keys = inserted keys key })
+    ap (λ codes. record (power_on image config keys) {
+      chips = after_arrivals (chips.power_on image (1024 * config.ram_kb) config.sw1 config.sw2 config.timer) codes;
+      keys = inserted keys key;
+    })
     (other_codes keys key 0 (not_now key.stamp 0 later))
 
 first_clock_is : (image : List (ℕ × ℕ)) (config : Config) (keys : List StampedKey) → clock_of (power_on image config keys) ≡ 0

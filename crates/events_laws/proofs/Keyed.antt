@@ -46,11 +46,13 @@ all_come : (clock : ℕ) (k : KeyboardState) (codes : List ℕ) → flat_map com
 all_come clock k [] = refl
 all_come clock k (code ∷ codes) = λ i. one_comes clock code (has_room k) i ++ all_come clock (keys.after_arrival k code) codes i
 
-one_waits : (clock code : ℕ) (k : KeyboardState) (room : Bool) → k.waiting ++ queued_by (Keyed clock (if room then Arrives else IsLost) code) ≡ (if room then record k { waiting = k.waiting ++ code ∷ [] } else record k { lost = count_after_loss k.lost }).waiting
+one_waits : (clock code : ℕ) (k : KeyboardState) (room : Bool) → k.waiting ++ queued_by (Keyed clock (if room then Arrives else IsLost) code)
+    ≡ (if room then record k { waiting = k.waiting ++ code ∷ [] } else record k { lost = count_after_loss k.lost }).waiting
 one_waits clock code k true = refl
 one_waits clock code k false = append-nil k.waiting
 
-all_wait : (clock : ℕ) (codes : List ℕ) (k : KeyboardState) → k.waiting ++ flat_map queued_by (arrival_events clock k codes) ≡ (fold keys.after_arrival k codes).waiting
+all_wait : (clock : ℕ) (codes : List ℕ) (k : KeyboardState)
+    → k.waiting ++ flat_map queued_by (arrival_events clock k codes) ≡ (fold keys.after_arrival k codes).waiting
 unfolding keys.after_arrival
 all_wait clock [] k = append-nil k.waiting
 all_wait clock (code ∷ codes) k =
@@ -62,16 +64,19 @@ all_wait clock (code ∷ codes) k =
 abbrev counted : ℕ → List ℕ → ℕ
 counted lost codes = fold (λ n code. count_after_loss n) lost codes
 
-one_is_lost : (clock code : ℕ) (k : KeyboardState) (room : Bool) → counted k.lost (lost_by (Keyed clock (if room then Arrives else IsLost) code)) ≡ (if room then record k { waiting = k.waiting ++ code ∷ [] } else record k { lost = count_after_loss k.lost }).lost
+one_is_lost : (clock code : ℕ) (k : KeyboardState) (room : Bool) → counted k.lost (lost_by (Keyed clock (if room then Arrives else IsLost) code))
+    ≡ (if room then record k { waiting = k.waiting ++ code ∷ [] } else record k { lost = count_after_loss k.lost }).lost
 one_is_lost clock code k true = refl
 one_is_lost clock code k false = refl
 
-all_lost : (clock : ℕ) (codes : List ℕ) (k : KeyboardState) → counted k.lost (flat_map lost_by (arrival_events clock k codes)) ≡ (fold keys.after_arrival k codes).lost
+all_lost : (clock : ℕ) (codes : List ℕ) (k : KeyboardState)
+    → counted k.lost (flat_map lost_by (arrival_events clock k codes)) ≡ (fold keys.after_arrival k codes).lost
 unfolding keys.after_arrival
 all_lost clock [] k = refl
 all_lost clock (code ∷ codes) k =
     let next : KeyboardState = keys.after_arrival k code in
-    fold-append (λ n c. count_after_loss n) k.lost (lost_by (Keyed clock (if has_room k then Arrives else IsLost) code)) (flat_map lost_by (arrival_events clock next codes))
+    fold-append (λ n c. count_after_loss n) k.lost (lost_by (Keyed clock (if has_room k then Arrives else IsLost) code))
+    (flat_map lost_by (arrival_events clock next codes))
     ∙ ap (λ n. counted n (flat_map lost_by (arrival_events clock next codes))) (one_is_lost clock code k (has_room k))
     ∙ all_lost clock codes next
 
@@ -81,12 +86,15 @@ sent : (clock : ℕ) (waiting : List ℕ) → waiting ≡ flat_map latched_by (l
 sent clock [] = refl
 sent clock (code ∷ codes) = refl
 
-latched_as : (clock : ℕ) (k : KeyboardState) (clears sending : Bool) → k.waiting ≡ flat_map latched_by (latch_events clock (if clears then None else (if sending then slice_get k.waiting 0 else None))) ++ (if clears then after_clearing k else (if sending then after_sending k else k)).waiting
+latched_as : (clock : ℕ) (k : KeyboardState) (clears sending : Bool)
+    → k.waiting ≡ flat_map latched_by (latch_events clock (if clears then None else (if sending then slice_get k.waiting 0 else None)))
+    ++ (if clears then after_clearing k else (if sending then after_sending k else k)).waiting
 latched_as clock k true sending = refl
 latched_as clock k false true = sent clock k.waiting
 latched_as clock k false false = refl
 
-latched : (clock : ℕ) (k : KeyboardState) (port_b : ℕ) → k.waiting ≡ flat_map latched_by (latch_events clock (code_latched k port_b)) ++ (keys.after_settling k port_b).waiting
+latched : (clock : ℕ) (k : KeyboardState) (port_b : ℕ)
+    → k.waiting ≡ flat_map latched_by (latch_events clock (code_latched k port_b)) ++ (keys.after_settling k port_b).waiting
 unfolding keys.after_settling
 latched clock k port_b = latched_as clock k (has_bit port_b 7) (sends k port_b)
 
@@ -181,11 +189,13 @@ queue_on : (w a b l m v u : List ℕ) → w ++ a ≡ l ++ v → v ++ b ≡ m ++ 
 queue_on w a b l m v u first second =
     sym (append_assoc w a b) ∙ ap (λ xs. xs ++ b) first ∙ append_assoc l v b ∙ ap (λ xs. l ++ xs) second ∙ sym (append_assoc l m u)
 
-queue_of_clocks : (n : ℕ) (s : Plain) → s.chips.keyboard.waiting ++ gathered after_clock queued_next n s ≡ gathered after_clock leaving_next n s ++ (after_clocks s n).chips.keyboard.waiting
+queue_of_clocks : (n : ℕ) (s : Plain)
+    → s.chips.keyboard.waiting ++ gathered after_clock queued_next n s ≡ gathered after_clock leaving_next n s ++ (after_clocks s n).chips.keyboard.waiting
 unfolding iterate gathered
 queue_of_clocks zero s = append-nil s.chips.keyboard.waiting
 queue_of_clocks (suc n) s =
-    queue_on s.chips.keyboard.waiting (gathered after_clock queued_next n s) (queued_next (after_clocks s n)) (gathered after_clock leaving_next n s) (leaving_next (after_clocks s n)) _ _ (queue_of_clocks n s) (queue_of_clock (after_clocks s n))
+    queue_on s.chips.keyboard.waiting (gathered after_clock queued_next n s) (queued_next (after_clocks s n))
+    (gathered after_clock leaving_next n s) (leaving_next (after_clocks s n)) _ _ (queue_of_clocks n s) (queue_of_clock (after_clocks s n))
 
 pub queue_is_told : QueueIsTold
 queue_is_told s n =

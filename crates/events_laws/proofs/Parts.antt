@@ -38,7 +38,9 @@ settled_of s = settling_events (clock_of s + 1) (after_arrivals (chips_reached s
 abbrev pub wired_of : Plain → List Event
 wired_of s = wire_events (clock_of s + 1) s (after_clock s)
 
-by_parts : {A : Type 0} (f : Event → List A) (s : Plain) → flat_map f (events_next s) ≡ (flat_map f (began_of s) ++ (flat_map f (reached_of s) ++ (flat_map f (became_of s) ++ (flat_map f (arrived_of s) ++ flat_map f (settled_of s))))) ++ flat_map f (wired_of s)
+by_parts : {A : Type 0} (f : Event → List A) (s : Plain) → flat_map f (events_next s)
+    ≡ (flat_map f (began_of s) ++ (flat_map f (reached_of s) ++ (flat_map f (became_of s) ++ (flat_map f (arrived_of s) ++ flat_map f (settled_of s)))))
+    ++ flat_map f (wired_of s)
 unfolding events_next unwired_next
 by_parts f s =
     flat_map-append f (began_of s ++ (reached_of s ++ (became_of s ++ (arrived_of s ++ settled_of s)))) (wired_of s)
@@ -48,7 +50,9 @@ by_parts f s =
     ∙ ap (λ xs. flat_map f (became_of s) ++ xs) (flat_map-append f (arrived_of s) (settled_of s)))))
 
 -- all parts, each known
-pub joined : {A : Type 0} (f : Event → List A) (s : Plain) (began reached became arrived settled wired : List A) → flat_map f (began_of s) ≡ began → flat_map f (reached_of s) ≡ reached → flat_map f (became_of s) ≡ became → flat_map f (arrived_of s) ≡ arrived → flat_map f (settled_of s) ≡ settled → flat_map f (wired_of s) ≡ wired → flat_map f (events_next s) ≡ (began ++ (reached ++ (became ++ (arrived ++ settled)))) ++ wired
+pub joined : {A : Type 0} (f : Event → List A) (s : Plain) (began reached became arrived settled wired : List A) → flat_map f (began_of s) ≡ began
+    → flat_map f (reached_of s) ≡ reached → flat_map f (became_of s) ≡ became → flat_map f (arrived_of s) ≡ arrived → flat_map f (settled_of s) ≡ settled
+    → flat_map f (wired_of s) ≡ wired → flat_map f (events_next s) ≡ (began ++ (reached ++ (became ++ (arrived ++ settled)))) ++ wired
 joined f s began reached became arrived settled wired is_began is_reached is_became is_arrived is_settled is_wired =
     by_parts f s ∙ (λ i. (is_began i ++ (is_reached i ++ (is_became i ++ (is_arrived i ++ is_settled i)))) ++ is_wired i)
 
@@ -62,22 +66,27 @@ pub none_if : {A : Type 0} (f : Event → List A) (event : Event) → f event �
 none_if f event none true = refl
 none_if f event none false = append-nil (f event) ∙ none
 
-pub none_arrives : {A : Type 0} (f : Event → List A) → ((clock : ℕ) (what : KeyEvent) (code : ℕ) → f (Keyed clock what code) ≡ []) → (clock : ℕ) (k : KeyboardState) (codes : List ℕ) → flat_map f (arrival_events clock k codes) ≡ []
+pub none_arrives : {A : Type 0} (f : Event → List A) → ((clock : ℕ) (what : KeyEvent) (code : ℕ) → f (Keyed clock what code) ≡ [])
+    → (clock : ℕ) (k : KeyboardState) (codes : List ℕ) → flat_map f (arrival_events clock k codes) ≡ []
 none_arrives f none clock k [] = refl
-none_arrives f none clock k (code ∷ codes) = λ i. none clock (if has_room k then Arrives else IsLost) code i ++ none_arrives f none clock (keys.after_arrival k code) codes i
+none_arrives f none clock k (code ∷ codes) = λ i.
+    none clock (if has_room k then Arrives else IsLost) code i ++ none_arrives f none clock (keys.after_arrival k code) codes i
 
-pub none_latched : {A : Type 0} (f : Event → List A) → ((clock code : ℕ) → f (Keyed clock IsLatched code) ≡ []) → (clock : ℕ) (code : Option ℕ) → flat_map f (latch_events clock code) ≡ []
+pub none_latched : {A : Type 0} (f : Event → List A) → ((clock code : ℕ) → f (Keyed clock IsLatched code) ≡ []) → (clock : ℕ) (code : Option ℕ)
+    → flat_map f (latch_events clock code) ≡ []
 none_latched f none clock None = refl
 none_latched f none clock (Some code) = append-nil (f (Keyed clock IsLatched code)) ∙ none clock code
 
-pub none_wired : {A : Type 0} (f : Event → List A) → ((clock : ℕ) (wire : Wire) (level : Bool) → f (Wired clock wire level) ≡ []) → (clock : ℕ) (s t : Plain) (some : List Wire) → flat_map f (flat_map (wire_event clock s t) some) ≡ []
+pub none_wired : {A : Type 0} (f : Event → List A) → ((clock : ℕ) (wire : Wire) (level : Bool) → f (Wired clock wire level) ≡ [])
+    → (clock : ℕ) (s t : Plain) (some : List Wire) → flat_map f (flat_map (wire_event clock s t) some) ≡ []
 none_wired f none clock s t [] = refl
 none_wired f none clock s t (w ∷ ws) =
     flat_map-append f (wire_event clock s t w) (flat_map (wire_event clock s t) ws)
     ∙ (λ i. none_if f (Wired clock w (level_of t w)) (none clock w (level_of t w)) (beq (level_of s w) (level_of t w)) i ++ none_wired f none clock s t ws i)
 
 -- what holds for a clock holds for n clocks
-pub told_in : {A : Type 0} (f : Event → List A) (seen : Plain → List A) → ((s : Plain) → flat_map f (events_next s) ≡ seen s) → (s : Plain) (n : ℕ) → flat_map f (events_in s n) ≡ gathered after_clock seen n s
+pub told_in : {A : Type 0} (f : Event → List A) (seen : Plain → List A) → ((s : Plain) → flat_map f (events_next s) ≡ seen s) → (s : Plain) (n : ℕ)
+    → flat_map f (events_in s n) ≡ gathered after_clock seen n s
 unfolding gathered
 told_in f seen each s zero = refl
 told_in f seen each s (suc n) =

@@ -68,17 +68,20 @@ trail_is_told s n = told_in begun_by trail_next trail_of_clock s n
 
 -- the speaker's list
 
-speaker_wire : (clock : ℕ) (a b : Line) → flat_map changed_by (if beq (is_high a) (is_high b) then [] else Wired clock Speaker (is_high b) ∷ []) ≡ (if beq (is_high b) (is_high a) then [] else record { clock = clock; level = b } ∷ [])
+speaker_wire : (clock : ℕ) (a b : Line) → flat_map changed_by (if beq (is_high a) (is_high b) then [] else Wired clock Speaker (is_high b) ∷ [])
+    ≡ (if beq (is_high b) (is_high a) then [] else record { clock = clock; level = b } ∷ [])
 speaker_wire clock Low Low = refl
 speaker_wire clock Low High = refl
 speaker_wire clock High Low = refl
 speaker_wire clock High High = refl
 
 -- wires of which nothing is listed, before the others
-past : (s t : Plain) (clock : ℕ) (wire : Wire) (rest : List Wire) → changed_by (Wired clock wire (level_of t wire)) ≡ [] → flat_map changed_by (flat_map (wire_event clock s t) (wire ∷ rest)) ≡ flat_map changed_by (flat_map (wire_event clock s t) rest)
+past : (s t : Plain) (clock : ℕ) (wire : Wire) (rest : List Wire) → changed_by (Wired clock wire (level_of t wire)) ≡ []
+    → flat_map changed_by (flat_map (wire_event clock s t) (wire ∷ rest)) ≡ flat_map changed_by (flat_map (wire_event clock s t) rest)
 past s t clock wire rest none =
     flat_map-append changed_by (wire_event clock s t wire) (flat_map (wire_event clock s t) rest)
-    ∙ ap (λ xs. xs ++ flat_map changed_by (flat_map (wire_event clock s t) rest)) (none_if changed_by (Wired clock wire (level_of t wire)) none (beq (level_of s wire) (level_of t wire)))
+    ∙ ap (λ xs. xs ++ flat_map changed_by (flat_map (wire_event clock s t) rest))
+    (none_if changed_by (Wired clock wire (level_of t wire)) none (beq (level_of s wire) (level_of t wire)))
 
 speaker_of_wires : (s : Plain) → flat_map changed_by (wired_of s) ≡ change_next s
 unfolding change_next level_of
@@ -130,7 +133,8 @@ same_here a b is = grind (arith, nat_tests, is)
 other_there : (a b : ℕ) → nat_eq a b ≡ false → b ≢ a
 other_there a b is = grind (arith, nat_tests, is)
 
-after_one_write : (c : ChipsState) (address to byte : ℕ) (takes here : Bool) → is_writable c address ≡ takes → nat_eq to address ≡ here → byte_at (chips_bus.after_write c to byte) address ≡ (if takes && here then byte else byte_at c address)
+after_one_write : (c : ChipsState) (address to byte : ℕ) (takes here : Bool) → is_writable c address ≡ takes → nat_eq to address ≡ here
+    → byte_at (chips_bus.after_write c to byte) address ≡ (if takes && here then byte else byte_at c address)
 after_one_write c address to byte true true is at =
     ap (λ a. byte_at (chips_bus.after_write c a byte) address) (same_here to address at) ∙ chips_keep_bytes.written c address byte is
 after_one_write c address to byte false true is at =
@@ -138,7 +142,8 @@ after_one_write c address to byte false true is at =
 after_one_write c address to byte true false is at = chips_keep_bytes.others c to byte address (other_there to address at)
 after_one_write c address to byte false false is at = chips_keep_bytes.others c to byte address (other_there to address at)
 
-after_one : (c : ChipsState) (address clock : ℕ) (takes : Bool) (access : Access) → is_writable c address ≡ takes → byte_at (after_access chips_bus c access) address ≡ fold (byte_after takes address) (byte_at c address) (written_by (Reached clock access))
+after_one : (c : ChipsState) (address clock : ℕ) (takes : Bool) (access : Access) → is_writable c address ≡ takes
+    → byte_at (after_access chips_bus c access) address ≡ fold (byte_after takes address) (byte_at c address) (written_by (Reached clock access))
 after_one c address clock takes (Write to byte) is = after_one_write c address to byte takes (nat_eq to address) is refl
 after_one c address clock takes (In port byte) is = chips_keep_bytes.input_keeps c port address
 after_one c address clock takes (Out port byte) is = chips_keep_bytes.output_keeps c port byte address
@@ -150,14 +155,17 @@ takes_after_one c address (Out port byte) = chips_keep_bytes.output_fixed c port
 
 -- a byte after several accesses
 
-after_several : (c : ChipsState) (address clock : ℕ) (takes : Bool) (accesses : List Access) → is_writable c address ≡ takes → byte_at (fold (after_access chips_bus) c accesses) address ≡ fold (byte_after takes address) (byte_at c address) (flat_map written_by (map (Reached clock) accesses))
+after_several : (c : ChipsState) (address clock : ℕ) (takes : Bool) (accesses : List Access) → is_writable c address ≡ takes
+    → byte_at (fold (after_access chips_bus) c accesses) address
+    ≡ fold (byte_after takes address) (byte_at c address) (flat_map written_by (map (Reached clock) accesses))
 after_several c address clock takes [] is = refl
 after_several c address clock takes (a ∷ more) is =
     after_several (after_access chips_bus c a) address clock takes more (takes_after_one c address a ∙ is)
     ∙ ap (λ b. fold (byte_after takes address) b (flat_map written_by (map (Reached clock) more))) (after_one c address clock takes a is)
     ∙ sym (fold-append (byte_after takes address) (byte_at c address) (written_by (Reached clock a)) (flat_map written_by (map (Reached clock) more)))
 
-takes_after_several : (c : ChipsState) (address : ℕ) (accesses : List Access) → is_writable (fold (after_access chips_bus) c accesses) address ≡ is_writable c address
+takes_after_several : (c : ChipsState) (address : ℕ) (accesses : List Access)
+    → is_writable (fold (after_access chips_bus) c accesses) address ≡ is_writable c address
 takes_after_several c address [] = refl
 takes_after_several c address (a ∷ more) = takes_after_several (after_access chips_bus c a) address more ∙ takes_after_one c address a
 
@@ -206,7 +214,8 @@ record Made (c after : ChipsState) (accesses : List Access) (address : ℕ) : Ty
   same : SameMemory start c address
   made : after ≡ fold (after_access chips_bus) start accesses
 
-made_by : (table : ClockTable) (cpu : CpuState) (busy : ℕ) (c : ChipsState) (act : Act) (address : ℕ) → Made c (after_act table cpu busy c act).bus (after_noted table cpu busy c act).bus.accesses address
+made_by : (table : ClockTable) (cpu : CpuState) (busy : ℕ) (c : ChipsState) (act : Act) (address : ℕ)
+    → Made c (after_act table cpu busy c act).bus (after_noted table cpu busy c act).bus.accesses address
 made_by table cpu busy c Nothing address = record { start = c; same = record { byte = refl; takes = refl }; made = refl }
 made_by table cpu busy c Request address = record {
   start = after_acknowledge c;
@@ -231,7 +240,8 @@ made_by table cpu busy c (Instruction decoded) address = record {
 
 -- a clock
 
-pub byte_of_clock : (s : Plain) (address : ℕ) (takes : Bool) → is_writable s.chips address ≡ takes → byte_of (after_clock s) address ≡ fold (byte_after takes address) (byte_of s address) (written_next s)
+pub byte_of_clock : (s : Plain) (address : ℕ) (takes : Bool) → is_writable s.chips address ≡ takes
+    → byte_of (after_clock s) address ≡ fold (byte_after takes address) (byte_of s address) (written_next s)
 unfolding byte_of after_clock accesses_next
 byte_of_clock s address takes is =
     let m = made_by s.clocks s.cpu s.busy s.chips (next_act s) address in
@@ -255,7 +265,8 @@ unfolding iterate
 takes_later zero s address = refl
 takes_later (suc n) s address = takes_next (after_clocks s n) address ∙ takes_later n s address
 
-byte_of_clocks : (n : ℕ) (s : Plain) (address : ℕ) → byte_of (after_clocks s n) address ≡ fold (byte_after (is_writable s.chips address) address) (byte_of s address) (gathered after_clock written_next n s)
+byte_of_clocks : (n : ℕ) (s : Plain) (address : ℕ)
+    → byte_of (after_clocks s n) address ≡ fold (byte_after (is_writable s.chips address) address) (byte_of s address) (gathered after_clock written_next n s)
 unfolding iterate gathered
 byte_of_clocks zero s address = refl
 byte_of_clocks (suc n) s address =
@@ -268,4 +279,5 @@ byte_of_clocks (suc n) s address =
 pub memory_is_written : MemoryIsWritten
 memory_is_written s n address =
     byte_of_clocks n s address
-    ∙ ap (λ writes. fold (byte_after (is_writable s.chips address) address) (byte_of s address) writes) (sym (told_in written_by written_next writes_of_clock s n))
+    ∙ ap (λ writes. fold (byte_after (is_writable s.chips address) address) (byte_of s address) writes)
+    (sym (told_in written_by written_next writes_of_clock s n))

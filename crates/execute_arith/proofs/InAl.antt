@@ -31,15 +31,21 @@ cut_twice n = omega arith
 low_half : (word n : ℕ) → (word / 256 * 256 + n % 256 % 256) % 256 ≡ n % 256
 low_half word n = omega arith
 
-sum_in_al : {S : Type 0} (bus : BusMeaning S) (m : Machine S) (from : OperandLocation) → HasSum (after_at bus m Add (locations.Byte Al) from).registers (al_of m.registers) (operand_at bus m from Byte) 0
+sum_in_al : {S : Type 0} (bus : BusMeaning S) (m : Machine S) (from : OperandLocation)
+    → HasSum (after_at bus m Add (locations.Byte Al) from).registers (al_of m.registers) (operand_at bus m from Byte) 0
 unfolding result_of value_at with_flags_of with_value_at byte_register with_byte_register
 sum_in_al bus m from = record {
-  before = keeping m.registers.flags (m.registers.ax % 256 % 256) (operand_at bus m from Byte) (sum_of Byte (m.registers.ax % 256 % 256) (operand_at bus m from Byte) 0);
+  before = keeping m.registers.flags (m.registers.ax % 256 % 256) (operand_at bus m from Byte)
+      (sum_of Byte (m.registers.ax % 256 % 256) (operand_at bus m from Byte) 0);
   al = low_half _ _ ∙ ap (λ a. sum_of Byte a (operand_at bus m from Byte) 0) (cut_twice m.registers.ax);
-  flags = ap (λ a. with_sum (keeping m.registers.flags (m.registers.ax % 256 % 256) (operand_at bus m from Byte) (sum_of Byte (m.registers.ax % 256 % 256) (operand_at bus m from Byte) 0)) Byte a (operand_at bus m from Byte) 0) (cut_twice m.registers.ax);
+  flags = ap (λ a. with_sum (keeping m.registers.flags (m.registers.ax % 256 % 256)
+      (operand_at bus m from Byte) (sum_of Byte (m.registers.ax % 256 % 256) (operand_at bus m from Byte) 0))
+      Byte a (operand_at bus m from Byte) 0)
+      (cut_twice m.registers.ax);
 }
 
-carried_sum_in_al : {S : Type 0} (bus : BusMeaning S) (m : Machine S) (from : OperandLocation) → HasSum (after_at bus m Adc (locations.Byte Al) from).registers (al_of m.registers) (operand_at bus m from Byte) (from_bool m.registers.flags.carry)
+carried_sum_in_al : {S : Type 0} (bus : BusMeaning S) (m : Machine S) (from : OperandLocation)
+    → HasSum (after_at bus m Adc (locations.Byte Al) from).registers (al_of m.registers) (operand_at bus m from Byte) (from_bool m.registers.flags.carry)
 unfolding result_of value_at with_flags_of with_value_at byte_register with_byte_register
 carried_sum_in_al bus m from = record {
   before = forgetting m.registers.flags;
@@ -47,20 +53,27 @@ carried_sum_in_al bus m from = record {
   flags = ap (λ a. with_sum (forgetting m.registers.flags) Byte a (operand_at bus m from Byte) (from_bool m.registers.flags.carry)) (cut_twice m.registers.ax);
 }
 
-difference_in_al : {S : Type 0} (bus : BusMeaning S) (m : Machine S) (from : OperandLocation) → HasDifference (after_at bus m Sub (locations.Byte Al) from).registers (al_of m.registers) (operand_at bus m from Byte) 0
+difference_in_al : {S : Type 0} (bus : BusMeaning S) (m : Machine S) (from : OperandLocation)
+    → HasDifference (after_at bus m Sub (locations.Byte Al) from).registers (al_of m.registers) (operand_at bus m from Byte) 0
 unfolding result_of value_at with_flags_of with_value_at byte_register with_byte_register
 difference_in_al bus m from = record {
-  before = keeping m.registers.flags (m.registers.ax % 256 % 256) (operand_at bus m from Byte) (difference_of Byte (m.registers.ax % 256 % 256) (operand_at bus m from Byte) 0);
+  before = keeping m.registers.flags (m.registers.ax % 256 % 256) (operand_at bus m from Byte)
+      (difference_of Byte (m.registers.ax % 256 % 256) (operand_at bus m from Byte) 0);
   al = low_half _ _ ∙ ap (λ a. difference_of Byte a (operand_at bus m from Byte) 0) (cut_twice m.registers.ax);
-  flags = ap (λ a. with_difference (keeping m.registers.flags (m.registers.ax % 256 % 256) (operand_at bus m from Byte) (difference_of Byte (m.registers.ax % 256 % 256) (operand_at bus m from Byte) 0)) Byte a (operand_at bus m from Byte) 0) (cut_twice m.registers.ax);
+  flags = ap (λ a. with_difference (keeping m.registers.flags (m.registers.ax % 256 % 256)
+      (operand_at bus m from Byte) (difference_of Byte (m.registers.ax % 256 % 256) (operand_at bus m from Byte) 0))
+      Byte a (operand_at bus m from Byte) 0)
+      (cut_twice m.registers.ax);
 }
 
-borrowed_difference_in_al : {S : Type 0} (bus : BusMeaning S) (m : Machine S) (from : OperandLocation) → HasDifference (after_at bus m Sbb (locations.Byte Al) from).registers (al_of m.registers) (operand_at bus m from Byte) (from_bool m.registers.flags.carry)
+borrowed_difference_in_al : {S : Type 0} (bus : BusMeaning S) (m : Machine S) (from : OperandLocation)
+    → HasDifference (after_at bus m Sbb (locations.Byte Al) from).registers (al_of m.registers) (operand_at bus m from Byte) (from_bool m.registers.flags.carry)
 unfolding result_of value_at with_flags_of with_value_at byte_register with_byte_register
 borrowed_difference_in_al bus m from = record {
   before = forgetting m.registers.flags;
   al = low_half _ _ ∙ ap (λ a. difference_of Byte a (operand_at bus m from Byte) (from_bool m.registers.flags.carry)) (cut_twice m.registers.ax);
-  flags = ap (λ a. with_difference (forgetting m.registers.flags) Byte a (operand_at bus m from Byte) (from_bool m.registers.flags.carry)) (cut_twice m.registers.ax);
+  flags = ap (λ a. with_difference (forgetting m.registers.flags) Byte a (operand_at bus m from Byte) (from_bool m.registers.flags.carry))
+      (cut_twice m.registers.ax);
 }
 
 pub sums_stand_in_al : {S : Type 0} (bus : BusMeaning S) → SumsStandInAl bus

@@ -34,14 +34,16 @@ pub none_left : (width : Width) (v k : ℕ) → 15 < k → 0 ≡ v * 2 ^ k % siz
 none_left width v k many =
     cut width (v * 2 ^ (k - 16)) ∙ ap (λ n. n % size_of width) (sym (ap (λ n. v * n) (split k many) ∙ turned v (2 ^ (k - 16))))
 
-pub last_left : (width : Width) (f : FlagState) (a count value : ℕ) → 0 < count → a < size_of width → value ≡ a * 2 ^ (count - 1) % size_of width → after_single Shl width (alone value) ≡ after_shifts Shl width (shifted_operand f a) count
+pub last_left : (width : Width) (f : FlagState) (a count value : ℕ) → 0 < count → a < size_of width → value ≡ a * 2 ^ (count - 1) % size_of width
+    → after_single Shl width (alone value) ≡ after_shifts Shl width (shifted_operand f a) count
 unfolding after_shifts iterate after_single after_left
 last_left width f a zero value some fits is = absurd (omega (arith, some))
 last_left width f a (suc n) value some fits is =
     let at : suc n - 1 ≡ n = omega arith in
     ap (λ x. after_single Shl width (alone x)) (is ∙ ap (λ k. a * 2 ^ k % size_of width) at ∙ sym (shl_multiplies width (shifted_operand f a) n fits))
 
-pub last_right : (width : Width) (f : FlagState) (a count value : ℕ) → 0 < count → value ≡ a / 2 ^ (count - 1) → after_single Shr width (alone value) ≡ after_shifts Shr width (shifted_operand f a) count
+pub last_right : (width : Width) (f : FlagState) (a count value : ℕ) → 0 < count → value ≡ a / 2 ^ (count - 1)
+    → after_single Shr width (alone value) ≡ after_shifts Shr width (shifted_operand f a) count
 unfolding after_shifts iterate after_single after_right
 last_right width f a zero value some is = absurd (omega (arith, some))
 last_right width f a (suc n) value some is =
@@ -61,10 +63,12 @@ signed_value width s n fits = elim (cases_lt s.value (half_size width)) [
   | inl low ↦
       ap (λ b. if b then lack width (lack width s.value / 2 ^ n) else s.value / 2 ^ n) (not_negative width s.value low) ∙ sym (sar_low_value width s n low)
   | inr above ↦
-      ap (λ b. if b then lack width (lack width s.value / 2 ^ n) else s.value / 2 ^ n) (negative width s.value above) ∙ sym (sar_high_value width s n above fits)
+      ap (λ b. if b then lack width (lack width s.value / 2 ^ n) else s.value / 2 ^ n) (negative width s.value above)
+      ∙ sym (sar_high_value width s n above fits)
 ]
 
-pub last_signed : (width : Width) (f : FlagState) (a count value : ℕ) → 0 < count → a < size_of width → value ≡ signed_right width a (count - 1) → after_single Sar width (alone value) ≡ after_shifts Sar width (shifted_operand f a) count
+pub last_signed : (width : Width) (f : FlagState) (a count value : ℕ) → 0 < count → a < size_of width → value ≡ signed_right width a (count - 1)
+    → after_single Sar width (alone value) ≡ after_shifts Sar width (shifted_operand f a) count
 unfolding after_shifts iterate after_single after_right
 last_signed width f a zero value some fits is = absurd (omega (arith, some))
 last_signed width f a (suc n) value some fits is =

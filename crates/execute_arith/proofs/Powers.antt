@@ -73,8 +73,10 @@ record IsHigh (width : Width) (s : Shifted) : Type 0 where
 
 high_once : (width : Width) → Simulates (after_single Sar width) half (λ s. lack width s.value) (IsHigh width)
 unfolding after_single after_right half
-high_once Byte = record { seen = λ s high. grind (arith, nat_tests); kept = λ s high. record { above = grind (arith, nat_tests); fits = grind (arith, nat_tests) } }
-high_once Word = record { seen = λ s high. grind (arith, nat_tests); kept = λ s high. record { above = grind (arith, nat_tests); fits = grind (arith, nat_tests) } }
+high_once Byte =
+    record { seen = λ s high. grind (arith, nat_tests); kept = λ s high. record { above = grind (arith, nat_tests); fits = grind (arith, nat_tests) } }
+high_once Word =
+    record { seen = λ s high. grind (arith, nat_tests); kept = λ s high. record { above = grind (arith, nat_tests); fits = grind (arith, nat_tests) } }
 
 signed_low : (width : Width) (v : ℕ) → v < half_size width → signed width v ≡ pos v
 signed_low Byte v low = grind (arith, nat_tests, ints)
@@ -103,7 +105,8 @@ pub sar_low_value : (width : Width) (s : Shifted) (n : ℕ) → s.value < half_s
 unfolding after_shifts Low
 sar_low_value width s n low = run_seen (after_single Sar width) half (λ (t : Shifted). t.value) (Low width) (low_once width) n s low ∙ halves n s.value
 
-sar_low : (width : Width) (s : Shifted) (n : ℕ) → s.value < half_size width → IsFloor (signed width s.value) (2 ^ n) (signed width (after_shifts Sar width s n).value)
+sar_low : (width : Width) (s : Shifted) (n : ℕ) → s.value < half_size width
+    → IsFloor (signed width s.value) (2 ^ n) (signed width (after_shifts Sar width s n).value)
 unfolding after_shifts Low
 sar_low width s n low =
     let step = after_single Sar width in
@@ -112,7 +115,8 @@ sar_low width s n low =
     seen_as (pos s.value) (pos (s.value / 2 ^ n)) (2 ^ n) (signed width s.value) (signed width (iterate step n s).value)
     (signed_low width s.value low) (signed_low width (iterate step n s).value still ∙ ap pos e) (floor_low s.value (2 ^ n) (pow_pos n))
 
-pub sar_high_value : (width : Width) (s : Shifted) (n : ℕ) → half_size width ≤ s.value → s.value < size_of width → (after_shifts Sar width s n).value ≡ lack width (lack width s.value / 2 ^ n)
+pub sar_high_value : (width : Width) (s : Shifted) (n : ℕ) → half_size width ≤ s.value → s.value < size_of width
+    → (after_shifts Sar width s n).value ≡ lack width (lack width s.value / 2 ^ n)
 unfolding after_shifts
 sar_high_value width s n above fits =
     let view : Shifted → ℕ = λ t. lack width t.value in
@@ -123,7 +127,8 @@ sar_high_value width s n above fits =
     let twice : lack width (lack width (iterate step n s).value) ≡ (iterate step n s).value = omega (arith, below) in
     sym twice ∙ ap (lack width) (run_seen step half view (IsHigh width) (high_once width) n s high ∙ halves n (lack width s.value))
 
-sar_high : (width : Width) (s : Shifted) (n : ℕ) → half_size width ≤ s.value → s.value < size_of width → IsFloor (signed width s.value) (2 ^ n) (signed width (after_shifts Sar width s n).value)
+sar_high : (width : Width) (s : Shifted) (n : ℕ) → half_size width ≤ s.value → s.value < size_of width
+    → IsFloor (signed width s.value) (2 ^ n) (signed width (after_shifts Sar width s n).value)
 unfolding after_shifts
 sar_high width s n above fits =
     let step = after_single Sar width in

@@ -7,12 +7,14 @@ pub record Simulates {A B : Type 0} (f : A → A) (g : B → B) (view : A → B)
   pub seen : (a : A) → Holds a → view (f a) ≡ g (view a)
   pub kept : (a : A) → Holds a → Holds (f a)
 
-pub kept_by_run : {A B : Type 0} (f : A → A) (g : B → B) (view : A → B) (Holds : A → Type 0) → Simulates f g view Holds → (n : ℕ) (a : A) → Holds a → Holds (iterate f n a)
+pub kept_by_run : {A B : Type 0} (f : A → A) (g : B → B) (view : A → B) (Holds : A → Type 0)
+    → Simulates f g view Holds → (n : ℕ) (a : A) → Holds a → Holds (iterate f n a)
 unfolding iterate
 kept_by_run f g view Holds s zero a h = h
 kept_by_run f g view Holds s (suc n) a h = s.kept _ (kept_by_run f g view Holds s n a h)
 
-pub run_seen : {A B : Type 0} (f : A → A) (g : B → B) (view : A → B) (Holds : A → Type 0) → Simulates f g view Holds → (n : ℕ) (a : A) → Holds a → view (iterate f n a) ≡ iterate g n (view a)
+pub run_seen : {A B : Type 0} (f : A → A) (g : B → B) (view : A → B) (Holds : A → Type 0)
+    → Simulates f g view Holds → (n : ℕ) (a : A) → Holds a → view (iterate f n a) ≡ iterate g n (view a)
 unfolding iterate
 run_seen f g view Holds s zero a h = refl
 run_seen f g view Holds s (suc n) a h =
@@ -25,7 +27,8 @@ first_step f zero a = refl
 first_step f (suc n) a = ap f (first_step f n a)
 
 -- if g undoes f, n steps of g undo n steps of f
-pub run_undone : {A : Type 0} (f g : A → A) (Holds : A → Type 0) → Simulates f f (λ a. a) Holds → ((a : A) → Holds a → g (f a) ≡ a) → (n : ℕ) (a : A) → Holds a → iterate g n (iterate f n a) ≡ a
+pub run_undone : {A : Type 0} (f g : A → A) (Holds : A → Type 0)
+    → Simulates f f (λ a. a) Holds → ((a : A) → Holds a → g (f a) ≡ a) → (n : ℕ) (a : A) → Holds a → iterate g n (iterate f n a) ≡ a
 unfolding iterate
 run_undone f g Holds s undo zero a h = refl
 run_undone f g Holds s undo (suc n) a h =

@@ -28,7 +28,8 @@ squares_fit : (width : Width) (a b : ℕ) → a ≤ half_size width → b ≤ ha
 squares_fit Byte a b p q = omega (arith, mul-le a b 128 128 p q)
 squares_fit Word a b p q = omega (arith, mul-le a b 32768 32768 p q)
 
-value_signed : (width : Width) (a b : ℕ) → a < size_of width → b < size_of width → signed (double_half width) (signed_value width a b) ≡ signed (half_size width) a *ℤ signed (half_size width) b
+value_signed : (width : Width) (a b : ℕ) → a < size_of width → b < size_of width
+    → signed (double_half width) (signed_value width a b) ≡ signed (half_size width) a *ℤ signed (half_size width) b
 unfolding signed_value
 value_signed width a b p q =
     let half = half_size width in
@@ -81,7 +82,9 @@ JudgedSigned width dividend divisor None =
 JudgedSigned width dividend divisor (Some d) = IsSignedPair width dividend divisor d
 
 -- a pair of signed numbers is one of magnitudes
-magnitudes_of : (width : Width) (dividend divisor : ℕ) → dividend < 2 * double_half width → divisor < size_of width → (quotient remainder : ℤ) → SignedDivision width dividend divisor quotient remainder → Divides (half_size width) (magnitude (double_half width) dividend) (magnitude (half_size width) divisor) (nat_abs quotient) (nat_abs remainder)
+magnitudes_of : (width : Width) (dividend divisor : ℕ) → dividend < 2 * double_half width
+    → divisor < size_of width → (quotient remainder : ℤ) → SignedDivision width dividend divisor quotient remainder
+    → Divides (half_size width) (magnitude (double_half width) dividend) (magnitude (half_size width) divisor) (nat_abs quotient) (nat_abs remainder)
 magnitudes_of width dividend divisor p q quotient remainder v =
     let half = half_size width in
     let above = magnitude (double_half width) dividend in
@@ -99,7 +102,9 @@ same_division half n d q r n' d' q' r' en ed eq er v =
     subst (λ (z : ℤ). DividesSigned half n' d' q' z) (sym er) third
 
 -- a pair of magnitudes with its signs is one of signed numbers
-signs_of : (width : Width) (dividend divisor quotient remainder : ℕ) → dividend < 2 * double_half width → divisor < size_of width → Divides (half_size width) (magnitude (double_half width) dividend) (magnitude (half_size width) divisor) quotient remainder → IsSignedPair width dividend divisor (signed_result width dividend divisor quotient remainder)
+signs_of : (width : Width) (dividend divisor quotient remainder : ℕ) → dividend < 2 * double_half width → divisor < size_of width
+    → Divides (half_size width) (magnitude (double_half width) dividend) (magnitude (half_size width) divisor) quotient remainder
+    → IsSignedPair width dividend divisor (signed_result width dividend divisor quotient remainder)
 unfolding signed_result
 signs_of width dividend divisor quotient remainder p q v =
     let half = half_size width in
@@ -114,7 +119,8 @@ signs_of width dividend divisor quotient remainder p q v =
       fits = with_sign_fits width (differ s t) quotient v.fits;
     }
 
-judged : (width : Width) (dividend divisor : ℕ) → dividend < 2 * double_half width → divisor < size_of width → JudgedSigned width dividend divisor (signed_division width dividend divisor)
+judged : (width : Width) (dividend divisor : ℕ) → dividend < 2 * double_half width → divisor < size_of width
+    → JudgedSigned width dividend divisor (signed_division width dividend divisor)
 unfolding signed_division
 judged width dividend divisor p q =
     let half = half_size width in
@@ -122,23 +128,33 @@ judged width dividend divisor p q =
     let below = magnitude half divisor in
     let quotient : Option Division = Some (signed_result width dividend divisor (above / below) (above % below)) in
     cond_both (below == 0) None (if nat_le half (above / below) then None else quotient) (JudgedSigned width dividend divisor)
-    (λ zero quotient remainder v. none_by_zero half above below (eqb-true below 0 zero) (nat_abs quotient) (nat_abs remainder) (magnitudes_of width dividend divisor p q quotient remainder v))
+    (λ zero quotient remainder v. none_by_zero half above below (eqb-true below 0 zero) (nat_abs quotient)
+    (nat_abs remainder) (magnitudes_of width dividend divisor p q quotient remainder v))
     (λ some. cond_both (nat_le half (above / below)) None quotient (JudgedSigned width dividend divisor)
-    (λ great quotient remainder v. none_that_fits half above below (leb-true half (above / below) great) (nat_abs quotient) (nat_abs remainder) (magnitudes_of width dividend divisor p q quotient remainder v))
-    (λ small. signs_of width dividend divisor (above / below) (above % below) p q (divided half above below (pos_of_ne-zero (eqb-false below 0 some)) (leb-false half (above / below) small))))
+    (λ great quotient remainder v. none_that_fits half above below (leb-true half (above / below) great)
+    (nat_abs quotient) (nat_abs remainder) (magnitudes_of width dividend divisor p q quotient remainder v))
+    (λ small. signs_of width dividend divisor (above / below) (above % below) p q
+    (divided half above below (pos_of_ne-zero (eqb-false below 0 some)) (leb-false half (above / below) small))))
 
-divides_by : {S : Type 0} (bus : BusMeaning S) (m : Machine S) (width : Width) (dividend divisor : ℕ) (o : Option Division) → JudgedSigned width dividend divisor o → is_none o ≡ false → SignedDivision width dividend divisor (signed (half_size width) (accumulator (after_division bus m width o).registers width)) (signed (half_size width) (remainder_of (after_division bus m width o).registers width))
+divides_by : {S : Type 0} (bus : BusMeaning S) (m : Machine S) (width : Width) (dividend divisor : ℕ) (o : Option Division)
+    → JudgedSigned width dividend divisor o → is_none o ≡ false
+    → SignedDivision width dividend divisor (signed (half_size width) (accumulator (after_division bus m width o).registers width))
+    (signed (half_size width) (remainder_of (after_division bus m width o).registers width))
 unfolding after_division
 divides_by bus m width dividend divisor None j fault = absurd (cc)
 divides_by bus m width dividend divisor (Some d) j fault =
     same_division (half_size width) _ _ _ _ _ _ _ _ refl refl
-    (ap (signed (half_size width)) (quotient_reads m.registers width d j.fits)) (ap (signed (half_size width)) (remainder_reads m.registers width d j.fits)) j.pair
+    (ap (signed (half_size width)) (quotient_reads m.registers width d j.fits))
+    (ap (signed (half_size width)) (remainder_reads m.registers width d j.fits)) j.pair
 
-refuses_by : (width : Width) (dividend divisor : ℕ) (o : Option Division) → JudgedSigned width dividend divisor o → is_none o ≡ true → (quotient remainder : ℤ) → SignedDivision width dividend divisor quotient remainder → ⊥
+refuses_by : (width : Width) (dividend divisor : ℕ) (o : Option Division) → JudgedSigned width dividend divisor o
+    → is_none o ≡ true → (quotient remainder : ℤ) → SignedDivision width dividend divisor quotient remainder → ⊥
 refuses_by width dividend divisor None j fault = j
 refuses_by width dividend divisor (Some d) j fault = absurd (cc)
 
-judged_instr : {S : Type 0} (bus : BusMeaning S) (m : Machine S) (i : Instr) → HoldsWords m.registers → JudgedSigned (operand_width m i) (dividend_of m.registers (operand_width m i)) (operand_of bus m i) (signed_division (operand_width m i) (dividend_of m.registers (operand_width m i)) (operand_of bus m i))
+judged_instr : {S : Type 0} (bus : BusMeaning S) (m : Machine S) (i : Instr) → HoldsWords m.registers
+    → JudgedSigned (operand_width m i) (dividend_of m.registers (operand_width m i)) (operand_of bus m i)
+    (signed_division (operand_width m i) (dividend_of m.registers (operand_width m i)) (operand_of bus m i))
 judged_instr bus m i words =
     let width = operand_width m i in
     judged width (dividend_of m.registers width) (operand_of bus m i) (dividend_fits m.registers width words) (cut_fits width _)
@@ -146,7 +162,9 @@ judged_instr bus m i words =
 pub idiv_divides : {S : Type 0} (bus : BusMeaning S) → IdivDivides bus
 unfolding after_product after_operation has_fault has_no_quotient
 idiv_divides bus = record {
-  divides = λ m i words fault. divides_by bus m (operand_width m i) (dividend_of m.registers (operand_width m i)) (operand_of bus m i) _ (judged_instr bus m i words) fault;
-  refuses = λ m i words fault. refuses_by (operand_width m i) (dividend_of m.registers (operand_width m i)) (operand_of bus m i) _ (judged_instr bus m i words) fault;
+  divides = λ m i words fault.
+      divides_by bus m (operand_width m i) (dividend_of m.registers (operand_width m i)) (operand_of bus m i) _ (judged_instr bus m i words) fault;
+  refuses = λ m i words fault.
+      refuses_by (operand_width m i) (dividend_of m.registers (operand_width m i)) (operand_of bus m i) _ (judged_instr bus m i words) fault;
   enters = λ m i fault. enters_by bus m (operand_width m i) _ fault;
 }

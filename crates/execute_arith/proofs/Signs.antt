@@ -96,7 +96,8 @@ differ_twice true false = refl
 differ_twice false true = refl
 differ_twice false false = refl
 
-pub signs_divide : (half : ℕ) (s t : Bool) (n d q r : ℕ) → Divides half n d q r → DividesSigned half (number s n) (number t d) (number (differ s t) q) (number s r)
+pub signs_divide : (half : ℕ) (s t : Bool) (n d q r : ℕ) → Divides half n d q r
+    → DividesSigned half (number s n) (number t d) (number (differ s t) q) (number s r)
 signs_divide half s t n d q r v = record {
   sum = ap (number s) v.sum ∙ sign_adds s (d * q) r
       ∙ ap (λ (k : Bool). number k (d * q) +ℤ number s r) (sym (differ_twice s t))

@@ -70,20 +70,29 @@ judged width dividend divisor =
 
 at_pair : (size dividend divisor q r q' r' : ℕ) → q' ≡ q → r' ≡ r → Divides size dividend divisor q r → Divides size dividend divisor q' r'
 at_pair size dividend divisor q r q' r' e f d =
-    record { sum = d.sum ∙ ap (λ (k : ℕ). divisor * k + r) (sym e) ∙ ap (λ (k : ℕ). divisor * q' + k) (sym f); below = omega (arith, d.below); fits = omega (arith, d.fits) }
+    record {
+      sum = d.sum ∙ ap (λ (k : ℕ). divisor * k + r) (sym e) ∙ ap (λ (k : ℕ). divisor * q' + k) (sym f);
+      below = omega (arith, d.below);
+      fits = omega (arith, d.fits);
+    }
 
-divides_by : {S : Type 0} (bus : BusMeaning S) (m : Machine S) (width : Width) (dividend divisor : ℕ) (o : Option Division) → Judged (size_of width) dividend divisor o → is_none o ≡ false → Divides (size_of width) dividend divisor (accumulator (after_division bus m width o).registers width) (remainder_of (after_division bus m width o).registers width)
+divides_by : {S : Type 0} (bus : BusMeaning S) (m : Machine S) (width : Width) (dividend divisor : ℕ) (o : Option Division)
+    → Judged (size_of width) dividend divisor o → is_none o ≡ false
+    → Divides (size_of width) dividend divisor (accumulator (after_division bus m width o).registers width)
+    (remainder_of (after_division bus m width o).registers width)
 unfolding after_division
 divides_by bus m width dividend divisor None j fault = absurd (cc)
 divides_by bus m width dividend divisor (Some d) j fault =
     at_pair (size_of width) dividend divisor d.quotient d.remainder _ _
     (quotient_reads m.registers width d j.fits) (remainder_reads m.registers width d j.fits) j
 
-refuses_by : (size dividend divisor : ℕ) (o : Option Division) → Judged size dividend divisor o → is_none o ≡ true → (quotient remainder : ℕ) → Divides size dividend divisor quotient remainder → ⊥
+refuses_by : (size dividend divisor : ℕ) (o : Option Division) → Judged size dividend divisor o
+    → is_none o ≡ true → (quotient remainder : ℕ) → Divides size dividend divisor quotient remainder → ⊥
 refuses_by size dividend divisor None j fault = j
 refuses_by size dividend divisor (Some d) j fault = absurd (cc)
 
-pub enters_by : {S : Type 0} (bus : BusMeaning S) (m : Machine S) (width : Width) (o : Option Division) → is_none o ≡ true → after_division bus m width o ≡ after_entry bus m 0
+pub enters_by : {S : Type 0} (bus : BusMeaning S) (m : Machine S) (width : Width) (o : Option Division) → is_none o ≡ true
+    → after_division bus m width o ≡ after_entry bus m 0
 unfolding after_division
 enters_by bus m width None fault = refl
 enters_by bus m width (Some d) fault = absurd (cc)
@@ -91,7 +100,11 @@ enters_by bus m width (Some d) fault = absurd (cc)
 pub div_divides : {S : Type 0} (bus : BusMeaning S) → DivDivides bus
 unfolding after_product after_operation has_fault has_no_quotient
 div_divides bus = record {
-  divides = λ m i fault. divides_by bus m (operand_width m i) (dividend_of m.registers (operand_width m i)) (operand_of bus m i) _ (judged (operand_width m i) (dividend_of m.registers (operand_width m i)) (operand_of bus m i)) fault;
-  refuses = λ m i fault. refuses_by (size_of (operand_width m i)) (dividend_of m.registers (operand_width m i)) (operand_of bus m i) _ (judged (operand_width m i) (dividend_of m.registers (operand_width m i)) (operand_of bus m i)) fault;
+  divides = λ m i fault.
+      divides_by bus m (operand_width m i) (dividend_of m.registers (operand_width m i)) (operand_of bus m i) _
+      (judged (operand_width m i) (dividend_of m.registers (operand_width m i)) (operand_of bus m i)) fault;
+  refuses = λ m i fault.
+      refuses_by (size_of (operand_width m i)) (dividend_of m.registers (operand_width m i)) (operand_of bus m i) _
+      (judged (operand_width m i) (dividend_of m.registers (operand_width m i)) (operand_of bus m i)) fault;
   enters = λ m i fault. enters_by bus m (operand_width m i) _ fault;
 }

@@ -9,7 +9,8 @@ use Rattle.execute_machine.specs.Stack.{after_pop, after_entry}
 use Rattle.execute_machine.proofs.Kept.{Kept, kept_by_push, kept_by_entry}
 use Rattle.execute_control.specs.ControlMeaning.{after_call, after_control, after_far_pop, after_interrupt_return, after_ip_pop, after_return}
 
-kept_if : {S : Type 0} (bus : BusMeaning S) (P : S → Type 0) → Kept bus P → (m : Machine S) (kind : ℕ) (taken : Bool) → P m.bus → P (if taken then after_entry bus m kind else m).bus
+kept_if : {S : Type 0} (bus : BusMeaning S) (P : S → Type 0) → Kept bus P → (m : Machine S) (kind : ℕ) (taken : Bool) → P m.bus
+    → P (if taken then after_entry bus m kind else m).bus
 kept_if bus P kept m kind true holds = kept_by_entry bus P kept m kind holds
 kept_if bus P kept m kind false holds = holds
 
@@ -17,7 +18,8 @@ kept_by_far_pop : {S : Type 0} (bus : BusMeaning S) (P : S → Type 0) (m : Mach
 unfolding after_far_pop after_ip_pop after_pop
 kept_by_far_pop bus P m holds = holds
 
-pub kept_by_control : {S : Type 0} (bus : BusMeaning S) (P : S → Type 0) → Kept bus P → (m : Machine S) (control : Control) (i : Instr) → P m.bus → P (after_control bus m control i).bus
+pub kept_by_control : {S : Type 0} (bus : BusMeaning S) (P : S → Type 0)
+    → Kept bus P → (m : Machine S) (control : Control) (i : Instr) → P m.bus → P (after_control bus m control i).bus
 unfolding after_control after_call after_return after_interrupt_return after_ip_pop after_pop
 kept_by_control bus P kept m Jmp i holds = holds
 kept_by_control bus P kept m Call i holds = kept_by_push bus P kept m _ holds

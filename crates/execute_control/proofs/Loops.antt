@@ -22,7 +22,8 @@ cx_after_loop r i = cx_stays (record r { cx = lowered_cx r }) (is_loop_taken r L
 lowered_once_more : (cx k : ℕ) → k < 65536 → ((cx + 65536 - k) % 65536 + 65535) % 65536 ≡ (cx + 65536 - suc k) % 65536
 lowered_once_more cx k below = omega arith
 
-cx_after_rounds : (body : Registers → Registers) → ((r : Registers) → (body r).cx ≡ r.cx) → (i : Instr) (r : Registers) → r.cx < 65536 → (k : ℕ) → k ≤ 65536 → (iterate (after_round body i) k r).cx ≡ (r.cx + 65536 - k) % 65536
+cx_after_rounds : (body : Registers → Registers) → ((r : Registers) → (body r).cx ≡ r.cx) → (i : Instr) (r : Registers) → r.cx < 65536 → (k : ℕ) → k ≤ 65536
+    → (iterate (after_round body i) k r).cx ≡ (r.cx + 65536 - k) % 65536
 unfolding iterate
 cx_after_rounds body keeps i r small zero within = omega arith
 cx_after_rounds body keeps i r small (suc k) within =
@@ -31,7 +32,8 @@ cx_after_rounds body keeps i r small (suc k) within =
     ∙ lowered_once_more r.cx k (omega arith)
 
 -- what a LOOP leaves in CX is the number of rounds to come
-rounds_left : (cx k rounds : ℕ) → cx < 65536 → (cx ≡ 0 → rounds ≡ 65536) → (0 < cx → rounds ≡ cx) → k < rounds → ((cx + 65536 - k) % 65536 + 65535) % 65536 + (k + 1) ≡ rounds
+rounds_left : (cx k rounds : ℕ) → cx < 65536 → (cx ≡ 0 → rounds ≡ 65536) → (0 < cx → rounds ≡ cx) → k < rounds
+    → ((cx + 65536 - k) % 65536 + 65535) % 65536 + (k + 1) ≡ rounds
 rounds_left zero k rounds small none some below = let e : rounds ≡ 65536 = none refl in omega arith
 rounds_left (suc n) k rounds small none some below = let e : rounds ≡ suc n = some (omega arith) in omega arith
 

@@ -14,7 +14,9 @@ use Rattle.execute_control.proofs.FlagsWord.{popped_again}
 use Rattle.execute_control.proofs.StackWords.{next, below, back_up, TakesWord, takes_at, first_of_one, first_of_two, second_of_two, first_of_three, second_of_three, third_of_three}
 
 -- a word on the stack that a subroutine found is there when it returns
-word_held : {S : Type 0} (bus : BusMeaning S) (p n : Machine S) (bytes k offset : ℕ) → KeepsStack bus p n bytes → k + 1 < bytes → offset ≡ offset_after p.registers.sp k → next offset ≡ offset_after p.registers.sp (k + 1) → word_at bus n.bus p.registers.ss offset ≡ word_at bus p.bus p.registers.ss offset
+word_held : {S : Type 0} (bus : BusMeaning S) (p n : Machine S) (bytes k offset : ℕ)
+    → KeepsStack bus p n bytes → k + 1 < bytes → offset ≡ offset_after p.registers.sp k → next offset ≡ offset_after p.registers.sp (k + 1)
+    → word_at bus n.bus p.registers.ss offset ≡ word_at bus p.bus p.registers.ss offset
 unfolding word_at
 word_held {S} bus p n bytes k offset keeps within low high =
     let byte : S → ℕ → ℕ = λ s o. bus.byte_at s (physical p.registers.ss o) in
@@ -27,7 +29,9 @@ word_held {S} bus p n bytes k offset keeps within low high =
     ap (λ b. b + 256 * byte n.bus (next offset)) at_low ∙ ap (λ b. byte p.bus offset + 256 * b) at_high
 
 -- a word on the stack that a subroutine found is there when the return reads it
-word_found : {S : Type 0} (bus : BusMeaning S) (p n : Machine S) (bytes k offset there : ℕ) → KeepsStack bus p n bytes → k + 1 < bytes → offset ≡ offset_after p.registers.sp k → next offset ≡ offset_after p.registers.sp (k + 1) → there ≡ offset → word_at bus n.bus n.registers.ss there ≡ word_at bus p.bus p.registers.ss offset
+word_found : {S : Type 0} (bus : BusMeaning S) (p n : Machine S) (bytes k offset there : ℕ)
+    → KeepsStack bus p n bytes → k + 1 < bytes → offset ≡ offset_after p.registers.sp k → next offset ≡ offset_after p.registers.sp (k + 1) → there ≡ offset
+    → word_at bus n.bus n.registers.ss there ≡ word_at bus p.bus p.registers.ss offset
 word_found bus p n bytes k offset there keeps within low high is =
     ap (λ ss. word_at bus n.bus ss there) keeps.ss
     ∙ ap (λ o. word_at bus n.bus p.registers.ss o) is
@@ -46,24 +50,29 @@ flags_returned n ip cs flags sp = machine (record n.registers { ip = ip; cs = cs
 returned_alike : {S : Type 0} (n : Machine S) (ip ip' sp sp' : ℕ) → ip ≡ ip' → sp ≡ sp' → returned n ip sp ≡ returned n ip' sp'
 returned_alike n ip ip' sp sp' a b = cc
 
-far_returned_alike : {S : Type 0} (n : Machine S) (ip ip' cs cs' sp sp' : ℕ) → ip ≡ ip' → cs ≡ cs' → sp ≡ sp' → far_returned n ip cs sp ≡ far_returned n ip' cs' sp'
+far_returned_alike : {S : Type 0} (n : Machine S) (ip ip' cs cs' sp sp' : ℕ) → ip ≡ ip' → cs ≡ cs' → sp ≡ sp'
+    → far_returned n ip cs sp ≡ far_returned n ip' cs' sp'
 far_returned_alike n ip ip' cs cs' sp sp' a b c = cc
 
-flags_returned_alike : {S : Type 0} (n : Machine S) (ip ip' cs cs' sp sp' : ℕ) (f f' : FlagState) → ip ≡ ip' → cs ≡ cs' → f ≡ f' → sp ≡ sp' → flags_returned n ip cs f sp ≡ flags_returned n ip' cs' f' sp'
+flags_returned_alike : {S : Type 0} (n : Machine S) (ip ip' cs cs' sp sp' : ℕ) (f f' : FlagState)
+    → ip ≡ ip' → cs ≡ cs' → f ≡ f' → sp ≡ sp' → flags_returned n ip cs f sp ≡ flags_returned n ip' cs' f' sp'
 flags_returned_alike n ip ip' cs cs' sp sp' f f' a b c d = cc
 
 -- the words that pushes write find addresses that take them
-takes_first : {S : Type 0} (bus : BusMeaning S) (m : Machine S) (bytes : ℕ) → m.registers.sp < 65536 → 1 < bytes → TakesPushes bus m bytes → TakesWord bus m.bus m.registers.ss (below m.registers.sp)
+takes_first : {S : Type 0} (bus : BusMeaning S) (m : Machine S) (bytes : ℕ) → m.registers.sp < 65536 → 1 < bytes → TakesPushes bus m bytes
+    → TakesWord bus m.bus m.registers.ss (below m.registers.sp)
 takes_first bus m bytes small within takes =
     takes_at bus m.bus m.registers.ss (below m.registers.sp) (offset_after m.registers.sp 65534) (offset_after m.registers.sp 65535)
     refl (omega arith) (takes 1 within) (takes 0 (omega arith))
 
-takes_second : {S : Type 0} (bus : BusMeaning S) (m : Machine S) (bytes : ℕ) → m.registers.sp < 65536 → 3 < bytes → TakesPushes bus m bytes → TakesWord bus m.bus m.registers.ss (below (below m.registers.sp))
+takes_second : {S : Type 0} (bus : BusMeaning S) (m : Machine S) (bytes : ℕ) → m.registers.sp < 65536 → 3 < bytes → TakesPushes bus m bytes
+    → TakesWord bus m.bus m.registers.ss (below (below m.registers.sp))
 takes_second bus m bytes small within takes =
     takes_at bus m.bus m.registers.ss (below (below m.registers.sp)) (offset_after m.registers.sp 65532) (offset_after m.registers.sp 65533)
     (omega arith) (omega arith) (takes 3 within) (takes 2 (omega arith))
 
-takes_third : {S : Type 0} (bus : BusMeaning S) (m : Machine S) (bytes : ℕ) → m.registers.sp < 65536 → 5 < bytes → TakesPushes bus m bytes → TakesWord bus m.bus m.registers.ss (below (below (below m.registers.sp)))
+takes_third : {S : Type 0} (bus : BusMeaning S) (m : Machine S) (bytes : ℕ) → m.registers.sp < 65536 → 5 < bytes → TakesPushes bus m bytes
+    → TakesWord bus m.bus m.registers.ss (below (below (below m.registers.sp)))
 takes_third bus m bytes small within takes =
     takes_at bus m.bus m.registers.ss (below (below (below m.registers.sp))) (offset_after m.registers.sp 65530) (offset_after m.registers.sp 65531)
     (omega arith) (omega arith) (takes 5 within) (takes 4 (omega arith))
@@ -103,7 +112,8 @@ far_call_returns bus is m n call return small takes keeps =
     (ap (λ o. offset_after o (control_operand bus n return)) (raised_twice n.registers.sp sp keeps.sp small))
 
 pub interrupt_returns : {S : Type 0} (bus : BusMeaning S) → IsBus bus → InterruptReturns bus
-unfolding after_control after_entry after_vector after_entry_pushes after_push after_interrupt_return after_far_pop after_ip_pop after_pop top_word flags_returned
+unfolding after_control after_entry after_vector after_entry_pushes after_push
+    after_interrupt_return after_far_pop after_ip_pop after_pop top_word flags_returned
 interrupt_returns bus is m n kind return small takes keeps =
     let sp = m.registers.sp in
     let ss = m.registers.ss in

@@ -11,11 +11,13 @@ use Rattle.execute_machine.specs.Stack.{after_push, after_pop, after_entry_pushe
 pub record Kept {S : Type 0} (bus : BusMeaning S) (P : S → Type 0) : Type 0 where
   pub write : (s : S) (address byte : ℕ) → P s → P (bus.after_write s address byte)
 
-pub kept_by_word : {S : Type 0} (bus : BusMeaning S) (P : S → Type 0) → Kept bus P → (s : S) (segment offset word : ℕ) → P s → P (with_word_at bus s segment offset word)
+pub kept_by_word : {S : Type 0} (bus : BusMeaning S) (P : S → Type 0)
+    → Kept bus P → (s : S) (segment offset word : ℕ) → P s → P (with_word_at bus s segment offset word)
 unfolding with_word_at
 kept_by_word bus P kept s segment offset word holds = kept.write _ _ _ (kept.write _ _ _ holds)
 
-pub kept_by_put : {S : Type 0} (bus : BusMeaning S) (P : S → Type 0) → Kept bus P → (m : Machine S) (l : OperandLocation) (value : ℕ) → P m.bus → P (with_value_at bus m l value).bus
+pub kept_by_put : {S : Type 0} (bus : BusMeaning S) (P : S → Type 0)
+    → Kept bus P → (m : Machine S) (l : OperandLocation) (value : ℕ) → P m.bus → P (with_value_at bus m l value).bus
 unfolding with_value_at
 kept_by_put bus P kept m Nothing value holds = holds
 kept_by_put bus P kept m (Byte _) value holds = holds

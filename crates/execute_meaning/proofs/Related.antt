@@ -49,37 +49,52 @@ abbrev operation_inputs : Registers → Operation → Instr → List ℕ
 operation_inputs r (operations.Transfer operation) i = transfer_inputs r operation i
 operation_inputs r _ i = []
 
-same_by_operation : {S T : Type 0} (bus : BusMeaning S) (other : BusMeaning T) (reads writes : ℕ → Bool) (R : S → T → Type 0) → Alike bus other R → PortsAlike bus other reads writes R → (r : Registers) (s : S) (t : T) (op : Operation) (i : Instr) → All (λ p. reads p ≡ true) (operation_inputs r op i) → All (λ w. writes w.0 ≡ true) (operation_writes r op i) → R s t → Same R (after_operation bus (machine r s) op i) (after_operation other (machine r t) op i)
+same_by_operation : {S T : Type 0} (bus : BusMeaning S) (other : BusMeaning T) (reads writes : ℕ → Bool) (R : S → T → Type 0)
+    → Alike bus other R → PortsAlike bus other reads writes R → (r : Registers) (s : S) (t : T) (op : Operation) (i : Instr)
+    → All (λ p. reads p ≡ true) (operation_inputs r op i) → All (λ w. writes w.0 ≡ true) (operation_writes r op i) → R s t
+    → Same R (after_operation bus (machine r s) op i) (after_operation other (machine r t) op i)
 unfolding after_operation
-same_by_operation bus other reads writes R alike ports r s t (operations.Arithmetic op) i read written related = same_by_arithmetic bus other R alike r s t op i related
+same_by_operation bus other reads writes R alike ports r s t (operations.Arithmetic op) i read written related =
+    same_by_arithmetic bus other R alike r s t op i related
 same_by_operation bus other reads writes R alike ports r s t (operations.Shift op) i read written related = same_by_shift bus other R alike r s t op i related
-same_by_operation bus other reads writes R alike ports r s t (operations.Product op) i read written related = same_by_product bus other R alike r s t op i related
+same_by_operation bus other reads writes R alike ports r s t (operations.Product op) i read written related =
+    same_by_product bus other R alike r s t op i related
 same_by_operation bus other reads writes R alike ports r s t (operations.Unary op) i read written related = same_by_unary bus other R alike r s t op i related
 same_by_operation bus other reads writes R alike ports r s t (operations.Jump _) i read written related = unchanged R _ s t related
 same_by_operation bus other reads writes R alike ports r s t (operations.Looping _) i read written related = unchanged R _ s t related
-same_by_operation bus other reads writes R alike ports r s t (operations.Strings op) i read written related = same_by_element bus other R alike r s t op i related
+same_by_operation bus other reads writes R alike ports r s t (operations.Strings op) i read written related =
+    same_by_element bus other R alike r s t op i related
 same_by_operation bus other reads writes R alike ports r s t (operations.Adjust _) i read written related = unchanged R _ s t related
-same_by_operation bus other reads writes R alike ports r s t (operations.Transfer op) i read written related = same_by_transfer bus other reads writes R alike ports r s t op i read written related
-same_by_operation bus other reads writes R alike ports r s t (operations.Control op) i read written related = same_by_control bus other R alike r s t op i related
+same_by_operation bus other reads writes R alike ports r s t (operations.Transfer op) i read written related =
+    same_by_transfer bus other reads writes R alike ports r s t op i read written related
+same_by_operation bus other reads writes R alike ports r s t (operations.Control op) i read written related =
+    same_by_control bus other R alike r s t op i related
 same_by_operation bus other reads writes R alike ports r s t (operations.Processor _) i read written related = unchanged R _ s t related
 
-same_lack : {S T : Type 0} (bus : BusMeaning S) (other : BusMeaning T) (R : S → T → Type 0) → Alike bus other R → (r : Registers) (s : S) (t : T) (op : Operation) (i : Instr) → R s t → lacks_quotient other (machine r t) op i ≡ lacks_quotient bus (machine r s) op i
+same_lack : {S T : Type 0} (bus : BusMeaning S) (other : BusMeaning T) (R : S → T → Type 0) → Alike bus other R
+    → (r : Registers) (s : S) (t : T) (op : Operation) (i : Instr) → R s t → lacks_quotient other (machine r t) op i ≡ lacks_quotient bus (machine r s) op i
 unfolding lacks_quotient
 same_lack bus other R alike r s t (operations.Product op) i related = same_fault bus other R alike r s t op i related
 same_lack bus other R alike r s t op i related = refl
 
-same_by_whole : {S T : Type 0} (bus : BusMeaning S) (other : BusMeaning T) (table : ClockTable) (reads writes : ℕ → Bool) (R : S → T → Type 0) → Alike bus other R → PortsAlike bus other reads writes R → (p : CpuState) (s : S) (t : T) (op : Operation) (i : Instr) → All (λ p. reads p ≡ true) (operation_inputs p.registers op i) → All (λ w. writes w.0 ≡ true) (operation_writes p.registers op i) → R s t → SameStep R (after_whole bus table p s op i) (after_whole other table p t op i)
+same_by_whole : {S T : Type 0} (bus : BusMeaning S) (other : BusMeaning T) (table : ClockTable) (reads writes : ℕ → Bool) (R : S → T → Type 0)
+    → Alike bus other R → PortsAlike bus other reads writes R → (p : CpuState) (s : S) (t : T) (op : Operation) (i : Instr)
+    → All (λ p. reads p ≡ true) (operation_inputs p.registers op i) → All (λ w. writes w.0 ≡ true) (operation_writes p.registers op i) → R s t
+    → SameStep R (after_whole bus table p s op i) (after_whole other table p t op i)
 unfolding after_whole
 same_by_whole bus other table reads writes R alike ports p s t op i read written related =
     let same = same_by_operation bus other reads writes R alike ports p.registers s t op i read written related in record {
       cpu = ap (λ (r : Registers). with_end p r (state_after p.state op) (shadow_of op (first_of i.form.row))) same.registers;
       bus = same.bus;
       clocks =
-          ap (λ fault. clocks_in table i (record { taken = is_taken p.registers op; cl = p.registers.cx % 256; first_step = true; cx_zero = false; fault = fault }))
+          ap (λ fault.
+          clocks_in table i (record { taken = is_taken p.registers op; cl = p.registers.cx % 256; first_step = true; cx_zero = false; fault = fault }))
           (same_lack bus other R alike p.registers s t op i related);
     }
 
-same_by_iterating : {S T : Type 0} (bus : BusMeaning S) (other : BusMeaning T) (table : ClockTable) (R : S → T → Type 0) → Alike bus other R → (p : CpuState) (s : S) (t : T) (operation : Strings) (i : Instr) (first : Bool) → R s t → SameStep R (after_iterating bus table p s operation i first) (after_iterating other table p t operation i first)
+same_by_iterating : {S T : Type 0} (bus : BusMeaning S) (other : BusMeaning T) (table : ClockTable) (R : S → T → Type 0)
+    → Alike bus other R → (p : CpuState) (s : S) (t : T) (operation : Strings) (i : Instr) (first : Bool) → R s t
+    → SameStep R (after_iterating bus table p s operation i first) (after_iterating other table p t operation i first)
 unfolding after_iterating
 same_by_iterating bus other table R alike p s t operation i first related =
     let same = same_by_iteration bus other R alike p.registers s t operation i related in record {
@@ -88,23 +103,33 @@ same_by_iterating bus other table R alike p s t operation i first related =
       clocks = refl;
     }
 
-same_if : {S T : Type 0} (R : S → T → Type 0) (b : Bool) (w x : StepResult S) (y z : StepResult T) → SameStep R w y → SameStep R x z → SameStep R (if b then w else x) (if b then y else z)
+same_if : {S T : Type 0} (R : S → T → Type 0) (b : Bool) (w x : StepResult S) (y z : StepResult T)
+    → SameStep R w y → SameStep R x z → SameStep R (if b then w else x) (if b then y else z)
 same_if R true w x y z first second = first
 same_if R false w x y z first second = second
 
-same_by_repeat : {S T : Type 0} (bus : BusMeaning S) (other : BusMeaning T) (table : ClockTable) (R : S → T → Type 0) → Alike bus other R → (p : CpuState) (s : S) (t : T) (operation : Strings) (i : Instr) → R s t → SameStep R (after_repeat bus table p s operation i) (after_repeat other table p t operation i)
+same_by_repeat : {S T : Type 0} (bus : BusMeaning S) (other : BusMeaning T) (table : ClockTable) (R : S → T → Type 0)
+    → Alike bus other R → (p : CpuState) (s : S) (t : T) (operation : Strings) (i : Instr) → R s t
+    → SameStep R (after_repeat bus table p s operation i) (after_repeat other table p t operation i)
 unfolding after_repeat
 same_by_repeat bus other table R alike p s t operation i related =
-    same_if R (p.registers.cx == 0) _ _ _ _ (record { cpu = refl; bus = related; clocks = refl }) (same_by_iterating bus other table R alike p s t operation i true related)
+    same_if R (p.registers.cx == 0) _ _ _ _ (record { cpu = refl; bus = related; clocks = refl })
+    (same_by_iterating bus other table R alike p s t operation i true related)
 
-same_by_begun : {S T : Type 0} (bus : BusMeaning S) (other : BusMeaning T) (table : ClockTable) (reads writes : ℕ → Bool) (R : S → T → Type 0) → Alike bus other R → PortsAlike bus other reads writes R → (p : CpuState) (s : S) (t : T) (op : Operation) (i : Instr) → All (λ p. reads p ≡ true) (operation_inputs p.registers op i) → All (λ w. writes w.0 ≡ true) (operation_writes p.registers op i) → R s t → SameStep R (after_begun bus table p s op i) (after_begun other table p t op i)
+same_by_begun : {S T : Type 0} (bus : BusMeaning S) (other : BusMeaning T) (table : ClockTable) (reads writes : ℕ → Bool) (R : S → T → Type 0)
+    → Alike bus other R → PortsAlike bus other reads writes R → (p : CpuState) (s : S) (t : T) (op : Operation) (i : Instr)
+    → All (λ p. reads p ≡ true) (operation_inputs p.registers op i) → All (λ w. writes w.0 ≡ true) (operation_writes p.registers op i) → R s t
+    → SameStep R (after_begun bus table p s op i) (after_begun other table p t op i)
 same_by_begun bus other table reads writes R alike ports p s t (operations.Strings operation) i read written related =
-    same_if R (is_repeated i) _ _ _ _ (same_by_repeat bus other table R alike p s t operation i related) (same_by_whole bus other table reads writes R alike ports p s t (operations.Strings operation) i read written related)
-same_by_begun bus other table reads writes R alike ports p s t op i read written related = same_by_whole bus other table reads writes R alike ports p s t op i read written related
+    same_if R (is_repeated i) _ _ _ _ (same_by_repeat bus other table R alike p s t operation i related)
+    (same_by_whole bus other table reads writes R alike ports p s t (operations.Strings operation) i read written related)
+same_by_begun bus other table reads writes R alike ports p s t op i read written related =
+    same_by_whole bus other table reads writes R alike ports p s t op i read written related
 
 -- the ports that a step reads and those that it writes are its operation's
 
-noted : (r : Registers) (port : ℕ) (word : Bool) → (if word then after_word_input reading_bus (machine r []) port else after_byte_input reading_bus (machine r []) port).bus ≡ inputs_at port word
+noted : (r : Registers) (port : ℕ) (word : Bool)
+    → (if word then after_word_input reading_bus (machine r []) port else after_byte_input reading_bus (machine r []) port).bus ≡ inputs_at port word
 unfolding after_word_input after_byte_input
 noted r port true = refl
 noted r port false = refl
@@ -113,39 +138,54 @@ noted_by_in : (p : CpuState) (i : Instr) → (after_begun reading_bus C1 p [] (o
 unfolding after_whole after_operation after_transfer after_in inputs_of
 noted_by_in p i = noted p.registers (port_of (second_of i.form.row) p.registers.dx i.values.number) (is_ax (first_of i.form.row))
 
-inputs_are : (reads : ℕ → Bool) (p : CpuState) (op : Operation) (i : Instr) → All (λ port. reads port ≡ true) (after_begun reading_bus C1 p [] op i).bus → All (λ port. reads port ≡ true) (operation_inputs p.registers op i)
+inputs_are : (reads : ℕ → Bool) (p : CpuState) (op : Operation) (i : Instr) → All (λ port. reads port ≡ true) (after_begun reading_bus C1 p [] op i).bus
+    → All (λ port. reads port ≡ true) (operation_inputs p.registers op i)
 inputs_are reads p (operations.Transfer In) i read = subst (λ (l : List ℕ). All (λ port. reads port ≡ true) l) (noted_by_in p i) read
 inputs_are reads p op i read = λ k d within. absurd (omega arith)
 
-outputs_are : (writes : ℕ → Bool) (p : CpuState) (i : Instr) (size : ℕ) → All (λ w. writes w.0 ≡ true) (port_writes_of p (Found i size)) → All (λ w. writes w.0 ≡ true) (operation_writes (after_fetch p size).registers (operation_of i.form.row) i)
+outputs_are : (writes : ℕ → Bool) (p : CpuState) (i : Instr) (size : ℕ) → All (λ w. writes w.0 ≡ true) (port_writes_of p (Found i size))
+    → All (λ w. writes w.0 ≡ true) (operation_writes (after_fetch p size).registers (operation_of i.form.row) i)
 outputs_are writes p i size written =
     subst (λ (l : List (ℕ × ℕ)). All (λ w. writes w.0 ≡ true) l) (writes_of p (Found i size) ∙ sym (fetched p size (operation_of i.form.row) i)) written
 
-same_by_found : {S T : Type 0} (bus : BusMeaning S) (other : BusMeaning T) (table : ClockTable) (reads writes : ℕ → Bool) (R : S → T → Type 0) → Alike bus other R → PortsAlike bus other reads writes R → (p : CpuState) (s : S) (t : T) (i : Instr) (size : ℕ) → All (λ port. reads port ≡ true) (after_found reading_bus C1 p [] i size).bus → All (λ w. writes w.0 ≡ true) (port_writes_of p (Found i size)) → R s t → SameStep R (after_found bus table p s i size) (after_found other table p t i size)
+same_by_found : {S T : Type 0} (bus : BusMeaning S) (other : BusMeaning T) (table : ClockTable) (reads writes : ℕ → Bool) (R : S → T → Type 0)
+    → Alike bus other R → PortsAlike bus other reads writes R → (p : CpuState) (s : S) (t : T) (i : Instr) (size : ℕ)
+    → All (λ port. reads port ≡ true) (after_found reading_bus C1 p [] i size).bus → All (λ w. writes w.0 ≡ true) (port_writes_of p (Found i size)) → R s t
+    → SameStep R (after_found bus table p s i size) (after_found other table p t i size)
 unfolding after_found
 same_by_found bus other table reads writes R alike ports p s t i size read written related =
     same_by_begun bus other table reads writes R alike ports (after_fetch p size) s t (operation_of i.form.row) i
     (inputs_are reads (after_fetch p size) (operation_of i.form.row) i read) (outputs_are writes p i size written) related
 
-pub same_by_step : {S T : Type 0} (bus : BusMeaning S) (other : BusMeaning T) (table : ClockTable) (reads writes : ℕ → Bool) (R : S → T → Type 0) → Alike bus other R → PortsAlike bus other reads writes R → (p : CpuState) (s : S) (t : T) (decoded : Decoded) → All (λ port. reads port ≡ true) (port_reads_of p decoded) → All (λ w. writes w.0 ≡ true) (port_writes_of p decoded) → R s t → SameStep R (after_step bus table p s decoded) (after_step other table p t decoded)
+pub same_by_step : {S T : Type 0} (bus : BusMeaning S) (other : BusMeaning T) (table : ClockTable) (reads writes : ℕ → Bool) (R : S → T → Type 0)
+    → Alike bus other R → PortsAlike bus other reads writes R → (p : CpuState) (s : S) (t : T) (decoded : Decoded)
+    → All (λ port. reads port ≡ true) (port_reads_of p decoded) → All (λ w. writes w.0 ≡ true) (port_writes_of p decoded) → R s t
+    → SameStep R (after_step bus table p s decoded) (after_step other table p t decoded)
 unfolding after_step port_reads_of
 same_by_step bus other table reads writes R alike ports p s t NoRow read written related = record { cpu = refl; bus = related; clocks = refl }
 same_by_step bus other table reads writes R alike ports p s t (Found i size) read written related =
     same_by_found bus other table reads writes R alike ports p s t i size read written related
 
-same_by_again_of : {S T : Type 0} (bus : BusMeaning S) (other : BusMeaning T) (table : ClockTable) (R : S → T → Type 0) → Alike bus other R → (p : CpuState) (s : S) (t : T) (repeat : Option Repeating) → R s t → SameStep R (after_again_of bus table p s repeat) (after_again_of other table p t repeat)
+same_by_again_of : {S T : Type 0} (bus : BusMeaning S) (other : BusMeaning T) (table : ClockTable) (R : S → T → Type 0)
+    → Alike bus other R → (p : CpuState) (s : S) (t : T) (repeat : Option Repeating) → R s t
+    → SameStep R (after_again_of bus table p s repeat) (after_again_of other table p t repeat)
 same_by_again_of bus other table R alike p s t None related = record { cpu = refl; bus = related; clocks = refl }
-same_by_again_of bus other table R alike p s t (Some r) related = same_by_iterating bus other table R alike (after_fetch p (size_from_last_prefix r.instr)) s t r.operation r.instr false related
+same_by_again_of bus other table R alike p s t (Some r) related =
+    same_by_iterating bus other table R alike (after_fetch p (size_from_last_prefix r.instr)) s t r.operation r.instr false related
 
-pub same_by_again : {S T : Type 0} (bus : BusMeaning S) (other : BusMeaning T) (table : ClockTable) (R : S → T → Type 0) → Alike bus other R → (p : CpuState) (s : S) (t : T) → R s t → SameStep R (after_again bus table p s) (after_again other table p t)
+pub same_by_again : {S T : Type 0} (bus : BusMeaning S) (other : BusMeaning T) (table : ClockTable) (R : S → T → Type 0)
+    → Alike bus other R → (p : CpuState) (s : S) (t : T) → R s t → SameStep R (after_again bus table p s) (after_again other table p t)
 unfolding after_again
 same_by_again bus other table R alike p s t related = same_by_again_of bus other table R alike p s t p.repeat related
 
-pub same_by_enter : {S T : Type 0} (bus : BusMeaning S) (other : BusMeaning T) (table : ClockTable) (R : S → T → Type 0) → Alike bus other R → (p : CpuState) (s : S) (t : T) (kind : ℕ) (cause : Cause) → R s t → SameStep R (after_enter bus table p s kind cause) (after_enter other table p t kind cause)
+pub same_by_enter : {S T : Type 0} (bus : BusMeaning S) (other : BusMeaning T) (table : ClockTable) (R : S → T → Type 0)
+    → Alike bus other R → (p : CpuState) (s : S) (t : T) (kind : ℕ) (cause : Cause) → R s t
+    → SameStep R (after_enter bus table p s kind cause) (after_enter other table p t kind cause)
 unfolding after_enter
 same_by_enter bus other table R alike p s t kind cause related =
     let same = same_by_entry bus other R alike (machine p.registers s) (machine p.registers t) kind kind refl (unchanged R p.registers s t related) in record {
-      cpu = ap (λ (r : Registers). record { registers = r; state = Running; shadow = p.shadow; step_due = still_due p.step_due cause; repeat = None }) same.registers;
+      cpu = ap (λ (r : Registers). record { registers = r; state = Running; shadow = p.shadow; step_due = still_due p.step_due cause; repeat = None })
+          same.registers;
       bus = same.bus;
       clocks = refl;
     }

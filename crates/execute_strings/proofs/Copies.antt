@@ -29,16 +29,18 @@ use Rattle.execute_strings.specs.StringLaws.{CopiesInOrder, IsOutside, TakesElem
 abbrev with_copy : {S : Type 0} → BusMeaning S → Machine S → OperandLocation → OperandLocation → S
 with_copy bus m to from = (with_value_at bus m to (value_at bus m from)).bus
 
-moved : {S : Type 0} (bus : BusMeaning S) (m : Machine S) (width : Width) (i : Instr) → (after_iteration bus m (movs_of width) i).registers ≡ record m.registers {
-  si = string_offset_after m.registers.flags m.registers.si (element_size width);
-  di = string_offset_after m.registers.flags m.registers.di (element_size width);
-  cx = offset_after m.registers.cx 65535;
-}
+moved : {S : Type 0} (bus : BusMeaning S) (m : Machine S) (width : Width) (i : Instr)
+    → (after_iteration bus m (movs_of width) i).registers ≡ record m.registers {
+      si = string_offset_after m.registers.flags m.registers.si (element_size width);
+      di = string_offset_after m.registers.flags m.registers.di (element_size width);
+      cx = offset_after m.registers.cx 65535;
+    }
 unfolding after_iteration after_element after_movs with_value_at
 moved bus m widths.Byte i = refl
 moved bus m widths.Word i = refl
 
-copied : {S : Type 0} (bus : BusMeaning S) (m : Machine S) (width : Width) (i : Instr) → (after_iteration bus m (movs_of width) i).bus ≡ with_copy bus m (destination m.registers width) (source m.registers i width)
+copied : {S : Type 0} (bus : BusMeaning S) (m : Machine S) (width : Width) (i : Instr)
+    → (after_iteration bus m (movs_of width) i).bus ≡ with_copy bus m (destination m.registers width) (source m.registers i width)
 unfolding after_iteration after_element after_movs
 copied bus m widths.Byte i = refl
 copied bus m widths.Word i = refl
@@ -48,7 +50,10 @@ copied bus m widths.Word i = refl
 cut_fits : (byte : ℕ) → byte < 256 → byte % 256 ≡ byte
 cut_fits byte fits = omega arith
 
-value_stands : {S : Type 0} (bus : BusMeaning S) → IsBus bus → (m after : Machine S) (width : Width) (to_segment to_offset from_segment from_offset : ℕ) → after.bus ≡ with_copy bus m (element_at width to_segment to_offset) (element_at width from_segment from_offset) → to_offset < 65536 → HoldsBytes bus m.bus → TakesElement bus m.bus (element_at width to_segment to_offset) → value_at bus after (element_at width to_segment to_offset) ≡ value_at bus m (element_at width from_segment from_offset)
+value_stands : {S : Type 0} (bus : BusMeaning S) → IsBus bus → (m after : Machine S) (width : Width) (to_segment to_offset from_segment from_offset : ℕ)
+    → after.bus ≡ with_copy bus m (element_at width to_segment to_offset) (element_at width from_segment from_offset)
+    → to_offset < 65536 → HoldsBytes bus m.bus → TakesElement bus m.bus (element_at width to_segment to_offset)
+    → value_at bus after (element_at width to_segment to_offset) ≡ value_at bus m (element_at width from_segment from_offset)
 unfolding value_at with_value_at
 value_stands bus laws m after widths.Byte to_segment to_offset from_segment from_offset is fits holds takes =
     let byte = bus.byte_at m.bus (physical from_segment from_offset) in
@@ -56,19 +61,23 @@ value_stands bus laws m after widths.Byte to_segment to_offset from_segment from
 value_stands bus laws m after widths.Word to_segment to_offset from_segment from_offset is fits holds takes =
     ap (λ s. word_at bus s to_segment to_offset) is ∙ word_reads_back bus laws m.bus to_segment to_offset _ fits takes
 
-others_stay : {S : Type 0} (bus : BusMeaning S) → IsBus bus → (m : Machine S) (width : Width) (segment offset : ℕ) (from : OperandLocation) (address : ℕ) → IsOutside address (element_at width segment offset) → bus.byte_at (with_copy bus m (element_at width segment offset) from) address ≡ bus.byte_at m.bus address
+others_stay : {S : Type 0} (bus : BusMeaning S) → IsBus bus
+    → (m : Machine S) (width : Width) (segment offset : ℕ) (from : OperandLocation) (address : ℕ) → IsOutside address (element_at width segment offset)
+    → bus.byte_at (with_copy bus m (element_at width segment offset) from) address ≡ bus.byte_at m.bus address
 unfolding with_value_at
 others_stay bus laws m widths.Byte segment offset from address outside = laws.others _ _ _ address outside
 others_stay bus laws m widths.Word segment offset from address (not_low, not_high) = word_leaves bus laws m.bus segment offset _ address not_low not_high
 
-fixed_by_copy : {S : Type 0} (bus : BusMeaning S) → IsBus bus → (m : Machine S) (width : Width) (segment offset : ℕ) (from : OperandLocation) (address : ℕ) → bus.is_writable (with_copy bus m (element_at width segment offset) from) address ≡ bus.is_writable m.bus address
+fixed_by_copy : {S : Type 0} (bus : BusMeaning S) → IsBus bus → (m : Machine S) (width : Width) (segment offset : ℕ) (from : OperandLocation) (address : ℕ)
+    → bus.is_writable (with_copy bus m (element_at width segment offset) from) address ≡ bus.is_writable m.bus address
 unfolding with_value_at
 fixed_by_copy bus laws m widths.Byte segment offset from address = laws.fixed _ _ _ address
 fixed_by_copy bus laws m widths.Word segment offset from address = word_fixed bus laws m.bus segment offset _ address
 
 -- memory goes on to hold bytes
 
-byte_is_held : {S : Type 0} (bus : BusMeaning S) → IsBus bus → (s : S) (place byte : ℕ) (takes : Bool) → bus.is_writable s place ≡ takes → byte < 256 → HoldsBytes bus s → HoldsBytes bus (bus.after_write s place byte)
+byte_is_held : {S : Type 0} (bus : BusMeaning S) → IsBus bus → (s : S) (place byte : ℕ) (takes : Bool)
+    → bus.is_writable s place ≡ takes → byte < 256 → HoldsBytes bus s → HoldsBytes bus (bus.after_write s place byte)
 byte_is_held bus laws s place byte true is fits holds = λ address.
     let P : ℕ → Type 0 = λ a. bus.byte_at (bus.after_write s place byte) a < 256 in
     elim (cases_eq address place) as (λ _. P address) [
@@ -82,13 +91,15 @@ byte_is_held bus laws s place byte false is fits holds = λ address.
       | inr other ↦ subst (λ v. v < 256) (sym (laws.others s place byte address other)) (holds address)
     ]
 
-held_after_write : {S : Type 0} (bus : BusMeaning S) → IsBus bus → (s : S) (place byte : ℕ) → byte < 256 → HoldsBytes bus s → HoldsBytes bus (bus.after_write s place byte)
+held_after_write : {S : Type 0} (bus : BusMeaning S) → IsBus bus → (s : S) (place byte : ℕ) → byte < 256 → HoldsBytes bus s
+    → HoldsBytes bus (bus.after_write s place byte)
 held_after_write bus laws s place byte fits holds = byte_is_held bus laws s place byte (bus.is_writable s place) refl fits holds
 
 cut_below : (value : ℕ) → value % 256 < 256
 cut_below value = omega arith
 
-held_after_word : {S : Type 0} (bus : BusMeaning S) → IsBus bus → (s : S) (segment offset word : ℕ) → word < 65536 → HoldsBytes bus s → HoldsBytes bus (with_word_at bus s segment offset word)
+held_after_word : {S : Type 0} (bus : BusMeaning S) → IsBus bus → (s : S) (segment offset word : ℕ) → word < 65536 → HoldsBytes bus s
+    → HoldsBytes bus (with_word_at bus s segment offset word)
 unfolding with_word_at
 held_after_word bus laws s segment offset word fits holds =
     held_after_write bus laws _ _ (word / 256) (omega arith) (held_after_write bus laws s _ (word % 256) (cut_below word) holds)
@@ -100,10 +111,12 @@ word_fits bus s segment offset holds =
     let high = holds (physical segment (offset_after offset 1)) in
     omega arith
 
-held_by_copy : {S : Type 0} (bus : BusMeaning S) → IsBus bus → (m : Machine S) (width : Width) (to_segment to_offset from_segment from_offset : ℕ) → HoldsBytes bus m.bus → HoldsBytes bus (with_copy bus m (element_at width to_segment to_offset) (element_at width from_segment from_offset))
+held_by_copy : {S : Type 0} (bus : BusMeaning S) → IsBus bus → (m : Machine S) (width : Width) (to_segment to_offset from_segment from_offset : ℕ)
+    → HoldsBytes bus m.bus → HoldsBytes bus (with_copy bus m (element_at width to_segment to_offset) (element_at width from_segment from_offset))
 unfolding value_at with_value_at
 held_by_copy bus laws m widths.Byte to_segment to_offset from_segment from_offset holds = held_after_write bus laws _ _ _ (cut_below _) holds
-held_by_copy bus laws m widths.Word to_segment to_offset from_segment from_offset holds = held_after_word bus laws _ _ _ _ (word_fits bus m.bus from_segment from_offset holds) holds
+held_by_copy bus laws m widths.Word to_segment to_offset from_segment from_offset holds =
+    held_after_word bus laws _ _ _ _ (word_fits bus m.bus from_segment from_offset holds) holds
 
 -- SI, DI and CX
 
@@ -113,7 +126,10 @@ first_element true widths.Word offset fits = omega arith
 first_element false widths.Byte offset fits = omega arith
 first_element false widths.Word offset fits = omega arith
 
-next_element : (direction : Bool) (width : Width) (offset n : ℕ) → (if direction then offset_after (element_offset direction offset (element_size width) n) (65536 - element_size width) else offset_after (element_offset direction offset (element_size width) n) (element_size width)) ≡ element_offset direction offset (element_size width) (suc n)
+next_element : (direction : Bool) (width : Width) (offset n : ℕ)
+    → (if direction then offset_after (element_offset direction offset (element_size width) n) (65536 - element_size width)
+    else offset_after (element_offset direction offset (element_size width) n) (element_size width))
+    ≡ element_offset direction offset (element_size width) (suc n)
 next_element true widths.Byte offset n = omega arith
 next_element true widths.Word offset n = omega arith
 next_element false widths.Byte offset n = omega arith
@@ -143,16 +159,20 @@ with_three r si di cx = record r { si = si; di = di; cx = cx }
 three_same : (r : Registers) (si di cx si' di' cx' : ℕ) → si ≡ si' → di ≡ di' → cx ≡ cx' → with_three r si di cx ≡ with_three r si' di' cx'
 three_same r si di cx si' di' cx' e f g = ap (λ x. with_three r x di cx) e ∙ ap (λ x. with_three r si' x cx) f ∙ ap (λ x. with_three r si' di' x) g
 
-registers_at : {S : Type 0} (bus : BusMeaning S) (m : Machine S) (width : Width) (i : Instr) (n : ℕ) → HoldsWords m.registers → (after_copies bus m width i n).registers ≡ at_element m.registers width n
+registers_at : {S : Type 0} (bus : BusMeaning S) (m : Machine S) (width : Width) (i : Instr) (n : ℕ) → HoldsWords m.registers
+    → (after_copies bus m width i n).registers ≡ at_element m.registers width n
 unfolding iterate word_register
 registers_at bus m width i zero words =
     let r = m.registers in
-    sym (three_same r _ _ _ _ _ _ (first_element r.flags.direction width r.si (words Si)) (first_element r.flags.direction width r.di (words Di)) (first_count r.cx (words Cx)))
+    sym (three_same r _ _ _ _ _ _ (first_element r.flags.direction width r.si (words Si))
+    (first_element r.flags.direction width r.di (words Di)) (first_count r.cx (words Cx)))
 registers_at bus m width i (suc n) words =
     let r = m.registers in
     let before = after_copies bus m width i n in
     moved bus before width i
-    ∙ ap (λ q. with_three q (string_offset_after q.flags q.si (element_size width)) (string_offset_after q.flags q.di (element_size width)) (offset_after q.cx 65535)) (registers_at bus m width i n words)
+    ∙ ap (λ q.
+    with_three q (string_offset_after q.flags q.si (element_size width)) (string_offset_after q.flags q.di (element_size width)) (offset_after q.cx 65535))
+    (registers_at bus m width i n words)
     ∙ three_same r _ _ _ _ _ _ (next_element r.flags.direction width r.si n) (next_element r.flags.direction width r.di n) (next_count r.cx n)
 
 -- all iterations
@@ -164,7 +184,9 @@ segment_stays r si di cx Cs = refl
 segment_stays r si di cx Ss = refl
 segment_stays r si di cx Ds = refl
 
-bus_after : {S : Type 0} (bus : BusMeaning S) (m : Machine S) (width : Width) (i : Instr) (n : ℕ) → HoldsWords m.registers → (after_copies bus m width i (n + 1)).bus ≡ with_copy bus (after_copies bus m width i n) (destination_element m.registers width n) (source_element m.registers width i n)
+bus_after : {S : Type 0} (bus : BusMeaning S) (m : Machine S) (width : Width) (i : Instr) (n : ℕ) → HoldsWords m.registers
+    → (after_copies bus m width i (n + 1)).bus
+    ≡ with_copy bus (after_copies bus m width i n) (destination_element m.registers width n) (source_element m.registers width i n)
 bus_after bus m width i n words =
     let before = after_copies bus m width i n in
     let r = m.registers in
@@ -174,9 +196,11 @@ bus_after bus m width i n words =
     ∙ copied bus before width i
     ∙ ap (λ q. with_copy bus before (destination q width) (source q i width)) at
     ∙ ap (λ segment. with_copy bus before (destination_element r width n) (element_at width segment si))
-    (segment_stays r si (element_offset r.flags.direction r.di (element_size width) n) ((r.cx + 65536 * n - n) % 65536) (unwrap_or (chosen_segment i.prefixes.items) Ds))
+    (segment_stays r si (element_offset r.flags.direction r.di (element_size width) n)
+    ((r.cx + 65536 * n - n) % 65536) (unwrap_or (chosen_segment i.prefixes.items) Ds))
 
-fixed_after : {S : Type 0} (bus : BusMeaning S) → IsBus bus → (m : Machine S) (width : Width) (i : Instr) (n address : ℕ) → bus.is_writable (after_copies bus m width i n).bus address ≡ bus.is_writable m.bus address
+fixed_after : {S : Type 0} (bus : BusMeaning S) → IsBus bus → (m : Machine S) (width : Width) (i : Instr) (n address : ℕ)
+    → bus.is_writable (after_copies bus m width i n).bus address ≡ bus.is_writable m.bus address
 unfolding iterate
 fixed_after bus laws m width i zero address = refl
 fixed_after bus laws m width i (suc n) address =
@@ -185,18 +209,24 @@ fixed_after bus laws m width i (suc n) address =
     ∙ fixed_by_copy bus laws before width _ _ (source before.registers i width) address
     ∙ fixed_after bus laws m width i n address
 
-held_after : {S : Type 0} (bus : BusMeaning S) → IsBus bus → (m : Machine S) (width : Width) (i : Instr) (n : ℕ) → HoldsBytes bus m.bus → HoldsBytes bus (after_copies bus m width i n).bus
+held_after : {S : Type 0} (bus : BusMeaning S) → IsBus bus → (m : Machine S) (width : Width) (i : Instr) (n : ℕ) → HoldsBytes bus m.bus
+    → HoldsBytes bus (after_copies bus m width i n).bus
 unfolding iterate
 held_after bus laws m width i zero holds = holds
 held_after bus laws m width i (suc n) holds =
     let before = after_copies bus m width i n in
     subst (HoldsBytes bus) (sym (copied bus before width i)) (held_by_copy bus laws before width _ _ _ _ (held_after bus laws m width i n holds))
 
-takes_after : {S : Type 0} (bus : BusMeaning S) (s t : S) (width : Width) (segment offset : ℕ) → ((address : ℕ) → bus.is_writable t address ≡ bus.is_writable s address) → TakesElement bus s (element_at width segment offset) → TakesElement bus t (element_at width segment offset)
+takes_after : {S : Type 0} (bus : BusMeaning S) (s t : S) (width : Width) (segment offset : ℕ)
+    → ((address : ℕ) → bus.is_writable t address ≡ bus.is_writable s address) → TakesElement bus s (element_at width segment offset)
+    → TakesElement bus t (element_at width segment offset)
 takes_after bus s t widths.Byte segment offset fixed takes = fixed _ ∙ takes
 takes_after bus s t widths.Word segment offset fixed takes = record { low = fixed _ ∙ takes.low; high = fixed _ ∙ takes.high }
 
-element_copied : {S : Type 0} (bus : BusMeaning S) → IsBus bus → (m : Machine S) (width : Width) (i : Instr) (n : ℕ) → HoldsWords m.registers → HoldsBytes bus m.bus → TakesElement bus m.bus (destination_element m.registers width n) → value_at bus (after_copies bus m width i (n + 1)) (destination_element m.registers width n) ≡ value_at bus (after_copies bus m width i n) (source_element m.registers width i n)
+element_copied : {S : Type 0} (bus : BusMeaning S) → IsBus bus → (m : Machine S) (width : Width) (i : Instr) (n : ℕ)
+    → HoldsWords m.registers → HoldsBytes bus m.bus → TakesElement bus m.bus (destination_element m.registers width n)
+    → value_at bus (after_copies bus m width i (n + 1)) (destination_element m.registers width n)
+    ≡ value_at bus (after_copies bus m width i n) (source_element m.registers width i n)
 element_copied bus laws m width i n words holds takes =
     let before = after_copies bus m width i n in
     let r = m.registers in
@@ -207,7 +237,9 @@ element_copied bus laws m width i n words holds takes =
     (held_after bus laws m width i n holds)
     (takes_after bus m.bus before.bus width r.es _ (fixed_after bus laws m width i n) takes)
 
-others_kept : {S : Type 0} (bus : BusMeaning S) → IsBus bus → (m : Machine S) (width : Width) (i : Instr) (n address : ℕ) → HoldsWords m.registers → IsOutside address (destination_element m.registers width n) → bus.byte_at (after_copies bus m width i (n + 1)).bus address ≡ bus.byte_at (after_copies bus m width i n).bus address
+others_kept : {S : Type 0} (bus : BusMeaning S) → IsBus bus → (m : Machine S) (width : Width) (i : Instr) (n address : ℕ)
+    → HoldsWords m.registers → IsOutside address (destination_element m.registers width n)
+    → bus.byte_at (after_copies bus m width i (n + 1)).bus address ≡ bus.byte_at (after_copies bus m width i n).bus address
 others_kept bus laws m width i n address words outside =
     ap (λ s. bus.byte_at s address) (bus_after bus m width i n words)
     ∙ others_stay bus laws (after_copies bus m width i n) width m.registers.es _ (source_element m.registers width i n) address outside

@@ -9,7 +9,8 @@ use Rattle.execute_machine.specs.Locations.{Machine}
 use Rattle.execute_machine.proofs.Kept.{Kept, kept_by_put}
 use Rattle.execute_strings.specs.StringMeaning.{after_cmps, after_iteration, after_lods, after_movs, after_scas, after_stos, after_element}
 
-kept_by_movs : {S : Type 0} (bus : BusMeaning S) (P : S → Type 0) → Kept bus P → (m : Machine S) (width : Width) (i : Instr) → P m.bus → P (after_movs bus m width i).bus
+kept_by_movs : {S : Type 0} (bus : BusMeaning S) (P : S → Type 0)
+    → Kept bus P → (m : Machine S) (width : Width) (i : Instr) → P m.bus → P (after_movs bus m width i).bus
 unfolding after_movs
 kept_by_movs bus P kept m width i holds = kept_by_put bus P kept m _ _ holds
 
@@ -21,7 +22,8 @@ kept_by_stos : {S : Type 0} (bus : BusMeaning S) (P : S → Type 0) → Kept bus
 unfolding after_stos
 kept_by_stos bus P kept m width holds = kept_by_put bus P kept m _ _ holds
 
-kept_by_lods : {S : Type 0} (bus : BusMeaning S) (P : S → Type 0) → Kept bus P → (m : Machine S) (width : Width) (i : Instr) → P m.bus → P (after_lods bus m width i).bus
+kept_by_lods : {S : Type 0} (bus : BusMeaning S) (P : S → Type 0)
+    → Kept bus P → (m : Machine S) (width : Width) (i : Instr) → P m.bus → P (after_lods bus m width i).bus
 unfolding after_lods
 kept_by_lods bus P kept m width i holds = kept_by_put bus P kept m _ _ holds
 
@@ -29,7 +31,8 @@ kept_by_scas : {S : Type 0} (bus : BusMeaning S) (P : S → Type 0) → (m : Mac
 unfolding after_scas
 kept_by_scas bus P m width holds = holds
 
-pub kept_by_element : {S : Type 0} (bus : BusMeaning S) (P : S → Type 0) → Kept bus P → (m : Machine S) (operation : Strings) (i : Instr) → P m.bus → P (after_element bus m operation i).bus
+pub kept_by_element : {S : Type 0} (bus : BusMeaning S) (P : S → Type 0)
+    → Kept bus P → (m : Machine S) (operation : Strings) (i : Instr) → P m.bus → P (after_element bus m operation i).bus
 unfolding after_element
 kept_by_element bus P kept m Movsb i holds = kept_by_movs bus P kept m Byte i holds
 kept_by_element bus P kept m Movsw i holds = kept_by_movs bus P kept m Word i holds
@@ -42,6 +45,7 @@ kept_by_element bus P kept m Lodsw i holds = kept_by_lods bus P kept m Word i ho
 kept_by_element bus P kept m Scasb i holds = kept_by_scas bus P m Byte holds
 kept_by_element bus P kept m Scasw i holds = kept_by_scas bus P m Word holds
 
-pub kept_by_iteration : {S : Type 0} (bus : BusMeaning S) (P : S → Type 0) → Kept bus P → (m : Machine S) (operation : Strings) (i : Instr) → P m.bus → P (after_iteration bus m operation i).bus
+pub kept_by_iteration : {S : Type 0} (bus : BusMeaning S) (P : S → Type 0)
+    → Kept bus P → (m : Machine S) (operation : Strings) (i : Instr) → P m.bus → P (after_iteration bus m operation i).bus
 unfolding after_iteration
 kept_by_iteration bus P kept m operation i holds = kept_by_element bus P kept m operation i holds

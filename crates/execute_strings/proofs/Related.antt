@@ -15,15 +15,21 @@ use Rattle.execute_machine.specs.Locations.{machine}
 use Rattle.execute_machine.proofs.Related.{Alike, Same, both, same_by_put, same_operand, same_value}
 use Rattle.execute_strings.specs.StringMeaning.{accumulator, after_cmps, after_element, after_iteration, after_lods, after_movs, after_scas, after_stos, destination, source, with_next_destination, with_next_source}
 
-same_by_movs : {S T : Type 0} (bus : BusMeaning S) (other : BusMeaning T) (R : S → T → Type 0) → Alike bus other R → (r : Registers) (s : S) (t : T) (width : Width) (i : Instr) → R s t → Same R (after_movs bus (machine r s) width i) (after_movs other (machine r t) width i)
+same_by_movs : {S T : Type 0} (bus : BusMeaning S) (other : BusMeaning T) (R : S → T → Type 0)
+    → Alike bus other R → (r : Registers) (s : S) (t : T) (width : Width) (i : Instr) → R s t
+    → Same R (after_movs bus (machine r s) width i) (after_movs other (machine r t) width i)
 unfolding after_movs
 same_by_movs bus other R alike r s t width i related =
-    let same = same_by_put bus other R alike (machine r s) (machine r t) (destination r width) _ _ (same_value bus other R alike r s t (source r i width) related) (record { registers = refl; bus = related }) in record {
+    let same = same_by_put bus other R alike (machine r s) (machine r t) (destination r width) _ _
+    (same_value bus other R alike r s t (source r i width) related) (record { registers = refl; bus = related }) in
+    record {
       registers = ap (λ (x : Registers). with_next_destination (with_next_source x width) width) same.registers;
       bus = same.bus;
     }
 
-same_by_cmps : {S T : Type 0} (bus : BusMeaning S) (other : BusMeaning T) (R : S → T → Type 0) → Alike bus other R → (r : Registers) (s : S) (t : T) (width : Width) (i : Instr) → R s t → Same R (after_cmps bus (machine r s) width i) (after_cmps other (machine r t) width i)
+same_by_cmps : {S T : Type 0} (bus : BusMeaning S) (other : BusMeaning T) (R : S → T → Type 0)
+    → Alike bus other R → (r : Registers) (s : S) (t : T) (width : Width) (i : Instr) → R s t
+    → Same R (after_cmps bus (machine r s) width i) (after_cmps other (machine r t) width i)
 unfolding after_cmps
 same_by_cmps bus other R alike r s t width i related = record {
   registers =
@@ -32,23 +38,31 @@ same_by_cmps bus other R alike r s t width i related = record {
   bus = related;
 }
 
-same_by_stos : {S T : Type 0} (bus : BusMeaning S) (other : BusMeaning T) (R : S → T → Type 0) → Alike bus other R → (r : Registers) (s : S) (t : T) (width : Width) → R s t → Same R (after_stos bus (machine r s) width) (after_stos other (machine r t) width)
+same_by_stos : {S T : Type 0} (bus : BusMeaning S) (other : BusMeaning T) (R : S → T → Type 0) → Alike bus other R
+    → (r : Registers) (s : S) (t : T) (width : Width) → R s t → Same R (after_stos bus (machine r s) width) (after_stos other (machine r t) width)
 unfolding after_stos
 same_by_stos bus other R alike r s t width related =
-    let same = same_by_put bus other R alike (machine r s) (machine r t) (destination r width) _ _ (same_value bus other R alike r s t (accumulator width) related) (record { registers = refl; bus = related }) in record {
+    let same = same_by_put bus other R alike (machine r s) (machine r t) (destination r width) _ _
+    (same_value bus other R alike r s t (accumulator width) related) (record { registers = refl; bus = related }) in
+    record {
       registers = ap (λ (x : Registers). with_next_destination x width) same.registers;
       bus = same.bus;
     }
 
-same_by_lods : {S T : Type 0} (bus : BusMeaning S) (other : BusMeaning T) (R : S → T → Type 0) → Alike bus other R → (r : Registers) (s : S) (t : T) (width : Width) (i : Instr) → R s t → Same R (after_lods bus (machine r s) width i) (after_lods other (machine r t) width i)
+same_by_lods : {S T : Type 0} (bus : BusMeaning S) (other : BusMeaning T) (R : S → T → Type 0)
+    → Alike bus other R → (r : Registers) (s : S) (t : T) (width : Width) (i : Instr) → R s t
+    → Same R (after_lods bus (machine r s) width i) (after_lods other (machine r t) width i)
 unfolding after_lods
 same_by_lods bus other R alike r s t width i related =
-    let same = same_by_put bus other R alike (machine r s) (machine r t) (accumulator width) _ _ (same_value bus other R alike r s t (source r i width) related) (record { registers = refl; bus = related }) in record {
+    let same = same_by_put bus other R alike (machine r s) (machine r t) (accumulator width) _ _
+    (same_value bus other R alike r s t (source r i width) related) (record { registers = refl; bus = related }) in
+    record {
       registers = ap (λ (x : Registers). with_next_source x width) same.registers;
       bus = same.bus;
     }
 
-same_by_scas : {S T : Type 0} (bus : BusMeaning S) (other : BusMeaning T) (R : S → T → Type 0) → Alike bus other R → (r : Registers) (s : S) (t : T) (width : Width) → R s t → Same R (after_scas bus (machine r s) width) (after_scas other (machine r t) width)
+same_by_scas : {S T : Type 0} (bus : BusMeaning S) (other : BusMeaning T) (R : S → T → Type 0) → Alike bus other R
+    → (r : Registers) (s : S) (t : T) (width : Width) → R s t → Same R (after_scas bus (machine r s) width) (after_scas other (machine r t) width)
 unfolding after_scas
 same_by_scas bus other R alike r s t width related = record {
   registers =
@@ -57,7 +71,9 @@ same_by_scas bus other R alike r s t width related = record {
   bus = related;
 }
 
-pub same_by_element : {S T : Type 0} (bus : BusMeaning S) (other : BusMeaning T) (R : S → T → Type 0) → Alike bus other R → (r : Registers) (s : S) (t : T) (operation : Strings) (i : Instr) → R s t → Same R (after_element bus (machine r s) operation i) (after_element other (machine r t) operation i)
+pub same_by_element : {S T : Type 0} (bus : BusMeaning S) (other : BusMeaning T) (R : S → T → Type 0)
+    → Alike bus other R → (r : Registers) (s : S) (t : T) (operation : Strings) (i : Instr) → R s t
+    → Same R (after_element bus (machine r s) operation i) (after_element other (machine r t) operation i)
 unfolding after_element
 same_by_element bus other R alike r s t Movsb i related = same_by_movs bus other R alike r s t Byte i related
 same_by_element bus other R alike r s t Movsw i related = same_by_movs bus other R alike r s t Word i related
@@ -70,7 +86,9 @@ same_by_element bus other R alike r s t Lodsw i related = same_by_lods bus other
 same_by_element bus other R alike r s t Scasb i related = same_by_scas bus other R alike r s t Byte related
 same_by_element bus other R alike r s t Scasw i related = same_by_scas bus other R alike r s t Word related
 
-pub same_by_iteration : {S T : Type 0} (bus : BusMeaning S) (other : BusMeaning T) (R : S → T → Type 0) → Alike bus other R → (r : Registers) (s : S) (t : T) (operation : Strings) (i : Instr) → R s t → Same R (after_iteration bus (machine r s) operation i) (after_iteration other (machine r t) operation i)
+pub same_by_iteration : {S T : Type 0} (bus : BusMeaning S) (other : BusMeaning T) (R : S → T → Type 0)
+    → Alike bus other R → (r : Registers) (s : S) (t : T) (operation : Strings) (i : Instr) → R s t
+    → Same R (after_iteration bus (machine r s) operation i) (after_iteration other (machine r t) operation i)
 unfolding after_iteration
 same_by_iteration bus other R alike r s t operation i related =
     let same = same_by_element bus other R alike r s t operation i related in record {

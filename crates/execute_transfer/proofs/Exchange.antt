@@ -53,7 +53,10 @@ place_stays r q i kinds.At16 is = absurd is
 place_stays r q i _ is = refl
 
 -- an instruction that exchanges these places again
-again : {S : Type 0} (bus : BusMeaning S) (m : Machine S) (i : Instr) → first_place (after_xchg bus m i).registers i ≡ first_place m.registers i → second_place (after_xchg bus m i).registers i ≡ second_place m.registers i → after_xchg bus (after_xchg bus m i) i ≡ exchanged bus (exchanged bus m (first_place m.registers i) (second_place m.registers i)) (first_place m.registers i) (second_place m.registers i)
+again : {S : Type 0} (bus : BusMeaning S) (m : Machine S) (i : Instr)
+    → first_place (after_xchg bus m i).registers i ≡ first_place m.registers i → second_place (after_xchg bus m i).registers i ≡ second_place m.registers i
+    → after_xchg bus (after_xchg bus m i) i
+    ≡ exchanged bus (exchanged bus m (first_place m.registers i) (second_place m.registers i)) (first_place m.registers i) (second_place m.registers i)
 unfolding after_xchg
 again bus m i first second =
     let once = exchanged bus m (first_place m.registers i) (second_place m.registers i) in
@@ -114,7 +117,8 @@ bytes_back : (r : Registers) (v w : ByteRegister) → HoldsWords r → swapped_b
 unfolding word_register
 bytes_back r v w holds = swapped_back r v w (holds Ax) (holds Cx) (holds Dx) (holds Bx)
 
-registers_back_at : {S : Type 0} (bus : BusMeaning S) (m : Machine S) (first second : OperandLocation) → HoldsWords m.registers → AreRegisters first second → exchanged bus (exchanged bus m first second) first second ≡ m
+registers_back_at : {S : Type 0} (bus : BusMeaning S) (m : Machine S) (first second : OperandLocation)
+    → HoldsWords m.registers → AreRegisters first second → exchanged bus (exchanged bus m first second) first second ≡ m
 unfolding with_value_at value_at
 registers_back_at bus m (Byte v) (Byte w) holds are = ap (λ r. machine r m.bus) (bytes_back m.registers v w holds)
 registers_back_at bus m (Word v) (Word w) holds are = ap (λ r. machine r m.bus) (words_back m.registers v w)
@@ -141,7 +145,8 @@ registers_exchange_back bus m i holds are =
 
 -- memory and a register
 
-byte_there_and_back : (r : Registers) (b : ByteRegister) (byte : ℕ) → HoldsWords r → with_byte_register (with_byte_register r b (byte % 256)) b (byte_register r b % 256 % 256) ≡ r
+byte_there_and_back : (r : Registers) (b : ByteRegister) (byte : ℕ) → HoldsWords r
+    → with_byte_register (with_byte_register r b (byte % 256)) b (byte_register r b % 256 % 256) ≡ r
 unfolding byte_register with_byte_register word_register
 byte_there_and_back r Al byte holds = let ax = holds Ax in ap (λ w. record r { ax = w }) (omega arith)
 byte_there_and_back r Cl byte holds = let cx = holds Cx in ap (λ w. record r { cx = w }) (omega arith)
@@ -171,7 +176,8 @@ byte_kept r b byte fits =
     ap (λ v. byte_register (with_byte_register r b v) b % 256) (cut_fits byte fits) ∙ ap (λ v. v % 256) (byte_back r b byte fits) ∙ cut_fits byte fits
 
 -- another byte at an address, and then the first one again
-byte_restored : {S : Type 0} (bus : BusMeaning S) → IsBus bus → (s : S) (place between byte address : ℕ) → bus.is_writable s place ≡ true → bus.byte_at s place ≡ byte → bus.byte_at (bus.after_write (bus.after_write s place between) place byte) address ≡ bus.byte_at s address
+byte_restored : {S : Type 0} (bus : BusMeaning S) → IsBus bus → (s : S) (place between byte address : ℕ) → bus.is_writable s place ≡ true
+    → bus.byte_at s place ≡ byte → bus.byte_at (bus.after_write (bus.after_write s place between) place byte) address ≡ bus.byte_at s address
 byte_restored bus laws s place between byte address takes was =
     let once = bus.after_write s place between in
     let P : ℕ → Type 0 = λ a. bus.byte_at (bus.after_write once place byte) a ≡ bus.byte_at s a in
@@ -181,7 +187,9 @@ byte_restored bus laws s place between byte address takes was =
     ]
 
 -- another word at an offset, and then the first one again
-word_restored : {S : Type 0} (bus : BusMeaning S) → IsBus bus → (s : S) (segment offset between word address : ℕ) → offset < 65536 → TakesWord bus s segment offset → HoldsBytes bus s → word_at bus s segment offset ≡ word → bus.byte_at (with_word_at bus (with_word_at bus s segment offset between) segment offset word) address ≡ bus.byte_at s address
+word_restored : {S : Type 0} (bus : BusMeaning S) → IsBus bus → (s : S) (segment offset between word address : ℕ)
+    → offset < 65536 → TakesWord bus s segment offset → HoldsBytes bus s → word_at bus s segment offset ≡ word
+    → bus.byte_at (with_word_at bus (with_word_at bus s segment offset between) segment offset word) address ≡ bus.byte_at s address
 word_restored bus laws s segment offset between word address fits takes holds was =
     let once = with_word_at bus s segment offset between in
     let still : TakesWord bus once segment offset = record {
@@ -199,7 +207,8 @@ word_restored bus laws s segment offset between word address fits takes holds wa
       ]
     ]
 
-memory_back_at : {S : Type 0} (bus : BusMeaning S) → IsBus bus → (m : Machine S) (first second : OperandLocation) → HoldsWords m.registers → HoldsBytes bus m.bus → IsMemoryAndRegister bus m.bus first second → IsAsBefore bus m (exchanged bus (exchanged bus m first second) first second)
+memory_back_at : {S : Type 0} (bus : BusMeaning S) → IsBus bus → (m : Machine S) (first second : OperandLocation) → HoldsWords m.registers
+    → HoldsBytes bus m.bus → IsMemoryAndRegister bus m.bus first second → IsAsBefore bus m (exchanged bus (exchanged bus m first second) first second)
 unfolding with_value_at value_at
 memory_back_at bus laws m (ByteAt segment offset) (Byte b) words bytes takes =
     let place = physical segment offset in

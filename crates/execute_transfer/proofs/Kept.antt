@@ -11,11 +11,13 @@ use Rattle.execute_machine.specs.Locations.{Machine}
 use Rattle.execute_machine.proofs.Kept.{Kept, kept_by_pop, kept_by_push, kept_by_put}
 use Rattle.execute_transfer.specs.TransferMeaning.{after_byte_input, after_in, after_lea, after_mov, after_out, after_pointer_load, after_pop_operand, after_popf, after_push_operand, after_transfer, after_word_input, after_xchg, after_xlat, is_ax, outputs_at, outputs_of, port_of}
 
-kept_by_pointer_load : {S : Type 0} (bus : BusMeaning S) (P : S → Type 0) → Kept bus P → (m : Machine S) (segment : SegmentRegister) (i : Instr) → P m.bus → P (after_pointer_load bus m segment i).bus
+kept_by_pointer_load : {S : Type 0} (bus : BusMeaning S) (P : S → Type 0)
+    → Kept bus P → (m : Machine S) (segment : SegmentRegister) (i : Instr) → P m.bus → P (after_pointer_load bus m segment i).bus
 unfolding after_pointer_load
 kept_by_pointer_load bus P kept m segment i holds = kept_by_put bus P kept _ _ _ (kept_by_put bus P kept m _ _ holds)
 
-kept_by_pop_operand : {S : Type 0} (bus : BusMeaning S) (P : S → Type 0) → Kept bus P → (m : Machine S) (i : Instr) → P m.bus → P (after_pop_operand bus m i).bus
+kept_by_pop_operand : {S : Type 0} (bus : BusMeaning S) (P : S → Type 0)
+    → Kept bus P → (m : Machine S) (i : Instr) → P m.bus → P (after_pop_operand bus m i).bus
 unfolding after_pop_operand
 kept_by_pop_operand bus P kept m i holds = kept_by_put bus P kept _ _ _ (kept_by_pop P m 2 holds)
 
@@ -23,12 +25,14 @@ kept_by_pop_operand bus P kept m i holds = kept_by_put bus P kept _ _ _ (kept_by
 abbrev pub InputsKeep : {S : Type 0} → BusMeaning S → (S → Type 0) → Type 0
 InputsKeep {S} bus P = (s : S) (port : ℕ) → P s → P (bus.after_input s port)
 
-kept_by_input : {S : Type 0} (bus : BusMeaning S) (P : S → Type 0) → InputsKeep bus P → (m : Machine S) (port : ℕ) (both : Bool) → P m.bus → P (if both then after_word_input bus m port else after_byte_input bus m port).bus
+kept_by_input : {S : Type 0} (bus : BusMeaning S) (P : S → Type 0) → InputsKeep bus P → (m : Machine S) (port : ℕ) (both : Bool) → P m.bus
+    → P (if both then after_word_input bus m port else after_byte_input bus m port).bus
 unfolding after_word_input after_byte_input
 kept_by_input bus P inputs m port true holds = inputs _ _ (inputs _ _ holds)
 kept_by_input bus P inputs m port false holds = inputs _ _ holds
 
-pub kept_by_transfer : {S : Type 0} (bus : BusMeaning S) (P : S → Type 0) → Kept bus P → InputsKeep bus P → (m : Machine S) (operation : Transfer) (i : Instr) → operation ≢ Out → P m.bus → P (after_transfer bus m operation i).bus
+pub kept_by_transfer : {S : Type 0} (bus : BusMeaning S) (P : S → Type 0) → Kept bus P → InputsKeep bus P
+    → (m : Machine S) (operation : Transfer) (i : Instr) → operation ≢ Out → P m.bus → P (after_transfer bus m operation i).bus
 unfolding after_transfer after_mov after_xchg after_lea after_push_operand after_popf after_xlat after_in
 kept_by_transfer bus P kept inputs m Mov i other holds = kept_by_put bus P kept m _ _ holds
 kept_by_transfer bus P kept inputs m Xchg i other holds = kept_by_put bus P kept _ _ _ (kept_by_put bus P kept m _ _ holds)
@@ -42,13 +46,16 @@ kept_by_transfer bus P kept inputs m Popf i other holds = kept_by_pop P m 2 hold
 kept_by_transfer bus P kept inputs m Sahf i other holds = holds
 kept_by_transfer bus P kept inputs m Lahf i other holds = holds
 kept_by_transfer bus P kept inputs m Xlat i other holds = holds
-kept_by_transfer bus P kept inputs m In i other holds = kept_by_input bus P inputs m (port_of (second_of i.form.row) m.registers.dx i.values.number) (is_ax (first_of i.form.row)) holds
+kept_by_transfer bus P kept inputs m In i other holds =
+    kept_by_input bus P inputs m (port_of (second_of i.form.row) m.registers.dx i.values.number) (is_ax (first_of i.form.row)) holds
 kept_by_transfer bus P kept inputs m Out i other holds = absurd (other refl)
 
-kept_by_outputs : {S : Type 0} (bus : BusMeaning S) (P : S → Type 0) → ((s : S) (port byte : ℕ) → P s → P (bus.after_output s port byte)) → (s : S) (port ax : ℕ) (both : Bool) → P s → P (after_port_writes bus.after_output s (outputs_at port ax both))
+kept_by_outputs : {S : Type 0} (bus : BusMeaning S) (P : S → Type 0) → ((s : S) (port byte : ℕ) → P s → P (bus.after_output s port byte))
+    → (s : S) (port ax : ℕ) (both : Bool) → P s → P (after_port_writes bus.after_output s (outputs_at port ax both))
 kept_by_outputs bus P output s port ax true holds = output _ _ _ (output _ _ _ holds)
 kept_by_outputs bus P output s port ax false holds = output _ _ _ holds
 
-pub kept_by_out : {S : Type 0} (bus : BusMeaning S) (P : S → Type 0) → ((s : S) (port byte : ℕ) → P s → P (bus.after_output s port byte)) → (m : Machine S) (i : Instr) → P m.bus → P (after_out bus m i).bus
+pub kept_by_out : {S : Type 0} (bus : BusMeaning S) (P : S → Type 0)
+    → ((s : S) (port byte : ℕ) → P s → P (bus.after_output s port byte)) → (m : Machine S) (i : Instr) → P m.bus → P (after_out bus m i).bus
 unfolding after_out outputs_of
 kept_by_out bus P output m i holds = kept_by_outputs bus P output m.bus _ _ _ holds

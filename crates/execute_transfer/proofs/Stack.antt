@@ -43,7 +43,8 @@ base_without_sp r sp Di = refl
 base_without_sp r sp Bp = refl
 base_without_sp r sp Bx = refl
 
-offset_without_sp : (r : Registers) (sp : ℕ) (place : Place) (displacement : ℕ) → place_offset (with_sp r sp) place displacement ≡ place_offset r place displacement
+offset_without_sp : (r : Registers) (sp : ℕ) (place : Place) (displacement : ℕ)
+    → place_offset (with_sp r sp) place displacement ≡ place_offset r place displacement
 unfolding place_offset
 offset_without_sp r sp (Base base) displacement = base_without_sp r sp base
 offset_without_sp r sp (BaseByte base) displacement = ap (λ o. offset_after o (sign_extended displacement)) (base_without_sp r sp base)
@@ -57,9 +58,12 @@ segment_without_sp r sp Cs = refl
 segment_without_sp r sp Ss = refl
 segment_without_sp r sp Ds = refl
 
-memory_without_sp : (at : ℕ → ℕ → OperandLocation) (r : Registers) (sp : ℕ) (i : Instr) (place : Place) → at (segment_for (with_sp r sp) i (usual_segment place)) (place_offset (with_sp r sp) place i.values.displacement) ≡ at (segment_for r i (usual_segment place)) (place_offset r place i.values.displacement)
+memory_without_sp : (at : ℕ → ℕ → OperandLocation) (r : Registers) (sp : ℕ) (i : Instr) (place : Place)
+    → at (segment_for (with_sp r sp) i (usual_segment place)) (place_offset (with_sp r sp) place i.values.displacement)
+    ≡ at (segment_for r i (usual_segment place)) (place_offset r place i.values.displacement)
 memory_without_sp at r sp i place =
-    ap (λ s. at s (place_offset (with_sp r sp) place i.values.displacement)) (segment_without_sp r sp (unwrap_or (chosen_segment i.prefixes.items) (usual_segment place)))
+    ap (λ s. at s (place_offset (with_sp r sp) place i.values.displacement))
+    (segment_without_sp r sp (unwrap_or (chosen_segment i.prefixes.items) (usual_segment place)))
     ∙ ap (λ o. at (segment_for r i (usual_segment place)) o) (offset_without_sp r sp place i.values.displacement)
 
 byte_place_without_sp : (r : Registers) (sp : ℕ) (i : Instr) (place : Place) → byte_place (with_sp r sp) i place ≡ byte_place r i place
@@ -95,16 +99,19 @@ lowered_fits sp = omega arith
 raised : (sp : ℕ) → sp < 65536 → offset_after (offset_after sp 65534) 2 ≡ sp
 raised sp fits = omega arith
 
-pushed_on_top : {S : Type 0} (bus : BusMeaning S) → IsBus bus → (m : Machine S) (word : ℕ) → TakesWord bus m.bus m.registers.ss (offset_after m.registers.sp 65534) → top_word bus (after_push bus m word) ≡ word
+pushed_on_top : {S : Type 0} (bus : BusMeaning S) → IsBus bus → (m : Machine S) (word : ℕ)
+    → TakesWord bus m.bus m.registers.ss (offset_after m.registers.sp 65534) → top_word bus (after_push bus m word) ≡ word
 unfolding top_word after_push
 pushed_on_top bus laws m word takes =
     word_reads_back bus laws m.bus m.registers.ss (offset_after m.registers.sp 65534) word (lowered_fits m.registers.sp) takes
 
-taken_off : {S : Type 0} (bus : BusMeaning S) (m : Machine S) (word : ℕ) → m.registers.sp < 65536 → after_pop (after_push bus m word) 2 ≡ machine m.registers (after_push bus m word).bus
+taken_off : {S : Type 0} (bus : BusMeaning S) (m : Machine S) (word : ℕ) → m.registers.sp < 65536
+    → after_pop (after_push bus m word) 2 ≡ machine m.registers (after_push bus m word).bus
 unfolding after_pop after_push
 taken_off bus m word fits = ap (λ sp. machine (with_sp m.registers sp) (after_push bus m word).bus) (raised m.registers.sp fits)
 
-place_after_push : {S : Type 0} (bus : BusMeaning S) (m : Machine S) (word : ℕ) (j : Instr) → first_place (after_push bus m word).registers j ≡ first_place m.registers j
+place_after_push : {S : Type 0} (bus : BusMeaning S) (m : Machine S) (word : ℕ) (j : Instr)
+    → first_place (after_push bus m word).registers j ≡ first_place m.registers j
 unfolding after_push
 place_after_push bus m word j = place_without_sp m.registers (offset_after m.registers.sp 65534) j (first_of j.form.row)
 

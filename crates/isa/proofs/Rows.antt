@@ -71,7 +71,8 @@ pub code_within : (f : Form) → IsForm f → f.row.opcode + code_number (code_p
 code_within f form =
     let room = each has_room rows f.row all_have_room form.row in
     greatest_within (code_part f.row) f.code f.row.opcode form.code
-    (ltb-true (f.row.opcode + greatest (code_part f.row)) 256 (left_true (nat_lt (f.row.opcode + greatest (code_part f.row)) 256) (has_digit (second_part f.row)) room))
+    (ltb-true (f.row.opcode + greatest (code_part f.row)) 256
+    (left_true (nat_lt (f.row.opcode + greatest (code_part f.row)) 256) (has_digit (second_part f.row)) room))
 
 digit_told : (s : Second) → has_digit s ≡ true → HasDigit s
 digit_told seconds.Absent e = tt
@@ -83,7 +84,8 @@ digit_told (seconds.Addressing reg_parts.SegmentNotCs _) e = tt
 
 pub digit_within : (r : Row) → Contains rows r → HasDigit (second_part r)
 digit_within r within =
-    digit_told (second_part r) (right_true (nat_lt (r.opcode + greatest (code_part r)) 256) (has_digit (second_part r)) (each has_room rows r all_have_room within))
+    digit_told (second_part r)
+    (right_true (nat_lt (r.opcode + greatest (code_part r)) 256) (has_digit (second_part r)) (each has_room rows r all_have_room within))
 
 -- of the rows with one opcode any two have digits, and other ones
 abbrev digits_apart : Second → Second → Bool
@@ -128,13 +130,15 @@ not_both (seconds.Addressing (reg_parts.Digit j) m) (seconds.Addressing (reg_par
     same_digit a b e h = grind (arith)
 not_both _ _ next one other is_apart = absurd (cc)
 
-one_at : (xs : List Row) (r s : Row) (i j : ℕ) → all_apart xs ≡ true → i < length xs → get_or xs i r ≡ r → j < length xs → get_or xs j s ≡ s → (apart r s ≡ true → ⊥) → (apart s r ≡ true → ⊥) → r ≡ s
+one_at : (xs : List Row) (r s : Row) (i j : ℕ) → all_apart xs ≡ true → i < length xs → get_or xs i r ≡ r
+    → j < length xs → get_or xs j s ≡ s → (apart r s ≡ true → ⊥) → (apart s r ≡ true → ⊥) → r ≡ s
 one_at [] r s i j all hi is_r hj is_s one other = absurd (omega (arith, hi))
 one_at (x ∷ xs) r s zero zero all hi is_r hj is_s one other = sym is_r ∙ is_s
 one_at (x ∷ xs) r s zero (suc j) all hi is_r hj is_s one other =
     absurd (one (subst (λ z. apart z s ≡ true) is_r (each_at (apart x) xs s j (left_true (list_all (apart x) xs) (all_apart xs) all) (omega (arith, hj)) is_s)))
 one_at (x ∷ xs) r s (suc i) zero all hi is_r hj is_s one other =
-    absurd (other (subst (λ z. apart z r ≡ true) is_s (each_at (apart x) xs r i (left_true (list_all (apart x) xs) (all_apart xs) all) (omega (arith, hi)) is_r)))
+    absurd
+    (other (subst (λ z. apart z r ≡ true) is_s (each_at (apart x) xs r i (left_true (list_all (apart x) xs) (all_apart xs) all) (omega (arith, hi)) is_r)))
 one_at (x ∷ xs) r s (suc i) (suc j) all hi is_r hj is_s one other =
     one_at xs r s i j (right_true (list_all (apart x) xs) (all_apart xs) all) (omega (arith, hi)) is_r (omega (arith, hj)) is_s one other
 
@@ -214,7 +218,8 @@ lengths b xs ys zs = simp (length-append) (omega arith)
 pub length_of : LengthIsTheForms
 unfolding encoding form_length
 length_of f v =
-    lengths (f.row.opcode + code_number (code_part f.row) f.code) (second_bytes (second_part f.row) f.reg f.place) (field_bytes (displacement_field f.place) v.displacement 0) (field_bytes (field_part f.row) v.number v.segment)
+    lengths (f.row.opcode + code_number (code_part f.row) f.code) (second_bytes (second_part f.row) f.reg f.place)
+    (field_bytes (displacement_field f.place) v.displacement 0) (field_bytes (field_part f.row) v.number v.segment)
     ∙ (let a = second_length (second_part f.row) f.reg f.place in
     let b = field_length (displacement_field f.place) v.displacement 0 in
     let c = field_length (field_part f.row) v.number v.segment in cc)
@@ -224,7 +229,8 @@ not_so : (b : Bool) → not b ≡ true → b ≡ false
 not_so true e = absurd (cc)
 not_so false e = refl
 
-find_after : (q s : Row → Bool) (k : ℕ) (xs : List Row) → list_all (λ r. not (q r)) (take k xs) ≡ true → find (λ r. q r && s r) (drop k xs) ≡ find (λ r. q r && s r) xs
+find_after : (q s : Row → Bool) (k : ℕ) (xs : List Row) → list_all (λ r. not (q r)) (take k xs) ≡ true
+    → find (λ r. q r && s r) (drop k xs) ≡ find (λ r. q r && s r) xs
 find_after q s zero xs all = refl
 find_after q s (suc k) [] all = refl
 find_after q s (suc k) (x ∷ xs) all =
@@ -239,9 +245,11 @@ within_rows opcode count e =
     from_le : (a b : ℕ) → nat_le a b ≡ true → a ≤ b
     from_le a b h = grind (arith, nat_tests)
 
-pub find_before : (opcode next count : ℕ) → is_before opcode count ≡ true → find (λ r. begins r opcode next) (drop count rows) ≡ find (λ r. begins r opcode next) rows
+pub find_before : (opcode next count : ℕ) → is_before opcode count ≡ true
+    → find (λ r. begins r opcode next) (drop count rows) ≡ find (λ r. begins r opcode next) rows
 find_before opcode next count e =
-    find_after (has_opcode opcode) (λ r. is_second (second_part r) next) count rows (right_true (nat_le count (length rows)) (list_all (λ r. not (has_opcode opcode r)) (take count rows)) e)
+    find_after (has_opcode opcode) (λ r. is_second (second_part r) next) count rows
+    (right_true (nat_le count (length rows)) (list_all (λ r. not (has_opcode opcode r)) (take count rows)) e)
 
 all_before : all_below (λ opcode. is_before opcode (get_or FIRST opcode 0)) 256 ≡ true
 unfolding rows

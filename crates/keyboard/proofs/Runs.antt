@@ -41,7 +41,8 @@ none_along : (codes : KeyboardState → Event → List ℕ) (s : KeyboardState) 
 unfolding codes_along
 none_along codes s = refl
 
-more_along : (codes : KeyboardState → Event → List ℕ) (s : KeyboardState) (e : Event) (es : List Event) → codes_along codes s (e ∷ es) ≡ codes s e ++ codes_along codes (after_event s e) es
+more_along : (codes : KeyboardState → Event → List ℕ) (s : KeyboardState) (e : Event) (es : List Event)
+    → codes_along codes s (e ∷ es) ≡ codes s e ++ codes_along codes (after_event s e) es
 unfolding codes_along
 more_along codes s e es = refl
 
@@ -53,16 +54,19 @@ after_more : (s : KeyboardState) (e : Event) (es : List Event) → after_events 
 unfolding after_events
 after_more s e es = refl
 
-pub in_order_run : (s : KeyboardState) (es : List Event) → codes_along taken_codes s es ++ held_codes (after_events s es) ≡ held_codes s ++ codes_along accepted_codes s es
+pub in_order_run : (s : KeyboardState) (es : List Event)
+    → codes_along taken_codes s es ++ held_codes (after_events s es) ≡ held_codes s ++ codes_along accepted_codes s es
 in_order_run s [] = rw (none_along taken_codes s, none_along accepted_codes s, after_none s) (sym (append-nil (held_codes s)))
 in_order_run s (e ∷ es) =
     let rest = in_order_run (after_event s e) es in
     let now = in_order_event s e in
     rw (more_along taken_codes s e es, more_along accepted_codes s e es, after_more s e es)
-    (append_assoc (taken_codes s e) _ _ ∙ ap (λ xs. taken_codes s e ++ xs) rest ∙ sym (append_assoc (taken_codes s e) _ _) ∙ ap (λ xs. xs ++ codes_along accepted_codes (after_event s e) es) now ∙ append_assoc (held_codes s) _ _)
+    (append_assoc (taken_codes s e) _ _ ∙ ap (λ xs. taken_codes s e ++ xs) rest ∙ sym (append_assoc (taken_codes s e) _ _)
+    ∙ ap (λ xs. xs ++ codes_along accepted_codes (after_event s e) es) now ∙ append_assoc (held_codes s) _ _)
 
 -- one more arrival, judged, in front of a merge
-merged_more : (s : KeyboardState) (e : Event) (all left right : List ℕ) → IsMerge all left right → IsMerge (arriving_codes s e ++ all) (accepted_codes s e ++ left) (lost_codes s e ++ right)
+merged_more : (s : KeyboardState) (e : Event) (all left right : List ℕ) → IsMerge all left right
+    → IsMerge (arriving_codes s e ++ all) (accepted_codes s e ++ left) (lost_codes s e ++ right)
 merged_more s (arrival code) all left right rest =
     elim (has_room s) as (λ room. IsMerge (code ∷ all) ((if room then code ∷ [] else []) ++ left) ((if room then [] else code ∷ []) ++ right)) [
       | true ↦ merged_left rest
@@ -75,7 +79,8 @@ unfolding codes_along
 once_run s [] = merged_none
 once_run s (e ∷ es) = merged_more s e _ _ _ (once_run (after_event s e) es)
 
-counted_run : (s : KeyboardState) (es : List Event) → s.lost < 2 ^ 64 → (after_events s es).lost ≡ min (s.lost + length (codes_along lost_codes s es)) (2 ^ 64 - 1)
+counted_run : (s : KeyboardState) (es : List Event) → s.lost < 2 ^ 64
+    → (after_events s es).lost ≡ min (s.lost + length (codes_along lost_codes s es)) (2 ^ 64 - 1)
 counted_run s [] small = rw (none_along lost_codes s, after_none s) (omega arith)
 counted_run s (e ∷ es) small =
     let now = lost_event s e small in

@@ -17,18 +17,20 @@ use Rattle.loader.specs.RunFile.{Answers, FaultAnswer, entries_of, entry_of, ent
 abbrev pub after_front : List KeyEntry → Option (List KeyEntry) → Option (List KeyEntry)
 after_front front found = option_map (λ rest. front ++ rest) found
 
-pub front_more : (front : List KeyEntry) (entry : KeyEntry) (rest : Option (List KeyEntry)) → after_front (front ++ entry ∷ []) rest ≡ after_front front (with_first (Some entry) rest)
+pub front_more : (front : List KeyEntry) (entry : KeyEntry) (rest : Option (List KeyEntry))
+    → after_front (front ++ entry ∷ []) rest ≡ after_front front (with_first (Some entry) rest)
 front_more front entry None = refl
 front_more front entry (Some others) = ap (λ all. Some all) (append_assoc front (entry ∷ []) others)
 
 pub front_whole : (front : List KeyEntry) → after_front front (Some []) ≡ Some front
 front_whole front = ap (λ all. Some all) (append-nil front)
 
-pub front_step : (front more : List KeyEntry) (entry : KeyEntry) (value : Value) (others : List Value) → more ≡ front ++ entry ∷ [] → Some entry ≡ entry_of (view value)
-    → after_front more (entries_of (items_view others)) ≡ after_front front (entries_of (items_view (value ∷ others)))
+pub front_step : (front more : List KeyEntry) (entry : KeyEntry) (value : Value) (others : List Value) → more ≡ front ++ entry ∷ []
+    → Some entry ≡ entry_of (view value) → after_front more (entries_of (items_view others)) ≡ after_front front (entries_of (items_view (value ∷ others)))
 front_step front more entry value others pushed read = rw (pushed, sym read) (front_more front entry (entries_of (items_view others)))
 
-pub front_none : (front : List KeyEntry) (value : Value) (others : List Value) → None ≡ entry_of (view value) → after_front front (entries_of (items_view (value ∷ others))) ≡ None
+pub front_none : (front : List KeyEntry) (value : Value) (others : List Value) → None ≡ entry_of (view value)
+    → after_front front (entries_of (items_view (value ∷ others))) ≡ None
 front_none front value others bad = rw (sym bad) refl
 
 pub last_pushed : (keys : List StampedKey) (key : StampedKey) → last_stamp (keys ++ key ∷ []) ≡ key.stamp
@@ -43,13 +45,13 @@ last_pushed keys key =
 abbrev pub keys_after : List StampedKey → List KeyEntry → Result (List StampedKey) RunFault
 keys_after keys rest = unless (keys_fault (last_stamp keys) rest) (keys ++ map key_of rest)
 
-pub keys_step : (keys more : List StampedKey) (entry : KeyEntry) (rest : List KeyEntry) → more ≡ keys ++ key_of entry ∷ [] → entry_fault (last_stamp keys) entry ≡ None
-    → keys_after more rest ≡ keys_after keys (entry ∷ rest)
+pub keys_step : (keys more : List StampedKey) (entry : KeyEntry) (rest : List KeyEntry)
+    → more ≡ keys ++ key_of entry ∷ [] → entry_fault (last_stamp keys) entry ≡ None → keys_after more rest ≡ keys_after keys (entry ∷ rest)
 keys_step keys more entry rest pushed taken =
     rw (pushed, taken, last_pushed keys (key_of entry), append_assoc keys (key_of entry ∷ []) (map key_of rest)) refl
 
-pub keys_refused : (keys : List StampedKey) (entry : KeyEntry) (rest entries : List KeyEntry) (fault : RunFault) → FaultAnswer fault (entry_fault (last_stamp keys) entry)
-    → keys_after keys (entry ∷ rest) ≡ keys_after [] entries → Answers (Err fault) (keys_of entries)
+pub keys_refused : (keys : List StampedKey) (entry : KeyEntry) (rest entries : List KeyEntry) (fault : RunFault)
+    → FaultAnswer fault (entry_fault (last_stamp keys) entry) → keys_after keys (entry ∷ rest) ≡ keys_after [] entries → Answers (Err fault) (keys_of entries)
 unfolding keys_of
 keys_refused keys entry rest entries Memory found same = tt
 keys_refused keys entry rest entries NotJson found same = rw found at same

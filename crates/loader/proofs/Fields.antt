@@ -12,7 +12,8 @@ use Rattle.serde_json.specs.declared.value.Value.{Value}
 use Rattle.loader.specs.declared.run_fault.RunFault.TheVariants.{BadField}
 use Rattle.loader.specs.RunFile.{are_fields, is_field_of, value_of}
 
-pub are_fields_view : (version : ℕ) (members : List (String Global × Value)) → are_fields version (members_view members) ≡ list_all (λ name. is_field_of version (string_bytes name)) (map (λ m. m.0) members)
+pub are_fields_view : (version : ℕ) (members : List (String Global × Value))
+    → are_fields version (members_view members) ≡ list_all (λ name. is_field_of version (string_bytes name)) (map (λ m. m.0) members)
 unfolding are_fields
 are_fields_view version [] = refl
 are_fields_view version (member ∷ others) = ap (λ b. is_field_of version (string_bytes member.0) && b) (are_fields_view version others)

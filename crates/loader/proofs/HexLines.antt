@@ -13,7 +13,8 @@ nothing : encode_upper [] ≡ []
 unfolding encode_with
 nothing = refl
 
-pub line_whole : (old text summed last bytes : List ℕ) (i : ℕ) → length bytes ≤ i → text ++ encode_upper (drop i bytes) ≡ old ++ (codes ":" ++ encode_upper bytes)
+pub line_whole : (old text summed last bytes : List ℕ) (i : ℕ) → length bytes ≤ i
+    → text ++ encode_upper (drop i bytes) ≡ old ++ (codes ":" ++ encode_upper bytes)
     → summed ≡ text ++ encode_upper (checksum bytes ∷ []) → last ≡ summed ++ 10 ∷ [] → last ≡ old ++ record_line bytes
 unfolding record_line
 line_whole old text summed last bytes i whole so_far sum_is last_is =

@@ -23,7 +23,8 @@ given_ok image = Ok image
 pub same_ok : (x y : List (ℕ × ℕ)) → given_ok x ≡ given_ok y → x ≡ y
 same_ok x y is = cc
 
-end_blank : (number : ℕ) (held image : List (ℕ × ℕ)) (lines : List (List ℕ)) → after_end number held lines ≡ Ok image → (filled_lines lines ≡ []) × (image ≡ held)
+end_blank : (number : ℕ) (held image : List (ℕ × ℕ)) (lines : List (List ℕ))
+    → after_end number held lines ≡ Ok image → (filled_lines lines ≡ []) × (image ≡ held)
 end_blank number held image [] is = (refl, sym (same_ok held image is))
 end_blank number held image (line ∷ lines) is = by (is_blank (without_spaces line)) is (end_blank (number + 1) held image lines)
   where
@@ -47,7 +48,8 @@ pub all_append : (xs ys : List (ℕ × ℕ)) → are_loadable (xs ++ ys) ≡ (ar
 all_append [] ys = refl
 all_append (x ∷ xs) ys = by (is_loadable x.0) (all_append xs ys)
   where
-    by : (t : Bool) → are_loadable (xs ++ ys) ≡ (are_loadable xs && are_loadable ys) → (t && are_loadable (xs ++ ys)) ≡ ((t && are_loadable xs) && are_loadable ys)
+    by : (t : Bool) → are_loadable (xs ++ ys) ≡ (are_loadable xs && are_loadable ys)
+        → (t && are_loadable (xs ++ ys)) ≡ ((t && are_loadable xs) && are_loadable ys)
     by true same = same
     by false same = refl
 
@@ -58,10 +60,12 @@ put_append held (x ∷ xs) ys = put_append (with_bytes held (x ∷ [])) xs ys
 -- what comes of a line that isn't blank
 abbrev goes_on : ℕ → Extension → List (ℕ × ℕ) → List (List ℕ) → Result HexRecord RecordFault → Result (List (ℕ × ℕ)) HexFault
 goes_on number extension held lines r =
-    in_line (number + 1) (r >>= after_record extension held) (λ s. at_extension s.extension (after_end (number + 1) s.image lines) (λ next. image_after (number + 1) next s.image lines))
+    in_line (number + 1) (r >>= after_record extension held)
+    (λ s. at_extension s.extension (after_end (number + 1) s.image lines) (λ next. image_after (number + 1) next s.image lines))
 
 abbrev ends_with : ℕ → Extension → List (ℕ × ℕ) → List (List ℕ) → List ℕ → Bool → Result (List (ℕ × ℕ)) HexFault
-ends_with number extension held lines line blank = if blank then image_after (number + 1) extension held lines else goes_on number extension held lines (record_of line)
+ends_with number extension held lines line blank =
+    if blank then image_after (number + 1) extension held lines else goes_on number extension held lines (record_of line)
 
 image_by : (number : ℕ) (extension : Extension) (held : List (ℕ × ℕ)) (line : List ℕ) (lines : List (List ℕ))
     → image_after number extension held (line ∷ lines) ≡ ends_with number extension held lines (without_spaces line) (is_blank (without_spaces line))
@@ -69,7 +73,8 @@ unfolding after_line
 image_by number extension held line lines = by (is_blank (without_spaces line)) (without_spaces line)
   where
     by : (blank : Bool) (l : List ℕ)
-        → in_line (number + 1) (if blank then Ok (load_state (Some extension) held) else (record_of l >>= after_record extension held)) (λ s. at_extension s.extension (after_end (number + 1) s.image lines) (λ next. image_after (number + 1) next s.image lines))
+        → in_line (number + 1) (if blank then Ok (load_state (Some extension) held) else (record_of l >>= after_record extension held))
+        (λ s. at_extension s.extension (after_end (number + 1) s.image lines) (λ next. image_after (number + 1) next s.image lines))
         ≡ ends_with number extension held lines l blank
     by true l = refl
     by false l = refl
@@ -79,26 +84,37 @@ filled_by line lines blank = if not blank then line ∷ lines else lines
 
 abbrev GivesBy : Extension → List (ℕ × ℕ) → List (List ℕ) → List (ℕ × ℕ) → List HexRecord → Type 0
 GivesBy extension held said image records =
-    (map record_of said ≡ map Ok (records ++ end_of_file ∷ [])) × AllByRecursion (λ r. is_end r ≡ false) records × (are_loadable (bytes_of extension records) ≡ true) × (image ≡ with_bytes held (bytes_of extension records))
+    (map record_of said ≡ map Ok (records ++ end_of_file ∷ [])) × AllByRecursion (λ r. is_end r ≡ false) records
+    × (are_loadable (bytes_of extension records) ≡ true) × (image ≡ with_bytes held (bytes_of extension records))
 
 abbrev SomeGive : Extension → List (ℕ × ℕ) → List (List ℕ) → List (ℕ × ℕ) → Type 0
 SomeGive extension held said image = (records : List HexRecord) × GivesBy extension held said image records
 
 -- ---- what is read has its records
 
-record_given : (number : ℕ) (extension : Extension) (held image : List (ℕ × ℕ)) (line : List ℕ) (lines : List (List ℕ)) (r : Result HexRecord RecordFault) → record_of line ≡ r
-    → goes_on number extension held lines r ≡ Ok image
+record_given : (number : ℕ) (extension : Extension) (held image : List (ℕ × ℕ)) (line : List ℕ) (lines : List (List ℕ)) (r : Result HexRecord RecordFault)
+    → record_of line ≡ r → goes_on number extension held lines r ≡ Ok image
     → ((b : Extension) (h : List (ℕ × ℕ)) → image_after (number + 1) b h lines ≡ Ok image → SomeGive b h (filled_lines lines) image)
     → SomeGive extension held (line ∷ filled_lines lines) image
 record_given number extension held image line lines (Err fault) read is more = cc
-record_given number extension held image line lines (Ok (bytes_at offset content)) read is more = by (are_loadable (placed_bytes extension offset content)) refl is
+record_given number extension held image line lines (Ok (bytes_at offset content)) read is more =
+    by (are_loadable (placed_bytes extension offset content)) refl is
   where
     by : (t : Bool) → are_loadable (placed_bytes extension offset content) ≡ t
-        → in_line (number + 1) (if t then Ok (load_state (Some extension) (with_bytes held (placed_bytes extension offset content))) else Err NotLoadable) (λ s. at_extension s.extension (after_end (number + 1) s.image lines) (λ next. image_after (number + 1) next s.image lines)) ≡ Ok image
+        → in_line (number + 1) (if t then Ok (load_state (Some extension) (with_bytes held (placed_bytes extension offset content))) else Err NotLoadable)
+        (λ s. at_extension s.extension (after_end (number + 1) s.image lines) (λ next. image_after (number + 1) next s.image lines))
+        ≡ Ok image
         → SomeGive extension held (line ∷ filled_lines lines) image
     by true load given =
-        let m = more extension (with_bytes held (placed_bytes extension offset content)) given in
-        (bytes_at offset content ∷ m.0, (rw (read, m.1.0) refl, (refl, m.1.1), rw (all_append (placed_bytes extension offset content) (bytes_of extension m.0), load) m.1.2, m.1.3 ∙ sym (put_append held (placed_bytes extension offset content) (bytes_of extension m.0))))
+        let m = more extension (with_bytes held (placed_bytes extension offset content)) given in (
+          bytes_at offset content ∷ m.0,
+          (
+            rw (read, m.1.0) refl,
+            (refl, m.1.1),
+            rw (all_append (placed_bytes extension offset content) (bytes_of extension m.0), load) m.1.2,
+            m.1.3 ∙ sym (put_append held (placed_bytes extension offset content) (bytes_of extension m.0)),
+          ),
+        )
     by false load given = cc
 record_given number extension held image line lines (Ok end_of_file) read is more =
     let e = end_blank (number + 1) held image lines is in
@@ -115,7 +131,8 @@ line_given : (number : ℕ) (extension : Extension) (held image : List (ℕ × �
 line_given number extension held image line lines true is more = more extension held is
 line_given number extension held image line lines false is more = record_given number extension held image line lines (record_of line) refl is more
 
-given : (number : ℕ) (extension : Extension) (held image : List (ℕ × ℕ)) (lines : List (List ℕ)) → image_after number extension held lines ≡ Ok image → SomeGive extension held (filled_lines lines) image
+given : (number : ℕ) (extension : Extension) (held image : List (ℕ × ℕ)) (lines : List (List ℕ))
+    → image_after number extension held lines ≡ Ok image → SomeGive extension held (filled_lines lines) image
 given number extension held image [] is = cc
 given number extension held image (line ∷ lines) is =
     line_given number extension held image (without_spaces line) lines (is_blank (without_spaces line)) (sym (image_by number extension held line lines) ∙ is)
@@ -169,7 +186,8 @@ no_lines : (records : List HexRecord) → [] ≡ map {B = Result HexRecord Recor
 no_lines [] is = cc
 no_lines (r ∷ rs) is = cc
 
-reads : (number : ℕ) (extension : Extension) (held image : List (ℕ × ℕ)) (lines : List (List ℕ)) → SomeGive extension held (filled_lines lines) image → image_after number extension held lines ≡ Ok image
+reads : (number : ℕ) (extension : Extension) (held image : List (ℕ × ℕ)) (lines : List (List ℕ))
+    → SomeGive extension held (filled_lines lines) image → image_after number extension held lines ≡ Ok image
 reads number extension held image [] g = absurd (no_lines g.0 g.1.0)
 reads number extension held image (line ∷ lines) g =
     image_by number extension held line lines

@@ -116,8 +116,8 @@ no_more_runs es a last none = record { runs = []; text = ap (hex_lines last 0) n
 abbrev FromEach : List (ℕ × ℕ) → ℕ → Type 0
 FromEach es k = (a : ℕ) (last : Option ℕ) → 0x100000 ≤ a + k → AreRuns es a last
 
-runs_by : (es : List (ℕ × ℕ)) (k a : ℕ) (last found : Option ℕ) → IsStrictlySortedBy nat_cmp (keys_of es) → image_byte es a ≡ found → 0x100000 ≤ a + suc k → FromEach es k
-    → AreRuns es a last
+runs_by : (es : List (ℕ × ℕ)) (k a : ℕ) (last found : Option ℕ)
+    → IsStrictlySortedBy nat_cmp (keys_of es) → image_byte es a ≡ found → 0x100000 ≤ a + suc k → FromEach es k → AreRuns es a last
 runs_by es k a last None sorted at reaches more = no_run_here es a last at (more (a + 1) last (omega (arith, reaches)))
 runs_by es k a last (Some b) sorted at reaches more =
     let some = some_row a b es sorted at in

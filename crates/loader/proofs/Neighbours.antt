@@ -24,7 +24,9 @@ said records = map Ok records
 -- ---- what the lines say
 
 filled_append : (xs ys : List (List ℕ)) → filled_lines (xs ++ ys) ≡ filled_lines xs ++ filled_lines ys
-filled_append xs ys = ap (filter (λ line. not (is_blank line))) (map-append without_spaces xs ys) ∙ filter-append (λ line. not (is_blank line)) (map without_spaces xs) (map without_spaces ys)
+filled_append xs ys =
+    ap (filter (λ line. not (is_blank line))) (map-append without_spaces xs ys)
+    ∙ filter-append (λ line. not (is_blank line)) (map without_spaces xs) (map without_spaces ys)
 
 not_blank : (line : List ℕ) (r : HexRecord) (rest : List (List ℕ)) → record_of line ≡ Ok r → (if not (is_blank line) then line ∷ rest else rest) ≡ line ∷ rest
 unfolding record_of
@@ -36,7 +38,8 @@ not_blank (b ∷ bs) r rest is =
 both_say : (one two : List ℕ) (x y : HexRecord) (after : List (List ℕ)) → record_of (without_spaces one) ≡ Ok x → record_of (without_spaces two) ≡ Ok y
     → map record_of (filled_lines (one ∷ two ∷ after)) ≡ Ok x ∷ Ok y ∷ map record_of (filled_lines after)
 both_say one two x y after is_x is_y =
-    ap (map record_of) (not_blank (without_spaces one) x (filled_lines (two ∷ after)) is_x ∙ ap (λ r. without_spaces one ∷ r) (not_blank (without_spaces two) y (filled_lines after) is_y))
+    ap (map record_of) (not_blank (without_spaces one) x (filled_lines (two ∷ after)) is_x
+    ∙ ap (λ r. without_spaces one ∷ r) (not_blank (without_spaces two) y (filled_lines after) is_y))
     ∙ ap₂ (λ a b. a ∷ b ∷ map record_of (filled_lines after)) is_x is_y
 
 all_say : (before after : List (List ℕ)) (one two : List ℕ) (records : List HexRecord) (x y : HexRecord) → map record_of (filled_lines before) ≡ said records
@@ -80,7 +83,8 @@ split (r ∷ rs) (s ∷ ss) m n xs ys rest is =
 
 -- ---- the other text
 
-ends_swap : (P : HexRecord → Type 0) (records others : List HexRecord) (x y : HexRecord) → AllByRecursion P (records ++ x ∷ y ∷ others) → AllByRecursion P (records ++ y ∷ x ∷ others)
+ends_swap : (P : HexRecord → Type 0) (records others : List HexRecord) (x y : HexRecord)
+    → AllByRecursion P (records ++ x ∷ y ∷ others) → AllByRecursion P (records ++ y ∷ x ∷ others)
 ends_swap P [] others x y all = (all.1.0, (all.0, all.1.1))
 ends_swap P (r ∷ rs) others x y all = (all.0, ends_swap P rs others x y all.1)
 
@@ -94,21 +98,24 @@ three : (xs ys zs : List (ℕ × ℕ)) → are_loadable (xs ++ (ys ++ zs)) ≡ (
 three xs ys zs = all_append xs (ys ++ zs) ∙ ap (λ t. are_loadable xs && t) (all_append ys zs)
 
 load_swap : (extension : Extension) (records others : List HexRecord) (m n : ℕ) (xs ys : List ℕ)
-    → are_loadable (bytes_of extension (records ++ bytes_at m xs ∷ bytes_at n ys ∷ others)) ≡ are_loadable (bytes_of extension (records ++ bytes_at n ys ∷ bytes_at m xs ∷ others))
+    → are_loadable (bytes_of extension (records ++ bytes_at m xs ∷ bytes_at n ys ∷ others))
+    ≡ are_loadable (bytes_of extension (records ++ bytes_at n ys ∷ bytes_at m xs ∷ others))
 load_swap e [] others m n xs ys =
     let one = placed_bytes e m xs in
     let two = placed_bytes e n ys in
     let rest = bytes_of e others in
     three one two rest ∙ turned (are_loadable one) (are_loadable two) (are_loadable rest) ∙ sym (three two one rest)
 load_swap e (bytes_at o c ∷ rs) others m n xs ys =
-    all_append (placed_bytes e o c) _ ∙ ap (λ t. are_loadable (placed_bytes e o c) && t) (load_swap e rs others m n xs ys) ∙ sym (all_append (placed_bytes e o c) _)
+    all_append (placed_bytes e o c) _ ∙ ap (λ t. are_loadable (placed_bytes e o c) && t) (load_swap e rs others m n xs ys)
+    ∙ sym (all_append (placed_bytes e o c) _)
 load_swap e (end_of_file ∷ rs) others m n xs ys = load_swap e rs others m n xs ys
 load_swap e (extension_at next ∷ rs) others m n xs ys = load_swap next rs others m n xs ys
 load_swap e (start_at ∷ rs) others m n xs ys = load_swap e rs others m n xs ys
 
 byte_swap : (records others : List HexRecord) (m n : ℕ) (xs ys : List ℕ)
     → AreApart (placed_bytes (extension_after (Segment 0) records) m xs) (placed_bytes (extension_after (Segment 0) records) n ys)
-    → (address : ℕ) → last_byte (bytes_of (Segment 0) (records ++ bytes_at m xs ∷ bytes_at n ys ∷ others)) address ≡ last_byte (bytes_of (Segment 0) (records ++ bytes_at n ys ∷ bytes_at m xs ∷ others)) address
+    → (address : ℕ) → last_byte (bytes_of (Segment 0) (records ++ bytes_at m xs ∷ bytes_at n ys ∷ others)) address
+    ≡ last_byte (bytes_of (Segment 0) (records ++ bytes_at n ys ∷ bytes_at m xs ∷ others)) address
 byte_swap records others m n xs ys apart address =
     sym (put_byte (bytes_of (Segment 0) (records ++ bytes_at m xs ∷ bytes_at n ys ∷ others)) address)
     ∙ ap (λ image. image_byte image address) (records_change_places (Segment 0) [] records others m n xs ys apart)
@@ -132,6 +139,7 @@ lines_change_places text other before after one two records m n xs ys is_text is
             ∙ ap (λ rest. said records ++ Ok y ∷ Ok x ∷ rest) found.2 ∙ turned_lines;
         one_end = ends_swap (λ r. is_end r ≡ false) records others x y (subst (AllByRecursion (λ r. is_end r ≡ false)) found.1 made.one_end);
         loadable = sym (load_swap (Segment 0) records others m n xs ys) ∙ ap (λ rs. are_loadable (bytes_of (Segment 0) rs)) (sym found.1) ∙ made.loadable;
-        bytes = λ address. made.bytes address ∙ ap (λ rs. last_byte (bytes_of (Segment 0) rs) address) found.1 ∙ byte_swap records others m n xs ys apart address;
+        bytes = λ address.
+            made.bytes address ∙ ap (λ rs. last_byte (bytes_of (Segment 0) rs) address) found.1 ∙ byte_swap records others m n xs ys apart address;
       },
     )

@@ -56,7 +56,8 @@ either es k v l w differ = elim (cases_lt k l) [
   ]
 ]
 
-one_past : (held : List (ℕ × ℕ)) (x : ℕ × ℕ) (ys : List (ℕ × ℕ)) → AllByRecursion (λ y. x.0 ≢ y.0) ys → with_bytes (put held x.0 x.1) ys ≡ put (with_bytes held ys) x.0 x.1
+one_past : (held : List (ℕ × ℕ)) (x : ℕ × ℕ) (ys : List (ℕ × ℕ)) → AllByRecursion (λ y. x.0 ≢ y.0) ys
+    → with_bytes (put held x.0 x.1) ys ≡ put (with_bytes held ys) x.0 x.1
 one_past held x [] apart = refl
 one_past held x (y ∷ ys) apart = ap (λ r. with_bytes r ys) (either held x.0 x.1 y.0 y.1 apart.0) ∙ one_past (put held y.0 y.1) x ys apart.1
 
@@ -75,7 +76,8 @@ records_change_places extension held [] after m n one two apart =
     let rest = bytes_of extension after in
     both_put held xs ys rest ∙ ap (λ h. with_bytes h rest) (bytes_change_places held xs ys apart) ∙ sym (both_put held ys xs rest)
 records_change_places extension held (bytes_at o c ∷ rs) after m n one two apart =
-    put_append held (placed_bytes extension o c) _ ∙ records_change_places extension (with_bytes held (placed_bytes extension o c)) rs after m n one two apart ∙ sym (put_append held (placed_bytes extension o c) _)
+    put_append held (placed_bytes extension o c) _ ∙ records_change_places extension (with_bytes held (placed_bytes extension o c)) rs after m n one two apart
+    ∙ sym (put_append held (placed_bytes extension o c) _)
 records_change_places extension held (end_of_file ∷ rs) after m n one two apart = records_change_places extension held rs after m n one two apart
 records_change_places extension held (extension_at next ∷ rs) after m n one two apart = records_change_places next held rs after m n one two apart
 records_change_places extension held (start_at ∷ rs) after m n one two apart = records_change_places extension held rs after m n one two apart

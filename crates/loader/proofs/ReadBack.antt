@@ -61,8 +61,10 @@ encoded_plain : (bs : List ℕ) → Fit bs → Plain (encode_upper bs)
 unfolding encode_with
 encoded_plain [] fit = tt
 encoded_plain (b ∷ bs) fit =
-    let in_range : b < 256 = fit.0 in
-    (digit_plain _ (b / 16) (IsDigits-upper_digits (b / 16) (omega arith)), (digit_plain _ (b % 16) (IsDigits-upper_digits (b % 16) (omega arith)), encoded_plain bs fit.1))
+    let in_range : b < 256 = fit.0 in (
+      digit_plain _ (b / 16) (IsDigits-upper_digits (b / 16) (omega arith)),
+      (digit_plain _ (b % 16) (IsDigits-upper_digits (b % 16) (omega arith)), encoded_plain bs fit.1),
+    )
 
 encoded_together : (xs ys : List ℕ) → encode_upper xs ++ encode_upper ys ≡ encode_upper (xs ++ ys)
 unfolding encode_with
@@ -124,10 +126,12 @@ data_in address row =
     rw (eq_yes _ 0 (adds_up (data_of address row)), take_front row (checksum (data_of address row) ∷ [])) (ap (λ o. Ok (bytes_at o row)) same)
 
 one_line : (number : ℕ) (extension next : Extension) (held found : List (ℕ × ℕ)) (line : List ℕ) (lines : List (List ℕ)) → without_spaces line ≡ line
-    → after_line extension held line ≡ Ok (load_state (Some next) found) → image_after number extension held (line ∷ lines) ≡ image_after (number + 1) next found lines
+    → after_line extension held line ≡ Ok (load_state (Some next) found)
+    → image_after number extension held (line ∷ lines) ≡ image_after (number + 1) next found lines
 one_line number extension next held found line lines plain after = rw (plain, after) refl
 
-not_blank : (extension : Extension) (held : List (ℕ × ℕ)) (b : ℕ) (bs : List ℕ) → after_line extension held (b ∷ bs) ≡ (record_of (b ∷ bs) >>= after_record extension held)
+not_blank : (extension : Extension) (held : List (ℕ × ℕ)) (b : ℕ) (bs : List ℕ)
+    → after_line extension held (b ∷ bs) ≡ (record_of (b ∷ bs) >>= after_record extension held)
 unfolding after_line
 not_blank extension held b bs = rw (eq_not (suc (length bs)) 0 (omega arith)) refl
 
@@ -139,7 +143,8 @@ record_read number extension next held found bytes rest said fit size is after =
     let line = 58 ∷ encode_upper (summed bytes) in
     let plain : Plain line = (omega arith, encoded_plain (summed bytes) (fit_summed bytes fit)) in
     let read : record_of line ≡ Ok said = read_record bytes fit size ∙ is in
-    let said_after : (record_of line >>= after_record extension held) ≡ Ok (load_state (Some next) found) = ap (λ r. r >>= after_record extension held) read ∙ after in
+    let said_after : (record_of line >>= after_record extension held) ≡ Ok (load_state (Some next) found) =
+    ap (λ r. r >>= after_record extension held) read ∙ after in
     let line_after = not_blank extension held 58 (encode_upper (summed bytes)) ∙ said_after in
     ap (λ t. image_after number extension held (text_lines t)) (as_line bytes rest) ∙ ap (image_after number extension held) (first_line line rest plain)
     ∙ one_line number extension next held found line (text_lines rest) (no_spaces line plain) line_after
@@ -193,7 +198,9 @@ go_on n held (e ∷ es) left under rises =
 
 -- a run's bytes are the first of the image, at their own addresses
 abbrev Placed : ℕ → ℕ → List (ℕ × ℕ) → List ℕ → Type 0
-Placed bank offset es row = (taken : List (ℕ × ℕ)) × ((left : List (ℕ × ℕ)) × ((es ≡ taken ++ left) × (placed_bytes (Segment (4096 * bank)) offset row ≡ taken) × (length row ≡ length taken)))
+Placed bank offset es row =
+    (taken : List (ℕ × ℕ))
+    × ((left : List (ℕ × ℕ)) × ((es ≡ taken ++ left) × (placed_bytes (Segment (4096 * bank)) offset row ≡ taken) × (length row ≡ length taken)))
 
 address_is : (bank a offset : ℕ) → a ≡ 65536 * bank + offset → offset < 65536 → bank < 16 → address_in (Segment (4096 * bank)) offset ≡ a
 address_is bank a offset is small few = omega arith
@@ -201,8 +208,17 @@ address_is bank a offset is small few = omega arith
 placed_more : (bank a offset : ℕ) (e : ℕ × ℕ) (es : List (ℕ × ℕ)) (row : List ℕ) → a ≡ 65536 * bank + offset → offset < 65536 → bank < 16 → e.0 ≡ a
     → Placed bank (offset + 1) es row → Placed bank offset (e ∷ es) (e.1 ∷ row)
 placed_more bank a offset e es row is small few here more =
-    let at : address_in (Segment (4096 * bank)) offset ≡ e.0 = address_is bank a offset is small few ∙ sym here in
-    (e ∷ more.0, (more.1.0, (ap (λ r. e ∷ r) more.1.1.0, ap (λ x. (x, e.1) ∷ placed_bytes (Segment (4096 * bank)) (offset + 1) row) at ∙ ap (λ r. e ∷ r) more.1.1.1, ap suc more.1.1.2)))
+    let at : address_in (Segment (4096 * bank)) offset ≡ e.0 = address_is bank a offset is small few ∙ sym here in (
+      e ∷ more.0,
+      (
+        more.1.0,
+        (
+          ap (λ r. e ∷ r) more.1.1.0,
+          ap (λ x. (x, e.1) ∷ placed_bytes (Segment (4096 * bank)) (offset + 1) row) at ∙ ap (λ r. e ∷ r) more.1.1.1,
+          ap suc more.1.1.2,
+        ),
+      ),
+    )
 
 differs : (a b : ℕ) → (a ≡ b → ⊥) → (a == b) ≡ false
 differs a b not_same = grind (arith, nat_tests)
@@ -216,7 +232,8 @@ run_placed (suc n) bank a offset (e ∷ es) is small few = elim (cases_eq e.0 a)
     | inr more ↦
         let next : a + 1 ≡ 65536 * bank + (offset + 1) = omega arith in
         let below : offset + 1 < 65536 = omega arith in
-        rw (eq_yes e.0 a here, differs ((a + 1) % 65536) 0 more) (placed_more bank a offset e es (longest_run es (a + 1) n) is small few here (run_placed n bank (a + 1) (offset + 1) es next below few))
+        rw (eq_yes e.0 a here, differs ((a + 1) % 65536) 0 more)
+        (placed_more bank a offset e es (longest_run es (a + 1) n) is small few here (run_placed n bank (a + 1) (offset + 1) es next below few))
   ]
   | inr elsewhere ↦ rw (differs e.0 a elsewhere) ([], (e ∷ es, (refl, refl, refl)))
 ]
@@ -253,7 +270,8 @@ Follows (Some bank) extension = extension ≡ Segment (4096 * bank)
 
 -- the extension of a bank is in force after the bank's line, or if it was in force before
 bank_read : (number bank : ℕ) (extension : Extension) (held : List (ℕ × ℕ)) (last : Option ℕ) (rest : List ℕ) → bank < 16 → Follows last extension
-    → (next : ℕ) × (image_after number extension held (text_lines ((if is_bank last bank then [] else bank_line bank) ++ rest)) ≡ image_after next (Segment (4096 * bank)) held (text_lines rest))
+    → (next : ℕ) × (image_after number extension held (text_lines ((if is_bank last bank then [] else bank_line bank) ++ rest))
+    ≡ image_after next (Segment (4096 * bank)) held (text_lines rest))
 bank_read number bank extension held last rest few follows = by last follows
   where
     said : image_after number extension held (text_lines (bank_line bank ++ rest)) ≡ image_after (number + 1) (Segment (4096 * bank)) held (text_lines rest)
@@ -261,7 +279,8 @@ bank_read number bank extension held last rest few follows = by last follows
         (omega arith, (omega arith, (omega arith, (omega arith, (omega arith, (omega arith, tt)))))) refl (bank_in bank) refl
 
     by : (o : Option ℕ) → Follows o extension
-        → (next : ℕ) × (image_after number extension held (text_lines ((if is_bank o bank then [] else bank_line bank) ++ rest)) ≡ image_after next (Segment (4096 * bank)) held (text_lines rest))
+        → (next : ℕ) × (image_after number extension held (text_lines ((if is_bank o bank then [] else bank_line bank) ++ rest))
+        ≡ image_after next (Segment (4096 * bank)) held (text_lines rest))
     by None f = (number + 1, said)
     by (Some l) f = elim (cases_eq l bank) [
       | inl same ↦ rw (eq_yes l bank same) (number, ap (λ b. image_after number b held (text_lines rest)) (f ∙ ap (λ b. Segment (4096 * b)) same))
@@ -270,10 +289,12 @@ bank_read number bank extension held last rest few follows = by last follows
 
 row_read : (number address : ℕ) (extension : Extension) (held taken : List (ℕ × ℕ)) (row rest : List ℕ) → Fit row → length row < 256
     → placed_bytes extension (address % 65536) row ≡ taken → are_loadable taken ≡ true
-    → image_after number extension held (text_lines (data_line address row ++ rest)) ≡ image_after (number + 1) extension (with_bytes held taken) (text_lines rest)
+    → image_after number extension held (text_lines (data_line address row ++ rest))
+    ≡ image_after (number + 1) extension (with_bytes held taken) (text_lines rest)
 row_read number address extension held taken row rest fit small are load =
     record_read number extension extension held (with_bytes held taken) (data_of address row) rest (bytes_at (address % 65536) row)
-    (small, (omega arith, (omega arith, (omega arith, fit)))) (eq_yes _ _ (record_of_size row (checksum (data_of address row)))) (data_in address row) (rw (are, load) refl)
+    (small, (omega arith, (omega arith, (omega arith, fit))))
+    (eq_yes _ _ (record_of_size row (checksum (data_of address row)))) (data_in address row) (rw (are, load) refl)
   where
     record_of_size : (xs : List ℕ) (b : ℕ) → suc (suc (suc (suc (length (xs ++ b ∷ []))))) ≡ length xs + 5
     record_of_size [] b = refl
@@ -284,7 +305,8 @@ run_some e es = rw (run_at 15 e.0 e.1 (e ∷ es) es refl) (omega arith)
 
 -- the lines of a row, and then those of the bytes after it
 row_split : (last : Option ℕ) (e : ℕ × ℕ) (es taken left : List (ℕ × ℕ)) → e ∷ es ≡ taken ++ left → length (longest_run (e ∷ es) e.0 16) ≡ length taken
-    → hex_lines last 0 (e ∷ es) ≡ (if is_bank last (e.0 / 65536) then [] else bank_line (e.0 / 65536)) ++ (data_line e.0 (longest_run (e ∷ es) e.0 16) ++ hex_lines (Some (e.0 / 65536)) 0 left)
+    → hex_lines last 0 (e ∷ es) ≡ (if is_bank last (e.0 / 65536) then [] else bank_line (e.0 / 65536))
+    ++ (data_line e.0 (longest_run (e ∷ es) e.0 16) ++ hex_lines (Some (e.0 / 65536)) 0 left)
 row_split last e es taken left is size =
     let row = longest_run (e ∷ es) e.0 16 in
     let bank : Option ℕ = Some (e.0 / 65536) in
@@ -301,8 +323,8 @@ shorter all taken left is = ap length is ∙ added taken
     added [] = omega arith
     added (x ∷ xs) = let more = added xs in omega (arith, more)
 
-rest_read : (fuel : ℕ) (rest : List (ℕ × ℕ)) (number n : ℕ) (extension : Extension) (held : List (ℕ × ℕ)) (last : Option ℕ) → length rest ≤ fuel → Follows last extension
-    → Under n held → Rises n rest → image_after number extension held (text_lines (hex_lines last 0 rest)) ≡ Ok (held ++ rest)
+rest_read : (fuel : ℕ) (rest : List (ℕ × ℕ)) (number n : ℕ) (extension : Extension) (held : List (ℕ × ℕ)) (last : Option ℕ) → length rest ≤ fuel
+    → Follows last extension → Under n held → Rises n rest → image_after number extension held (text_lines (hex_lines last 0 rest)) ≡ Ok (held ++ rest)
 rest_read fuel [] number n extension held last enough follows under rises = ends number extension held ∙ ap Ok (sym (append-nil held))
 rest_read zero (e ∷ es) number n extension held last enough follows under rises = absurd (omega arith)
 rest_read (suc fuel) (e ∷ es) number n extension held last enough follows under rises =
@@ -338,7 +360,8 @@ below_end a (inl low) = omega arith
 below_end a (inr rom) = omega arith
 
 -- what an image is, said from its first byte on
-rises_from : (n : ℕ) (es : List (ℕ × ℕ)) → AllByRecursion (λ k. n ≤ k) (keys_of es) → IsStrictlySortedBy nat_cmp (keys_of es) → AllByRecursion IsLoadable (keys_of es) → AllByRecursion (λ byte. byte < 256) (values_of es) → Rises n es
+rises_from : (n : ℕ) (es : List (ℕ × ℕ)) → AllByRecursion (λ k. n ≤ k) (keys_of es) → IsStrictlySortedBy nat_cmp (keys_of es)
+    → AllByRecursion IsLoadable (keys_of es) → AllByRecursion (λ byte. byte < 256) (values_of es) → Rises n es
 unfolding IsStrictlySortedBy
 rises_from n [] low sorted load bytes = tt
 rises_from n (e ∷ es) low sorted load bytes =

@@ -10,7 +10,8 @@ use Rattle.loader.specs.RunFile.{run_of, run_of_text, value_of, has_only_fields,
 
 -- what a row unfolds
 unfoldable on_texts : ⊤
-unfolding serde_json_on_literals chars is_utf8 run_of_text run_of value_of has_only_fields are_fields is_field is_field_of text_of timer_of clocks_of number_of number_within entry_of entries_in keys_of
+unfolding serde_json_on_literals chars is_utf8 run_of_text run_of value_of has_only_fields are_fields
+    is_field is_field_of text_of timer_of clocks_of number_of number_within entry_of entries_in keys_of
 on_texts = tt
 
 -- the run file of examples/hello.json
@@ -44,7 +45,15 @@ no_number = refl
 
 -- keys, the last of which comes at the last clock
 keys : run_of_text (codes "{\"version\":1,\"ram\":64,\"sw1\":0,\"sw2\":0,\"budget\":100,\"keys\":[[0,1],[0,211],[1099511627776,83]]}")
-    ≡ Ok (record { ram_kb = 64; sw1 = 0; sw2 = 0; timer = I8253; clocks = C1; budget = 100; keys = (record { stamp = 0; code = 1 }) ∷ (record { stamp = 0; code = 211 }) ∷ (record { stamp = 1099511627776; code = 83 }) ∷ [] })
+    ≡ Ok (record {
+      ram_kb = 64;
+      sw1 = 0;
+      sw2 = 0;
+      timer = I8253;
+      clocks = C1;
+      budget = 100;
+      keys = (record { stamp = 0; code = 1 }) ∷ (record { stamp = 0; code = 211 }) ∷ (record { stamp = 1099511627776; code = 83 }) ∷ [];
+    })
 unfolding on_texts
 keys = refl
 
@@ -97,11 +106,14 @@ unfolding on_texts
 third = refl
 
 -- a timer as a number, and a table in small letters, come before a budget that is too large
-timer_as_number : run_of_text (codes "{\"version\":2,\"ram\":64,\"sw1\":0,\"sw2\":0,\"timer\":8254,\"clocks\":\"C1\",\"budget\":1099511627777,\"keys\":[]}") ≡ Err BadField
+timer_as_number : run_of_text (codes "{\"version\":2,\"ram\":64,\"sw1\":0,\"sw2\":0,\"timer\":8254,\"clocks\":\"C1\",\"budget\":1099511627777,\"keys\":[]}")
+    ≡ Err BadField
 unfolding on_texts
 timer_as_number = refl
 
-small_letters : run_of_text (codes "{\"version\":2,\"ram\":64,\"sw1\":0,\"sw2\":0,\"timer\":\"8254\",\"clocks\":\"c1\",\"budget\":1099511627777,\"keys\":[]}") ≡ Err BadField
+small_letters : run_of_text
+    (codes "{\"version\":2,\"ram\":64,\"sw1\":0,\"sw2\":0,\"timer\":\"8254\",\"clocks\":\"c1\",\"budget\":1099511627777,\"keys\":[]}")
+    ≡ Err BadField
 unfolding on_texts
 small_letters = refl
 

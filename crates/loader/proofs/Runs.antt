@@ -33,7 +33,8 @@ unfolding IsStrictlySortedBy
 head_below e es sorted = sorted.0
 
 -- if an image has a byte at an address, its bytes from there on are that one and those after it
-pub gets_some : (a b : ℕ) (es : List (ℕ × ℕ)) → IsStrictlySortedBy nat_cmp (keys_of es) → image_byte es a ≡ Some b → bytes_from es a ≡ (a, b) ∷ bytes_from es (a + 1)
+pub gets_some : (a b : ℕ) (es : List (ℕ × ℕ)) → IsStrictlySortedBy nat_cmp (keys_of es) → image_byte es a ≡ Some b
+    → bytes_from es a ≡ (a, b) ∷ bytes_from es (a + 1)
 gets_some a b [] sorted h = cc
 gets_some a b (e ∷ es) sorted h = elim (cases_lt a e.0) [
   | inl below ↦
@@ -59,7 +60,8 @@ gets_some a b (e ∷ es) sorted h = elim (cases_lt a e.0) [
     some_same is = cc
 
 -- the run at a byte
-pub run_at : (n a b : ℕ) (es rest : List (ℕ × ℕ)) → es ≡ (a, b) ∷ rest → longest_run es a (suc n) ≡ b ∷ (if (a + 1) % 65536 == 0 then [] else longest_run rest (a + 1) n)
+pub run_at : (n a b : ℕ) (es rest : List (ℕ × ℕ)) → es ≡ (a, b) ∷ rest
+    → longest_run es a (suc n) ≡ b ∷ (if (a + 1) % 65536 == 0 then [] else longest_run rest (a + 1) n)
 run_at n a b es rest is = rw (is, eq_yes a a refl) refl
 
 -- there is no run from an address without a byte
@@ -73,7 +75,9 @@ no_run (suc n) a (e ∷ es) = elim (cases_lt e.0 (a + 1)) [
 
 -- the lines after a run are those from the address after it
 abbrev pub Skips : ℕ → ℕ → List (ℕ × ℕ) → Option ℕ → Type 0
-Skips n a es last = hex_lines last (length (longest_run (bytes_from es a) a n)) (bytes_from es a) ≡ hex_lines last 0 (bytes_from es (a + length (longest_run (bytes_from es a) a n)))
+Skips n a es last =
+    hex_lines last (length (longest_run (bytes_from es a) a n)) (bytes_from es a)
+    ≡ hex_lines last 0 (bytes_from es (a + length (longest_run (bytes_from es a) a n)))
 
 skips_none : (n a : ℕ) (es : List (ℕ × ℕ)) (last : Option ℕ) → image_byte es a ≡ None → Skips (suc n) a es last
 skips_none n a es last none =
@@ -86,15 +90,18 @@ skips_bank : (n a b : ℕ) (es : List (ℕ × ℕ)) (last : Option ℕ) (ends : 
     ≡ hex_lines last 0 (bytes_from es (a + length (b ∷ (if ends then [] else longest_run (bytes_from es (a + 1)) (a + 1) n))))
 skips_bank n a b es last true more = let same : a + suc 0 ≡ a + 1 = omega arith in rw same refl
 skips_bank n a b es last false more =
-    let same : a + suc (length (longest_run (bytes_from es (a + 1)) (a + 1) n)) ≡ a + 1 + length (longest_run (bytes_from es (a + 1)) (a + 1) n) = omega arith in
+    let same : a + suc (length (longest_run (bytes_from es (a + 1)) (a + 1) n)) ≡ a + 1 + length (longest_run (bytes_from es (a + 1)) (a + 1) n) =
+    omega arith in
     rw same more
 
-skips_some : (n a b : ℕ) (es : List (ℕ × ℕ)) (last : Option ℕ) → IsStrictlySortedBy nat_cmp (keys_of es) → image_byte es a ≡ Some b → Skips n (a + 1) es last → Skips (suc n) a es last
+skips_some : (n a b : ℕ) (es : List (ℕ × ℕ)) (last : Option ℕ) → IsStrictlySortedBy nat_cmp (keys_of es)
+    → image_byte es a ≡ Some b → Skips n (a + 1) es last → Skips (suc n) a es last
 skips_some n a b es last sorted some more =
     let is : bytes_from es a ≡ (a, b) ∷ bytes_from es (a + 1) = gets_some a b es sorted some in
     rw (run_at n a b (bytes_from es a) (bytes_from es (a + 1)) is, is) (skips_bank n a b es last ((a + 1) % 65536 == 0) more)
 
-skips_by : (n a : ℕ) (es : List (ℕ × ℕ)) (last found : Option ℕ) → IsStrictlySortedBy nat_cmp (keys_of es) → image_byte es a ≡ found → Skips n (a + 1) es last → Skips (suc n) a es last
+skips_by : (n a : ℕ) (es : List (ℕ × ℕ)) (last found : Option ℕ)
+    → IsStrictlySortedBy nat_cmp (keys_of es) → image_byte es a ≡ found → Skips n (a + 1) es last → Skips (suc n) a es last
 skips_by n a es last None sorted is more = skips_none n a es last is
 skips_by n a es last (Some b) sorted is more = skips_some n a b es last sorted is more
 
@@ -106,11 +113,12 @@ skips (suc n) a es last sorted = skips_by n a es last (image_byte es a) sorted r
 pub row_ends : (count start : ℕ) (row whole : List ℕ) (es : List (ℕ × ℕ)) → image_byte es (start + count) ≡ None
     → row ++ longest_run (bytes_from es (start + count)) (start + count) (16 - count) ≡ whole → row ≡ whole
 row_ends count start row whole es none so_far =
-    let empty : longest_run (bytes_from es (start + count)) (start + count) (16 - count) ≡ [] = rw (gets_none (start + count) es none) (no_run (16 - count) (start + count) es) in
+    let empty : longest_run (bytes_from es (start + count)) (start + count) (16 - count) ≡ [] =
+    rw (gets_none (start + count) es none) (no_run (16 - count) (start + count) es) in
     sym (append-nil row) ∙ ap (λ r. row ++ r) (sym empty) ∙ so_far
 
-row_step : (count start b : ℕ) (row new whole : List ℕ) (es : List (ℕ × ℕ)) → count < 16 → IsStrictlySortedBy nat_cmp (keys_of es) → image_byte es (start + count) ≡ Some b
-    → new ≡ row ++ b ∷ [] → row ++ longest_run (bytes_from es (start + count)) (start + count) (16 - count) ≡ whole
+row_step : (count start b : ℕ) (row new whole : List ℕ) (es : List (ℕ × ℕ)) → count < 16 → IsStrictlySortedBy nat_cmp (keys_of es)
+    → image_byte es (start + count) ≡ Some b → new ≡ row ++ b ∷ [] → row ++ longest_run (bytes_from es (start + count)) (start + count) (16 - count) ≡ whole
     → new ++ (if (start + count + 1) % 65536 == 0 then [] else longest_run (bytes_from es (start + count + 1)) (start + count + 1) (16 - (count + 1))) ≡ whole
 row_step count start b row new whole es within sorted some pushed so_far =
     let left : 16 - count ≡ suc (16 - (count + 1)) = omega arith in
@@ -119,16 +127,17 @@ row_step count start b row new whole es within sorted some pushed so_far =
     rw pushed (append_assoc row (b ∷ []) _ ∙ ap (λ r. row ++ r) (sym next) ∙ (rw left at so_far))
 
 -- a row ends at the end of its bank
-pub row_full : (count start b : ℕ) (row new whole : List ℕ) (es : List (ℕ × ℕ)) → count < 16 → IsStrictlySortedBy nat_cmp (keys_of es) → image_byte es (start + count) ≡ Some b
-    → new ≡ row ++ b ∷ [] → row ++ longest_run (bytes_from es (start + count)) (start + count) (16 - count) ≡ whole → (start + count + 1) % 65536 ≡ 0 → new ≡ whole
+pub row_full : (count start b : ℕ) (row new whole : List ℕ) (es : List (ℕ × ℕ))
+    → count < 16 → IsStrictlySortedBy nat_cmp (keys_of es) → image_byte es (start + count) ≡ Some b → new ≡ row ++ b ∷ []
+    → row ++ longest_run (bytes_from es (start + count)) (start + count) (16 - count) ≡ whole → (start + count + 1) % 65536 ≡ 0 → new ≡ whole
 row_full count start b row new whole es within sorted some pushed so_far ends =
     let P : Bool → Type 0 = λ t. new ++ (if t then [] else longest_run (bytes_from es (start + count + 1)) (start + count + 1) (16 - (count + 1))) ≡ whole in
     sym (append-nil new) ∙ subst P (eq_yes ((start + count + 1) % 65536) 0 ends) (row_step count start b row new whole es within sorted some pushed so_far)
 
 -- a row goes on after a byte that doesn't end its bank
-pub row_goes_on : (count start b : ℕ) (row new whole : List ℕ) (es : List (ℕ × ℕ)) → count < 16 → IsStrictlySortedBy nat_cmp (keys_of es) → image_byte es (start + count) ≡ Some b
-    → new ≡ row ++ b ∷ [] → row ++ longest_run (bytes_from es (start + count)) (start + count) (16 - count) ≡ whole → ((start + count + 1) % 65536 ≡ 0 → ⊥)
-    → new ++ longest_run (bytes_from es (start + (count + 1))) (start + (count + 1)) (16 - (count + 1)) ≡ whole
+pub row_goes_on : (count start b : ℕ) (row new whole : List ℕ) (es : List (ℕ × ℕ)) → count < 16 → IsStrictlySortedBy nat_cmp (keys_of es)
+    → image_byte es (start + count) ≡ Some b → new ≡ row ++ b ∷ [] → row ++ longest_run (bytes_from es (start + count)) (start + count) (16 - count) ≡ whole
+    → ((start + count + 1) % 65536 ≡ 0 → ⊥) → new ++ longest_run (bytes_from es (start + (count + 1))) (start + (count + 1)) (16 - (count + 1)) ≡ whole
 row_goes_on count start b row new whole es within sorted some pushed so_far goes =
     let next : start + (count + 1) ≡ start + count + 1 = omega arith in
     let P : Bool → Type 0 = λ t. new ++ (if t then [] else longest_run (bytes_from es (start + count + 1)) (start + count + 1) (16 - (count + 1))) ≡ whole in
@@ -137,20 +146,24 @@ row_goes_on count start b row new whole es within sorted some pushed so_far goes
     other : (x : ℕ) → (x ≡ 0 → ⊥) → (x == 0) ≡ false
     other x differs = grind (arith, nat_tests)
 
-pub some_row : (a b : ℕ) (es : List (ℕ × ℕ)) → IsStrictlySortedBy nat_cmp (keys_of es) → image_byte es a ≡ Some b → 0 < length (longest_run (bytes_from es a) a 16)
+pub some_row : (a b : ℕ) (es : List (ℕ × ℕ)) → IsStrictlySortedBy nat_cmp (keys_of es) → image_byte es a ≡ Some b
+    → 0 < length (longest_run (bytes_from es a) a 16)
 some_row a b es sorted some = rw (run_at 15 a b (bytes_from es a) (bytes_from es (a + 1)) (gets_some a b es sorted some)) (omega arith)
 
 pub row_lines_at : (a b : ℕ) (es rest : List (ℕ × ℕ)) (last : Option ℕ) → es ≡ (a, b) ∷ rest → 0 < length (longest_run es a 16)
     → hex_lines last 0 es ≡ row_lines last a (longest_run es a 16) ++ hex_lines (Some (a / 65536)) (length (longest_run es a 16)) es
 row_lines_at a b es rest last is some = rw is (by_size (longest_run ((a, b) ∷ rest) a 16) (rw is at some))
   where
-    by_size : (row : List ℕ) → 0 < length row → row_lines last a row ++ hex_lines (Some (a / 65536)) (length row - 1) rest ≡ row_lines last a row ++ hex_lines (Some (a / 65536)) (length row) ((a, b) ∷ rest)
+    by_size : (row : List ℕ) → 0 < length row
+        → row_lines last a row ++ hex_lines (Some (a / 65536)) (length row - 1) rest
+        ≡ row_lines last a row ++ hex_lines (Some (a / 65536)) (length row) ((a, b) ∷ rest)
     by_size [] some = absurd (omega arith)
     by_size (x ∷ xs) some = let less : suc (length xs) - 1 ≡ length xs = omega arith in rw less refl
 
 -- the lines of a row come before those of the bytes after it
 pub row_before : (a b : ℕ) (es : List (ℕ × ℕ)) (last : Option ℕ) → IsStrictlySortedBy nat_cmp (keys_of es) → image_byte es a ≡ Some b
-    → hex_lines last 0 (bytes_from es a) ≡ row_lines last a (longest_run (bytes_from es a) a 16) ++ hex_lines (Some (a / 65536)) 0 (bytes_from es (a + length (longest_run (bytes_from es a) a 16)))
+    → hex_lines last 0 (bytes_from es a)
+    ≡ row_lines last a (longest_run (bytes_from es a) a 16) ++ hex_lines (Some (a / 65536)) 0 (bytes_from es (a + length (longest_run (bytes_from es a) a 16)))
 row_before a b es last sorted is =
     row_lines_at a b (bytes_from es a) (bytes_from es (a + 1)) last (gets_some a b es sorted is) (some_row a b es sorted is)
     ∙ ap (λ r. row_lines last a (longest_run (bytes_from es a) a 16) ++ r) (skips 16 a es (Some (a / 65536)) sorted)

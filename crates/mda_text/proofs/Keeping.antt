@@ -28,14 +28,16 @@ pub record IsKeptTo (m s : MdaState) (n : ℕ) : Type 0 where
 pub keeps_none : (m v : MdaState) → v ≡ m → length v.kept ≡ 2000 → IsKeptTo m m 0
 keeps_none m v same whole = record { others = refl; kept = refl; whole = ap (λ s. length s.kept) (sym same) ∙ whole }
 
-pub keeps_one_more : (m s v : MdaState) (n character : ℕ) → v ≡ s → IsKeptTo m s n → n < 2000 → character ≡ nth_character s n → IsKeptTo m (with_kept v (slice_set v.kept n character)) (n + 1)
+pub keeps_one_more : (m s v : MdaState) (n character : ℕ) → v ≡ s → IsKeptTo m s n → n < 2000 → character ≡ nth_character s n
+    → IsKeptTo m (with_kept v (slice_set v.kept n character)) (n + 1)
 keeps_one_more m s v n character same so_far below is =
     let shown : character ≡ nth_character m n = is ∙ ap (λ t. nth_character t n) so_far.others ∙ same_characters m s.kept n in
     let whole : length v.kept ≡ 2000 = ap (λ t. length t.kept) same ∙ so_far.whole in
     let front : take n v.kept ≡ map (nth_character m) (range_with_len 0 n) = ap (λ t. take n t.kept) same ∙ so_far.kept in
     record {
       others = ap (λ t. with_kept t (slice_set v.kept n character)) (same ∙ so_far.others);
-      kept = take_more_set v.kept n character (omega arith) ∙ ap (λ xs. xs ++ character ∷ []) front ∙ ap (λ k. map (nth_character m) (range_with_len 0 n) ++ k ∷ []) shown ∙ sym (map-range_with_len_more (nth_character m) 0 n n (omega arith));
+      kept = take_more_set v.kept n character (omega arith) ∙ ap (λ xs. xs ++ character ∷ []) front
+          ∙ ap (λ k. map (nth_character m) (range_with_len 0 n) ++ k ∷ []) shown ∙ sym (map-range_with_len_more (nth_character m) 0 n n (omega arith));
       whole = length-set v.kept n character ∙ whole;
     }
 
@@ -43,4 +45,5 @@ pub keeps_all : (m s : MdaState) (n : ℕ) → IsKeptTo m s n → n ≡ 2000 →
 unfolding characters
 keeps_all m s n so_far all =
     let end : n ≡ cell_count = all ∙ sym cell_count_is in
-    so_far.others ∙ ap (with_kept m) (sym (take_all n s.kept (omega (arith, so_far.whole))) ∙ so_far.kept ∙ ap (λ k. map (nth_character m) (range_with_len 0 k)) end)
+    so_far.others
+    ∙ ap (with_kept m) (sym (take_all n s.kept (omega (arith, so_far.whole))) ∙ so_far.kept ∙ ap (λ k. map (nth_character m) (range_with_len 0 k)) end)

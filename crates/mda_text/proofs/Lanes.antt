@@ -18,7 +18,8 @@ same_if_not : (a b : ℕ) → differ a b ≡ false → a ≡ b
 same_if_not a b told = grind (arith, nat_tests)
 
 -- if the mask of 32 lanes is 0, the bytes under them are the same
-pub lanes_same : (a b : List ℕ) (at : ℕ) → at + 32 ≤ length a → at + 32 ≤ length b → mask_l (zip2 differ (chunk at 32 a) (chunk at 32 b)) % 2 ^ 64 ≡ 0 → (k : ℕ) → at ≤ k → k < at + 32 → slice_index a k ≡ slice_index b k
+pub lanes_same : (a b : List ℕ) (at : ℕ) → at + 32 ≤ length a → at + 32 ≤ length b
+    → mask_l (zip2 differ (chunk at 32 a) (chunk at 32 b)) % 2 ^ 64 ≡ 0 → (k : ℕ) → at ≤ k → k < at + 32 → slice_index a k ≡ slice_index b k
 lanes_same a b at first second none k from below =
     let xs = chunk at 32 a in
     let ys = chunk at 32 b in

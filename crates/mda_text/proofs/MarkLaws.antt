@@ -36,9 +36,11 @@ pub record IsNamed (m : MdaState) (mark n count : ℕ) (x : ℕ × ℕ) : Type 0
   pub is : place number ≡ x
 
 later_named : (m : MdaState) (mark n count : ℕ) (x : ℕ × ℕ) → IsNamed m mark (n + 1) count x → IsNamed m mark n (suc count) x
-later_named m mark n count x named = record { number = named.number; from = omega (arith, named.from); below = omega (arith, named.below); changed = named.changed; is = named.is }
+later_named m mark n count x named =
+    record { number = named.number; from = omega (arith, named.from); below = omega (arith, named.below); changed = named.changed; is = named.is }
 
-choice_named : (m : MdaState) (mark n count : ℕ) (x : ℕ × ℕ) (b : Bool) → is_changed m mark n ≡ b → (Contains (changed_among m mark (n + 1) count) x → IsNamed m mark (n + 1) count x)
+choice_named : (m : MdaState) (mark n count : ℕ) (x : ℕ × ℕ) (b : Bool)
+    → is_changed m mark n ≡ b → (Contains (changed_among m mark (n + 1) count) x → IsNamed m mark (n + 1) count x)
     → Contains (cond b (place n ∷ changed_among m mark (n + 1) count) (changed_among m mark (n + 1) count)) x → IsNamed m mark n (suc count) x
 choice_named m mark n count x true changed rest there =
     elim (first_or_later (place n) x (changed_among m mark (n + 1) count) there) [
@@ -67,15 +69,18 @@ first_there : (m : MdaState) (mark n count : ℕ) (b : Bool) → b ≡ true
 first_there m mark n count true is = Contains-append_left (place n ∷ []) (changed_among m mark (n + 1) count) (place n) (Contains-push [] (place n))
 first_there m mark n count false is = cc
 
-pub there_if_changed : (m : MdaState) (mark n count number : ℕ) → n ≤ number → number < n + count → is_changed m mark number ≡ true → Contains (changed_among m mark n count) (place number)
+pub there_if_changed : (m : MdaState) (mark n count number : ℕ) → n ≤ number → number < n + count → is_changed m mark number ≡ true
+    → Contains (changed_among m mark n count) (place number)
 there_if_changed m mark n zero number from below changed = absurd (omega arith)
 there_if_changed m mark n (suc count) number from below changed =
     elim (cases_lt n number) [
-      | inl later ↦ subst (λ xs. Contains xs (place number)) (sym (more m mark n count)) (later_there m mark n count (place number) (is_changed m mark n) (there_if_changed m mark (n + 1) count number (omega arith) (omega arith) changed))
+      | inl later ↦ subst (λ xs. Contains xs (place number)) (sym (more m mark n count))
+          (later_there m mark n count (place number) (is_changed m mark n) (there_if_changed m mark (n + 1) count number (omega arith) (omega arith) changed))
       | inr here ↦
           let same : n ≡ number = omega arith in
           subst (λ k. Contains (changed_among m mark n (suc count)) (place k)) same
-          (subst (λ xs. Contains xs (place n)) (sym (more m mark n count)) (first_there m mark n count (is_changed m mark n) (ap (is_changed m mark) same ∙ changed)))
+          (subst (λ xs. Contains xs (place n)) (sym (more m mark n count))
+          (first_there m mark n count (is_changed m mark n) (ap (is_changed m mark) same ∙ changed)))
     ]
 
 -- reading order
@@ -92,10 +97,12 @@ comes_first m mark n count x named =
 
 all_come : (m : MdaState) (mark n count : ℕ) → All (Comes (place n)) (changed_among m mark (n + 1) count)
 all_come m mark n count =
-    All-weaker (Contains (changed_among m mark (n + 1) count)) (Comes (place n)) (λ x there. comes_first m mark n count x (named_if_there m mark (n + 1) count x there))
+    All-weaker (Contains (changed_among m mark (n + 1) count)) (Comes (place n))
+    (λ x there. comes_first m mark n count x (named_if_there m mark (n + 1) count x there))
     (changed_among m mark (n + 1) count) (All-contains_itself (changed_among m mark (n + 1) count))
 
-choice_rises : (m : MdaState) (mark n count : ℕ) (b : Bool) → AllPairs Comes (changed_among m mark (n + 1) count) → AllPairs Comes (cond b (place n ∷ changed_among m mark (n + 1) count) (changed_among m mark (n + 1) count))
+choice_rises : (m : MdaState) (mark n count : ℕ) (b : Bool) → AllPairs Comes (changed_among m mark (n + 1) count)
+    → AllPairs Comes (cond b (place n ∷ changed_among m mark (n + 1) count) (changed_among m mark (n + 1) count))
 choice_rises m mark n count true rises = AllPairs-cons Comes (place n) (changed_among m mark (n + 1) count) (all_come m mark n count) rises
 choice_rises m mark n count false rises = rises
 
@@ -104,7 +111,8 @@ no_pairs i j d before within = absurd (omega arith)
 
 pub rises : (m : MdaState) (mark n count : ℕ) → AllPairs Comes (changed_among m mark n count)
 rises m mark n zero = subst (λ xs. AllPairs Comes xs) (sym (no_cells m mark n)) no_pairs
-rises m mark n (suc count) = subst (λ xs. AllPairs Comes xs) (sym (more m mark n count)) (choice_rises m mark n count (is_changed m mark n) (rises m mark (n + 1) count))
+rises m mark n (suc count) =
+    subst (λ xs. AllPairs Comes xs) (sym (more m mark n count)) (choice_rises m mark n count (is_changed m mark n) (rises m mark (n + 1) count))
 
 -- events leave the mark alone
 record KeepsMark (m s : MdaState) : Type 0 where
@@ -172,10 +180,12 @@ character_at_cell m row column within = ap (λ (p : ℕ × ℕ). cell m p.0 p.1)
 number_is : (row column number : ℕ) → place number ≡ (row, column) → number ≡ 80 * row + column
 number_is row column number is = sym (number_of number) ∙ ap (λ (p : ℕ × ℕ). 80 * p.0 + p.1) is
 
-there_at : (m : MdaState) (mark row column : ℕ) → IsCell row column → is_changed m mark (80 * row + column) ≡ true → Contains (changed_cells m mark) (row, column)
+there_at : (m : MdaState) (mark row column : ℕ) → IsCell row column → is_changed m mark (80 * row + column) ≡ true
+    → Contains (changed_cells m mark) (row, column)
 there_at m mark row column within changed =
     let below : 80 * row + column < 0 + cell_count = omega (arith, cell_count_is) in
-    subst (Contains (changed_cells m mark)) (place_of row column within.1) (there_if_changed m mark 0 cell_count (80 * row + column) (omega arith) below changed)
+    subst (Contains (changed_cells m mark)) (place_of row column within.1)
+    (there_if_changed m mark 0 cell_count (80 * row + column) (omega arith) below changed)
 
 changed_at : (m : MdaState) (mark row column : ℕ) → Contains (changed_cells m mark) (row, column) → is_changed m mark (80 * row + column) ≡ true
 changed_at m mark row column there =
@@ -196,7 +206,8 @@ tells_changes m es = record {
     λ other. there_at (since_mark m es) m.next_mark row column within (changed_iff m es row column some within ∙ differs _ _ other),
   );
   all = λ mark row column other within.
-      there_at (since_mark m es) mark row column within (changed_if_not_last (since_mark m es) mark (80 * row + column) (not_last (since_mark m es) mark (subst (λ k. (mark ≢ k) ⊎ (mark ≡ 0)) (sym (last_number m es)) other)));
+      there_at (since_mark m es) mark row column within (changed_if_not_last (since_mark m es) mark (80 * row + column)
+      (not_last (since_mark m es) mark (subst (λ k. (mark ≢ k) ⊎ (mark ≡ 0)) (sym (last_number m es)) other)));
   rising = λ mark. rises (since_mark m es) mark 0 cell_count;
 }
 
@@ -211,7 +222,8 @@ numbers : (n : ℕ) → (iterate after_mark n power_on).next_mark ≡ number_of_
 unfolding power_on after_mark number_of_mark
 numbers zero = ap (λ s. s.next_mark) (iterate_zero after_mark power_on)
 numbers (suc n) =
-    ap (λ s. s.next_mark) (ap (λ k. iterate after_mark k power_on) (omega arith) ∙ iterate_more after_mark n power_on) ∙ ap number_after (numbers n) ∙ next_number n
+    ap (λ s. s.next_mark) (ap (λ k. iterate after_mark k power_on) (omega arith) ∙ iterate_more after_mark n power_on)
+    ∙ ap number_after (numbers n) ∙ next_number n
 
 pub numbers_marks : (n : ℕ) → NumbersMarks n
 unfolding number_of_mark

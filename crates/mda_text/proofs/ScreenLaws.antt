@@ -30,7 +30,8 @@ pub shows_once : (m : MdaState) → ShowsOnce m
 shows_once m row column other_row other_column within other_within same =
     let regroup : (r c : ℕ) → (m.start + (80 * r + c)) % 2048 ≡ (m.start + 80 * r + c) % 2048 = λ r c. omega arith in
     let place : 80 * row + column ≡ 80 * other_row + other_column =
-    same_place m.start (80 * row + column) (80 * other_row + other_column) (omega arith) (omega arith) (regroup row column ∙ same ∙ sym (regroup other_row other_column)) in
+    same_place m.start (80 * row + column) (80 * other_row + other_column) (omega arith)
+    (omega arith) (regroup row column ∙ same ∙ sym (regroup other_row other_column)) in
     (omega arith, omega arith)
 
 -- a cell, from all that it depends on
@@ -50,7 +51,8 @@ shows_alike m other bytes start video row column =
 next_row : (start old row column : ℕ) → start % 2048 ≡ (old + 80) % 2048 → (start + 80 * row + column) % 2048 ≡ (old + 80 * (row + 1) + column) % 2048
 next_row start old row column on = omega arith
 
-cell_further : (bytes : List ℕ) (video : Bool) (start old row column : ℕ) → start % 2048 ≡ (old + 80) % 2048 → cell_of bytes start video row column ≡ cell_of bytes old video (row + 1) column
+cell_further : (bytes : List ℕ) (video : Bool) (start old row column : ℕ) → start % 2048 ≡ (old + 80) % 2048
+    → cell_of bytes start video row column ≡ cell_of bytes old video (row + 1) column
 unfolding cell_of
 cell_further bytes video start old row column on =
     ap (λ word. character_of video (slice_index bytes (2 * word)) (slice_index bytes (2 * word + 1))) (next_row start old row column on)
@@ -62,7 +64,8 @@ start_keeps m start = (refl, refl)
 pub scrolls : (m : MdaState) (start : ℕ) → Scrolls m start
 scrolls m start row column within on =
     cell_is (with_start m start) row column ∙ ap (λ s. cell_of (with_start m start).bytes s (with_start m start).video row column) (given m start within)
-    ∙ ap (λ b. cell_of b start (with_start m start).video row column) (start_keeps m start).0 ∙ ap (λ v. cell_of m.bytes start v row column) (start_keeps m start).1
+    ∙ ap (λ b. cell_of b start (with_start m start).video row column) (start_keeps m start).0
+    ∙ ap (λ v. cell_of m.bytes start v row column) (start_keeps m start).1
     ∙ cell_further m.bytes m.video start m.start row column on ∙ sym (cell_is m (row + 1) column)
 
 other_byte : (m : MdaState) (offset byte other : ℕ) → other ≢ offset → text_byte (with_text_byte m offset byte) other ≡ text_byte m other
@@ -75,7 +78,8 @@ changes_one_cell m offset byte row column apart =
     let word : ℕ = (m.start + 80 * row + column) % 2048 in
     let code = other_byte m offset byte (2 * word) (λ (same : 2 * word ≡ offset). apart (omega arith)) in
     let attribute = other_byte m offset byte (2 * word + 1) (λ (same : 2 * word + 1 ≡ offset). apart (omega arith)) in
-    ap (λ c. character_of m.video c (text_byte (with_text_byte m offset byte) (2 * word + 1))) code ∙ ap (character_of m.video (text_byte m (2 * word))) attribute
+    ap (λ c. character_of m.video c (text_byte (with_text_byte m offset byte) (2 * word + 1))) code
+    ∙ ap (character_of m.video (text_byte m (2 * word))) attribute
 
 -- what both of two states keep, their choice keeps
 kept_by_both : {A : Type 0} (part : MdaState → A) (first : Bool) (s t m : MdaState) → part s ≡ part m → part t ≡ part m → part (if first then s else t) ≡ part m
@@ -84,7 +88,8 @@ kept_by_both part false s t m same others = others
 
 -- a part of an adapter that no register holds
 abbrev pub IsNoRegister : {A : Type 0} → (MdaState → A) → Type 0
-IsNoRegister part = (m : MdaState) (index start cursor : ℕ) (video : Bool) → part (record m { index = index; start = start; cursor = cursor; video = video }) ≡ part m
+IsNoRegister part =
+    (m : MdaState) (index start cursor : ℕ) (video : Bool) → part (record m { index = index; start = start; cursor = cursor; video = video }) ≡ part m
 
 register_keeps : {A : Type 0} (part : MdaState → A) → IsNoRegister part → (m : MdaState) (n byte : ℕ) → part (with_register m n byte) ≡ part m
 register_keeps part keeps m n byte =

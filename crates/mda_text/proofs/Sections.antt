@@ -19,7 +19,8 @@ same_character m copy word same =
     ap (λ code. character_of m.video code (slice_index m.bytes (2 * word + 1))) same.code
     ∙ ap (λ attribute. character_of m.video (slice_index copy (2 * word)) attribute) same.attribute
 
-same_cell : (m : MdaState) (copy : List ℕ) (n : ℕ) → SameWord m.bytes copy (word_at m (n / 80) (n % 80)) → nth_character m n ≡ nth_character (showing copy m.start m.video) n
+same_cell : (m : MdaState) (copy : List ℕ) (n : ℕ) → SameWord m.bytes copy (word_at m (n / 80) (n % 80))
+    → nth_character m n ≡ nth_character (showing copy m.start m.video) n
 unfolding nth_character cell
 same_cell m copy n same = same_character m copy (word_at m (n / 80) (n % 80)) same
 
@@ -37,13 +38,15 @@ word_of : (start n : ℕ) → (start + 80 * (n / 80) + n % 80) % 2048 ≡ (start
 word_of start n = omega arith
 
 -- a cell whose word is as the mark found it hasn't changed
-unchanged : (m : MdaState) (mark : ℕ) (copy : List ℕ) (n word : ℕ) → is_last m mark ≡ true → m.kept ≡ characters (showing copy m.start m.video) → n < 2000 → (m.start + n) % 2048 ≡ word → SameWord m.bytes copy word → is_changed m mark n ≡ false
+unchanged : (m : MdaState) (mark : ℕ) (copy : List ℕ) (n word : ℕ) → is_last m mark ≡ true → m.kept ≡ characters (showing copy m.start m.video)
+    → n < 2000 → (m.start + n) % 2048 ≡ word → SameWord m.bytes copy word → is_changed m mark n ≡ false
 unchanged m mark copy n word last kept below is same =
     let there : SameWord m.bytes copy (word_at m (n / 80) (n % 80)) = subst (SameWord m.bytes copy) (sym (word_of m.start n ∙ is)) same in
     unchanged_told m mark n last (same_cell m copy n there ∙ sym (kept_there m (showing copy m.start m.video) n kept below))
 
 -- text memory as it is, whose characters are kept
-pub recalled : (m v : MdaState) (copy : List ℕ) (written : List Bool) → v ≡ m → m.kept ≡ characters m → copy ≡ v.bytes → Recalls v.bytes v.kept copy v.start v.video written
+pub recalled : (m v : MdaState) (copy : List ℕ) (written : List Bool) → v ≡ m → m.kept ≡ characters m → copy ≡ v.bytes
+    → Recalls v.bytes v.kept copy v.start v.video written
 unfolding characters nth_character cell character_at text_byte
 recalled m v copy written same kept copied = record {
   shown = ap (λ s. s.kept) same ∙ kept ∙ ap characters (sym same) ∙ ap (λ xs. characters (showing xs v.start v.video)) (sym copied);
@@ -51,12 +54,14 @@ recalled m v copy written same kept copied = record {
 }
 
 -- a byte that is written marks its block
-pub still_recalled : (bytes kept copy : List ℕ) (start : ℕ) (video : Bool) (written : List Bool) (offset value : ℕ) → length written ≡ 128 → offset < 4096 → Recalls bytes kept copy start video written → Recalls (slice_set bytes offset value) kept copy start video (slice_set written (offset / 32) true)
+pub still_recalled : (bytes kept copy : List ℕ) (start : ℕ) (video : Bool) (written : List Bool) (offset value : ℕ) → length written ≡ 128 → offset < 4096
+    → Recalls bytes kept copy start video written → Recalls (slice_set bytes offset value) kept copy start video (slice_set written (offset / 32) true)
 still_recalled bytes kept copy start video written offset value whole within recalls = record {
   shown = recalls.shown;
   copied = λ k below unwritten. elim (cases_eq (k / 32) (offset / 32)) [
     | inl same ↦ absurd (true≢false (sym (get_or-set_at written (offset / 32) (k / 32) true false same (omega (arith, whole))) ∙ unwritten))
-    | inr other ↦ get_or-set_other bytes offset k value 0 (λ is. other (ap (λ i. i / 32) is)) ∙ recalls.copied k below (sym (get_or-set_other written (offset / 32) (k / 32) true false other) ∙ unwritten)
+    | inr other ↦ get_or-set_other bytes offset k value 0 (λ is. other (ap (λ i. i / 32) is))
+        ∙ recalls.copied k below (sym (get_or-set_other written (offset / 32) (k / 32) true false other) ∙ unwritten)
   ];
 }
 
@@ -65,18 +70,23 @@ read_part xs from count k least below =
     get_or-take count (drop from xs) (k - from) 0 (omega arith) ∙ get_or-drop from xs (k - from) 0 ∙ ap (λ i. get_or xs i 0) (omega arith)
 
 -- two parts that are the same at their front
-same_till : (bytes copy : List ℕ) (from count till : ℕ) → till ≤ count → ((j : ℕ) → j < till → slice_index (take count (drop from bytes)) j ≡ slice_index (take count (drop from copy)) j) → (k : ℕ) → from ≤ k → k < from + till → slice_index bytes k ≡ slice_index copy k
+same_till : (bytes copy : List ℕ) (from count till : ℕ) → till ≤ count
+    → ((j : ℕ) → j < till → slice_index (take count (drop from bytes)) j ≡ slice_index (take count (drop from copy)) j)
+    → (k : ℕ) → from ≤ k → k < from + till → slice_index bytes k ≡ slice_index copy k
 same_till bytes copy from count till fits same k least below =
     sym (read_part bytes from count k least (omega arith)) ∙ same (k - from) (omega arith) ∙ read_part copy from count k least (omega arith)
 
-same_words : (bytes copy : List ℕ) (word words : ℕ) → ((k : ℕ) → 2 * word ≤ k → k < 2 * (word + words) → slice_index bytes k ≡ slice_index copy k) → (k : ℕ) → word ≤ k → k < word + words → SameWord bytes copy k
+same_words : (bytes copy : List ℕ) (word words : ℕ) → ((k : ℕ) → 2 * word ≤ k → k < 2 * (word + words) → slice_index bytes k ≡ slice_index copy k)
+    → (k : ℕ) → word ≤ k → k < word + words → SameWord bytes copy k
 same_words bytes copy word words same k least below = record {
   code = same (2 * k) (omega arith) (omega arith);
   attribute = same (2 * k + 1) (omega arith) (omega arith);
 }
 
 -- the words before the first byte that differs
-pub words_before : (bytes found copy : List ℕ) (word count at : ℕ) → found ≡ copy → DiffersFirstAt (take count (drop (2 * word) bytes)) (take count (drop (2 * word) found)) at → (k : ℕ) → word ≤ k → k < word + at / 2 → SameWord bytes copy k
+pub words_before : (bytes found copy : List ℕ) (word count at : ℕ)
+    → found ≡ copy → DiffersFirstAt (take count (drop (2 * word) bytes)) (take count (drop (2 * word) found)) at
+    → (k : ℕ) → word ≤ k → k < word + at / 2 → SameWord bytes copy k
 words_before bytes found copy word count at is differs =
     let within : at ≤ count = omega (arith, differs.within, length-take count (drop (2 * word) bytes)) in
     let same : (k : ℕ) → 2 * word ≤ k → k < 2 * word + at → slice_index bytes k ≡ slice_index copy k =
@@ -85,10 +95,12 @@ words_before bytes found copy word count at is differs =
     same_words bytes copy word (at / 2) (λ k least below. same k least (omega arith))
 
 -- the words of two parts that are the same
-pub words_within : (bytes found copy : List ℕ) (word count words : ℕ) → found ≡ copy → count ≡ 2 * words → take count (drop (2 * word) bytes) ≡ take count (drop (2 * word) found) → (k : ℕ) → word ≤ k → k < word + words → SameWord bytes copy k
+pub words_within : (bytes found copy : List ℕ) (word count words : ℕ) → found ≡ copy → count ≡ 2 * words
+    → take count (drop (2 * word) bytes) ≡ take count (drop (2 * word) found) → (k : ℕ) → word ≤ k → k < word + words → SameWord bytes copy k
 words_within bytes found copy word count words is size parts =
     let same : (k : ℕ) → 2 * word ≤ k → k < 2 * word + count → slice_index bytes k ≡ slice_index copy k =
-    λ k least below. same_till bytes found (2 * word) count count (omega arith) (λ j within. ap (λ xs. slice_index xs j) parts) k least below ∙ ap (λ xs. slice_index xs k) is
+    λ k least below.
+    same_till bytes found (2 * word) count count (omega arith) (λ j within. ap (λ xs. slice_index xs j) parts) k least below ∙ ap (λ xs. slice_index xs k) is
     in
     same_words bytes copy word words (λ k least below. same k least (omega arith))
 
@@ -99,7 +111,9 @@ same_truth true false told = absurd (true≢false told)
 same_truth false true told = absurd (true≢false told)
 
 -- cells whose words are as the mark found them haven't changed
-pub cells_unchanged : (m v : MdaState) (mark n word count : ℕ) (copy : List ℕ) (start : ℕ) (video : Bool) → v ≡ m → mark ≡ v.last_mark → mark ≢ 0 → start ≡ v.start → video ≡ v.video → v.kept ≡ characters (showing copy start video) → n + count ≤ 2000 → word + count ≤ 2048 → (v.start + n) % 2048 ≡ word → ((k : ℕ) → word ≤ k → k < word + count → SameWord v.bytes copy k) → (k : ℕ) → n ≤ k → k < n + count → is_changed m mark k ≡ false
+pub cells_unchanged : (m v : MdaState) (mark n word count : ℕ) (copy : List ℕ) (start : ℕ) (video : Bool) → v ≡ m → mark ≡ v.last_mark → mark ≢ 0
+    → start ≡ v.start → video ≡ v.video → v.kept ≡ characters (showing copy start video) → n + count ≤ 2000 → word + count ≤ 2048 → (v.start + n) % 2048 ≡ word
+    → ((k : ℕ) → word ≤ k → k < word + count → SameWord v.bytes copy k) → (k : ℕ) → n ≤ k → k < n + count → is_changed m mark k ≡ false
 cells_unchanged m v mark n word count copy start video same last numbered starts enabled shown cells words is alike k least below =
     let kept : v.kept ≡ characters (showing copy v.start v.video) =
     shown ∙ ap (λ s. characters (showing copy s video)) starts ∙ ap (λ b. characters (showing copy v.start b)) enabled

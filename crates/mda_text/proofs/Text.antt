@@ -8,7 +8,8 @@ use Rattle.mda_text.specs.Mda.{MdaState}
 use Rattle.mda_text.specs.Screen.{cell, screen_row, screen_text, column_count}
 use Rattle.mda_text.proofs.Sizes.{row_count_is, column_count_is}
 
-pub one_more_cell : (f : ℕ → ℕ) (start text grown : List ℕ) (count item : ℕ) → text ≡ start ++ map f (range_with_len 0 count) → grown ≡ text ++ item ∷ [] → item ≡ f count → grown ≡ start ++ map f (range_with_len 0 (count + 1))
+pub one_more_cell : (f : ℕ → ℕ) (start text grown : List ℕ) (count item : ℕ)
+    → text ≡ start ++ map f (range_with_len 0 count) → grown ≡ text ++ item ∷ [] → item ≡ f count → grown ≡ start ++ map f (range_with_len 0 (count + 1))
 one_more_cell f start text grown count item filled more is =
     more ∙ ap (λ xs. xs ++ item ∷ []) filled
     ∙ append_assoc start (map f (range_with_len 0 count)) (item ∷ [])
@@ -23,13 +24,15 @@ rows_more f count =
     ∙ ap (λ xs. xs ++ (f count ++ [])) (flat_map-map f (λ k. k) (range_with_len 0 count))
     ∙ ap (λ xs. flat_map f (range_with_len 0 count) ++ xs) (append-nil (f count))
 
-pub one_more_row : (f : ℕ → List ℕ) (start text grown : List ℕ) (count : ℕ) → text ≡ start ++ flat_map f (range_with_len 0 count) → grown ≡ text ++ f count → grown ≡ start ++ flat_map f (range_with_len 0 (count + 1))
+pub one_more_row : (f : ℕ → List ℕ) (start text grown : List ℕ) (count : ℕ) → text ≡ start ++ flat_map f (range_with_len 0 count) → grown ≡ text ++ f count
+    → grown ≡ start ++ flat_map f (range_with_len 0 (count + 1))
 one_more_row f start text grown count filled more =
     more ∙ ap (λ xs. xs ++ f count) filled
     ∙ append_assoc start (flat_map f (range_with_len 0 count)) (f count)
     ∙ ap (λ xs. start ++ xs) (sym (rows_more f count))
 
-pub row_ended : (m : MdaState) (row column : ℕ) (start text grown : List ℕ) → text ≡ start ++ map (cell m row) (range_with_len 0 column) → grown ≡ text ++ 10 ∷ [] → column ≡ 80 → grown ≡ start ++ screen_row m row
+pub row_ended : (m : MdaState) (row column : ℕ) (start text grown : List ℕ)
+    → text ≡ start ++ map (cell m row) (range_with_len 0 column) → grown ≡ text ++ 10 ∷ [] → column ≡ 80 → grown ≡ start ++ screen_row m row
 unfolding screen_row
 row_ended m row column start text grown filled more all =
     let end : column ≡ column_count = all ∙ sym column_count_is in

@@ -54,7 +54,8 @@ pub record Laid (image rest : List (ℕ × ℕ)) (before cells : List ℕ) : Typ
   pub loadable : All IsLoadable (keys_of rest)
   pub laid : (a : ℕ) → image_byte rest a ≡ None → slice_index cells a ≡ unwrap_or (image_byte image a) (slice_index before a)
 
-pub laid_first : (image : List (ℕ × ℕ)) (cells : List ℕ) → length cells ≡ 1048576 → All (λ e. image_byte image e.0 ≡ Some e.1) image → IsImage image → Laid image image cells cells
+pub laid_first : (image : List (ℕ × ℕ)) (cells : List ℕ) → length cells ≡ 1048576
+    → All (λ e. image_byte image e.0 ≡ Some e.1) image → IsImage image → Laid image image cells cells
 laid_first image cells size found whole = record {
   size = size;
   found = found;
@@ -75,7 +76,8 @@ later_byte a e es other =
     let apart : (e.0 == a) ≡ false = grind (arith, nat_tests) in
     first_byte a e es ∙ ap (λ t. if t then Some e.1 else image_byte es a) apart
 
-pub laid_more : (image rest : List (ℕ × ℕ)) (before cells : List ℕ) (e : ℕ × ℕ) → Laid image (e ∷ rest) before cells → Laid image rest before (slice_set cells e.0 e.1)
+pub laid_more : (image rest : List (ℕ × ℕ)) (before cells : List ℕ) (e : ℕ × ℕ) → Laid image (e ∷ rest) before cells
+    → Laid image rest before (slice_set cells e.0 e.1)
 laid_more image rest before cells e l =
     let here : image_byte image e.0 ≡ Some e.1 = All-get_or (λ e. image_byte image e.0 ≡ Some e.1) (e ∷ rest) 0 e (omega arith) l.found in
     let within : e.0 < length cells = within_cells image rest before cells e l in
@@ -142,13 +144,15 @@ pub record Passed (image : List (ℕ × ℕ)) (ram_size : ℕ) (rest : List (ℕ
   pub found : All (λ e. image_byte image e.0 ≡ Some e.1) rest
   pub passed : (a : ℕ) → ram_size ≤ a → a < 0xA0000 → image_byte rest a ≡ None → image_byte image a ≡ None
 
-pub passed_more : (image rest : List (ℕ × ℕ)) (ram_size : ℕ) (e : ℕ × ℕ) → Passed image ram_size (e ∷ rest) → (ram_size ≤ e.0 → e.0 < 0xA0000 → ⊥) → Passed image ram_size rest
+pub passed_more : (image rest : List (ℕ × ℕ)) (ram_size : ℕ) (e : ℕ × ℕ)
+    → Passed image ram_size (e ∷ rest) → (ram_size ≤ e.0 → e.0 < 0xA0000 → ⊥) → Passed image ram_size rest
 passed_more image rest ram_size e p outside = record {
   found = All-tail (λ e. image_byte image e.0 ≡ Some e.1) e rest p.found;
   passed = λ a from below none. p.passed a from below (later_byte a e rest (λ same. outside (omega arith) (omega arith)) ∙ none);
 }
 
-pub unfit : (image rest : List (ℕ × ℕ)) (ram_size : ℕ) (e : ℕ × ℕ) → Passed image ram_size (e ∷ rest) → ram_size ≤ e.0 → e.0 < 0xA0000 → FitsRam image ram_size → ⊥
+pub unfit : (image rest : List (ℕ × ℕ)) (ram_size : ℕ) (e : ℕ × ℕ)
+    → Passed image ram_size (e ∷ rest) → ram_size ≤ e.0 → e.0 < 0xA0000 → FitsRam image ram_size → ⊥
 unfit image rest ram_size e p from below fits =
     let here : image_byte image e.0 ≡ Some e.1 = All-get_or (λ e. image_byte image e.0 ≡ Some e.1) (e ∷ rest) 0 e (omega arith) p.found in
     (rw here at (fits e.0 from below)) refl

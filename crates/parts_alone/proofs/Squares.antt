@@ -68,8 +68,8 @@ change Low High tick = refl
 change High Low tick = refl
 change High High tick = refl
 
-pub changes_more : (level : ℕ → Line) (n : ℕ) (before after : Line) (differ : Bool) → before ≡ level n → after ≡ level (n + 1) → differ ≡ not (sameb the_type after before)
-    → changes level (n + 1) ≡ changes level n ++ (if differ then (n + 1) ∷ [] else [])
+pub changes_more : (level : ℕ → Line) (n : ℕ) (before after : Line) (differ : Bool) → before ≡ level n → after ≡ level (n + 1)
+    → differ ≡ not (sameb the_type after before) → changes level (n + 1) ≡ changes level n ++ (if differ then (n + 1) ∷ [] else [])
 changes_more level n before after differ was is tested =
     let next : n + 1 ≡ suc n = omega arith in
     ap (changes level) next

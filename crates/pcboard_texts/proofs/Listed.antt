@@ -35,7 +35,8 @@ line_none names (text ∷ texts) (row ∷ rows) zero is = cc
 line_none names (text ∷ texts) (row ∷ rows) (suc i) is = line_none names texts rows i is
 
 -- past the last line none follows
-pub all_shown : (names : Names) (texts : List (List ℕ)) (rows : List LocatedLine) (i : ℕ) → length texts ≤ i → listing_text names (drop i texts) (drop i rows) ≡ []
+pub all_shown : (names : Names) (texts : List (List ℕ)) (rows : List LocatedLine) (i : ℕ) → length texts ≤ i
+    → listing_text names (drop i texts) (drop i rows) ≡ []
 all_shown names [] rows zero within = without_texts names rows
 all_shown names [] rows (suc i) within = without_texts names (drop (suc i) rows)
 all_shown names (text ∷ texts) rows zero within = let never : ⊥ = omega (arith, within) in absurd never
@@ -56,7 +57,8 @@ shows_more names texts rows i text line new whole is adds shown =
 
 -- all lines
 pub shows_all : (names others : Names) (texts : List (List ℕ)) (rows : List LocatedLine) (i : ℕ) (text : List ℕ)
-    → text ++ listing_text names (drop i texts) (drop i rows) ≡ listing_text names texts rows → listing_text names (drop i texts) (drop i rows) ≡ [] → names ≡ others
+    → text ++ listing_text names (drop i texts) (drop i rows) ≡ listing_text names texts rows
+    → listing_text names (drop i texts) (drop i rows) ≡ [] → names ≡ others
     → text ≡ listing_text others texts rows
 shows_all names others texts rows i text shown none same =
     sym (append-nil text) ∙ (ap (λ (l : List ℕ). text ++ l) (sym none) ∙ (shown ∙ ap (λ (ns : Names). listing_text ns texts rows) same))

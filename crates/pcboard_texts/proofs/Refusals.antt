@@ -15,8 +15,8 @@ use Rattle.pcboard_texts.specs.Unanswered.{EndsFor, IsUnjudged}
 use Rattle.pcboard_texts.proofs.Reading.{seen_whole, shorter}
 
 -- the program ends for a fault that is passed on
-pub passed_on : {A : Type 0} (result : Result A Unanswered) (fault : Fault) (Wants Is : Fault → Type 0) → IsErrAnd result (λ end. end ≡ Refused fault) → Is fault
-    → IfErr result (EndsFor Wants Is)
+pub passed_on : {A : Type 0} (result : Result A Unanswered) (fault : Fault) (Wants Is : Fault → Type 0)
+    → IsErrAnd result (λ end. end ≡ Refused fault) → Is fault → IfErr result (EndsFor Wants Is)
 passed_on (Ok value) fault Wants Is given is = tt
 passed_on (Err Failed) fault Wants Is given is = let never : Failed ≡ Refused fault = given in cc
 passed_on (Err (Refused other)) fault Wants Is given is =

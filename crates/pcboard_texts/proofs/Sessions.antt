@@ -133,10 +133,12 @@ appends_both (Some xs) (Some ys) (Some zs) text more first second = second ∙ (
 
 pub printed_none : {S : Type 0} (By : Answering S) (session : S) (typed old : Option (List ℕ)) → PrintedSoFar By session session typed typed old old
 printed_none By session None old = tt
-printed_none By session (Some bytes) old = (bytes, refl, record { answered = []; are_lines = refl; said = []; grown = appends_none old; goes_on = λ lines text is. is })
+printed_none By session (Some bytes) old =
+    (bytes, refl, record { answered = []; are_lines = refl; said = []; grown = appends_none old; goes_on = λ lines text is. is })
 
 -- the transcript of a line and of those after it
-transcript_on : {S : Type 0} (By : Answering S) (ends : Bool) (line : List ℕ) (now next : S) (lines : List (List ℕ)) (reply : Result Answer DebugFault) (text : List ℕ)
+transcript_on : {S : Type 0} (By : Answering S) (ends : Bool) (line : List ℕ)
+    (now next : S) (lines : List (List ℕ)) (reply : Result Answer DebugFault) (text : List ℕ)
     → ends ≡ false → AnswersTyped By line now reply next → Transcript By next lines text
     → MatchBool ends (reply_text reply ++ text ≡ []) (Replies By line now (λ after rest. Transcript By after lines rest) (reply_text reply ++ text))
 transcript_on By true line now next lines reply text goes answers is = cc
@@ -158,11 +160,13 @@ transcript_along : {S : Type 0} (By : Answering S) (session : S) (lines others :
 transcript_along By session lines others text said same_lines same_text is =
     subst (λ (ls : List (List ℕ)). Transcript By session ls said) same_lines (subst (Transcript By session lines) same_text is)
 
-pub printed_more : {S : Type 0} (By : Answering S) (first now next : S) (typed left after old mid new : Option (List ℕ)) (line : List ℕ) (reply : Result Answer DebugFault)
-    → PrintedSoFar By first now typed left old mid → TakesLine left after (Some line) → ends_session line ≡ false → AnswersTyped By line now reply next
-    → Appends mid new (reply_text reply) → PrintedSoFar By first next typed after old new
+pub printed_more : {S : Type 0} (By : Answering S) (first now next : S)
+    (typed left after old mid new : Option (List ℕ)) (line : List ℕ) (reply : Result Answer DebugFault)
+    → PrintedSoFar By first now typed left old mid → TakesLine left after (Some line) → ends_session line ≡ false
+    → AnswersTyped By line now reply next → Appends mid new (reply_text reply) → PrintedSoFar By first next typed after old new
 printed_more By first now next None left after old mid new line reply so_far takes goes answers prints = tt
-printed_more By first now next (Some bytes) None after old mid new line reply so_far takes goes answers prints = let never : None ≡ Some so_far.0 = so_far.1 in cc
+printed_more By first now next (Some bytes) None after old mid new line reply so_far takes goes answers prints =
+    let never : None ≡ Some so_far.0 = so_far.1 in cc
 printed_more By first now next (Some bytes) (Some more) after old mid new line reply so_far takes goes answers prints =
     let same : so_far.0 ≡ more = cc in
     let lines : input_lines so_far.0 ≡ line ∷ input_lines takes.0 = ap input_lines same ∙ takes.1 in (
@@ -170,35 +174,40 @@ printed_more By first now next (Some bytes) (Some more) after old mid new line r
       takes.2,
       record {
         answered = so_far.2.answered ++ line ∷ [];
-        are_lines = so_far.2.are_lines ∙ (ap (λ (ls : List (List ℕ)). so_far.2.answered ++ ls) lines ∙ sym (append_assoc so_far.2.answered (line ∷ []) (input_lines takes.0)));
+        are_lines = so_far.2.are_lines
+            ∙ (ap (λ (ls : List (List ℕ)). so_far.2.answered ++ ls) lines ∙ sym (append_assoc so_far.2.answered (line ∷ []) (input_lines takes.0)));
         said = so_far.2.said ++ reply_text reply;
         grown = appends_both old mid new so_far.2.said (reply_text reply) so_far.2.grown prints;
         goes_on = λ more_lines text is. transcript_along By first (so_far.2.answered ++ line ∷ more_lines) ((so_far.2.answered ++ line ∷ []) ++ more_lines)
             (so_far.2.said ++ (reply_text reply ++ text)) ((so_far.2.said ++ reply_text reply) ++ text)
             (sym (append_assoc so_far.2.answered (line ∷ []) more_lines)) (sym (append_assoc so_far.2.said (reply_text reply) text))
-            (so_far.2.goes_on (line ∷ more_lines) (reply_text reply ++ text) (transcript_on By (ends_session line) line now next more_lines reply text goes answers is));
+            (so_far.2.goes_on (line ∷ more_lines) (reply_text reply ++ text)
+            (transcript_on By (ends_session line) line now next more_lines reply text goes answers is));
       },
     )
 
 -- nothing more is printed
 printed_end : {S : Type 0} (By : Answering S) (first now : S) (typed left old new : Option (List ℕ)) → PrintedSoFar By first now typed left old new
-    → ((rest : List ℕ) → left ≡ Some rest → Transcript By now (input_lines rest) []) → IfSome typed (λ bytes. AppendsA (Transcript By first (input_lines bytes)) old new)
+    → ((rest : List ℕ) → left ≡ Some rest → Transcript By now (input_lines rest) [])
+    → IfSome typed (λ bytes. AppendsA (Transcript By first (input_lines bytes)) old new)
 printed_end By first now None left old new so_far ends = tt
 printed_end By first now (Some bytes) left old new so_far ends = (
   so_far.2.said,
-  transcript_along By first (so_far.2.answered ++ input_lines so_far.0) (input_lines bytes) (so_far.2.said ++ []) so_far.2.said (sym so_far.2.are_lines) (append-nil so_far.2.said)
-      (so_far.2.goes_on (input_lines so_far.0) [] (ends so_far.0 so_far.1)),
+  transcript_along By first (so_far.2.answered ++ input_lines so_far.0) (input_lines bytes) (so_far.2.said ++ []) so_far.2.said
+      (sym so_far.2.are_lines) (append-nil so_far.2.said) (so_far.2.goes_on (input_lines so_far.0) [] (ends so_far.0 so_far.1)),
   so_far.2.grown,
 )
 
-pub printed_all : {S : Type 0} (By : Answering S) (first now : S) (typed left after old new : Option (List ℕ)) → PrintedSoFar By first now typed left old new → TakesLine left after None
+pub printed_all : {S : Type 0} (By : Answering S) (first now : S) (typed left after old new : Option (List ℕ))
+    → PrintedSoFar By first now typed left old new → TakesLine left after None
     → IfSome typed (λ bytes. AppendsA (Transcript By first (input_lines bytes)) old new)
 printed_all By first now typed None after old new so_far takes = printed_end By first now typed None old new so_far (λ rest is. cc)
 printed_all By first now typed (Some more) after old new so_far takes = printed_end By first now typed (Some more) old new so_far
     (λ rest is. let same : more ≡ rest = cc in subst (λ (ls : List (List ℕ)). Transcript By now ls []) (sym (ap input_lines (sym same) ∙ takes)) refl)
 
-pub printed_quit : {S : Type 0} (By : Answering S) (first now : S) (typed left after old new : Option (List ℕ)) (line : List ℕ) → PrintedSoFar By first now typed left old new
-    → TakesLine left after (Some line) → ends_session line ≡ true → IfSome typed (λ bytes. AppendsA (Transcript By first (input_lines bytes)) old new)
+pub printed_quit : {S : Type 0} (By : Answering S) (first now : S) (typed left after old new : Option (List ℕ)) (line : List ℕ)
+    → PrintedSoFar By first now typed left old new → TakesLine left after (Some line) → ends_session line ≡ true
+    → IfSome typed (λ bytes. AppendsA (Transcript By first (input_lines bytes)) old new)
 printed_quit By first now typed None after old new line so_far takes quits = printed_end By first now typed None old new so_far (λ rest is. cc)
 printed_quit By first now typed (Some more) after old new line so_far takes quits = printed_end By first now typed (Some more) old new so_far
     (λ rest is. let same : more ≡ rest = cc in subst (λ (ls : List (List ℕ)). Transcript By now ls []) (sym (ap input_lines (sym same) ∙ takes.1))
@@ -214,8 +223,8 @@ printed_cut By first now (Some bytes) left old new so_far = (
     answered = so_far.2.answered;
     left = input_lines so_far.0;
     are_lines = so_far.2.are_lines;
-    prints = transcript_along By first (so_far.2.answered ++ []) so_far.2.answered (so_far.2.said ++ []) so_far.2.said (append-nil so_far.2.answered) (append-nil so_far.2.said)
-        (so_far.2.goes_on [] [] refl);
+    prints = transcript_along By first (so_far.2.answered ++ []) so_far.2.answered (so_far.2.said ++ []) so_far.2.said
+        (append-nil so_far.2.answered) (append-nil so_far.2.said) (so_far.2.goes_on [] [] refl);
   },
   so_far.2.grown,
 )
@@ -236,8 +245,8 @@ cut_where (Err Failed) Is is = tt
 cut_where (Err (Refused fault)) Is is = is
 
 -- a line that is UTF-8 is answered as its text, and one that isn't is no command
-pub typed_text : {S : Type 0} (By : Answering S) (line : List ℕ) (old new : S) (result : Result Answer DebugFault) → IsUtf8 line → By.answers line old result new
-    → AnswersTyped By line old result new
+pub typed_text : {S : Type 0} (By : Answering S) (line : List ℕ) (old new : S) (result : Result Answer DebugFault)
+    → IsUtf8 line → By.answers line old result new → AnswersTyped By line old result new
 typed_text By line old new result good answers = rw (is_utf8-from_IsUtf8 line good) answers
 
 not_text : (line : List ℕ) (good : Bool) → is_utf8 line ≡ good → ¬ (IsUtf8 line) → good ≡ false

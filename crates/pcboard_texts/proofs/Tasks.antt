@@ -38,7 +38,8 @@ printed_session By (Some bytes) (Some run) (Some typed) old new hex board is_boa
 
 -- what a session prints as far as it goes is the beginning of the answer to `debug`
 
-begun : {S : Type 0} (By : Answering S) (hex : Bool) (bytes run typed text : List ℕ) (board : BoardState) → IsBoardOf hex bytes run board → BeginsTranscript By (By.begins board) (input_lines typed) text → BeginsSession By hex bytes run typed text
+begun : {S : Type 0} (By : Answering S) (hex : Bool) (bytes run typed text : List ℕ) (board : BoardState)
+    → IsBoardOf hex bytes run board → BeginsTranscript By (By.begins board) (input_lines typed) text → BeginsSession By hex bytes run typed text
 begun By hex bytes run typed text board is_board begins =
     record { board = board; is_board = is_board; begins = begins }
 
@@ -52,10 +53,12 @@ replies By (Some bytes) (Some run) None old new hex board is_board adds = tt
 replies By (Some bytes) (Some run) (Some typed) old new hex board is_board adds =
     (adds.0, begun By hex bytes run typed adds.0 board is_board adds.1, adds.2)
 
-pub replies_withheld : {T S : Type 0} (By : Answering S) (result : Result T Unanswered) (file said input old new : Option (List ℕ)) (hex : Bool) (board : BoardState)
+pub replies_withheld : {T S : Type 0} (By : Answering S) (result : Result T Unanswered)
+    (file said input old new : Option (List ℕ)) (hex : Bool) (board : BoardState)
     → IfSome file (λ bytes. IfSome said (λ run. IsBoardOf hex bytes run board))
     → IfErr result (WhereRefused (new ≡ old ⊎ IfSome input (λ typed. AppendsA (BeginsTranscript By (By.begins board) (input_lines typed)) old new)))
-    → IfErr result (WhereRefused (new ≡ old ⊎ IfSome file (λ bytes. IfSome said (λ run. IfSome input (λ typed. AppendsA (BeginsSession By hex bytes run typed) old new)))))
+    → IfErr result
+    (WhereRefused (new ≡ old ⊎ IfSome file (λ bytes. IfSome said (λ run. IfSome input (λ typed. AppendsA (BeginsSession By hex bytes run typed) old new)))))
 replies_withheld By (Ok done) file said input old new hex board is_board cut = cut
 replies_withheld By (Err Failed) file said input old new hex board is_board cut = cut
 replies_withheld By (Err (Refused fault)) file said input old new hex board is_board (inl same) = inl same

@@ -69,7 +69,8 @@ all_given rows (a ∷ rest) e =
     let first = not_missed a.required (is_given a.id rows) (list_any (misses rows) rest) e in
     (first.0, all_given rows rest first.1)
 
-none_missed : (s : Shape) (rows : List Row) → check_fault s rows false ≡ [] → (not (s.subcommand_negates_reqs && false) && list_any (misses rows) s.rules) ≡ false
+none_missed : (s : Shape) (rows : List Row) → check_fault s rows false ≡ []
+    → (not (s.subcommand_negates_reqs && false) && list_any (misses rows) s.rules) ≡ false
 none_missed s rows e =
     wants_none (not false && (s.arg_required_else_help && not (list_any (λ (r : Row). explicit_source r.source) rows))) (not false && s.subcommand_required) _ e
 

@@ -69,7 +69,8 @@ run_source : board_words (codes "run" ∷ codes "a.asm" ∷ codes "b.json" ∷ [
 unfolding clap_on_literals
 run_source = refl
 
-run_hex : board_words (codes "run" ∷ codes "--hex" ∷ codes "a.hex" ∷ codes "b.json" ∷ []) ≡ Some (codes "run", Some (codes "a.hex"), Some (codes "b.json"), true)
+run_hex : board_words (codes "run" ∷ codes "--hex" ∷ codes "a.hex" ∷ codes "b.json" ∷ [])
+    ≡ Some (codes "run", Some (codes "a.hex"), Some (codes "b.json"), true)
 unfolding clap_on_literals
 run_hex = refl
 
@@ -78,7 +79,8 @@ unfolding clap_on_literals
 hex_last = refl
 
 -- a file may be named like an option
-run_after_end : board_words (codes "run" ∷ codes "--" ∷ codes "--hex" ∷ codes "b.json" ∷ []) ≡ Some (codes "run", Some (codes "--hex"), Some (codes "b.json"), false)
+run_after_end : board_words (codes "run" ∷ codes "--" ∷ codes "--hex" ∷ codes "b.json" ∷ [])
+    ≡ Some (codes "run", Some (codes "--hex"), Some (codes "b.json"), false)
 unfolding clap_on_literals
 run_after_end = refl
 
@@ -86,7 +88,8 @@ debug_words : fault_of app (codes "debug" ∷ codes "a.hex" ∷ codes "b.json" �
 unfolding clap_on_literals
 debug_words = refl
 
-debug_hex : board_words (codes "debug" ∷ codes "a.hex" ∷ codes "b.json" ∷ codes "--hex" ∷ []) ≡ Some (codes "debug", Some (codes "a.hex"), Some (codes "b.json"), true)
+debug_hex : board_words (codes "debug" ∷ codes "a.hex" ∷ codes "b.json" ∷ codes "--hex" ∷ [])
+    ≡ Some (codes "debug", Some (codes "a.hex"), Some (codes "b.json"), true)
 unfolding clap_on_literals
 debug_hex = refl
 

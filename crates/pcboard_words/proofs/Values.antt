@@ -55,7 +55,8 @@ set_filled : (id : Text) (how : Reading) (s : ValueSource) (values : List Text) 
     → AllFilled (with_values id how s values (without id rows))
 set_filled id how s values rows some good = with_filled id how s values _ some (without_filled id rows good)
 
-used_filled : (x : ArgAction) (id : Text) (how : Reading) (v : Text) (vs : List Text) (rows : List Row) → AllFilled rows → AllFilled (used_as x id how (v ∷ vs) rows)
+used_filled : (x : ArgAction) (id : Text) (how : Reading) (v : Text) (vs : List Text) (rows : List Row) → AllFilled rows
+    → AllFilled (used_as x id how (v ∷ vs) rows)
 used_filled Set id how v vs rows good = set_filled id how _ (v ∷ vs) rows tt good
 used_filled SetTrue id how v vs rows good = set_filled id how _ (v ∷ vs) rows tt good
 used_filled SetFalse id how v vs rows good = set_filled id how _ (v ∷ vs) rows tt good
@@ -71,7 +72,8 @@ by_id_filled None values rows some good = good
 by_id_filled (Some a) [] rows some good = absurd some
 by_id_filled (Some a) (v ∷ vs) rows some good = used_filled (action_of a) a.id (reading_by a) v vs rows good
 
-settled_filled : (c : List Rule) (p : Option (Text × List Text)) (rows : List Row) → IfSome p (λ q. HasValue q.1) → AllFilled rows → AllFilled (settled_rows c p rows)
+settled_filled : (c : List Rule) (p : Option (Text × List Text)) (rows : List Row)
+    → IfSome p (λ q. HasValue q.1) → AllFilled rows → AllFilled (settled_rows c p rows)
 settled_filled c None rows some good = good
 settled_filled c (Some p) rows some good = by_id_filled (arg_by_id c p.0) p.1 rows some good
 
@@ -164,9 +166,11 @@ step_good c word w h value good = positional_good c (arg_by_index c w.position) 
 
 module _ (c : List Rule) (fit : AllFit c) where
   character_good : (x : Option ℕ) (flags : Text) (skip : ℕ) (so_far : Outcome) (h : Held) (following : Text → ℕ → Outcome → Held → Held × Outcome)
-      → ((f : Text) (n : ℕ) (o : Outcome) (k : Held) → IsGood k → IsGood (following f n o k).0) → IsGood h → IsGood (bundle_step c x flags skip so_far h following).0
+      → ((f : Text) (n : ℕ) (o : Outcome) (k : Held) → IsGood k → IsGood (following f n o k).0) → IsGood h
+      → IsGood (bundle_step c x flags skip so_far h following).0
   character_good None flags skip so_far h following each good = good
-  character_good (Some x) flags zero so_far h following each good = short_good c (arg_by_short c x) _ h _ (flag_named (λ a. has_short a x) c fit) (λ k held. each _ _ _ k held) good
+  character_good (Some x) flags zero so_far h following each good =
+      short_good c (arg_by_short c x) _ h _ (flag_named (λ a. has_short a x) c fit) (λ k held. each _ _ _ k held) good
   character_good (Some x) flags (suc skip) so_far h following each good = each _ _ _ h good
 
   bundle_good : (k : ℕ) (flags : Text) (skip : ℕ) (so_far : Outcome) (h : Held) → IsGood h → IsGood (bundle_met c k flags skip so_far h).0
@@ -179,16 +183,19 @@ module _ (c : List Rule) (fit : AllFit c) where
   short_word_good waiting word None h good = plain_good c waiting word h good
   short_word_good waiting word (Some flags) h good = after_good c waiting word _ _ (bundle_good _ flags _ _ _ good)
 
-  long_word_good : (waiting : Waiting) (word : Text) (parts : Option (Text × Option Text)) (h : Held) → IsGood h → IsGood (long_or_other c waiting word parts h).0
+  long_word_good : (waiting : Waiting) (word : Text) (parts : Option (Text × Option Text)) (h : Held) → IsGood h
+      → IsGood (long_or_other c waiting word parts h).0
   long_word_good waiting word None h good = short_word_good waiting word (short_of word) h good
-  long_word_good waiting word (Some p) h good = after_good c waiting word _ _ (long_good c (arg_by_long c p.0) p.1 h (flag_named (λ a. has_long a p.0) c fit) good)
+  long_word_good waiting word (Some p) h good =
+      after_good c waiting word _ _ (long_good c (arg_by_long c p.0) p.1 h (flag_named (λ a. has_long a p.0) c fit) good)
 
   end_good : (is_end : Bool) (waiting : Waiting) (position : ℕ) (word : Text) (h : Held) → IsGood h
       → IsGood (if is_end then (h, trailing position) else long_or_other c waiting word (long_of word) h).0
   end_good true waiting position word h good = good
   end_good false waiting position word h good = long_word_good waiting word (long_of word) h good
 
-  other_good : (met : Option Text) (waiting : Waiting) (position : ℕ) (word : Text) (h : Held) → IsGood h → IsGood (subcommand_or_other c met waiting position word h).0
+  other_good : (met : Option Text) (waiting : Waiting) (position : ℕ) (word : Text) (h : Held) → IsGood h
+      → IsGood (subcommand_or_other c met waiting position word h).0
   other_good (Some name) waiting position word h good = good
   other_good None waiting position word h good = end_good (bytes_eq word (45 ∷ 45 ∷ [])) waiting position word h good
 

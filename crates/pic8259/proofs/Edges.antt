@@ -114,7 +114,8 @@ command_spent value s level edge is =
     choice_spent (has_bit value 4) (after_icw1 s value) _ level
     (λ begins. icw1_spent value s level (sym (ap (λ b. b && has_bit value 3) begins) ∙ edge) is)
     (choice_spent (not (is_operating s.expected)) s _ level (λ waits. is)
-    (choice_spent (has_bit value 3) (after_ocw3 s value) (after_ocw2 s (has_bit value 7) (has_bit value 6) (has_bit value 5) (value % 8)) level (λ third. ocw3_spent value s level is) second))
+    (choice_spent (has_bit value 3) (after_ocw3 s value)
+    (after_ocw2 s (has_bit value 7) (has_bit value 6) (has_bit value 5) (value % 8)) level (λ third. ocw3_spent value s level is) second))
 
 rise_other : (b : Bool) (s : PicState) (n level : ℕ) → level ≢ n → IsSpent s level → contains (if b then s.risen else with_level s.risen n) level ≡ false
 rise_other true s n level differ is = is.spent
@@ -165,7 +166,8 @@ unfolding after_taking
 just_taken s level edge high = record { edge = edge; high = high; spent = gone s.risen level }
 
 -- a line that falls and rises makes its level ask
-asks_after_rise : (s : PicState) (level : ℕ) → level < length s.high → level < length s.risen → asks (after_line (after_line s level Low) level High) level ≡ true
+asks_after_rise : (s : PicState) (level : ℕ) → level < length s.high → level < length s.risen
+    → asks (after_line (after_line s level Low) level High) level ≡ true
 unfolding after_line
 asks_after_rise s level high risen =
     let fallen : Levels = without_level s.high level in

@@ -32,7 +32,8 @@ stays_inhibited s level line_of High = refl
 
 -- a line changes nothing of other levels
 
-rises_alone : (was_high : Bool) (s : PicState) (level other : ℕ) → other ≢ level → contains (if was_high then s.risen else with_level s.risen level) other ≡ contains s.risen other
+rises_alone : (was_high : Bool) (s : PicState) (level other : ℕ) → other ≢ level
+    → contains (if was_high then s.risen else with_level s.risen level) other ≡ contains s.risen other
 rises_alone true s level other differ = refl
 rises_alone false s level other differ = get_or-set_other s.risen level other true false differ
 
@@ -53,7 +54,8 @@ others_taken s level other High differ =
     ap (λ b. (b && not (contains s.masked other)) && not (list_any (blocks s) (up_to s.order other))) (others_ask s level other High differ)
 
 -- a controller that isn't ready takes none; one that is ready takes the same as before
-takes : (s t : PicState) (level : ℕ) → is_ready t ≡ is_ready s → t.order ≡ s.order → (is_ready s && may_be_taken s level) ≡ false → (is_ready t && may_be_taken t level) ≡ false
+takes : (s t : PicState) (level : ℕ) → is_ready t ≡ is_ready s → t.order ≡ s.order
+    → (is_ready s && may_be_taken s level) ≡ false → (is_ready t && may_be_taken t level) ≡ false
     → ((other : ℕ) → other ≢ level → may_be_taken t other ≡ may_be_taken s other) → level_to_take t ≡ level_to_take s
 unfolding level_to_take
 takes s t level ready order none none_later others =
@@ -73,8 +75,12 @@ takes s t level ready order none none_later others =
 
 pub unheard : (s : PicState) (level : ℕ) (line : Line) → is_inhibited s level ≡ true → level_to_take (after_line s level line) ≡ level_to_take s
 unfolding after_line
-unheard s level Low is = takes s (after_line s level Low) level refl refl (never_taken s level is) (never_taken (after_line s level Low) level is) (λ other differ. others_taken s level other Low differ)
-unheard s level High is = takes s (after_line s level High) level refl refl (never_taken s level is) (never_taken (after_line s level High) level is) (λ other differ. others_taken s level other High differ)
+unheard s level Low is =
+    takes s (after_line s level Low) level refl refl (never_taken s level is)
+    (never_taken (after_line s level Low) level is) (λ other differ. others_taken s level other Low differ)
+unheard s level High is =
+    takes s (after_line s level High) level refl refl (never_taken s level is)
+    (never_taken (after_line s level High) level is) (λ other differ. others_taken s level other High differ)
 
 -- a level that isn't inhibited may be taken once its line has risen
 
@@ -87,7 +93,8 @@ ready_and : (ready held : Bool) → (not ready || held) ≡ false → (ready ≡
 ready_and true held is = (refl, is)
 ready_and false held is = absurd (let never : true ≡ false = is in cc)
 
-rises : (s : PicState) (level : ℕ) → is_inhibited s level ≡ false → level < length s.high → level < length s.risen → IsTakenInTurn (after_line (after_line s level Low) level High) level
+rises : (s : PicState) (level : ℕ) → is_inhibited s level ≡ false → level < length s.high → level < length s.risen
+    → IsTakenInTurn (after_line (after_line s level Low) level High) level
 unfolding after_line
 rises s level is high risen =
     let parts = ready_and (is_ready s) (contains s.masked level || list_any (blocks s) (up_to s.order level)) is in

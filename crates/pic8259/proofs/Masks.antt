@@ -19,7 +19,8 @@ read_at byte k d within =
     by_level (λ n. get_or (levels_of byte) n d ≡ has_bit byte n) refl refl refl refl refl refl refl refl k within
 
 -- a byte that differs from another in one bit
-one_changed : (now was level : ℕ) (b : Bool) → level < 8 → has_bit now level ≡ b → ((k : ℕ) → k < 8 → k ≢ level → has_bit now k ≡ has_bit was k) → levels_of now ≡ slice_set (levels_of was) level b
+one_changed : (now was level : ℕ) (b : Bool) → level < 8 → has_bit now level ≡ b → ((k : ℕ) → k < 8 → k ≢ level → has_bit now k ≡ has_bit was k)
+    → levels_of now ≡ slice_set (levels_of was) level b
 one_changed now was level b within here others =
     same_lists (levels_of now) (slice_set (levels_of was) level b) (sym (length-set (levels_of was) level b))
     (λ k d inside. elim (cases_eq k level) [
@@ -65,7 +66,8 @@ first_bit (suc zero) (suc zero) x y = refl
 first_bit (suc zero) (suc (suc b)) x y = absurd (omega arith)
 first_bit (suc (suc a)) b x y = absurd (omega arith)
 
-pub levels_in_first : (a b : ℕ) → b < 256 → levels_of (bit_and a (bit_not w8 b)) ≡ map (λ level. contains (levels_of a) level && not (contains (levels_of b) level)) all_levels
+pub levels_in_first : (a b : ℕ) → b < 256
+    → levels_of (bit_and a (bit_not w8 b)) ≡ map (λ level. contains (levels_of a) level && not (contains (levels_of b) level)) all_levels
 levels_in_first a b within =
     let bit : (k : ℕ) → k < 8 → has_bit (bit_and a (bit_not w8 b)) k ≡ (has_bit a k && not (has_bit b k)) =
     λ k is_level. ap (λ n. n == 1) (bit_at_and a (bit_not w8 b) k ∙ ap (min (bit_at a k)) (bit_at_not w8 b k within is_level))

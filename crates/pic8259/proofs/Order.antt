@@ -30,7 +30,8 @@ turned_to_lowest level lowest is_level within =
     level is_level
 
 -- the part of the list up to its level at a place
-pub up_to_place : (place lowest : ℕ) → place < 8 → lowest < 8 → up_to (order_with_lowest lowest) (slice_index_or (order_with_lowest lowest) place 0) ≡ take (place + 1) (order_with_lowest lowest)
+pub up_to_place : (place lowest : ℕ) → place < 8 → lowest < 8
+    → up_to (order_with_lowest lowest) (slice_index_or (order_with_lowest lowest) place 0) ≡ take (place + 1) (order_with_lowest lowest)
 unfolding order_with_lowest
 up_to_place place lowest is_place within =
     let P : ℕ → ℕ → Type 0 = λ k n. up_to (order_with_lowest n) (slice_index_or (order_with_lowest n) k 0) ≡ take (k + 1) (order_with_lowest n) in

@@ -18,7 +18,8 @@ use Rattle.pic8259.proofs.Places.{found_at, all_right}
 only_levels : (lowest : ℕ) → All (λ level. level < 8) (order_with_lowest lowest)
 unfolding order_with_lowest
 only_levels lowest k d within =
-    by_level (λ place. get_or (order_with_lowest lowest) place d < 8) (omega arith) (omega arith) (omega arith) (omega arith) (omega arith) (omega arith) (omega arith) (omega arith) k within
+    by_level (λ place. get_or (order_with_lowest lowest) place d < 8) (omega arith) (omega arith)
+    (omega arith) (omega arith) (omega arith) (omega arith) (omega arith) (omega arith) k within
 
 counted_once : (lowest level : ℕ) → lowest < 8 → level < 8 → count_by (λ other. other == level) (order_with_lowest lowest) ≡ 1
 unfolding order_with_lowest
@@ -110,7 +111,8 @@ end_highest_turn : (s : PicState) (o : Option ℕ) → IsTurn s.order → IsTurn
 end_highest_turn s None turn = turn
 end_highest_turn s (Some level) turn = end_turn level s turn
 
-lower_highest_turn : (s : PicState) (o : Option ℕ) → highest_served s ≡ o → IsTurn s.order → IsTurn (option_map_or (λ highest. after_lowering (after_end s highest) highest) o s).order
+lower_highest_turn : (s : PicState) (o : Option ℕ) → highest_served s ≡ o → IsTurn s.order
+    → IsTurn (option_map_or (λ highest. after_lowering (after_end s highest) highest) o s).order
 unfolding highest_served after_end after_lowering
 lower_highest_turn s None is turn = turn
 lower_highest_turn s (Some level) is turn = lowest_turn level s.order (in_order (blocks s) s.order level turn is) turn

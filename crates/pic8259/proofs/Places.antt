@@ -15,7 +15,8 @@ pub record FoundAt {X : Type 0} (p : X → Bool) (xs : List X) (x : X) : Type 0 
   pub passes : p x ≡ true
   pub none_before : All (λ y. p y ≡ false) before
 
-found_step : {X : Type 0} (p : X → Bool) (y : X) (ys : List X) (x : X) (b : Bool) → p y ≡ b → cond b (Some y) (find p ys) ≡ Some x → (find p ys ≡ Some x → FoundAt p ys x) → FoundAt p (y ∷ ys) x
+found_step : {X : Type 0} (p : X → Bool) (y : X) (ys : List X) (x : X) (b : Bool)
+    → p y ≡ b → cond b (Some y) (find p ys) ≡ Some x → (find p ys ≡ Some x → FoundAt p ys x) → FoundAt p (y ∷ ys) x
 found_step p y ys x true passes is rest =
     let same : y ≡ x = cc in
     record { before = []; after = ys; placed = ap (λ z. z ∷ ys) same; passes = ap p (sym same) ∙ passes; none_before = All-nil (λ z. p z ≡ false) }
@@ -33,7 +34,8 @@ pub found_at : {X : Type 0} (p : X → Bool) (xs : List X) (x : X) → find p xs
 found_at p [] x is = absurd (cc)
 found_at p (y ∷ ys) x is = found_step p y ys x (p y) refl is (found_at p ys x)
 
-none_step : {X : Type 0} (p : X → Bool) (y : X) (ys : List X) (b : Bool) → p y ≡ b → cond b (Some y) (find p ys) ≡ None → (find p ys ≡ None → All (λ x. p x ≡ false) ys) → All (λ x. p x ≡ false) (y ∷ ys)
+none_step : {X : Type 0} (p : X → Bool) (y : X) (ys : List X) (b : Bool)
+    → p y ≡ b → cond b (Some y) (find p ys) ≡ None → (find p ys ≡ None → All (λ x. p x ≡ false) ys) → All (λ x. p x ≡ false) (y ∷ ys)
 none_step p y ys true passes is rest = absurd (cc)
 none_step p y ys false fails is rest = All-cons (λ z. p z ≡ false) y ys fails (rest is)
 
@@ -49,7 +51,8 @@ before_first_past p (x ∷ xs) ys fail =
     ∙ ap (λ b. cond (not b) (x ∷ before_first p (xs ++ ys)) []) (All-head (λ y. p y ≡ false) x xs fail)
     ∙ ap (λ zs. x ∷ zs) (before_first_past p xs ys (All-tail (λ y. p y ≡ false) x xs fail))
 
-pub before_first_here : {X : Type 0} (p : X → Bool) (xs : List X) (x : X) (ys : List X) → All (λ y. p y ≡ false) xs → p x ≡ true → before_first p (xs ++ x ∷ ys) ≡ xs
+pub before_first_here : {X : Type 0} (p : X → Bool) (xs : List X) (x : X) (ys : List X)
+    → All (λ y. p y ≡ false) xs → p x ≡ true → before_first p (xs ++ x ∷ ys) ≡ xs
 before_first_here p xs x ys fail passes =
     before_first_past p xs (x ∷ ys) fail
     ∙ ap (λ zs. xs ++ zs) (take_while-cons (λ y. not (p y)) x ys ∙ ap (λ b. cond (not b) (x ∷ before_first p ys) []) passes)
@@ -69,7 +72,8 @@ none_where_any_fails p xs d none =
       | inr fails ↦ fails
     ])
 
-pub count_at_place : {X : Type 0} (p : X → Bool) (before : List X) (x : X) (after : List X) → count_by p (before ++ x ∷ after) ≡ count_by p before + (cond (p x) 1 0 + count_by p after)
+pub count_at_place : {X : Type 0} (p : X → Bool) (before : List X) (x : X) (after : List X)
+    → count_by p (before ++ x ∷ after) ≡ count_by p before + (cond (p x) 1 0 + count_by p after)
 count_at_place p before x after =
     sum_by-append (λ y. cond (p y) 1 0) before (x ∷ after) ∙ ap (λ n. count_by p before + n) (sum_by-cons (λ y. cond (p y) 1 0) x after)
 
@@ -89,7 +93,8 @@ none_counted p xs d none =
       | inr fails ↦ fails
     ])
 
-passing_step : {X : Type 0} (p : X → Bool) (x : X) (xs : List X) (b : Bool) → p x ≡ b → 0 < count_by p (x ∷ xs) → (0 < count_by p xs → position_or_len p xs < length xs) → position_or_len p (x ∷ xs) < length (x ∷ xs)
+passing_step : {X : Type 0} (p : X → Bool) (x : X) (xs : List X) (b : Bool)
+    → p x ≡ b → 0 < count_by p (x ∷ xs) → (0 < count_by p xs → position_or_len p xs < length xs) → position_or_len p (x ∷ xs) < length (x ∷ xs)
 passing_step p x xs true passes some more =
     let first : position_or_len p (x ∷ xs) ≡ 0 = ap (λ b. cond (not b) (1 + position_or_len p xs) 0) passes in
     rw first (omega arith)

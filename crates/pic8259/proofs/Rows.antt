@@ -8,7 +8,8 @@ use Rattle.pic8259.specs.PicLaws.{Event, line_change, read, write, acknowledge, 
 
 -- what a row unfolds
 unfoldable on_events : ⊤
-unfolding byte_at level_to_take highest_served after_taking after_acknowledge after_read after_line after_icw1 after_ocw2 after_ocw3 after_word after_command after_end after_lowering after_write with_lowest
+unfolding byte_at level_to_take highest_served after_taking after_acknowledge after_read after_line
+    after_icw1 after_ocw2 after_ocw3 after_word after_command after_end after_lowering after_write with_lowest
 on_events = tt
 
 -- the state after events, the oldest first

@@ -28,7 +28,8 @@ first_to_take s level is =
     let parts = and_parts (is_pending s level) (not (list_any (blocks s) (up_to s.order level))) at.passes in
     let pending = and_parts (asks s level) (not (contains s.masked level)) parts.0 in
     let others : All (λ other. (other == level) ≡ false) at.before =
-    All-weaker (λ other. may_be_taken s other ≡ false) (λ other. (other == level) ≡ false) (λ other. other_level s level other at.passes) at.before at.none_before in
+    All-weaker (λ other. may_be_taken s other ≡ false) (λ other. (other == level) ≡ false)
+    (λ other. other_level s level other at.passes) at.before at.none_before in
     let until_level : up_to s.order level ≡ at.before ++ level ∷ [] =
     ap (λ xs. up_to xs level) at.placed
     ∙ ap (λ xs. xs ++ level ∷ []) (before_first_here (λ other. other == level) at.before level at.after others (eq-eqb level level refl)) in
@@ -74,13 +75,15 @@ pub acknowledge_takes_first : AcknowledgeTakesFirst
 acknowledge_takes_first s = taking s (level_to_take s) refl
 
 -- a level at or before which one stands that blocks may not be taken
-blocked : (s : PicState) (level other : ℕ) (before between : List ℕ) → blocks s level ≡ true → up_to s.order other ≡ before ++ level ∷ between → may_be_taken s other ≡ false
+blocked : (s : PicState) (level other : ℕ) (before between : List ℕ)
+    → blocks s level ≡ true → up_to s.order other ≡ before ++ level ∷ between → may_be_taken s other ≡ false
 blocked s level other before between here until_level =
     let some : list_any (blocks s) (up_to s.order other) ≡ true = ap (list_any (blocks s)) until_level ∙ any_here (blocks s) before level between here in
     ap (λ b. is_pending s other && not b) some ∙ and-false (is_pending s other)
 
 -- a level after one that blocks, in an order that holds each level once, may not be taken
-blocked_after : (s : PicState) (level other : ℕ) (before after : List ℕ) → HoldsEachLevelOnce s.order → s.order ≡ before ++ level ∷ after → blocks s level ≡ true → other < 8 → 0 < count_by (λ n. n == other) after → may_be_taken s other ≡ false
+blocked_after : (s : PicState) (level other : ℕ) (before after : List ℕ) → HoldsEachLevelOnce s.order → s.order ≡ before ++ level ∷ after
+    → blocks s level ≡ true → other < 8 → 0 < count_by (λ n. n == other) after → may_be_taken s other ≡ false
 blocked_after s level other before after whole placed here within later =
     let p : ℕ → Bool = λ n. n == other in
     let once : count_by p s.order ≡ 1 = whole.once other within in
@@ -97,7 +100,8 @@ blocked_after s level other before after whole placed here within later =
     in
     let until_level : up_to s.order other ≡ before ++ level ∷ (before_first p after ++ other ∷ []) =
     ap (λ xs. before_first p xs ++ other ∷ []) placed
-    ∙ ap (λ xs. xs ++ other ∷ []) (before_first_past p before (level ∷ after) fails ∙ ap (λ xs. before ++ xs) (before_first_past p (level ∷ []) after (All-cons (λ n. p n ≡ false) level [] differs (none_counted p [] 0 refl))))
+    ∙ ap (λ xs. xs ++ other ∷ []) (before_first_past p before (level ∷ after) fails
+    ∙ ap (λ xs. before ++ xs) (before_first_past p (level ∷ []) after (All-cons (λ n. p n ≡ false) level [] differs (none_counted p [] 0 refl))))
     ∙ append_assoc before (level ∷ before_first p after) (other ∷ []) in
     blocked s level other before (before_first p after ++ other ∷ []) here until_level
 
@@ -131,7 +135,8 @@ excepted_blocks s level special masked =
     ∙ ap (λ b. contains s.served level && not b) masked
     ∙ and-false (contains s.served level)
 
-blocks_as_ended : (s : PicState) (level : ℕ) → s.special_mask ≡ true → contains s.masked level ≡ true → (other : ℕ) → blocks s other ≡ blocks (after_end s level) other
+blocks_as_ended : (s : PicState) (level : ℕ) → s.special_mask ≡ true → contains s.masked level ≡ true → (other : ℕ)
+    → blocks s other ≡ blocks (after_end s level) other
 unfolding after_end
 blocks_as_ended s level special masked other =
     let free : ℕ → Bool = λ n. not (s.special_mask && contains s.masked n) in
@@ -155,7 +160,8 @@ special_mask_excepts s level special masked =
           let passes = at.passes in cc;
     }
 
-plain_end : (s : PicState) (o : Option ℕ) → highest_served s ≡ o → is_operating s.expected ≡ true → after_write s false 0x20 ≡ option_map_or (λ highest. after_end s highest) o s
+plain_end : (s : PicState) (o : Option ℕ) → highest_served s ≡ o → is_operating s.expected ≡ true
+    → after_write s false 0x20 ≡ option_map_or (λ highest. after_end s highest) o s
 unfolding after_write after_command after_ocw2
 plain_end s o is operating =
     ap (λ b. if not b then s else option_map_or (λ highest. after_end s highest) (highest_served s) s) operating
@@ -187,7 +193,9 @@ unfolding after_write after_command after_icw1
 begins_anew s value begins =
     let t : PicState = record power_on { high = s.high; vector_base = s.vector_base; slaves = s.slaves } in
     let heard : (u : PicState) → after_write u false value ≡ after_icw1 u value =
-    λ u. ap (λ b. if b then after_icw1 u value else if not (is_operating u.expected) then u else if has_bit value 3 then after_ocw3 u value else after_ocw2 u (has_bit value 7) (has_bit value 6) (has_bit value 5) (value % 8)) begins in
+    λ u. ap (λ b. if b then after_icw1 u value else if not (is_operating u.expected) then u
+    else if has_bit value 3 then after_ocw3 u value else after_ocw2 u (has_bit value 7) (has_bit value 6) (has_bit value 5) (value % 8))
+    begins in
     heard s ∙ sym (heard t)
 
 pub waits_for_sequence : WaitsForSequence
@@ -196,8 +204,13 @@ waits_for_sequence s = (
   (λ waits. record {
     none = ap (λ b. if b && s.is_8086 then find (may_be_taken s) s.order else None) waits;
     unheard = λ value later.
-        ap (λ b. if b then after_icw1 s value else if not (is_operating s.expected) then s else if has_bit value 3 then after_ocw3 s value else after_ocw2 s (has_bit value 7) (has_bit value 6) (has_bit value 5) (value % 8)) later
-        ∙ ap (λ b. if not b then s else if has_bit value 3 then after_ocw3 s value else after_ocw2 s (has_bit value 7) (has_bit value 6) (has_bit value 5) (value % 8)) waits;
+        ap (λ b. if b then after_icw1 s value else if not (is_operating s.expected) then s else if has_bit value 3 then after_ocw3 s value
+        else after_ocw2 s (has_bit value 7) (has_bit value 6) (has_bit value 5) (value % 8))
+        later
+        ∙ ap (λ b.
+        if not b then s else if has_bit value 3 then after_ocw3 s value else after_ocw2 s (has_bit value 7) (has_bit value 6) (has_bit value 5) (value % 8))
+        waits;
   }),
-  (λ other. ap (λ b. if is_operating s.expected && b then find (may_be_taken s) s.order else None) other ∙ ap (λ b. if b then find (may_be_taken s) s.order else None) (and-false (is_operating s.expected))),
+  (λ other. ap (λ b. if is_operating s.expected && b then find (may_be_taken s) s.order else None) other
+      ∙ ap (λ b. if b then find (may_be_taken s) s.order else None) (and-false (is_operating s.expected))),
 )

@@ -12,22 +12,27 @@ use Rattle.pic8259.specs.Pic.{PicState, blocks, may_be_taken}
 use Rattle.pic8259.proofs.Order.{by_level}
 
 -- the next element fails too
-pub none_more : {X : Type 0} (p : X → Bool) (xs : List X) (i : ℕ) (d : X) → i < length xs → find p (take i xs) ≡ None → p (get_or xs i d) ≡ false → find p (take (i + 1) xs) ≡ None
+pub none_more : {X : Type 0} (p : X → Bool) (xs : List X) (i : ℕ) (d : X)
+    → i < length xs → find p (take i xs) ≡ None → p (get_or xs i d) ≡ false → find p (take (i + 1) xs) ≡ None
 none_more p xs i d within none fails = rw (take_more xs i d within, find-append p (take i xs) (get_or xs i d ∷ []), none, fails) refl
 
 -- the next element is the one
-pub found_next : {X : Type 0} (p : X → Bool) (xs : List X) (i : ℕ) (d : X) → i < length xs → find p (take i xs) ≡ None → p (get_or xs i d) ≡ true → find p xs ≡ Some (get_or xs i d)
+pub found_next : {X : Type 0} (p : X → Bool) (xs : List X) (i : ℕ) (d : X)
+    → i < length xs → find p (take i xs) ≡ None → p (get_or xs i d) ≡ true → find p xs ≡ Some (get_or xs i d)
 found_next p xs i d within none passes =
-    let upto : find p (take (i + 1) xs) ≡ Some (get_or xs i d) = rw (take_more xs i d within, find-append p (take i xs) (get_or xs i d ∷ []), none, passes) refl in
+    let upto : find p (take (i + 1) xs) ≡ Some (get_or xs i d) =
+    rw (take_more xs i d within, find-append p (take i xs) (get_or xs i d ∷ []), none, passes) refl in
     ap (find p) (sym (take-append-drop (i + 1) xs)) ∙ find-append p (take (i + 1) xs) (drop (i + 1) xs) ∙ ap (λ o. option_or o (find p (drop (i + 1) xs))) upto
 
 -- whether the level at a place may be taken, by what blocks up to it
-pub may_be_taken_at : (s : PicState) (xs : List ℕ) (i : ℕ) (is_blocked : Bool) → xs ≡ s.order → up_to xs (get_or xs i 0) ≡ take (i + 1) xs → is_blocked ≡ list_any (blocks s) (take (i + 1) xs) → may_be_taken s (get_or xs i 0) ≡ (is_pending s (get_or xs i 0) && not is_blocked)
+pub may_be_taken_at : (s : PicState) (xs : List ℕ) (i : ℕ) (is_blocked : Bool) → xs ≡ s.order → up_to xs (get_or xs i 0) ≡ take (i + 1) xs
+    → is_blocked ≡ list_any (blocks s) (take (i + 1) xs) → may_be_taken s (get_or xs i 0) ≡ (is_pending s (get_or xs i 0) && not is_blocked)
 may_be_taken_at s xs i is_blocked items place blocked =
     ap (λ order. is_pending s (get_or xs i 0) && not (list_any (blocks s) order)) (ap (λ order. up_to order (get_or xs i 0)) (sym items) ∙ place)
     ∙ ap (λ b. is_pending s (get_or xs i 0) && not b) (sym blocked)
 
-pub blocked_more : (s : PicState) (xs : List ℕ) (i : ℕ) (before here : Bool) → i < length xs → before ≡ list_any (blocks s) (take i xs) → here ≡ blocks s (get_or xs i 0) → (before || here) ≡ list_any (blocks s) (take (i + 1) xs)
+pub blocked_more : (s : PicState) (xs : List ℕ) (i : ℕ) (before here : Bool)
+    → i < length xs → before ≡ list_any (blocks s) (take i xs) → here ≡ blocks s (get_or xs i 0) → (before || here) ≡ list_any (blocks s) (take (i + 1) xs)
 blocked_more s xs i before here within is_before is_here =
     ap (λ b. b || here) is_before ∙ ap (λ b. list_any (blocks s) (take i xs) || b) is_here ∙ sym (list_any_more (blocks s) xs i 0 within)
 
@@ -46,7 +51,8 @@ nothing_at : (level : ℕ) → level < 8 → contains no_levels level ≡ false
 nothing_at level is_level = by_level (λ n. contains no_levels n ≡ false) refl refl refl refl refl refl refl refl level is_level
 
 -- if no level is pending, none may be taken
-pub none_pending : (s : PicState) (lowest : ℕ) → s.order ≡ order_with_lowest lowest → map (is_pending s) all_levels ≡ no_levels → find (may_be_taken s) s.order ≡ None
+pub none_pending : (s : PicState) (lowest : ℕ) → s.order ≡ order_with_lowest lowest → map (is_pending s) all_levels ≡ no_levels
+    → find (may_be_taken s) s.order ≡ None
 unfolding order_with_lowest
 none_pending s lowest is_order none =
     let idle : (level : ℕ) → level < 8 → may_be_taken s level ≡ false =
@@ -70,4 +76,5 @@ out_of_eight level = elim (cases_lt level 8) as (λ _. contains no_levels level 
 
 -- with no level in service none is blocked
 pub none_blocks : (s : PicState) (xs : List ℕ) → s.served ≡ no_levels → list_any (blocks s) xs ≡ false
-none_blocks s xs none = none_of (blocks s) xs (λ level. ap (λ b. b && not (s.special_mask && contains s.masked level)) (ap (λ set. contains set level) none ∙ out_of_eight level))
+none_blocks s xs none =
+    none_of (blocks s) xs (λ level. ap (λ b. b && not (s.special_mask && contains s.masked level)) (ap (λ set. contains set level) none ∙ out_of_eight level))

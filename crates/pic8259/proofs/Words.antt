@@ -29,7 +29,8 @@ record EndState (s : PicState) (asks : Bool) (icw2 icw4 : ℕ) : Type 0 where
   automatic : s.auto_end ≡ (asks && has_bit icw4 1)
   unmasked : s.masked ≡ no_levels
 
-end_state : (s : PicState) (single asks : Bool) (icw2 icw3 icw4 : ℕ) → EndState (after_words (sequence_start s single asks) (words_of single asks icw2 icw3 icw4)) asks icw2 icw4
+end_state : (s : PicState) (single asks : Bool) (icw2 icw3 icw4 : ℕ)
+    → EndState (after_words (sequence_start s single asks) (words_of single asks icw2 icw3 icw4)) asks icw2 icw4
 unfolding after_write after_word
 end_state s true true icw2 icw3 icw4 = record { operating = refl; base = refl; mode = refl; automatic = refl; unmasked = refl }
 end_state s true false icw2 icw3 icw4 = record { operating = refl; base = refl; mode = refl; automatic = refl; unmasked = refl }
@@ -39,9 +40,12 @@ end_state s false false icw2 icw3 icw4 = record { operating = refl; base = refl;
 first_word : (s : PicState) (icw1 : ℕ) → has_bit icw1 4 ≡ true → after_write s false icw1 ≡ after_icw1 s icw1
 unfolding after_write after_command
 first_word s icw1 begins =
-    ap (λ b. if b then after_icw1 s icw1 else if not (is_operating s.expected) then s else if has_bit icw1 3 then after_ocw3 s icw1 else after_ocw2 s (has_bit icw1 7) (has_bit icw1 6) (has_bit icw1 5) (icw1 % 8)) begins
+    ap (λ b. if b then after_icw1 s icw1 else if not (is_operating s.expected) then s
+    else if has_bit icw1 3 then after_ocw3 s icw1 else after_ocw2 s (has_bit icw1 7) (has_bit icw1 6) (has_bit icw1 5) (icw1 % 8))
+    begins
 
-after_first : (s : PicState) (icw1 icw2 icw3 icw4 : ℕ) → EndState (after_words (after_icw1 s icw1) (words_of (has_bit icw1 1) (has_bit icw1 0) icw2 icw3 icw4)) (has_bit icw1 0) icw2 icw4
+after_first : (s : PicState) (icw1 icw2 icw3 icw4 : ℕ)
+    → EndState (after_words (after_icw1 s icw1) (words_of (has_bit icw1 1) (has_bit icw1 0) icw2 icw3 icw4)) (has_bit icw1 0) icw2 icw4
 unfolding after_icw1
 after_first s icw1 icw2 icw3 icw4 = end_state (after_icw1 s icw1) (has_bit icw1 1) (has_bit icw1 0) icw2 icw3 icw4
 
@@ -73,7 +77,9 @@ mask_word s mask Operation operating = refl
 holds_mask : (s : PicState) (mask : ℕ) → mask < 256 → HoldsMask (with_mask s mask) mask
 unfolding byte_at
 holds_mask s mask small = record {
-  reads = λ unpolled. ap (λ b. if b then option_map_or (λ level. 0x80 + level) (level_to_take (with_mask s mask)) 0 else byte_of (levels_of mask)) unpolled ∙ byte_of-levels_of mask small;
+  reads = λ unpolled.
+      ap (λ b. if b then option_map_or (λ level. 0x80 + level) (level_to_take (with_mask s mask)) 0 else byte_of (levels_of mask)) unpolled
+      ∙ byte_of-levels_of mask small;
   held = λ level within is_masked.
       let out : contains (levels_of mask) level ≡ true = contains_levels mask level within ∙ is_masked in
       ap (λ b. (asks s level && not b) && not (list_any (blocks (with_mask s mask)) (up_to s.order level))) out
@@ -88,15 +94,18 @@ poll_word : (s : PicState) → is_operating s.expected ≡ true → after_write 
 unfolding after_write after_command after_ocw3
 poll_word s operating = ap (λ b. if not b then s else record s { polled = true }) operating
 
-polling : (s : PicState) (a0 : Bool) (o : Option ℕ) → level_to_take s ≡ o → s.polled ≡ false → MatchOption o (Reads (record s { polled = true }) a0 0 s) (λ level. Reads (record s { polled = true }) a0 (0x80 + level) (after_taking s level))
+polling : (s : PicState) (a0 : Bool) (o : Option ℕ) → level_to_take s ≡ o → s.polled ≡ false
+    → MatchOption o (Reads (record s { polled = true }) a0 0 s) (λ level. Reads (record s { polled = true }) a0 (0x80 + level) (after_taking s level))
 unfolding level_to_take after_acknowledge byte_at after_read after_taking
 polling s a0 None is unpolled = record {
   answer = ap (λ o. option_map_or (λ level. 0x80 + level) o 0) is;
-  state = ap (λ o. record (option_map_or (λ level. after_taking (record s { polled = true }) level) o (record s { polled = true })) { polled = false }) is ∙ ap (λ b. record s { polled = b }) (sym unpolled);
+  state = ap (λ o. record (option_map_or (λ level. after_taking (record s { polled = true }) level) o (record s { polled = true })) { polled = false }) is
+      ∙ ap (λ b. record s { polled = b }) (sym unpolled);
 }
 polling s a0 (Some level) is unpolled = record {
   answer = ap (λ o. option_map_or (λ level. 0x80 + level) o 0) is;
-  state = ap (λ o. record (option_map_or (λ level. after_taking (record s { polled = true }) level) o (record s { polled = true })) { polled = false }) is ∙ ap (λ b. record (after_taking s level) { polled = b }) (sym unpolled);
+  state = ap (λ o. record (option_map_or (λ level. after_taking (record s { polled = true }) level) o (record s { polled = true })) { polled = false }) is
+      ∙ ap (λ b. record (after_taking s level) { polled = b }) (sym unpolled);
 }
 
 pub poll_takes : PollTakes

@@ -64,7 +64,8 @@ runs_of c sound due loaded = record { loaded = loaded; none_due = due; within = 
 
 -- modes 0 and 1, by whether the ticks count
 
-pub runs_terminal : (c : CounterState) → Sound c → c.load_due ≡ false → c.mode ≡ TerminalCount → (n : ℕ) (b : Bool) → is_counting c TerminalCount ≡ b → after_ticks c n ≡ (if b then after_fall c n else c)
+pub runs_terminal : (c : CounterState) → Sound c → c.load_due ≡ false → c.mode ≡ TerminalCount → (n : ℕ) (b : Bool) → is_counting c TerminalCount ≡ b
+    → after_ticks c n ≡ (if b then after_fall c n else c)
 runs_terminal c sound due mode n true counts =
     let tests = unstopped c.progress c.gate c.first_byte counts in
     counts_down c (runs_of c sound due tests.loaded) (inl (mode, tests.gate, tests.first)) n
@@ -72,7 +73,8 @@ runs_terminal c sound due mode n false rests =
     iterate_fixed after_tick n c
     (tick_counts c c due refl ∙ ap (λ m. after_count c m) mode ∙ if_no (is_counting c TerminalCount) (after_decrement c) c rests)
 
-pub runs_one_shot : (c : CounterState) → Sound c → c.load_due ≡ false → c.mode ≡ OneShot → (n : ℕ) (b : Bool) → is_counting c OneShot ≡ b → after_ticks c n ≡ (if b then after_fall c n else c)
+pub runs_one_shot : (c : CounterState) → Sound c → c.load_due ≡ false → c.mode ≡ OneShot → (n : ℕ) (b : Bool) → is_counting c OneShot ≡ b
+    → after_ticks c n ≡ (if b then after_fall c n else c)
 runs_one_shot c sound due mode n true counts =
     counts_down c (runs_of c sound due (is_loaded_one c.progress counts)) (inr mode) n
 runs_one_shot c sound due mode n false rests =
@@ -97,7 +99,8 @@ rate_ahead c sound runs mode gate n =
           ∙ sym (if_no (nat_lt n left) early late (not_below n left after))
     ]
 
-pub runs_rate : (c : CounterState) → Sound c → c.load_due ≡ false → c.mode ≡ RateGenerator → (n : ℕ) (b : Bool) → is_counting c RateGenerator ≡ b → after_ticks c n ≡ (if b then after_rate c n else c)
+pub runs_rate : (c : CounterState) → Sound c → c.load_due ≡ false → c.mode ≡ RateGenerator → (n : ℕ) (b : Bool) → is_counting c RateGenerator ≡ b
+    → after_ticks c n ≡ (if b then after_rate c n else c)
 runs_rate c sound due mode n true counts =
     let tests = enabled c.progress c.gate counts in
     rate_ahead c sound (runs_of c sound due tests.loaded) mode tests.gate n
@@ -161,7 +164,8 @@ turn_of c out load other =
     ∙ ap (λ b. after_square_load c (if b then High else opposite out)) (differs c.newest 1 other)
 
 -- the two halves of a period
-whole_period : (c : CounterState) → c.newest < modulus c.radix → c.newest ≢ 1 → (out : Line) → size c ≡ half_ticks (after_square_load c out) + half_ticks (after_square_load c (opposite out))
+whole_period : (c : CounterState) → c.newest < modulus c.radix → c.newest ≢ 1 → (out : Line)
+    → size c ≡ half_ticks (after_square_load c out) + half_ticks (after_square_load c (opposite out))
 whole_period c within other High =
     let first = loaded_half c High (square_loads c High within other) in
     let second = loaded_half c Low (square_loads c Low within other) in
@@ -175,7 +179,8 @@ opposite_twice : (out : Line) → opposite (opposite out) ≡ out
 opposite_twice High = refl
 opposite_twice Low = refl
 
-in_period : (c : CounterState) → c.mode ≡ SquareWave → c.gate ≡ High → c.newest < modulus c.radix → (out : Line) → c.newest ≢ 1 → (r : ℕ) → r < size c → after_ticks (after_square_load c out) r ≡ after_halves (after_square_load c out) r
+in_period : (c : CounterState) → c.mode ≡ SquareWave → c.gate ≡ High → c.newest < modulus c.radix → (out : Line) → c.newest ≢ 1 → (r : ℕ) → r < size c
+    → after_ticks (after_square_load c out) r ≡ after_halves (after_square_load c out) r
 unfolding after_halves
 in_period c mode gate within out other r small =
     let d : CounterState = after_square_load c out in
@@ -206,7 +211,8 @@ in_period c mode gate within out other r small =
     rest_below r half next all after small whole = omega arith
 
 -- after a load, any number of ticks on
-halves_ahead : (c : CounterState) → c.mode ≡ SquareWave → c.gate ≡ High → c.newest < modulus c.radix → (out : Line) → (c.newest ≡ 1 → out ≡ High) → (n : ℕ) → after_ticks (after_square_load c out) n ≡ after_halves (after_square_load c out) (n % size c)
+halves_ahead : (c : CounterState) → c.mode ≡ SquareWave → c.gate ≡ High → c.newest < modulus c.radix → (out : Line) → (c.newest ≡ 1 → out ≡ High) → (n : ℕ)
+    → after_ticks (after_square_load c out) n ≡ after_halves (after_square_load c out) (n % size c)
 halves_ahead c mode gate within out at_one n = elim (one_or_other c.newest) [
   | inl one ↦
       let load : after_square_load c out ≡ after_load c High = ap (λ o. after_square_load c o) (at_one one) ∙ square_load_of_one c High one in
@@ -215,7 +221,8 @@ halves_ahead c mode gate within out at_one n = elim (one_or_other c.newest) [
   | inr other ↦ of_other c mode gate within out other n
 ]
   where
-    round : (c : CounterState) → c.mode ≡ SquareWave → c.gate ≡ High → c.newest < modulus c.radix → (out : Line) → c.newest ≢ 1 → after_ticks (after_square_load c out) (size c) ≡ after_square_load c out
+    round : (c : CounterState) → c.mode ≡ SquareWave → c.gate ≡ High → c.newest < modulus c.radix → (out : Line) → c.newest ≢ 1
+        → after_ticks (after_square_load c out) (size c) ≡ after_square_load c out
     round c mode gate within out other =
         let d : CounterState = after_square_load c out in
         let e : CounterState = after_square_load c (opposite out) in
@@ -227,7 +234,8 @@ halves_ahead c mode gate within out at_one n = elim (one_or_other c.newest) [
         ∙ ap (λ s. after_ticks s (half_ticks e)) (first.end ∙ turn_of c out load other)
         ∙ second.end ∙ turn_of c (opposite out) load_next other ∙ ap (λ o. after_square_load c o) (opposite_twice out)
 
-    of_other : (c : CounterState) → c.mode ≡ SquareWave → c.gate ≡ High → c.newest < modulus c.radix → (out : Line) → c.newest ≢ 1 → (n : ℕ) → after_ticks (after_square_load c out) n ≡ after_halves (after_square_load c out) (n % size c)
+    of_other : (c : CounterState) → c.mode ≡ SquareWave → c.gate ≡ High → c.newest < modulus c.radix → (out : Line) → c.newest ≢ 1 → (n : ℕ)
+        → after_ticks (after_square_load c out) n ≡ after_halves (after_square_load c out) (n % size c)
     of_other c mode gate within out other n =
         round_again after_tick (size c) (after_square_load c out) (round c mode gate within out other) n
         ∙ in_period c mode gate within out other (n % size c) (mod_below n (size c) (lengths c.radix c.newest within).some)
@@ -257,7 +265,8 @@ square_ahead c sound runs mode gate n =
     high_at_one false true out one = refl
     high_at_one false false out one = cc
 
-pub runs_square : (c : CounterState) → Sound c → c.load_due ≡ false → c.mode ≡ SquareWave → (n : ℕ) (b : Bool) → is_counting c SquareWave ≡ b → after_ticks c n ≡ (if b then after_square c n else c)
+pub runs_square : (c : CounterState) → Sound c → c.load_due ≡ false → c.mode ≡ SquareWave → (n : ℕ) (b : Bool) → is_counting c SquareWave ≡ b
+    → after_ticks c n ≡ (if b then after_square c n else c)
 runs_square c sound due mode n true counts =
     let tests = enabled c.progress c.gate counts in
     square_ahead c sound (runs_of c sound due tests.loaded) mode tests.gate n
@@ -267,7 +276,8 @@ runs_square c sound due mode n false rests =
 
 -- modes 4 and 5: if the ticks don't count, the first ends a strobe
 
-rests_high : (c : CounterState) → (after_tick c ≡ after_rest c) → (after_tick (after_rest c) ≡ after_rest c) → (n : ℕ) → after_ticks c n ≡ (if n == 0 then c else after_rest c)
+rests_high : (c : CounterState) → (after_tick c ≡ after_rest c) → (after_tick (after_rest c) ≡ after_rest c) → (n : ℕ)
+    → after_ticks c n ≡ (if n == 0 then c else after_rest c)
 rests_high c first stays zero = iterate_zero after_tick c
 rests_high c first stays (suc n) =
     let more : suc n ≡ 1 + n = omega arith in
@@ -276,7 +286,8 @@ rests_high c first stays (suc n) =
     ∙ iterate_fixed after_tick n (after_rest c) stays
     ∙ sym (if_no (suc n == 0) c (after_rest c) (differs (suc n) 0 (omega arith)))
 
-pub runs_software : (c : CounterState) → Sound c → c.load_due ≡ false → c.mode ≡ SoftwareStrobe → (n : ℕ) (b : Bool) → is_counting c SoftwareStrobe ≡ b → after_ticks c n ≡ (if b then after_strobe_fall c n else after_rests c SoftwareStrobe n)
+pub runs_software : (c : CounterState) → Sound c → c.load_due ≡ false → c.mode ≡ SoftwareStrobe → (n : ℕ) (b : Bool) → is_counting c SoftwareStrobe ≡ b
+    → after_ticks c n ≡ (if b then after_strobe_fall c n else after_rests c SoftwareStrobe n)
 runs_software c sound due mode n true counts =
     let tests = enabled c.progress c.gate counts in
     counts_to_strobe c (runs_of c sound due tests.loaded) (inl (mode, tests.gate)) n
@@ -287,7 +298,8 @@ runs_software c sound due mode n false rests =
     (tick_counts c d due refl ∙ ap (λ m. after_count d m) mode ∙ if_no (is_counting c SoftwareStrobe) (after_strobe_count d) d rests)
     n
 
-pub runs_hardware : (c : CounterState) → Sound c → c.load_due ≡ false → c.mode ≡ HardwareStrobe → (n : ℕ) (b : Bool) → is_counting c HardwareStrobe ≡ b → after_ticks c n ≡ (if b then after_strobe_fall c n else after_rests c HardwareStrobe n)
+pub runs_hardware : (c : CounterState) → Sound c → c.load_due ≡ false → c.mode ≡ HardwareStrobe → (n : ℕ) (b : Bool) → is_counting c HardwareStrobe ≡ b
+    → after_ticks c n ≡ (if b then after_strobe_fall c n else after_rests c HardwareStrobe n)
 runs_hardware c sound due mode n true counts =
     counts_to_strobe c (runs_of c sound due (is_loaded_one c.progress counts)) (inr mode) n
 runs_hardware c sound due mode n false rests =
@@ -299,7 +311,8 @@ runs_hardware c sound due mode n false rests =
 
 -- all modes
 
-pub by_mode : (c : CounterState) → Sound c → c.load_due ≡ false → (n : ℕ) (mode : Mode) → c.mode ≡ mode → after_ticks c n ≡ (if is_counting c mode then after_counting c mode n else after_rests c mode n)
+pub by_mode : (c : CounterState) → Sound c → c.load_due ≡ false → (n : ℕ) (mode : Mode) → c.mode ≡ mode
+    → after_ticks c n ≡ (if is_counting c mode then after_counting c mode n else after_rests c mode n)
 by_mode c sound due n TerminalCount is = runs_terminal c sound due is n (is_counting c TerminalCount) refl
 by_mode c sound due n OneShot is = runs_one_shot c sound due is n (is_counting c OneShot) refl
 by_mode c sound due n RateGenerator is = runs_rate c sound due is n (is_counting c RateGenerator) refl
@@ -325,7 +338,8 @@ pub due_loaded : (c : CounterState) → Sound c → (mode : Mode) → DueLoad c 
 due_loaded c sound TerminalCount = record { sound = record { newest = sound.newest; count = sound.newest }; none = refl }
 due_loaded c sound OneShot = record { sound = record { newest = sound.newest; count = sound.newest }; none = refl }
 due_loaded c sound RateGenerator = record { sound = record { newest = sound.newest; count = sound.newest }; none = refl }
-due_loaded c sound SquareWave = record { sound = record { newest = sound.newest; count = less (loads_less c) c.newest (modulus c.radix) sound.newest }; none = refl }
+due_loaded c sound SquareWave =
+    record { sound = record { newest = sound.newest; count = less (loads_less c) c.newest (modulus c.radix) sound.newest }; none = refl }
   where
     less : (b : Bool) (n m : ℕ) → n < m → (if b then n - 1 else n) < m
     less true n m within = omega arith

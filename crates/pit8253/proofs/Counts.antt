@@ -83,7 +83,8 @@ less_one radix v w (inl round) =
     minus_around radix v 1 (omega (arith, round.0)) ∙ omega (arith, round.0, round.1)
 less_one radix v w (inr within) = minus_within radix v 1 (omega (arith, within.0)) ∙ sym within.1
 
-round_step : (m count r s : ℕ) → count < m → More m r s → (((count + m - r) % m ≡ 0) × ((count + m - s) % m ≡ m - 1)) ⊎ ((0 < (count + m - r) % m) × ((count + m - s) % m ≡ (count + m - r) % m - 1))
+round_step : (m count r s : ℕ) → count < m → More m r s
+    → (((count + m - r) % m ≡ 0) × ((count + m - s) % m ≡ m - 1)) ⊎ ((0 < (count + m - r) % m) × ((count + m - s) % m ≡ (count + m - r) % m - 1))
 round_step m count r s within more = elim (cases_lt count r) [
   | inl around ↦
       let here = low_part m count r around (omega (arith, more.here)) in
@@ -142,7 +143,8 @@ lengths radix count within = elim (cases_lt 0 count) [
 
 -- before the count's end, and at it
 
-pub after_within : (radix : Radix) (count n : ℕ) → count < modulus radix → 0 < n → n < length_of radix count → count_after radix count n ≡ length_of radix count - n
+pub after_within : (radix : Radix) (count n : ℕ) → count < modulus radix → 0 < n → n < length_of radix count
+    → count_after radix count n ≡ length_of radix count - n
 after_within radix count n within some before =
     let long : Lengths radix count = lengths radix count within in
     let small : n < modulus radix = omega (arith, long.short) in

@@ -13,7 +13,8 @@ if_no true x y fails = cc
 if_no false x y fails = refl
 
 -- a closed form that each of a number of steps keeps
-pub by_steps : {S : Type 0} (step : S → S) (form : ℕ → S) (s : S) (steps : ℕ) → form 0 ≡ s → ((k : ℕ) → k < steps → step (form k) ≡ form (k + 1)) → (n : ℕ) → n ≤ steps → iterate step n s ≡ form n
+pub by_steps : {S : Type 0} (step : S → S) (form : ℕ → S) (s : S) (steps : ℕ)
+    → form 0 ≡ s → ((k : ℕ) → k < steps → step (form k) ≡ form (k + 1)) → (n : ℕ) → n ≤ steps → iterate step n s ≡ form n
 by_steps step form s steps start keeps zero within = iterate_zero step s ∙ sym start
 by_steps step form s steps start keeps (suc n) within =
     let more : suc n ≡ n + 1 = omega arith in

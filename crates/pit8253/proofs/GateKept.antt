@@ -15,7 +15,9 @@ no_rise High b triggered written = or_none b
 pub gate_kept : (c : CounterState) (line : Line) → c.gate ≡ line → out_at_gate c.mode line c.out ≡ c.out → after_gate c line ≡ c
 unfolding after_gate
 gate_kept c line same still =
-    ap (λ l. record c { gate = l; load_due = c.load_due || (rises c.gate l && is_triggered c.mode && not (is_awaited c.progress)); out = out_at_gate c.mode line c.out }) (sym same)
+    ap (λ l.
+    record c { gate = l; load_due = c.load_due || (rises c.gate l && is_triggered c.mode && not (is_awaited c.progress)); out = out_at_gate c.mode line c.out })
+    (sym same)
     ∙ ap (λ b. record c { load_due = b; out = out_at_gate c.mode line c.out }) (no_rise c.gate c.load_due (is_triggered c.mode) (not (is_awaited c.progress)))
     ∙ ap (λ out. record c { out = out }) still
 

@@ -152,7 +152,8 @@ first_read c free access low =
     count_read c free ∙ ap (λ a. after_read_by c a) access
     ∙ ap (λ h. if h then record c { latch = None; high_next = false } else record c { high_next = true }) low
 
-pub second_read : (c : CounterState) → c.status ≡ None → c.access ≡ LowThenHigh → c.high_next ≡ true → after_read c ≡ record c { latch = None; high_next = false }
+pub second_read : (c : CounterState) → c.status ≡ None → c.access ≡ LowThenHigh → c.high_next ≡ true
+    → after_read c ≡ record c { latch = None; high_next = false }
 second_read c free access high =
     count_read c free ∙ ap (λ a. after_read_by c a) access
     ∙ ap (λ h. if h then record c { latch = None; high_next = false } else record c { high_next = true }) high
@@ -173,7 +174,8 @@ latch_holds_both c access low free none k m =
     let two_shown : reading two ≡ digits_of c.count_radix c.count = ap (λ o. unwrap_or o (digits_of two.count_radix two.count)) two_latch ∙ word in (
       held_byte c k ∙ ap (λ o. unwrap_or o (byte_of c.access c.high_next (reading c))) none
           ∙ ap (λ a. byte_of a c.high_next (reading c)) access ∙ ap (λ h. byte_of LowThenHigh h (reading c)) low ∙ ap (λ w. w % 256) word,
-      read_counts two two_status ∙ ap (λ a. byte_of a two.high_next (reading two)) two_access ∙ ap (λ h. byte_of LowThenHigh h (reading two)) two_high ∙ ap (λ w. w / 256) two_shown,
+      read_counts two two_status ∙ ap (λ a. byte_of a two.high_next (reading two)) two_access
+          ∙ ap (λ h. byte_of LowThenHigh h (reading two)) two_high ∙ ap (λ w. w / 256) two_shown,
       ap (λ s. s.latch) (second_read two two_status two_access two_high),
     )
 
@@ -185,7 +187,8 @@ reads_both c access low free none =
     let first : after_read c ≡ record c { high_next = true } = first_read c none access low in (
       read_counts c none ∙ ap (λ a. byte_of a c.high_next (reading c)) access ∙ ap (λ h. byte_of LowThenHigh h (reading c)) low ∙ ap (λ w. w % 256) word,
       ap next_byte first ∙ read_counts (record c { high_next = true }) none ∙ ap (λ a. byte_of a true (reading c)) access ∙ ap (λ w. w / 256) word,
-      ap after_read first ∙ second_read (record c { high_next = true }) none access refl ∙ ap (λ o. record c { latch = o; high_next = false }) (sym free) ∙ ap (λ h. record c { high_next = h }) (sym low),
+      ap after_read first ∙ second_read (record c { high_next = true }) none access refl
+          ∙ ap (λ o. record c { latch = o; high_next = false }) (sym free) ∙ ap (λ h. record c { high_next = h }) (sym low),
     )
 
 pub counts_in_decimal : CountsInDecimal

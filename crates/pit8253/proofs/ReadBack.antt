@@ -79,8 +79,10 @@ reads_back c kind access low free none word counts tells k l m =
     let third_shown : reading third ≡ digits_of c.count_radix c.count = ap (λ o. unwrap_or o (digits_of third.count_radix third.count)) third_latch in
     let end : after_read third ≡ record third { latch = None; high_next = false } = second_read third third_status third_access third_high in (
       read.shows,
-      read_counts second second_status ∙ ap (λ a. byte_of a second.high_next (reading second)) second_access ∙ ap (λ h. byte_of LowThenHigh h (reading second)) second_low ∙ ap (λ w. w % 256) second_shown,
-      read_counts third third_status ∙ ap (λ a. byte_of a third.high_next (reading third)) third_access ∙ ap (λ h. byte_of LowThenHigh h (reading third)) third_high ∙ ap (λ w. w / 256) third_shown,
+      read_counts second second_status ∙ ap (λ a. byte_of a second.high_next (reading second)) second_access
+          ∙ ap (λ h. byte_of LowThenHigh h (reading second)) second_low ∙ ap (λ w. w % 256) second_shown,
+      read_counts third third_status ∙ ap (λ a. byte_of a third.high_next (reading third)) third_access
+          ∙ ap (λ h. byte_of LowThenHigh h (reading third)) third_high ∙ ap (λ w. w / 256) third_shown,
       ap (λ s. s.status) end ∙ third_status,
       ap (λ s. s.latch) end,
     )
@@ -90,7 +92,8 @@ unfolding back_form after_latch after_status_latch
 told_status c true = refl
 told_status c false = refl
 
-without_status : (c : CounterState) (counts : Bool) → record (back_form c I8254 counts true) { status = None } ≡ record (if counts then after_latch c else c) { status = None }
+without_status : (c : CounterState) (counts : Bool)
+    → record (back_form c I8254 counts true) { status = None } ≡ record (if counts then after_latch c else c) { status = None }
 unfolding back_form after_status_latch
 without_status c true = refl
 without_status c false = refl
@@ -105,7 +108,8 @@ status_comes_first c kind word tells =
       ap after_read is ∙ rest_of back (unwrap_or c.status (status_of c)) (told_status c counts) ∙ without_status c counts,
     )
 
-programs : (c : CounterState) (word : ℕ) → word / 16 % 4 ≢ 0 → after_control_word c word ≡ after_program c (mode_of (word / 2 % 8)) (access_of (word / 16 % 4)) (radix_of (word % 2))
+programs : (c : CounterState) (word : ℕ) → word / 16 % 4 ≢ 0
+    → after_control_word c word ≡ after_program c (mode_of (word / 2 % 8)) (access_of (word / 16 % 4)) (radix_of (word % 2))
 unfolding after_control_word
 programs c word other = if_no (word / 16 % 4 == 0) _ _ (differs (word / 16 % 4) 0 other)
 
@@ -198,9 +202,11 @@ square_null : (c : CounterState) → (after_square_count c).is_null ≡ (c.is_nu
 square_null c =
     let count : ℕ = count_minus c.count_radix c.count (half_step c.count c.out) in
     let ends : Bool = (if c.keeps_zero then c.count else count) == 0 in
-    by_tests (c.count == 1) ends (after_square_load c High) (after_square_load c (if c.newest == 1 then High else opposite c.out)) (record c { count = count }) c.is_null refl refl refl
+    by_tests (c.count == 1) ends (after_square_load c High)
+    (after_square_load c (if c.newest == 1 then High else opposite c.out)) (record c { count = count }) c.is_null refl refl refl
   where
-    by_tests : (a b : Bool) (x y z : CounterState) (n : Bool) → x.is_null ≡ false → y.is_null ≡ false → z.is_null ≡ n → (if a then x else (if b then y else z)).is_null ≡ (n && not (a || b))
+    by_tests : (a b : Bool) (x y z : CounterState) (n : Bool) → x.is_null ≡ false → y.is_null ≡ false → z.is_null ≡ n
+        → (if a then x else (if b then y else z)).is_null ≡ (n && not (a || b))
     by_tests true b x y z true first second third = first
     by_tests true b x y z false first second third = first
     by_tests false b x y z n first second third = null_if b y z n second third
@@ -219,7 +225,8 @@ count_null : (c : CounterState) (mode : Mode) → (after_count c mode).is_null �
 count_null c TerminalCount =
     null_kept (is_loaded c.progress && is_high c.gate && is_none c.first_byte) (after_decrement c) c c.is_null refl refl
     ∙ no_load_null c.is_null (is_loaded c.progress && is_high c.gate)
-count_null c OneShot = null_kept (is_loaded c.progress) (after_decrement c) c c.is_null refl refl ∙ no_load_null c.is_null (is_loaded c.progress && is_high c.gate)
+count_null c OneShot =
+    null_kept (is_loaded c.progress) (after_decrement c) c c.is_null refl refl ∙ no_load_null c.is_null (is_loaded c.progress && is_high c.gate)
 count_null c RateGenerator = counted_null (is_loaded c.progress && is_high c.gate) (after_rate_count c) c c.is_null (c.count == 1) (rate_null c) refl
 count_null c SquareWave = counted_null (is_loaded c.progress && is_high c.gate) (after_square_count c) c c.is_null (ends_half c) (square_null c) refl
 count_null c SoftwareStrobe =
@@ -258,6 +265,8 @@ unfolding pit.after_write
 knows_no_read_back p first second third word above within =
     let three : word / 64 ≡ 3 = omega arith in
     if_yes (word / 64 == 3) (pit.after_read_back p word) _ (same (word / 64) 3 three)
-    ∙ ap (λ c. record (pit.after_read_back p word) { counter_0 = c }) (unnamed p.counter_0 (after_read_back p.counter_0 word) (word / 2 % 2 == 1) (no_read_back p.counter_0 word first))
-    ∙ ap (λ c. record (pit.after_read_back p word) { counter_0 = p.counter_0; counter_1 = c }) (unnamed p.counter_1 (after_read_back p.counter_1 word) (word / 4 % 2 == 1) (no_read_back p.counter_1 word second))
+    ∙ ap (λ c. record (pit.after_read_back p word) { counter_0 = c })
+    (unnamed p.counter_0 (after_read_back p.counter_0 word) (word / 2 % 2 == 1) (no_read_back p.counter_0 word first))
+    ∙ ap (λ c. record (pit.after_read_back p word) { counter_0 = p.counter_0; counter_1 = c })
+    (unnamed p.counter_1 (after_read_back p.counter_1 word) (word / 4 % 2 == 1) (no_read_back p.counter_1 word second))
     ∙ ap (λ c. record p { counter_2 = c }) (unnamed p.counter_2 (after_read_back p.counter_2 word) (word / 8 % 2 == 1) (no_read_back p.counter_2 word third))

@@ -280,7 +280,8 @@ null_in_mode_1 : next_byte (started_8254 (control 0x12 ∷ write 9 ∷ gate Low 
 unfolding started_8254 on_events
 null_in_mode_1 = refl
 
-loaded_in_mode_1 : next_byte (started_8254 (control 0x12 ∷ write 9 ∷ gate Low ∷ gate High ∷ tick ∷ write 5 ∷ gate Low ∷ gate High ∷ tick ∷ back 0xE2 ∷ [])) ≡ 0x12
+loaded_in_mode_1 : next_byte (started_8254 (control 0x12 ∷ write 9 ∷ gate Low ∷ gate High ∷ tick ∷ write 5 ∷ gate Low ∷ gate High ∷ tick ∷ back 0xE2 ∷ []))
+    ≡ 0x12
 unfolding started_8254 on_events
 loaded_in_mode_1 = refl
 

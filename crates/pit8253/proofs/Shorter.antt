@@ -32,7 +32,8 @@ falls_short c n within short =
     ap (λ k. record c { count = k; out = (if nat_lt n (ticks_left c) then c.out else High) }) (count_short c.count_radix c.count n within (omega arith))
     ∙ ap (λ o. record c { count = c.count - n; out = o }) (if_yes (nat_lt n (ticks_left c)) c.out High (left_short c n (omega arith)))
 
-pub strobes_short : (c : CounterState) (n : ℕ) → c.count < modulus c.count_radix → 0 < n → 0 < c.count - n → after_strobe_fall c n ≡ record c { count = c.count - n; out = High }
+pub strobes_short : (c : CounterState) (n : ℕ) → c.count < modulus c.count_radix → 0 < n → 0 < c.count - n
+    → after_strobe_fall c n ≡ record c { count = c.count - n; out = High }
 strobes_short c n within some short =
     let length : ticks_left c ≡ c.count = length_some c.count_radix c.count (omega arith) in
     let due : (c.strobe_due && nat_lt n (ticks_left c)) ≡ c.strobe_due = ap (λ b. c.strobe_due && b) (left_short c n (omega arith)) ∙ and_true c.strobe_due in
@@ -40,9 +41,14 @@ strobes_short c n within some short =
     let out : (if n == 0 then c.out else (if (n == ticks_left c) && c.strobe_due then Low else High)) ≡ High =
     if_no (n == 0) c.out (if (n == ticks_left c) && c.strobe_due then Low else High) (differs n 0 (omega arith))
     ∙ if_no ((n == ticks_left c) && c.strobe_due) Low High (ap (λ b. b && c.strobe_due) unmet) in
-    ap (λ k. record c { count = k; strobe_due = c.strobe_due && nat_lt n (ticks_left c); out = (if n == 0 then c.out else (if (n == ticks_left c) && c.strobe_due then Low else High)) })
+    ap (λ k. record c {
+      count = k;
+      strobe_due = c.strobe_due && nat_lt n (ticks_left c);
+      out = (if n == 0 then c.out else (if (n == ticks_left c) && c.strobe_due then Low else High));
+    })
     (count_short c.count_radix c.count n within (omega arith))
-    ∙ ap (λ b. record c { count = c.count - n; strobe_due = b; out = (if n == 0 then c.out else (if (n == ticks_left c) && c.strobe_due then Low else High)) }) due
+    ∙ ap (λ b. record c { count = c.count - n; strobe_due = b; out = (if n == 0 then c.out else (if (n == ticks_left c) && c.strobe_due then Low else High)) })
+    due
     ∙ ap (λ o. record c { count = c.count - n; out = o }) out
 
 rates_short : (c : CounterState) (n : ℕ) → c.count < modulus c.count_radix → 1 < c.count - n → after_rate_fall c n ≡ record c { count = c.count - n }

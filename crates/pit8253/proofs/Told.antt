@@ -49,12 +49,14 @@ strobes_as_told c gate low high low_byte high_byte n =
 
 -- a trigger loads, whatever the gate was
 
-one_shot_loads : (gate : Line) (low high : ℕ) (c : CounterState) → after_tick (after_trigger (record c { gate = gate }) 0x32 low high) ≡ after_load (after_trigger (record c { gate = gate }) 0x32 low high) Low
+one_shot_loads : (gate : Line) (low high : ℕ) (c : CounterState)
+    → after_tick (after_trigger (record c { gate = gate }) 0x32 low high) ≡ after_load (after_trigger (record c { gate = gate }) 0x32 low high) Low
 unfolding after_tick after_control_word after_write after_gate
 one_shot_loads Low low high c = refl
 one_shot_loads High low high c = refl
 
-strobe_loads : (gate : Line) (low high : ℕ) (c : CounterState) → after_tick (after_trigger (record c { gate = gate }) 0x3A low high) ≡ after_load (after_trigger (record c { gate = gate }) 0x3A low high) High
+strobe_loads : (gate : Line) (low high : ℕ) (c : CounterState)
+    → after_tick (after_trigger (record c { gate = gate }) 0x3A low high) ≡ after_load (after_trigger (record c { gate = gate }) 0x3A low high) High
 unfolding after_tick after_control_word after_write after_gate
 strobe_loads Low low high c = refl
 strobe_loads High low high c = refl

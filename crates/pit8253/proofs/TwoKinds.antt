@@ -41,7 +41,8 @@ counts_even c kind mode gate within odd other out k before = by_out out before
     start n f zero odd falls = omega arith
     start n f (suc k) odd falls = if_no (suc k == 0) (n - 1) (2 * (f - suc k)) (differs (suc k) 0 (omega arith)) ∙ omega (arith, falls)
 
-    by_out : (out : Line) → k < (if is_high out then (c.newest + 1) / 2 else c.newest / 2) → (after_ticks (after_square_load c out) k).count ≡ c.newest - 1 - 2 * k
+    by_out : (out : Line) → k < (if is_high out then (c.newest + 1) / 2 else c.newest / 2)
+        → (after_ticks (after_square_load c out) k).count ≡ c.newest - 1 - 2 * k
     by_out High before =
         let load : SquareLoad c High = square_loads c High within other in
         let is : after_square_load c High ≡ square_form c true High = ap (λ b. square_form c b High) less in
@@ -69,7 +70,9 @@ alike true x y u v first second = first
 alike false x y u v first second = second
 
 -- a run of another mode than 3 doesn't ask for the kind
-run_alike : (k j : TimerKind) (mode : Mode) (d : CounterState) (n : ℕ) → mode ≢ SquareWave → (if is_counting (of_kind k d) mode then after_counting (of_kind k d) mode n else after_rests (of_kind k d) mode n).out ≡ (if is_counting (of_kind j d) mode then after_counting (of_kind j d) mode n else after_rests (of_kind j d) mode n).out
+run_alike : (k j : TimerKind) (mode : Mode) (d : CounterState) (n : ℕ) → mode ≢ SquareWave
+    → (if is_counting (of_kind k d) mode then after_counting (of_kind k d) mode n else after_rests (of_kind k d) mode n).out
+    ≡ (if is_counting (of_kind j d) mode then after_counting (of_kind j d) mode n else after_rests (of_kind j d) mode n).out
 unfolding after_rate
 run_alike k j TerminalCount d n other = alike (is_counting d TerminalCount) _ _ _ _ refl refl
 run_alike k j OneShot d n other = alike (is_counting d OneShot) _ _ _ _ refl refl
@@ -83,7 +86,8 @@ square_level : CounterState → Line → ℕ → Line
 square_level c Low n = High
 square_level c High n = if c.newest == 1 then High else (if nat_lt (n % size c) ((size c + 1) / 2) then High else Low)
 
-square_wave : (c : CounterState) → c.mode ≡ SquareWave → c.newest < modulus c.radix → (gate : Line) → c.gate ≡ gate → (n : ℕ) → (after_ticks (after_square_load c High) n).out ≡ square_level c gate n
+square_wave : (c : CounterState) → c.mode ≡ SquareWave → c.newest < modulus c.radix → (gate : Line) → c.gate ≡ gate → (n : ℕ)
+    → (after_ticks (after_square_load c High) n).out ≡ square_level c gate n
 unfolding square_level
 square_wave c mode within Low gate n =
     let d : CounterState = after_square_load c High in
@@ -108,21 +112,26 @@ due_mode c SquareWave = refl
 due_mode c SoftwareStrobe = refl
 due_mode c HardwareStrobe = refl
 
-of_other : (c : CounterState) → Sound c → (mode : Mode) → c.mode ≡ mode → (n : ℕ) → mode ≢ SquareWave → ((k : TimerKind) → after_due_load (of_kind k c) mode ≡ of_kind k (after_due_load c mode)) → (k j : TimerKind) → (after_ticks (after_due_load (of_kind k c) mode) n).out ≡ (after_ticks (after_due_load (of_kind j c) mode) n).out
+of_other : (c : CounterState) → Sound c → (mode : Mode) → c.mode ≡ mode → (n : ℕ) → mode ≢ SquareWave
+    → ((k : TimerKind) → after_due_load (of_kind k c) mode ≡ of_kind k (after_due_load c mode)) → (k j : TimerKind)
+    → (after_ticks (after_due_load (of_kind k c) mode) n).out ≡ (after_ticks (after_due_load (of_kind j c) mode) n).out
 of_other c sound mode is n other kinds k j =
     let d : CounterState = after_due_load c mode in
     let load : DueLoad c d = due_loaded c sound mode in
-    let run : (i : TimerKind) → after_ticks (after_due_load (of_kind i c) mode) n ≡ (if is_counting (of_kind i d) mode then after_counting (of_kind i d) mode n else after_rests (of_kind i d) mode n) =
+    let run : (i : TimerKind) → after_ticks (after_due_load (of_kind i c) mode) n
+    ≡ (if is_counting (of_kind i d) mode then after_counting (of_kind i d) mode n else after_rests (of_kind i d) mode n) =
     λ i. ap (λ s. after_ticks s n) (kinds i)
     ∙ by_mode (of_kind i d) (record { newest = load.sound.newest; count = load.sound.count }) load.none n mode (due_mode c mode ∙ is) in
     ap (λ s. s.out) (run k) ∙ run_alike k j mode d n other ∙ sym (ap (λ s. s.out) (run j))
 
-loaded_alike : (c : CounterState) → Sound c → (mode : Mode) → c.mode ≡ mode → (n : ℕ) (k j : TimerKind) → (after_ticks (after_due_load (of_kind k c) mode) n).out ≡ (after_ticks (after_due_load (of_kind j c) mode) n).out
+loaded_alike : (c : CounterState) → Sound c → (mode : Mode) → c.mode ≡ mode → (n : ℕ) (k j : TimerKind)
+    → (after_ticks (after_due_load (of_kind k c) mode) n).out ≡ (after_ticks (after_due_load (of_kind j c) mode) n).out
 unfolding square_level
 loaded_alike c sound SquareWave is n k j =
     level_alike c c.gate n k j (square_wave (of_kind k c) is sound.newest c.gate refl n) (square_wave (of_kind j c) is sound.newest c.gate refl n)
   where
-    level_alike : (c : CounterState) (gate : Line) (n : ℕ) (k j : TimerKind) {x y : Line} → x ≡ square_level (of_kind k c) gate n → y ≡ square_level (of_kind j c) gate n → x ≡ y
+    level_alike : (c : CounterState) (gate : Line) (n : ℕ) (k j : TimerKind) {x y : Line}
+        → x ≡ square_level (of_kind k c) gate n → y ≡ square_level (of_kind j c) gate n → x ≡ y
     level_alike c High n k j first second = first ∙ sym second
     level_alike c Low n k j first second = first ∙ sym second
 loaded_alike c sound TerminalCount is n k j = of_other c sound TerminalCount is n (λ e. cc) (λ i. refl) k j

@@ -28,7 +28,8 @@ abbrev pub Wave : CounterState → (ℕ → Line) → Type 0
 Wave c level = (k : ℕ) → (after_ticks c k).out ≡ level k
 
 -- OUT is what it was for some ticks, and then another level
-turns_at : (c : CounterState) (n : ℕ) (now next : Line) → c.out ≡ now → next ≢ now → 1 ≤ n → ((k : ℕ) → k < n → (after_ticks c k).out ≡ now) → (after_ticks c n).out ≡ next → TurnsFirst after_ticks out_of c n
+turns_at : (c : CounterState) (n : ℕ) (now next : Line) → c.out ≡ now → next ≢ now → 1 ≤ n
+    → ((k : ℕ) → k < n → (after_ticks c k).out ≡ now) → (after_ticks c n).out ≡ next → TurnsFirst after_ticks out_of c n
 turns_at c n now next is other some before there = record {
   some = some;
   before = λ k soon. before k soon ∙ sym is;
@@ -43,7 +44,8 @@ not_low same = cc
 
 -- modes 0 and 1
 
-end_turns : (c : CounterState) (out : Line) (len : ℕ) → c.out ≡ out → 0 < len → Wave c (λ k. if nat_lt k len then out else High) → Turns c (if is_high out then None else Some len)
+end_turns : (c : CounterState) (out : Line) (len : ℕ) → c.out ≡ out → 0 < len → Wave c (λ k. if nat_lt k len then out else High)
+    → Turns c (if is_high out then None else Some len)
 end_turns c High len is some wave = λ k. wave k ∙ either (nat_lt k len) ∙ sym is
   where
     either : (b : Bool) → (if b then High else High) ≡ High
@@ -60,11 +62,14 @@ end_first c sound form =
 
 -- modes 4 and 5
 
-strobe_turns : (c : CounterState) (out : Line) (due : Bool) (len : ℕ) → c.out ≡ out → 0 < len → Wave c (λ k. if k == 0 then out else (if (k == len) && due then Low else High)) → Turns c (if is_high out then (if due then Some len else None) else (if (len == 1) && due then Some 2 else Some 1))
+strobe_turns : (c : CounterState) (out : Line) (due : Bool) (len : ℕ)
+    → c.out ≡ out → 0 < len → Wave c (λ k. if k == 0 then out else (if (k == len) && due then Low else High))
+    → Turns c (if is_high out then (if due then Some len else None) else (if (len == 1) && due then Some 2 else Some 1))
 strobe_turns c High true len is some wave =
     turns_at c len High Low is not_high some
     (λ k soon. wave k ∙ ap (λ b. if k == 0 then High else (if b && true then Low else High)) (differs k len (omega arith)) ∙ either (k == 0))
-    (wave len ∙ if_no (len == 0) High (if (len == len) && true then Low else High) (differs len 0 (omega arith)) ∙ ap (λ b. if b && true then Low else High) (same len len refl))
+    (wave len ∙ if_no (len == 0) High (if (len == len) && true then Low else High) (differs len 0 (omega arith))
+    ∙ ap (λ b. if b && true then Low else High) (same len len refl))
   where
     either : (b : Bool) → (if b then High else High) ≡ High
     either true = refl
@@ -121,7 +126,8 @@ strobe_first c sound form =
 still_turns : (c : CounterState) → ((n : ℕ) → after_ticks c n ≡ c) → Turns c None
 still_turns c still = λ k. ap (λ s. s.out) (still k)
 
-rest_turns : (c : CounterState) (out : Line) → c.out ≡ out → ((n : ℕ) → after_ticks c n ≡ (if n == 0 then c else after_rest c)) → Turns c (if is_high out then None else Some 1)
+rest_turns : (c : CounterState) (out : Line) → c.out ≡ out → ((n : ℕ) → after_ticks c n ≡ (if n == 0 then c else after_rest c))
+    → Turns c (if is_high out then None else Some 1)
 rest_turns c High is rests = λ k. ap (λ s. s.out) (rests k) ∙ level (k == 0) ∙ sym is
   where
     level : (b : Bool) → (if b then c else after_rest c).out ≡ High
@@ -157,7 +163,8 @@ pulse_first c sound runs mode gate = by_out c.out refl
     loaded k =
         ap (λ s. s.out) (iterate_add after_tick left k c ∙ ap (λ s. after_ticks s k) (counts_period c runs mode gate).1)
 
-    by_out : (out : Line) → c.out ≡ out → Turns c (if is_high out then (if left == 1 then (if size c == 1 then None else Some (size c)) else Some (left - 1)) else Some left)
+    by_out : (out : Line) → c.out ≡ out
+        → Turns c (if is_high out then (if left == 1 then (if size c == 1 then None else Some (size c)) else Some (left - 1)) else Some left)
     by_out Low is =
         turns_at c left Low High is not_low some
         (λ k before. inside k before ∙ ap (λ o. if k == 0 then o else (if k + 1 == left then Low else o)) is ∙ low (k == 0) (k + 1 == left))
@@ -169,7 +176,8 @@ pulse_first c sound runs mode gate = by_out c.out refl
         low false false = refl
     by_out High is = elim (one_or_other left) [
       | inl one ↦ subst (λ b. Turns c (if b then (if size c == 1 then None else Some (size c)) else Some (left - 1))) (sym (same left 1 one)) (at_one is one)
-      | inr other ↦ subst (λ b. Turns c (if b then (if size c == 1 then None else Some (size c)) else Some (left - 1))) (sym (differs left 1 other)) (before_pulse is other)
+      | inr other ↦ subst (λ b. Turns c (if b then (if size c == 1 then None else Some (size c)) else Some (left - 1)))
+          (sym (differs left 1 other)) (before_pulse is other)
     ]
       where
         high : (a : Bool) → (if a then High else High) ≡ High
@@ -242,7 +250,8 @@ half_first c sound runs mode gate = by_out c.out refl
     turned : (after_ticks c half).out ≡ (if (c.count == 1) || (c.newest == 1) then High else opposite c.out)
     turned = ap (λ s. s.out) (ends.end ∙ turn_is c)
 
-    by_out : (out : Line) → c.out ≡ out → Turns c (if is_high out && (c.newest == 1) then None else (if is_high out && (c.count == 1) then Some (1 + (size c + 1) / 2) else Some half))
+    by_out : (out : Line) → c.out ≡ out
+        → Turns c (if is_high out && (c.newest == 1) then None else (if is_high out && (c.count == 1) then Some (1 + (size c + 1) / 2) else Some half))
     by_out Low is =
         turns_at c half Low High is not_low ends.some (λ k before. inside k before ∙ is)
         (turned ∙ ap (λ o. if (c.count == 1) || (c.newest == 1) then High else opposite o) is ∙ high ((c.count == 1) || (c.newest == 1)))
@@ -252,7 +261,8 @@ half_first c sound runs mode gate = by_out c.out refl
         high false = refl
     by_out High is = elim (one_or_other c.newest) [
       | inl single ↦
-          subst (λ b. Turns c (if b then None else (if c.count == 1 then Some (1 + (size c + 1) / 2) else Some half))) (sym (same c.newest 1 single)) (stays is single)
+          subst (λ b. Turns c (if b then None else (if c.count == 1 then Some (1 + (size c + 1) / 2) else Some half)))
+          (sym (same c.newest 1 single)) (stays is single)
       | inr other ↦
           subst (λ b. Turns c (if b then None else (if c.count == 1 then Some (1 + (size c + 1) / 2) else Some half))) (sym (differs c.newest 1 other))
           (elim (one_or_other c.count) [
@@ -261,7 +271,8 @@ half_first c sound runs mode gate = by_out c.out refl
           ])
     ]
       where
-        loaded : (out : Line) → after_turn c ≡ after_square_load c out → (k : ℕ) → half ≤ k → (after_ticks c k).out ≡ (after_ticks (after_square_load c out) (k - half)).out
+        loaded : (out : Line) → after_turn c ≡ after_square_load c out → (k : ℕ) → half ≤ k
+            → (after_ticks c k).out ≡ (after_ticks (after_square_load c out) (k - half)).out
         loaded out load k late =
             let parts : k ≡ half + (k - half) = omega arith in
             ap (λ s. s.out) (ap (λ j. after_ticks c j) parts ∙ iterate_add after_tick half (k - half) c ∙ ap (λ s. after_ticks s (k - half)) (ends.end ∙ load))
@@ -271,8 +282,10 @@ half_first c sound runs mode gate = by_out c.out refl
           | inl before ↦ inside k before
           | inr late ↦
               let load : after_turn c ≡ after_square_load c High =
-              turn_is c ∙ ap (λ b. after_square_load c (if b then High else opposite c.out)) (or_true (c.count == 1) (c.newest == 1) (same c.newest 1 single)) in
-              loaded High load k late ∙ ap (λ d. (after_ticks d (k - half)).out) (square_load_of_one c High single) ∙ ap (λ s. s.out) (a_count_of_1 c (inr mode) single (k - half)) ∙ sym is
+              turn_is c
+              ∙ ap (λ b. after_square_load c (if b then High else opposite c.out)) (or_true (c.count == 1) (c.newest == 1) (same c.newest 1 single)) in
+              loaded High load k late ∙ ap (λ d. (after_ticks d (k - half)).out) (square_load_of_one c High single)
+              ∙ ap (λ s. s.out) (a_count_of_1 c (inr mode) single (k - half)) ∙ sym is
         ]
 
         at_end : c.out ≡ High → c.newest ≢ 1 → c.count ≢ 1 → Turns c (Some half)
@@ -305,7 +318,8 @@ half_first c sound runs mode gate = by_out c.out refl
 
 -- all modes
 
-turns_in : (c : CounterState) → Sound c → c.load_due ≡ false → (mode : Mode) → c.mode ≡ mode → (b : Bool) → is_counting c mode ≡ b → Turns c (if b then until_counting c mode else until_rest c mode)
+turns_in : (c : CounterState) → Sound c → c.load_due ≡ false → (mode : Mode) → c.mode ≡ mode → (b : Bool) → is_counting c mode ≡ b
+    → Turns c (if b then until_counting c mode else until_rest c mode)
 turns_in c sound due TerminalCount is true counts = end_first c sound (λ n. runs_terminal c sound due is n true counts)
 turns_in c sound due TerminalCount is false rests = still_turns c (λ n. runs_terminal c sound due is n false rests)
 turns_in c sound due OneShot is true counts = end_first c sound (λ n. runs_one_shot c sound due is n true counts)
@@ -350,7 +364,8 @@ turns_at_load c due apart_now =
     (λ k soon. ap (λ j. (after_ticks c j).out) (omega arith) ∙ ap (λ s. s.out) (iterate_zero after_tick c))
     (loads_then c 0 due ∙ ap (λ s. s.out) (iterate_zero after_tick (after_due_load c c.mode)))
 
-pub turns_later : (c : CounterState) (turn : Option ℕ) → c.load_due ≡ true → differ c.out (after_due_load c c.mode).out ≡ false → Turns (after_due_load c c.mode) turn → Turns c (a_tick_later turn)
+pub turns_later : (c : CounterState) (turn : Option ℕ) → c.load_due ≡ true
+    → differ c.out (after_due_load c c.mode).out ≡ false → Turns (after_due_load c c.mode) turn → Turns c (a_tick_later turn)
 turns_later c None due same_now never = λ k. elim (cases_lt k 1) [
   | inl soon_one ↦ ap (λ j. (after_ticks c j).out) (omega arith) ∙ ap (λ s. s.out) (iterate_zero after_tick c)
   | inr more ↦
@@ -363,7 +378,8 @@ turns_later c (Some n) due same_now first = record {
     | inl soon_one ↦ ap (λ j. (after_ticks c j).out) (omega arith) ∙ ap (λ s. s.out) (iterate_zero after_tick c)
     | inr more ↦
         let parts : k ≡ 1 + (k - 1) = omega arith in
-        ap (λ j. (after_ticks c j).out) parts ∙ loads_then c (k - 1) due ∙ first.before (k - 1) (omega arith) ∙ alike c.out (after_due_load c c.mode).out same_now
+        ap (λ j. (after_ticks c j).out) parts ∙ loads_then c (k - 1) due
+        ∙ first.before (k - 1) (omega arith) ∙ alike c.out (after_due_load c c.mode).out same_now
   ];
   turns = λ same_then. first.turns (sym (loads_then c n due) ∙ same_then ∙ sym (alike c.out (after_due_load c c.mode).out same_now));
 }

@@ -70,7 +70,9 @@ gate_stops_strobe c none low mode n =
 
 -- a new count in the middle of a period, or of a half
 
-rate_waits : (gate : Line) (c : CounterState) (word : ℕ) → c.count ≢ 1 → after_tick (after_full_count (record c { gate = gate; load_due = false; progress = Loaded; mode = RateGenerator }) word) ≡ after_full_count (after_tick (record c { gate = gate; load_due = false; progress = Loaded; mode = RateGenerator })) word
+rate_waits : (gate : Line) (c : CounterState) (word : ℕ) → c.count ≢ 1
+    → after_tick (after_full_count (record c { gate = gate; load_due = false; progress = Loaded; mode = RateGenerator }) word)
+    ≡ after_full_count (after_tick (record c { gate = gate; load_due = false; progress = Loaded; mode = RateGenerator })) word
 unfolding after_tick
 rate_waits Low c word other = refl
 rate_waits High c word other =
@@ -84,7 +86,9 @@ neither : (a b : Bool) → (a || b) ≡ false → (a ≡ false) × (b ≡ false)
 neither true b none = cc
 neither false b none = (refl, none)
 
-square_waits : (gate : Line) (c : CounterState) (word : ℕ) → ends_half c ≡ false → after_tick (after_full_count (record c { gate = gate; load_due = false; progress = Loaded; mode = SquareWave }) word) ≡ after_full_count (after_tick (record c { gate = gate; load_due = false; progress = Loaded; mode = SquareWave })) word
+square_waits : (gate : Line) (c : CounterState) (word : ℕ) → ends_half c ≡ false
+    → after_tick (after_full_count (record c { gate = gate; load_due = false; progress = Loaded; mode = SquareWave }) word)
+    ≡ after_full_count (after_tick (record c { gate = gate; load_due = false; progress = Loaded; mode = SquareWave })) word
 unfolding after_tick
 square_waits Low c word goes_on = refl
 square_waits High c word goes_on =
@@ -93,14 +97,17 @@ square_waits High c word goes_on =
     let count : ℕ = count_minus c.count_radix c.count (half_step c.count c.out) in
     let ends : Bool = (if c.keeps_zero then c.count else count) == 0 in
     let facts = neither (c.count == 1) ends goes_on in
-    if_no (c.count == 1) (after_square_load e High) (if ends then after_square_load e (if e.newest == 1 then High else opposite c.out) else record e { count = count }) facts.0
+    if_no (c.count == 1) (after_square_load e High)
+    (if ends then after_square_load e (if e.newest == 1 then High else opposite c.out) else record e { count = count }) facts.0
     ∙ if_no ends (after_square_load e (if e.newest == 1 then High else opposite c.out)) (record e { count = count }) facts.1
     ∙ sym (ap (λ s. after_full_count s word)
-    (if_no (c.count == 1) (after_square_load d High) (if ends then after_square_load d (if d.newest == 1 then High else opposite c.out) else record d { count = count }) facts.0
+    (if_no (c.count == 1) (after_square_load d High)
+    (if ends then after_square_load d (if d.newest == 1 then High else opposite c.out) else record d { count = count }) facts.0
     ∙ if_no ends (after_square_load d (if d.newest == 1 then High else opposite c.out)) (record d { count = count }) facts.1))
 
 -- the state with its known parts written out
-written_out : (c : CounterState) (mode : Mode) → c.load_due ≡ false → c.progress ≡ Loaded → c.mode ≡ mode → record c { load_due = false; progress = Loaded; mode = mode } ≡ c
+written_out : (c : CounterState) (mode : Mode) → c.load_due ≡ false → c.progress ≡ Loaded → c.mode ≡ mode
+    → record c { load_due = false; progress = Loaded; mode = mode } ≡ c
 written_out c mode none loaded_once is =
     sym
     (ap (λ b. record c { load_due = b }) none ∙ ap (λ p. record c { load_due = false; progress = p }) loaded_once
@@ -108,9 +115,11 @@ written_out c mode none loaded_once is =
 
 pub new_count_waits : NewCountWaits
 new_count_waits c word none loaded_once (inl rate) =
-    subst (λ d. after_tick (after_full_count d word) ≡ after_full_count (after_tick d) word) (written_out c RateGenerator none loaded_once rate.0) (rate_waits c.gate c word rate.1)
+    subst (λ d. after_tick (after_full_count d word) ≡ after_full_count (after_tick d) word)
+    (written_out c RateGenerator none loaded_once rate.0) (rate_waits c.gate c word rate.1)
 new_count_waits c word none loaded_once (inr square) =
-    subst (λ d. after_tick (after_full_count d word) ≡ after_full_count (after_tick d) word) (written_out c SquareWave none loaded_once square.0) (square_waits c.gate c word square.1)
+    subst (λ d. after_tick (after_full_count d word) ≡ after_full_count (after_tick d) word)
+    (written_out c SquareWave none loaded_once square.0) (square_waits c.gate c word square.1)
 
 -- what a counter that waits for its first load keeps
 record Waits (c d : CounterState) : Type 0 where
@@ -165,17 +174,20 @@ no_rise High false t u = refl
 pub gate_sets_high : GateSetsHigh
 unfolding after_gate
 gate_sets_high c (inl rate) =
-    ap (λ b. record c { gate = Low; load_due = b; out = out_at_gate c.mode Low c.out }) (no_rise c.gate c.load_due (is_triggered c.mode) (not (is_awaited c.progress)))
+    ap (λ b. record c { gate = Low; load_due = b; out = out_at_gate c.mode Low c.out })
+    (no_rise c.gate c.load_due (is_triggered c.mode) (not (is_awaited c.progress)))
     ∙ ap (λ m. record c { gate = Low; out = out_at_gate m Low c.out }) rate
 gate_sets_high c (inr square) =
-    ap (λ b. record c { gate = Low; load_due = b; out = out_at_gate c.mode Low c.out }) (no_rise c.gate c.load_due (is_triggered c.mode) (not (is_awaited c.progress)))
+    ap (λ b. record c { gate = Low; load_due = b; out = out_at_gate c.mode Low c.out })
+    (no_rise c.gate c.load_due (is_triggered c.mode) (not (is_awaited c.progress)))
     ∙ ap (λ m. record c { gate = Low; out = out_at_gate m Low c.out }) square
 
 or_true : (b : Bool) → (b || true) ≡ true
 or_true true = refl
 or_true false = refl
 
-reloads : (c : CounterState) → is_triggered c.mode ≡ true → c.gate ≡ Low → is_awaited c.progress ≡ false → after_tick (after_gate c High) ≡ after_due_load (after_gate c High) c.mode
+reloads : (c : CounterState) → is_triggered c.mode ≡ true → c.gate ≡ Low → is_awaited c.progress ≡ false
+    → after_tick (after_gate c High) ≡ after_due_load (after_gate c High) c.mode
 unfolding after_gate after_tick
 reloads c triggers low full =
     let d : CounterState = after_gate c High in

@@ -35,7 +35,9 @@ loaded_runs c out within = record { loaded = refl; none_due = refl; within = wit
 -- modes 0 and 1
 
 -- OUT after one more tick
-fall_out : (radix : Radix) (count n : ℕ) (out : Line) → count < modulus radix → (if count_after radix count (n + 1) == 0 then High else (if nat_lt n (length_of radix count) then out else High)) ≡ (if nat_lt (n + 1) (length_of radix count) then out else High)
+fall_out : (radix : Radix) (count n : ℕ) (out : Line) → count < modulus radix
+    → (if count_after radix count (n + 1) == 0 then High else (if nat_lt n (length_of radix count) then out else High))
+    ≡ (if nat_lt (n + 1) (length_of radix count) then out else High)
 fall_out radix count n out within =
     let next : ℕ = count_after radix count (n + 1) in
     let long : ℕ = length_of radix count in
@@ -58,7 +60,8 @@ fall_out radix count n out within =
           ∙ sym (if_no (nat_lt (n + 1) long) out High (not_below (n + 1) long after))
     ]
 
-falls : (c : CounterState) → Runs c → ((n : ℕ) (due : Bool) (out : Line) → after_tick (with_count c n due out) ≡ after_decrement (with_count c n due out)) → (n : ℕ) → after_ticks c n ≡ after_fall c n
+falls : (c : CounterState) → Runs c → ((n : ℕ) (due : Bool) (out : Line) → after_tick (with_count c n due out) ≡ after_decrement (with_count c n due out))
+    → (n : ℕ) → after_ticks c n ≡ after_fall c n
 falls c runs rule n =
     let start : after_fall c 0 ≡ c =
     unmoved c (count_after c.count_radix c.count 0) c.strobe_due (if nat_lt 0 (ticks_left c) then c.out else High)
@@ -66,7 +69,8 @@ falls c runs rule n =
     (if_yes (nat_lt 0 (ticks_left c)) c.out High (below 0 (ticks_left c) (lengths c.count_radix c.count runs.within).some)) in
     by_steps after_tick (after_fall c) c n start
     (λ k _. rule (count_after c.count_radix c.count k) c.strobe_due (if nat_lt k (ticks_left c) then c.out else High)
-    ∙ decrement c (count_after c.count_radix c.count k) (count_after c.count_radix c.count (k + 1)) c.strobe_due (if nat_lt k (ticks_left c) then c.out else High) (after_more c.count_radix c.count k runs.within)
+    ∙ decrement c (count_after c.count_radix c.count k) (count_after c.count_radix c.count (k + 1)) c.strobe_due
+    (if nat_lt k (ticks_left c) then c.out else High) (after_more c.count_radix c.count k runs.within)
     ∙ ap (λ o. with_count c (count_after c.count_radix c.count (k + 1)) c.strobe_due o) (fall_out c.count_radix c.count k c.out runs.within))
     n (omega arith)
 
@@ -103,7 +107,9 @@ strobe_over true false = record { due_then = refl; out_then = refl }
 strobe_over false true = record { due_then = refl; out_then = refl }
 strobe_over false false = record { due_then = refl; out_then = refl }
 
-strobe_step : (radix : Radix) (count n : ℕ) (due : Bool) → count < modulus radix → Strobes due (count_after radix count (n + 1) == 0) (nat_lt n (length_of radix count)) (nat_lt (n + 1) (length_of radix count)) (n + 1 == length_of radix count)
+strobe_step : (radix : Radix) (count n : ℕ) (due : Bool) → count < modulus radix
+    → Strobes due (count_after radix count (n + 1) == 0) (nat_lt n (length_of radix count))
+    (nat_lt (n + 1) (length_of radix count)) (n + 1 == length_of radix count)
 strobe_step radix count n due within =
     let next : ℕ = count_after radix count (n + 1) in
     let long : ℕ = length_of radix count in
@@ -127,7 +133,9 @@ strobe_step radix count n due within =
     strobe_case : (due z a s e z1 a1 s1 e1 : Bool) → z ≡ z1 → a ≡ a1 → s ≡ s1 → e ≡ e1 → Strobes due z1 a1 s1 e1 → Strobes due z a s e
     strobe_case due z a s e z1 a1 s1 e1 zs as_ ss es given = rw (zs, as_, ss, es) given
 
-falls_to_strobe : (c : CounterState) → Runs c → ((n : ℕ) (due : Bool) (out : Line) → after_tick (with_count c n due out) ≡ after_strobe_count (with_count c n due out)) → (n : ℕ) → after_ticks c n ≡ after_strobe_fall c n
+falls_to_strobe : (c : CounterState) → Runs c
+    → ((n : ℕ) (due : Bool) (out : Line) → after_tick (with_count c n due out) ≡ after_strobe_count (with_count c n due out)) → (n : ℕ)
+    → after_ticks c n ≡ after_strobe_fall c n
 falls_to_strobe c runs rule n =
     let long : Lengths c.count_radix c.count = lengths c.count_radix c.count runs.within in
     let start : after_strobe_fall c 0 ≡ c =
@@ -136,7 +144,8 @@ falls_to_strobe c runs rule n =
     (ap (λ b. c.strobe_due && b) (below 0 (ticks_left c) long.some) ∙ and_true c.strobe_due) refl in
     by_steps after_tick (after_strobe_fall c) c n start
     (λ k _.
-    let step : Strobes c.strobe_due (count_after c.count_radix c.count (k + 1) == 0) (nat_lt k (ticks_left c)) (nat_lt (k + 1) (ticks_left c)) (k + 1 == ticks_left c) =
+    let step : Strobes c.strobe_due (count_after c.count_radix c.count (k + 1) == 0)
+    (nat_lt k (ticks_left c)) (nat_lt (k + 1) (ticks_left c)) (k + 1 == ticks_left c) =
     strobe_step c.count_radix c.count k c.strobe_due runs.within in
     let due : Bool = c.strobe_due && nat_lt k (ticks_left c) in
     let level : Line = (if k == 0 then c.out else (if (k == ticks_left c) && c.strobe_due then Low else High)) in
@@ -184,7 +193,9 @@ mode_5 c mode within n =
 
 -- mode 2
 
-rate_step : (c : CounterState) → Runs c → ((n : ℕ) (due : Bool) (out : Line) → after_tick (with_count c n due out) ≡ after_rate_count (with_count c n due out)) → (k : ℕ) → k + 1 < ticks_left c → after_tick (after_rate_fall c k) ≡ after_rate_fall c (k + 1)
+rate_step : (c : CounterState) → Runs c
+    → ((n : ℕ) (due : Bool) (out : Line) → after_tick (with_count c n due out) ≡ after_rate_count (with_count c n due out)) → (k : ℕ) → k + 1 < ticks_left c
+    → after_tick (after_rate_fall c k) ≡ after_rate_fall c (k + 1)
 rate_step c runs rule k before =
     let long : Lengths c.count_radix c.count = lengths c.count_radix c.count runs.within in
     let now : ℕ = count_after c.count_radix c.count k in
@@ -193,7 +204,8 @@ rate_step c runs rule k before =
     let out_next : Line = (if k + 1 + 1 == ticks_left c then Low else c.out) in
     let is : next ≡ ticks_left c - (k + 1) = after_within c.count_radix c.count (k + 1) runs.within (omega arith) before in
     let level : out_now ≡ c.out =
-    ap (λ o. if k == 0 then c.out else o) (if_no (k + 1 == ticks_left c) Low c.out (differs (k + 1) (ticks_left c) (omega arith))) ∙ either (k == 0) c.out c.out refl in
+    ap (λ o. if k == 0 then c.out else o) (if_no (k + 1 == ticks_left c) Low c.out (differs (k + 1) (ticks_left c) (omega arith)))
+    ∙ either (k == 0) c.out c.out refl in
     rule now c.strobe_due out_now
     ∙ rate_falls c now next c.strobe_due out_now (not_one c runs k before) (after_more c.count_radix c.count k runs.within)
     ∙ ap (λ o. with_count c next c.strobe_due (if next == 1 then Low else o)) level
@@ -231,7 +243,8 @@ counts_period c runs mode gate =
       λ n before. within n (omega arith),
       ap (λ k. after_ticks c k) whole ∙ iterate_more after_tick last c ∙ ap after_tick (within last (omega arith))
           ∙ rule (count_after c.count_radix c.count last) c.strobe_due (if last == 0 then c.out else (if last + 1 == ticks_left c then Low else c.out))
-          ∙ rate_reloads c (count_after c.count_radix c.count last) c.strobe_due (if last == 0 then c.out else (if last + 1 == ticks_left c then Low else c.out)) (last_is_one c runs last whole),
+          ∙ rate_reloads c (count_after c.count_radix c.count last) c.strobe_due
+          (if last == 0 then c.out else (if last + 1 == ticks_left c then Low else c.out)) (last_is_one c runs last whole),
     )
   where
     last_is_one : (c : CounterState) → Runs c → (last : ℕ) → ticks_left c ≡ last + 1 → count_after c.count_radix c.count last ≡ 1
@@ -285,7 +298,8 @@ record Half (radix : Radix) (count : ℕ) (out : Line) (len : ℕ) : Type 0 wher
   some : 0 < len
   first : count_minus radix count (half_step count out) ≡ 2 * (len - 1)
 
-half : (radix : Radix) (count : ℕ) (out : Line) → count < modulus radix → count ≢ 1 → Half radix count out (if is_high out then (length_of radix count + 1) / 2 else length_of radix count / 2)
+half : (radix : Radix) (count : ℕ) (out : Line) → count < modulus radix → count ≢ 1
+    → Half radix count out (if is_high out then (length_of radix count + 1) / 2 else length_of radix count / 2)
 half radix count High within other =
     let len : ℕ = (length_of radix count + 1) / 2 in
     elim (lengths radix count within).is [
@@ -293,14 +307,23 @@ half radix count High within other =
           let even = modulus_even radix in
           let large = modulus_large radix in
           let step = minus_around radix count 2 (omega (arith, none.0)) in
-          record { some = omega (arith, none.1); first = falls_by radix count 2 (2 * (len - 1)) High (even_step count High (omega (arith, none.0))) (omega (arith, none.0, none.1)) }
+          record {
+            some = omega (arith, none.1);
+            first = falls_by radix count 2 (2 * (len - 1)) High (even_step count High (omega (arith, none.0))) (omega (arith, none.0, none.1));
+          }
       | inr more ↦ elim (cases_lt (count % 2) 1) [
         | inl even ↦
             let step = minus_within radix count 2 (omega (arith, more.0)) in
-            record { some = omega (arith, more.0, more.1); first = falls_by radix count 2 (2 * (len - 1)) High (even_step count High (omega arith)) (omega (arith, more.0, more.1)) }
+            record {
+              some = omega (arith, more.0, more.1);
+              first = falls_by radix count 2 (2 * (len - 1)) High (even_step count High (omega arith)) (omega (arith, more.0, more.1));
+            }
         | inr odd ↦
             let step = minus_within radix count 1 (omega (arith, more.0)) in
-            record { some = omega (arith, more.0, more.1); first = falls_by radix count 1 (2 * (len - 1)) High (odd_step count High (omega arith)) (omega (arith, more.0, more.1)) }
+            record {
+              some = omega (arith, more.0, more.1);
+              first = falls_by radix count 1 (2 * (len - 1)) High (odd_step count High (omega arith)) (omega (arith, more.0, more.1));
+            }
       ]
     ]
 half radix count Low within other =
@@ -310,14 +333,23 @@ half radix count Low within other =
           let even = modulus_even radix in
           let large = modulus_large radix in
           let step = minus_around radix count 2 (omega (arith, none.0)) in
-          record { some = omega (arith, none.1); first = falls_by radix count 2 (2 * (len - 1)) Low (even_step count Low (omega (arith, none.0))) (omega (arith, none.0, none.1)) }
+          record {
+            some = omega (arith, none.1);
+            first = falls_by radix count 2 (2 * (len - 1)) Low (even_step count Low (omega (arith, none.0))) (omega (arith, none.0, none.1));
+          }
       | inr more ↦ elim (cases_lt (count % 2) 1) [
         | inl even ↦
             let step = minus_within radix count 2 (omega (arith, more.0)) in
-            record { some = omega (arith, more.0, more.1); first = falls_by radix count 2 (2 * (len - 1)) Low (even_step count Low (omega arith)) (omega (arith, more.0, more.1)) }
+            record {
+              some = omega (arith, more.0, more.1);
+              first = falls_by radix count 2 (2 * (len - 1)) Low (even_step count Low (omega arith)) (omega (arith, more.0, more.1));
+            }
         | inr odd ↦
             let step = minus_within radix count 3 (omega (arith, more.0)) in
-            record { some = omega (arith, more.0, more.1); first = falls_by radix count 3 (2 * (len - 1)) Low (odd_step count Low (omega arith)) (omega (arith, more.0, more.1)) }
+            record {
+              some = omega (arith, more.0, more.1);
+              first = falls_by radix count 3 (2 * (len - 1)) Low (odd_step count Low (omega arith)) (omega (arith, more.0, more.1));
+            }
       ]
     ]
 
@@ -326,7 +358,8 @@ record HalfStep (radix : Radix) (n : ℕ) (out : Line) (next : ℕ) : Type 0 whe
   other : n ≢ 1
   falls_to : count_minus radix n (half_step n out) ≡ next
 
-half_falls : (radix : Radix) (count len : ℕ) (out : Line) → count ≢ 1 → Half radix count out len → (k : ℕ) → k < len → HalfStep radix (if k == 0 then count else 2 * (len - k)) out (2 * (len - (k + 1)))
+half_falls : (radix : Radix) (count len : ℕ) (out : Line) → count ≢ 1 → Half radix count out len → (k : ℕ) → k < len
+    → HalfStep radix (if k == 0 then count else 2 * (len - k)) out (2 * (len - (k + 1)))
 half_falls radix count len out other start zero before =
     let one : len - (zero + 1) ≡ len - 1 = omega arith in
     record { other = other; falls_to = start.first ∙ ap (λ j. 2 * j) (sym one) }
@@ -340,8 +373,12 @@ half_falls radix count len out other start (suc k) before =
 -- how a half goes on from each of its ticks, and how the last of them ends it
 record HalfGoes (c : CounterState) (fall len : ℕ) : Type 0 where
   some : 0 < len
-  goes : (k : ℕ) → k + 1 < len → after_square_count (with_count c (if k == 0 then c.count else 2 * (fall - k)) c.strobe_due c.out) ≡ with_count c (2 * (fall - (k + 1))) c.strobe_due c.out
-  ends : (k : ℕ) → k + 1 ≡ len → after_square_count (with_count c (if k == 0 then c.count else 2 * (fall - k)) c.strobe_due c.out) ≡ after_square_load c (if c.newest == 1 then High else opposite c.out)
+  goes : (k : ℕ) → k + 1 < len
+      → after_square_count (with_count c (if k == 0 then c.count else 2 * (fall - k)) c.strobe_due c.out)
+      ≡ with_count c (2 * (fall - (k + 1))) c.strobe_due c.out
+  ends : (k : ℕ) → k + 1 ≡ len
+      → after_square_count (with_count c (if k == 0 then c.count else 2 * (fall - k)) c.strobe_due c.out)
+      ≡ after_square_load c (if c.newest == 1 then High else opposite c.out)
 
 -- a fall to 0 ends a half
 goes_plain : (c : CounterState) → Runs c → c.count ≢ 1 → c.keeps_zero ≡ false → (fall : ℕ) → Half c.count_radix c.count c.out fall → HalfGoes c fall fall
@@ -362,7 +399,8 @@ goes_plain c runs other plain fall start = record {
 }
 
 -- a kept 0 ends a half
-goes_kept : (c : CounterState) → c.count ≢ 1 → 0 < c.count → c.keeps_zero ≡ true → (fall : ℕ) → Half c.count_radix c.count c.out fall → HalfGoes c fall (fall + 1)
+goes_kept : (c : CounterState) → c.count ≢ 1 → 0 < c.count → c.keeps_zero ≡ true
+    → (fall : ℕ) → Half c.count_radix c.count c.out fall → HalfGoes c fall (fall + 1)
 goes_kept c other some kept fall start = record {
   some = omega arith;
   goes = λ k before.
@@ -382,7 +420,8 @@ goes_kept c other some kept fall start = record {
     above : (count fall k : ℕ) → 0 < count → k < fall → (if k == 0 then count else 2 * (fall - k)) ≢ 0
     above count fall zero some before = omega arith
     above count fall (suc k) some before =
-        let is : (if suc k == 0 then count else 2 * (fall - suc k)) ≡ 2 * (fall - suc k) = if_no (suc k == 0) count (2 * (fall - suc k)) (differs (suc k) 0 (omega arith)) in
+        let is : (if suc k == 0 then count else 2 * (fall - suc k)) ≡ 2 * (fall - suc k) =
+        if_no (suc k == 0) count (2 * (fall - suc k)) (differs (suc k) 0 (omega arith)) in
         omega arith
 
 -- a kept 0 that is there
@@ -534,9 +573,11 @@ counts_halves c mode gate within other n =
     let second = counts_half (after_square_load c Low) load_low.runs mode gate load_low.other in
     let high : ℕ = (size c + 1) / 2 in
     let turn : after_ticks (after_square_load c High) high ≡ after_square_load c Low =
-    ap (λ k. after_ticks (after_square_load c High) k) (sym load_high.half) ∙ first.1 ∙ ap (λ b. after_square_load c (if b then High else Low)) (differs c.newest 1 other) in
+    ap (λ k. after_ticks (after_square_load c High) k) (sym load_high.half) ∙ first.1
+    ∙ ap (λ b. after_square_load c (if b then High else Low)) (differs c.newest 1 other) in
     let back : after_ticks (after_square_load c Low) (size c / 2) ≡ after_square_load c High =
-    ap (λ k. after_ticks (after_square_load c Low) k) (sym load_low.half) ∙ second.1 ∙ ap (λ b. after_square_load c (if b then High else High)) (differs c.newest 1 other) in
+    ap (λ k. after_ticks (after_square_load c Low) k) (sym load_low.half) ∙ second.1
+    ∙ ap (λ b. after_square_load c (if b then High else High)) (differs c.newest 1 other) in
     let whole : size c ≡ high + size c / 2 = omega arith in
     let period : after_ticks (after_square_load c High) (size c) ≡ after_square_load c High =
     ap (λ k. after_ticks (after_square_load c High) k) whole ∙ iterate_add after_tick high (size c / 2) (after_square_load c High)
@@ -547,19 +588,22 @@ counts_halves c mode gate within other n =
     ∙ elim (cases_lt k high) [
       | inl in_first ↦
           first.0 k (subst (λ j. k < j) (sym load_high.half) in_first)
-          ∙ sym (if_yes (nat_lt k high) (after_half_fall (after_square_load c High) k) (after_half_fall (after_square_load c Low) (k - high)) (below k high in_first))
+          ∙ sym
+          (if_yes (nat_lt k high) (after_half_fall (after_square_load c High) k) (after_half_fall (after_square_load c Low) (k - high)) (below k high in_first))
       | inr in_second ↦
           let parts : k ≡ high + (k - high) = omega arith in
           ap (λ j. after_ticks (after_square_load c High) j) parts
           ∙ iterate_add after_tick high (k - high) (after_square_load c High)
           ∙ ap (λ s. after_ticks s (k - high)) turn
           ∙ second.0 (k - high) (subst (λ j. k - high < j) (sym load_low.half) (omega arith))
-          ∙ sym (if_no (nat_lt k high) (after_half_fall (after_square_load c High) k) (after_half_fall (after_square_load c Low) (k - high)) (not_below k high in_second))
+          ∙ sym (if_no (nat_lt k high) (after_half_fall (after_square_load c High) k)
+          (after_half_fall (after_square_load c Low) (k - high)) (not_below k high in_second))
     ]
 
 pub mode_3 : MakesSquares
 mode_3 c mode gate within other n =
-    ap (λ s. s.out) (counts_halves c mode gate within other n) ∙ level (nat_lt (n % size c) ((size c + 1) / 2)) (after_half_fall (after_square_load c High) (n % size c)) (after_half_fall (after_square_load c Low) (n % size c - (size c + 1) / 2)) refl refl
+    ap (λ s. s.out) (counts_halves c mode gate within other n) ∙ level (nat_lt (n % size c) ((size c + 1) / 2))
+    (after_half_fall (after_square_load c High) (n % size c)) (after_half_fall (after_square_load c Low) (n % size c - (size c + 1) / 2)) refl refl
   where
     level : (b : Bool) (x y : CounterState) → x.out ≡ High → y.out ≡ Low → (if b then x else y).out ≡ (if b then High else Low)
     level true x y high low = high
@@ -577,7 +621,8 @@ rate_of_one c mode one =
 -- a 1 is loaded as it is
 pub square_load_of_one : (c : CounterState) (out : Line) → c.newest ≡ 1 → after_square_load c out ≡ after_load c out
 square_load_of_one c out one =
-    let whole : loads_less c ≡ false = ap (λ b. is_8254 c.kind && (c.newest % 2 == 1) && not b) (same c.newest 1 one) ∙ never (is_8254 c.kind) (c.newest % 2 == 1) in
+    let whole : loads_less c ≡ false =
+    ap (λ b. is_8254 c.kind && (c.newest % 2 == 1) && not b) (same c.newest 1 one) ∙ never (is_8254 c.kind) (c.newest % 2 == 1) in
     ap (λ b. square_form c b out) whole
   where
     never : (a b : Bool) → (a && b && not true) ≡ false

@@ -46,7 +46,8 @@ set_bits byte n k small =
 clear_bits : (byte n k : ℕ) → n < 8 → k < 8 → has_bit (bit_and byte (2 ^ 8 - 1 - 2 ^ n)) k ≡ (if k == n then false else has_bit byte k)
 clear_bits byte n k small within =
     let same = rw (mask n small) at (bit_at_clear_same w8 byte n small) in
-    let other : k ≢ n → bit_at (bit_and byte (2 ^ 8 - 1 - 2 ^ n)) k ≡ bit_at byte k = λ apart. rw (mask n small) at (bit_at_clear_other w8 byte n small k within apart) in
+    let other : k ≢ n → bit_at (bit_and byte (2 ^ 8 - 1 - 2 ^ n)) k ≡ bit_at byte k = λ apart.
+    rw (mask n small) at (bit_at_clear_other w8 byte n small k within apart) in
     grind (arith, common_steps)
 
 with_bit_bits : (byte n k : ℕ) (set : Bool) → n < 8 → k < 8 → has_bit (with_bit byte n set) k ≡ (if k == n then set else has_bit byte k)
@@ -125,7 +126,8 @@ shows_switches s inputs upper lower =
       bit_7 = ap (λ n. has_bit n 7) all ∙ clear_7 (switches_c s) high small;
     }
 
-port_alike : (direction : Direction) (latch other pins : ℕ) → (direction ≡ Output → latch ≡ other) → port_byte direction latch pins ≡ port_byte direction other pins
+port_alike : (direction : Direction) (latch other pins : ℕ) → (direction ≡ Output → latch ≡ other)
+    → port_byte direction latch pins ≡ port_byte direction other pins
 port_alike Input latch other pins same = refl
 port_alike Output latch other pins same = same refl
 
@@ -138,17 +140,25 @@ pins_a_alike s t inputs alike = rw (lines_alike s t alike, alike.sw1) refl
 pins_c_alike : (s t : PpiState) (inputs : Inputs) → DiffersUnseen s t → pins_c s inputs ≡ pins_c t inputs
 pins_c_alike s t inputs alike = rw (lines_alike s t alike, alike.sw2) refl
 
-upper_alike : (direction : Direction) (latch other pins : ℕ) → (direction ≡ Output → latch / 16 ≡ other / 16) → port_byte direction latch pins / 16 ≡ port_byte direction other pins / 16
+upper_alike : (direction : Direction) (latch other pins : ℕ) → (direction ≡ Output → latch / 16 ≡ other / 16)
+    → port_byte direction latch pins / 16 ≡ port_byte direction other pins / 16
 upper_alike Input latch other pins same = refl
 upper_alike Output latch other pins same = same refl
 
-lower_alike : (direction : Direction) (latch other pins : ℕ) → (direction ≡ Output → latch % 16 ≡ other % 16) → port_byte direction latch pins % 16 ≡ port_byte direction other pins % 16
+lower_alike : (direction : Direction) (latch other pins : ℕ) → (direction ≡ Output → latch % 16 ≡ other % 16)
+    → port_byte direction latch pins % 16 ≡ port_byte direction other pins % 16
 lower_alike Input latch other pins same = refl
 lower_alike Output latch other pins same = same refl
 
 port_c_alike : (s t : PpiState) (pins : ℕ) → DiffersUnseen s t → port_c_byte s pins ≡ port_c_byte t pins
 port_c_alike s t pins alike =
-    rw (← alike.c_upper, ← alike.c_lower, upper_alike s.c_upper s.c_latch t.c_latch pins alike.c_latch_upper, lower_alike s.c_lower s.c_latch t.c_latch pins alike.c_latch_lower) refl
+    rw (
+      ← alike.c_upper,
+      ← alike.c_lower,
+      upper_alike s.c_upper s.c_latch t.c_latch pins alike.c_latch_upper,
+      lower_alike s.c_lower s.c_latch t.c_latch pins alike.c_latch_lower,
+    )
+    refl
 
 same_choice : (first : Bool) (x y z w : ℕ) → x ≡ y → z ≡ w → (if first then x else z) ≡ (if first then y else w)
 same_choice true x y z w same others = same
@@ -159,7 +169,8 @@ unfolding byte_at
 reads_alike s t port inputs alike =
     let in_a : port_byte s.a s.a_latch (pins_a s inputs) ≡ port_byte t.a t.a_latch (pins_a t inputs) =
     rw (← alike.a, ← pins_a_alike s t inputs alike) (port_alike s.a s.a_latch t.a_latch (pins_a s inputs) alike.a_latch) in
-    let in_c : port_c_byte s (pins_c s inputs) ≡ port_c_byte t (pins_c t inputs) = rw (← pins_c_alike s t inputs alike) (port_c_alike s t (pins_c s inputs) alike) in
+    let in_c : port_c_byte s (pins_c s inputs) ≡ port_c_byte t (pins_c t inputs) =
+    rw (← pins_c_alike s t inputs alike) (port_c_alike s t (pins_c s inputs) alike) in
     same_choice (port == 0) _ _ _ _ in_a (same_choice (port == 1) _ _ _ _ (lines_alike s t alike) (same_choice (port == 2) _ _ _ _ in_c refl))
 
 or_upper : (latch other mask : ℕ) → latch / 16 ≡ other / 16 → bit_or latch mask / 16 ≡ bit_or other mask / 16
@@ -188,7 +199,8 @@ either_alike true s t u v alike others = alike
 either_alike false s t u v alike others = others
 
 -- ports that differ unseen still do so with other latches of port C
-c_latch_alike : (s t : PpiState) (latch other : ℕ) → DiffersUnseen s t → (s.c_upper ≡ Output → latch / 16 ≡ other / 16) → (s.c_lower ≡ Output → latch % 16 ≡ other % 16) → DiffersUnseen (record s { c_latch = latch }) (record t { c_latch = other })
+c_latch_alike : (s t : PpiState) (latch other : ℕ) → DiffersUnseen s t → (s.c_upper ≡ Output → latch / 16 ≡ other / 16)
+    → (s.c_lower ≡ Output → latch % 16 ≡ other % 16) → DiffersUnseen (record s { c_latch = latch }) (record t { c_latch = other })
 c_latch_alike s t latch other alike upper lower = record {
   sw1 = alike.sw1;
   sw2 = alike.sw2;
@@ -245,7 +257,9 @@ mode_alike s t word alike = record {
   c_latch_lower = λ _. refl;
 }
 
-bit_alike : (s t : PpiState) (word : ℕ) → DiffersUnseen s t → DiffersUnseen (record s { c_latch = with_bit s.c_latch (word / 2 % 8) (has_bit word 0) }) (record t { c_latch = with_bit t.c_latch (word / 2 % 8) (has_bit word 0) })
+bit_alike : (s t : PpiState) (word : ℕ) → DiffersUnseen s t
+    → DiffersUnseen (record s { c_latch = with_bit s.c_latch (word / 2 % 8) (has_bit word 0) })
+    (record t { c_latch = with_bit t.c_latch (word / 2 % 8) (has_bit word 0) })
 bit_alike s t word alike =
     c_latch_alike s t _ _ alike
     (λ out. with_bit_upper s.c_latch t.c_latch (word / 2 % 8) (has_bit word 0) (alike.c_latch_upper out))

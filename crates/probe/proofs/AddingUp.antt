@@ -52,7 +52,8 @@ apart_in : (n k : ℕ) (ks : List ℕ) → nat_cmp n k ≡ Greater → is_in n k
 apart_in n k ks is out = ap (λ o. is_eq o || is_in n ks) is ∙ out
 
 -- if a number isn't there before, nothing has been summed at it
-sum_put : (n d : ℕ) (f : ℕ → ℕ) (ks : List ℕ) → IsStrictlySortedBy nat_cmp ks → (is_in n ks ≡ false → f n ≡ 0) → sum_by (adds n d f) (insert_key nat_cmp ks n) ≡ d + sum_by f ks
+sum_put : (n d : ℕ) (f : ℕ → ℕ) (ks : List ℕ) → IsStrictlySortedBy nat_cmp ks → (is_in n ks ≡ false → f n ≡ 0)
+    → sum_by (adds n d f) (insert_key nat_cmp ks n) ≡ d + sum_by f ks
 unfolding IsStrictlySortedBy
 sum_put n d f [] sorted none =
     let no = none refl in
@@ -60,7 +61,8 @@ sum_put n d f [] sorted none =
     let one = sum_by-cons (adds n d f) n [] in omega (arith, no, it, one)
 sum_put n d f (k ∷ ks) sorted none = by (nat_cmp n k) refl (sum_put n d f ks sorted.1)
   where
-    by : (o : Ordering) → nat_cmp n k ≡ o → ((is_in n ks ≡ false → f n ≡ 0) → sum_by (adds n d f) (insert_key nat_cmp ks n) ≡ d + sum_by f ks) → sum_by (adds n d f) (match_ordering o (n ∷ k ∷ ks) (k ∷ ks) (k ∷ insert_key nat_cmp ks n)) ≡ d + sum_by f (k ∷ ks)
+    by : (o : Ordering) → nat_cmp n k ≡ o → ((is_in n ks ≡ false → f n ≡ 0) → sum_by (adds n d f) (insert_key nat_cmp ks n) ≡ d + sum_by f ks)
+        → sum_by (adds n d f) (match_ordering o (n ∷ k ∷ ks) (k ∷ ks) (k ∷ insert_key nat_cmp ks n)) ≡ d + sum_by f (k ∷ ks)
     by Less is rest =
         let above : AreAbove n (k ∷ ks) = (is, above_less n k ks is sorted.0) in
         let no = none (not_in n (k ∷ ks) above) in
@@ -93,13 +95,16 @@ none_counted : (n : ℕ) → nat_lt 0 n ≡ false → n ≡ 0
 none_counted zero is = refl
 none_counted (suc n) is = absurd (let never : nat_lt 0 (suc n) ≡ true = grind (arith, nat_tests) in cc)
 
-lines_by : (number : Begun → Option ℕ) (bs : List Begun) (end d : ℕ) (o : Option ℕ) → sum_by (λ k. (if is_number k o then d else 0) + clocks_from (has number k) bs end) (with_number o (numbers_of number bs)) ≡ (if is_some o then d else 0) + clocks_of_lines number bs end
+lines_by : (number : Begun → Option ℕ) (bs : List Begun) (end d : ℕ) (o : Option ℕ)
+    → sum_by (λ k. (if is_number k o then d else 0) + clocks_from (has number k) bs end) (with_number o (numbers_of number bs))
+    ≡ (if is_some o then d else 0) + clocks_of_lines number bs end
 lines_by number bs end d None = sum_same (λ k. clocks_from (has number k) bs end) _ (numbers_of number bs) (λ k. omega arith) ∙ omega arith
 lines_by number bs end d (Some n) =
     sum_put n d (λ k. clocks_from (has number k) bs end) (numbers_of number bs) (numbers_rise number bs)
     (λ out. no_clocks (has number n) bs end (none_counted (count_by (has number n) bs) (sym (in_numbers number bs n) ∙ out)))
 
-lines_first : (number : Begun → Option ℕ) (b : Begun) (bs : List Begun) (end : ℕ) → clocks_of_lines number (b ∷ bs) end ≡ (if is_some (number b) then next_clock bs end - b.clock else 0) + clocks_of_lines number bs end
+lines_first : (number : Begun → Option ℕ) (b : Begun) (bs : List Begun) (end : ℕ)
+    → clocks_of_lines number (b ∷ bs) end ≡ (if is_some (number b) then next_clock bs end - b.clock else 0) + clocks_of_lines number bs end
 lines_first number b bs end = lines_by number bs end (next_clock bs end - b.clock) (number b)
 
 abbrev spans : List Begun → ℕ → ℕ
@@ -142,7 +147,8 @@ rise_more : (from : ℕ) (bs : List Begun) (b : Begun) (end : ℕ) → b.clock �
 rise_more from [] b end is rise = (omega (arith, is, rise), omega (arith, is))
 rise_more from (a ∷ bs) b end is rise = (rise.0, rise_more a.clock bs b end is rise.1)
 
-rise_by : (from : ℕ) (bs : List Begun) (t : Plain) (event : Option TrailEvent) → Rise from bs (clock_of t) → Rise from (bs ++ map begun_of (entry_at t event)) (clock_of t + 1)
+rise_by : (from : ℕ) (bs : List Begun) (t : Plain) (event : Option TrailEvent) → Rise from bs (clock_of t)
+    → Rise from (bs ++ map begun_of (entry_at t event)) (clock_of t + 1)
 rise_by from bs t None rise = subst (λ xs. Rise from xs (clock_of t + 1)) (sym (append-nil bs)) (rise_later from bs (clock_of t) rise)
 rise_by from bs t (Some event) rise = rise_more from bs _ (clock_of t) refl rise
 

@@ -43,11 +43,14 @@ as_many s stand = ap length stand ∙ length-map (conditions_of s.stops) Standin
 
 -- one more stop
 
-adds : (condition : Condition) (old new : ProbeState) (result : Result Answer DebugFault) → OnlyStand old → MatchResult result (AddsStop (Standing condition) old new) (RefusesStop (Standing condition) old new) → AnswersStop condition (session_of old) result (session_of new) × OnlyStand new
+adds : (condition : Condition) (old new : ProbeState) (result : Result Answer DebugFault)
+    → OnlyStand old → MatchResult result (AddsStop (Standing condition) old new) (RefusesStop (Standing condition) old new)
+    → AnswersStop condition (session_of old) result (session_of new) × OnlyStand new
 adds condition old new (Ok answer) stand is =
     let few = is.room in
     let many = as_many old stand in
-    let more : conditions_of new.stops ≡ conditions_of old.stops ++ condition ∷ [] = ap conditions_of is.stops ∙ conditions_more old.stops (Standing condition) in (
+    let more : conditions_of new.stops ≡ conditions_of old.stops ++ condition ∷ [] =
+    ap conditions_of is.stops ∙ conditions_more old.stops (Standing condition) in (
       record {
         room = omega (arith, few, many);
         stops = more;
@@ -62,8 +65,10 @@ adds condition old new (Err ClockLimit) stand refuses = absurd refuses
 adds condition old new (Err BadScan) stand refuses = absurd refuses
 adds condition old new (Err StampsFall) stand refuses = absurd refuses
 adds condition old new (Err BadCommand) stand refuses = absurd refuses
-adds condition old new (Err TooManyStops) stand refuses =
-    (record { full = sym (as_many old stand) ∙ refuses.0; kept = same_session old new refuses.1; fault_is = refl }, still_stand old new stand (ap (λ (s : ProbeState). s.stops) refuses.1))
+adds condition old new (Err TooManyStops) stand refuses = (
+  record { full = sym (as_many old stand) ∙ refuses.0; kept = same_session old new refuses.1; fault_is = refl },
+  still_stand old new stand (ap (λ (s : ProbeState). s.stops) refuses.1),
+)
 adds condition old new (Err (Memory None)) stand refuses = let never : false ≡ true = refuses.1 in absurd (cc)
 adds condition old new (Err (Memory (Some clock))) stand refuses = absurd refuses
 adds condition old new (Err BeforeStart) stand refuses = absurd refuses
@@ -73,7 +78,8 @@ adds condition old new (Err BeforeStart) stand refuses = absurd refuses
 none_of : (s : ProbeState) (n : ℕ) (p : Plain) → OnlyStand s → NoneMet s.stops n p → NoStop (conditions_of s.stops) n p
 none_of s n p stand none = none_there (conditions_of s.stops) n p (subst (λ xs. NoneMet xs n p) stand none)
 
-goes : (n : ℕ) (old new : ProbeState) (result : Result Answer DebugFault) → OnlyStand old → MatchResult result (GoesOn n old new) (RefusesGoing n old new) → MatchResult result (Goes n (session_of old) (session_of new)) (RefusesGo n (session_of old) (session_of new)) × OnlyStand new
+goes : (n : ℕ) (old new : ProbeState) (result : Result Answer DebugFault) → OnlyStand old → MatchResult result (GoesOn n old new) (RefusesGoing n old new)
+    → MatchResult result (Goes n (session_of old) (session_of new)) (RefusesGo n (session_of old) (session_of new)) × OnlyStand new
 goes n old new (Ok answer) stand is = (
   record {
     stopped = is.stopped;
@@ -88,7 +94,14 @@ goes n old new (Ok answer) stand is = (
   },
   still_stand old new stand is.stops,
 )
-goes n old new (Err ClockLimit) stand refuses = (((refuses.0, ap (λ (s : ProbeState). s.board) refuses.1), conditions_stay old new (ap (λ (s : ProbeState). s.stops) refuses.1), ap (λ (s : ProbeState). s.first) refuses.1), still_stand old new stand (ap (λ (s : ProbeState). s.stops) refuses.1))
+goes n old new (Err ClockLimit) stand refuses = (
+  (
+    (refuses.0, ap (λ (s : ProbeState). s.board) refuses.1),
+    conditions_stay old new (ap (λ (s : ProbeState). s.stops) refuses.1),
+    ap (λ (s : ProbeState). s.first) refuses.1,
+  ),
+  still_stand old new stand (ap (λ (s : ProbeState). s.stops) refuses.1),
+)
 goes n old new (Err BadScan) stand refuses = absurd refuses
 goes n old new (Err StampsFall) stand refuses = absurd refuses
 goes n old new (Err BadCommand) stand refuses = absurd refuses
@@ -115,7 +128,9 @@ held : (s : ProbeState) (j : ℕ) (p : Plain) → OnlyStand s → holding (condi
 held s j p stand = sym (met_alike (conditions_of s.stops) j p) ∙ ap (λ xs. met_from xs p j) (sym stand)
 
 back : (old new : ProbeState) (result : Result Answer DebugFault) → OnlyStand old → MatchResult result (GoesBackToStop old new) (RefusesBackToStop old new)
-    → MatchResult result (GoesBackTo (conditions_of old.stops) answers.StopAt (session_of old) (session_of new)) (RefusesBackTo (conditions_of old.stops) (session_of old) (session_of new)) × OnlyStand new
+    → MatchResult result (GoesBackTo (conditions_of old.stops) answers.StopAt (session_of old) (session_of new))
+    (RefusesBackTo (conditions_of old.stops) (session_of old) (session_of new))
+    × OnlyStand new
 back old new (Ok answer) stand is = (
   record {
     number = is.number;
@@ -140,18 +155,25 @@ back old new (Err BadCommand) stand refuses = absurd refuses
 back old new (Err TooManyStops) stand refuses = absurd refuses
 back old new (Err (Memory None)) stand refuses =
     let some = refuses.0 in
-    let many = as_many old stand in ((omega (arith, some, many), same_session old new refuses.1), still_stand old new stand (ap (λ (s : ProbeState). s.stops) refuses.1))
+    let many = as_many old stand in
+    ((omega (arith, some, many), same_session old new refuses.1), still_stand old new stand (ap (λ (s : ProbeState). s.stops) refuses.1))
 back old new (Err (Memory (Some clock))) stand refuses = absurd refuses
-back old new (Err BeforeStart) stand refuses = ((λ j within. held old j old.first.plain stand ∙ refuses.0 j within, same_session old new refuses.1), still_stand old new stand (ap (λ (s : ProbeState). s.stops) refuses.1))
+back old new (Err BeforeStart) stand refuses = (
+  (λ j within. held old j old.first.plain stand ∙ refuses.0 j within, same_session old new refuses.1),
+  still_stand old new stand (ap (λ (s : ProbeState). s.stops) refuses.1),
+)
 
 -- any other line
 
-passes : (inquiry : Option Inquiry) (command : Option Command) (line : List ℕ) (old new : ProbeState) (result : Result Answer DebugFault) → command_of line ≡ command → inquiry ≡ None → OnlyStand old → AnswersOr inquiry line (session_of old) result (session_of new) × (new.stops ≡ old.stops)
+passes : (inquiry : Option Inquiry) (command : Option Command) (line : List ℕ) (old new : ProbeState) (result : Result Answer DebugFault)
+    → command_of line ≡ command → inquiry ≡ None → OnlyStand old → AnswersOr inquiry line (session_of old) result (session_of new) × (new.stops ≡ old.stops)
     → AnswersLine command (session_of old) result (session_of new) × OnlyStand new
-passes None command line old new result is none stand answers = (subst (λ c. AnswersLine c (session_of old) result (session_of new)) is answers.0, still_stand old new stand answers.1)
+passes None command line old new result is none stand answers =
+    (subst (λ c. AnswersLine c (session_of old) result (session_of new)) is answers.0, still_stand old new stand answers.1)
 passes (Some inquiry) command line old new result is none stand answers = absurd (cc)
 
-commanded : (command : Option Command) (line : List ℕ) (old new : ProbeState) (result : Result Answer DebugFault) → command_of line ≡ command → inquiry_of line ≡ None → OnlyStand old → AnswersUnless (request_by command) line old result new
+commanded : (command : Option Command) (line : List ℕ) (old new : ProbeState) (result : Result Answer DebugFault)
+    → command_of line ≡ command → inquiry_of line ≡ None → OnlyStand old → AnswersUnless (request_by command) line old result new
     → AnswersLine command (session_of old) result (session_of new) × OnlyStand new
 commanded None line old new result is none stand answers = passes (inquiry_of line) None line old new result is none stand answers
 commanded (Some (commands.Break cs ip)) line old new result is none stand answers = adds (conditions.At cs ip) old new result stand answers
@@ -159,13 +181,20 @@ commanded (Some (commands.Byte address byte)) line old new result is none stand 
 commanded (Some commands.Sound) line old new result is none stand answers = adds conditions.Sound old new result stand answers
 commanded (Some commands.Halted) line old new result is none stand answers = adds conditions.Halted old new result stand answers
 commanded (Some (commands.Go n)) line old new result is none stand answers = goes n old new result stand answers
-commanded (Some commands.Step) line old new result is none stand answers = passes (inquiry_of line) (Some commands.Step) line old new result is none stand answers
-commanded (Some commands.Regs) line old new result is none stand answers = passes (inquiry_of line) (Some commands.Regs) line old new result is none stand answers
-commanded (Some commands.Screen) line old new result is none stand answers = passes (inquiry_of line) (Some commands.Screen) line old new result is none stand answers
-commanded (Some (commands.Dump first count)) line old new result is none stand answers = passes (inquiry_of line) (Some (commands.Dump first count)) line old new result is none stand answers
-commanded (Some commands.Trail) line old new result is none stand answers = passes (inquiry_of line) (Some commands.Trail) line old new result is none stand answers
-commanded (Some (commands.Back n)) line old new result is none stand answers = passes (inquiry_of line) (Some (commands.Back n)) line old new result is none stand answers
-commanded (Some commands.BackStep) line old new result is none stand answers = passes (inquiry_of line) (Some commands.BackStep) line old new result is none stand answers
+commanded (Some commands.Step) line old new result is none stand answers =
+    passes (inquiry_of line) (Some commands.Step) line old new result is none stand answers
+commanded (Some commands.Regs) line old new result is none stand answers =
+    passes (inquiry_of line) (Some commands.Regs) line old new result is none stand answers
+commanded (Some commands.Screen) line old new result is none stand answers =
+    passes (inquiry_of line) (Some commands.Screen) line old new result is none stand answers
+commanded (Some (commands.Dump first count)) line old new result is none stand answers =
+    passes (inquiry_of line) (Some (commands.Dump first count)) line old new result is none stand answers
+commanded (Some commands.Trail) line old new result is none stand answers =
+    passes (inquiry_of line) (Some commands.Trail) line old new result is none stand answers
+commanded (Some (commands.Back n)) line old new result is none stand answers =
+    passes (inquiry_of line) (Some (commands.Back n)) line old new result is none stand answers
+commanded (Some commands.BackStep) line old new result is none stand answers =
+    passes (inquiry_of line) (Some commands.BackStep) line old new result is none stand answers
 commanded (Some commands.BackStop) line old new result is none stand answers = back old new result stand answers
 
 pub answers_as_debugger : AnswersAsDebugger

@@ -47,17 +47,20 @@ unwritten clock address byte takes (Out port value ∷ rest) none = unwritten cl
 
 pub byte_stays : (s : Plain) (address : ℕ) → list_any (writes_to address) (accesses_next s) ≡ false → byte_of (after_clock s) address ≡ byte_of s address
 byte_stays s address none =
-    byte_of_clock s address (is_writable s.chips address) refl ∙ unwritten (clock_of s) address (byte_of s address) (is_writable s.chips address) (accesses_next s) none
+    byte_of_clock s address (is_writable s.chips address) refl
+    ∙ unwritten (clock_of s) address (byte_of s address) (is_writable s.chips address) (accesses_next s) none
 
 -- what a copy has
 
-slice_of : (bytes : List ℕ) (first address count : ℕ) → first ≤ address → address < first + length bytes → copied_at first bytes address ≡ Some (get_or bytes (address - first) 0)
+slice_of : (bytes : List ℕ) (first address count : ℕ) → first ≤ address → address < first + length bytes
+    → copied_at first bytes address ≡ Some (get_or bytes (address - first) 0)
 slice_of bytes first address count from to =
     let least : nat_lt address first ≡ false = grind (arith, nat_tests, from) in
     ap (λ (below : Bool). if below then None else slice_get bytes (address - first)) least
     ∙ slice_get-get_or bytes (address - first) 0 (omega (arith, from, to))
 
-pub copied_there : (copied : Copied) (s : Plain) (address : ℕ) → IsCopy copied s → copied.first ≤ address → address < copied.first + length copied.bytes.items → copied_at copied.first copied.bytes.items address ≡ Some (byte_of s address)
+pub copied_there : (copied : Copied) (s : Plain) (address : ℕ) → IsCopy copied s → copied.first ≤ address
+    → address < copied.first + length copied.bytes.items → copied_at copied.first copied.bytes.items address ≡ Some (byte_of s address)
 copied_there copied s address copy from to =
     slice_of copied.bytes.items copied.first address 0 from to
     ∙ ap Some (copy (address - copied.first) (omega (arith, from, to)) ∙ ap (byte_of s) (omega (arith, from)))
@@ -68,7 +71,8 @@ both_true : (a b : Bool) → (a && b) ≡ true → (a ≡ true) × (b ≡ true)
 both_true true b is = (refl, is)
 both_true false b is = let never : false ≡ true = is in absurd (cc)
 
-found_by : {X : Type 0} (p : X → Bool) (x : X) (xs : List X) (here : Bool) → p x ≡ here → (here || list_any p xs) ≡ true → (list_any p xs ≡ true → (y : X) × (p y ≡ true)) → (y : X) × (p y ≡ true)
+found_by : {X : Type 0} (p : X → Bool) (x : X) (xs : List X) (here : Bool)
+    → p x ≡ here → (here || list_any p xs) ≡ true → (list_any p xs ≡ true → (y : X) × (p y ≡ true)) → (y : X) × (p y ≡ true)
 found_by p x xs true is any rest = (x, is)
 found_by p x xs false is any rest = rest any
 
@@ -84,7 +88,8 @@ or_none : (b : Bool) → (b || false) ≡ b
 or_none true = refl
 or_none false = refl
 
-any_by : {X : Type 0} (p q : X → Bool) (x : X) (xs : List X) (here : Bool) → p x ≡ here → (here || list_any p xs) ≡ true → (p x ≡ true → q x ≡ true) → (list_any p xs ≡ true → list_any q xs ≡ true) → (q x || list_any q xs) ≡ true
+any_by : {X : Type 0} (p q : X → Bool) (x : X) (xs : List X) (here : Bool) → p x ≡ here → (here || list_any p xs) ≡ true
+    → (p x ≡ true → q x ≡ true) → (list_any p xs ≡ true → list_any q xs ≡ true) → (q x || list_any q xs) ≡ true
 any_by p q x xs true is any weaker rest = ap (λ (b : Bool). b || list_any q xs) (weaker is)
 any_by p q x xs false is any weaker rest = ap (λ (b : Bool). q x || b) (rest any) ∙ or_true (q x)
 
@@ -105,7 +110,8 @@ range_more n =
     ∙ ap (λ (r : List ℕ). r ++ n ∷ []) (map-id (range_with_len 0 n))
 
 in_range : (q : ℕ → Bool) (n k : ℕ) → k < n → q k ≡ true → list_any q (range_with_len 0 n) ≡ true
-in_range q n k within is = list_any_at q (range_with_len 0 n) k 0 (omega (arith, within, length-range_with_len 0 n)) (ap q (get_or-range_with_len 0 n k 0 within ∙ omega arith) ∙ is)
+in_range q n k within is =
+    list_any_at q (range_with_len 0 n) k 0 (omega (arith, within, length-range_with_len 0 n)) (ap q (get_or-range_with_len 0 n k 0 within ∙ omega arith) ∙ is)
 
 from_range : (q : ℕ → Bool) (n : ℕ) → list_any q (range_with_len 0 n) ≡ true → (k : ℕ) × (k < n) × (q k ≡ true)
 from_range q zero any = let never : false ≡ true = any in absurd (cc)
@@ -131,14 +137,16 @@ differs_there before now copied is = ap (λ k. differs_from k now) is
 is_same : (n : ℕ) → (n == n) ≡ true
 is_same n = grind (arith, nat_tests)
 
-written_if : (s : Plain) (address : ℕ) (some : Bool) → list_any (writes_to address) (accesses_next s) ≡ some → not (byte_of s address == byte_of (after_clock s) address) ≡ true → some ≡ true
+written_if : (s : Plain) (address : ℕ) (some : Bool) → list_any (writes_to address) (accesses_next s) ≡ some
+    → not (byte_of s address == byte_of (after_clock s) address) ≡ true → some ≡ true
 written_if s address true is differs = refl
 written_if s address false is differs =
     let same : not (byte_of s address == byte_of (after_clock s) address) ≡ false =
     ap (λ b. not (byte_of s address == b)) (byte_stays s address is) ∙ ap not (is_same (byte_of s address)) in
     let never : true ≡ false = sym differs ∙ same in absurd (cc)
 
-write_tells : (address count : ℕ) (copied : Copied) (s t : Plain) (access : Access) → IsCopy copied s → copied.first ≤ address → address + count ≤ copied.first + length copied.bytes.items → write_differs address count copied t access ≡ true
+write_tells : (address count : ℕ) (copied : Copied) (s t : Plain) (access : Access) → IsCopy copied s → copied.first ≤ address
+    → address + count ≤ copied.first + length copied.bytes.items → write_differs address count copied t access ≡ true
     → (k : ℕ) × (k < count) × (not (byte_of s (address + k) == byte_of t (address + k)) ≡ true)
 write_tells address count copied s t (Write at value) copy from to is =
     let parts = both_true (nat_le address at && nat_lt at (address + count)) (differs_copied copied at t) is in
@@ -149,20 +157,23 @@ write_tells address count copied s t (Write at value) copy from to is =
       at - address,
       omega (arith, least, most),
       ap (λ a. not (byte_of s a == byte_of t a)) (sym here)
-          ∙ sym (differs_there (byte_of s at) (byte_of t at) (copied_at copied.first copied.bytes.items at) (copied_there copied s at copy (omega (arith, from, least)) (omega (arith, to, most))))
+          ∙ sym (differs_there (byte_of s at) (byte_of t at) (copied_at copied.first copied.bytes.items at)
+          (copied_there copied s at copy (omega (arith, from, least)) (omega (arith, to, most))))
           ∙ parts.1,
     )
 write_tells address count copied s t (In port value) copy from to is = let never : false ≡ true = is in absurd (cc)
 write_tells address count copied s t (Out port value) copy from to is = let never : false ≡ true = is in absurd (cc)
 
-tells_write : (address count k : ℕ) (copied : Copied) (s t : Plain) (access : Access) → IsCopy copied s → copied.first ≤ address → address + count ≤ copied.first + length copied.bytes.items → k < count
-    → not (byte_of s (address + k) == byte_of t (address + k)) ≡ true → writes_to (address + k) access ≡ true → write_differs address count copied t access ≡ true
+tells_write : (address count k : ℕ) (copied : Copied) (s t : Plain) (access : Access) → IsCopy copied s → copied.first ≤ address
+    → address + count ≤ copied.first + length copied.bytes.items → k < count → not (byte_of s (address + k) == byte_of t (address + k)) ≡ true
+    → writes_to (address + k) access ≡ true → write_differs address count copied t access ≡ true
 tells_write address count k copied s t (Write at value) copy from to within differs is =
     let here : at ≡ address + k = grind (arith, nat_tests, is) in
     let least : nat_le address at ≡ true = grind (arith, nat_tests, here) in
     let most : nat_lt at (address + count) ≡ true = grind (arith, nat_tests, here, within) in
     let told : differs_copied copied at t ≡ true =
-    differs_there (byte_of s at) (byte_of t at) (copied_at copied.first copied.bytes.items at) (copied_there copied s at copy (omega (arith, from, here)) (omega (arith, to, here, within)))
+    differs_there (byte_of s at) (byte_of t at) (copied_at copied.first copied.bytes.items at)
+    (copied_there copied s at copy (omega (arith, from, here)) (omega (arith, to, here, within)))
     ∙ ap (λ a. not (byte_of s a == byte_of t a)) here ∙ differs in
     (λ i. (least i && most i) && told i)
 tells_write address count k copied s t (In port value) copy from to within differs is = let never : false ≡ true = is in absurd (cc)
@@ -171,7 +182,8 @@ tells_write address count k copied s t (Out port value) copy from to within diff
 none_of_range : (q : ℕ → Bool) (n : ℕ) → ((k : ℕ) → q k ≡ false) → list_any q (range_with_len 0 n) ≡ false
 none_of_range q n none = list_any_none q (range_with_len 0 n) (λ i d within. none (get_or (range_with_len 0 n) i d))
 
-pub changes_seen : (address count : ℕ) (copied : Copied) (s : Plain) → IsCopy copied s → copied.first ≤ address → address + count ≤ copied.first + length copied.bytes.items
+pub changes_seen : (address count : ℕ) (copied : Copied) (s : Plain)
+    → IsCopy copied s → copied.first ≤ address → address + count ≤ copied.first + length copied.bytes.items
     → any_differs address count s (after_clock s) ≡ one_differs address count (accesses_next s) copied (after_clock s)
 changes_seen address count copied s copy from to =
     let t : Plain = after_clock s in
@@ -179,7 +191,8 @@ changes_seen address count copied s copy from to =
     same_if (list_any q (range_with_len 0 count)) (list_any (write_differs address count copied t) (accesses_next s))
     (λ any.
     let found = from_range q count any in
-    any_weaker (writes_to (address + found.0)) (write_differs address count copied t) (accesses_next s) (λ access is. tells_write address count found.0 copied s t access copy from to found.1 found.2 is)
+    any_weaker (writes_to (address + found.0)) (write_differs address count copied t) (accesses_next s)
+    (λ access is. tells_write address count found.0 copied s t access copy from to found.1 found.2 is)
     (written_if s (address + found.0) (list_any (writes_to (address + found.0)) (accesses_next s)) refl found.2))
     (λ any.
     let found = found_in (write_differs address count copied t) (accesses_next s) any in
@@ -188,17 +201,20 @@ changes_seen address count copied s copy from to =
 
 -- a copy is renewed
 
-copied_by : (s : Plain) (new was address : ℕ) → was ≡ byte_of s address → (new ≡ byte_of (after_clock s) address) ⊎ ((list_any (writes_to address) (accesses_next s) ≡ false) × (new ≡ was)) → new ≡ byte_of (after_clock s) address
+copied_by : (s : Plain) (new was address : ℕ) → was ≡ byte_of s address
+    → (new ≡ byte_of (after_clock s) address) ⊎ ((list_any (writes_to address) (accesses_next s) ≡ false) × (new ≡ was)) → new ≡ byte_of (after_clock s) address
 copied_by s new was address here (inl there) = there
 copied_by s new was address here (inr kept) = kept.1 ∙ here ∙ sym (byte_stays s address kept.0)
 
 pub copy_renewed : (old new : Copied) (s : Plain) → IsCopy old s → AreRenewed (accesses_next s) (after_clock s) old new → IsCopy new (after_clock s)
 copy_renewed old new s copy renewed = λ k within.
     let few : k < length old.bytes.items = omega (arith, within, renewed.count) in
-    copied_by s (get_or new.bytes.items k 0) (get_or old.bytes.items k 0) (old.first + k) (copy k few) (renewed.bytes k few) ∙ ap (λ f. byte_of (after_clock s) (f + k)) (sym renewed.first)
+    copied_by s (get_or new.bytes.items k 0) (get_or old.bytes.items k 0) (old.first + k) (copy k few) (renewed.bytes k few)
+    ∙ ap (λ f. byte_of (after_clock s) (f + k)) (sym renewed.first)
 
 -- no byte differs in a clock without accesses
 
 pub nothing_changes : (address count : ℕ) (s : Plain) → accesses_next s ≡ [] → any_differs address count s (after_clock s) ≡ false
 nothing_changes address count s none = none_of_range (λ k. not (byte_of s (address + k) == byte_of (after_clock s) (address + k))) count (λ k.
-    ap (λ b. not (byte_of s (address + k) == b)) (byte_stays s (address + k) (ap (list_any (writes_to (address + k))) none)) ∙ ap not (is_same (byte_of s (address + k))))
+    ap (λ b. not (byte_of s (address + k) == b)) (byte_stays s (address + k) (ap (list_any (writes_to (address + k))) none))
+    ∙ ap not (is_same (byte_of s (address + k))))

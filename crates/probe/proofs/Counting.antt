@@ -21,7 +21,8 @@ use Rattle.probe.specs.Making.{RefusesMaking}
 use Rattle.probe.specs.Tallied.{HasCounted, IsBefore}
 
 -- no memory, after some of the clocks have passed
-pub stands_short : (n k : ℕ) (s t : SessionState) (fault : DebugFault) → clock_of s.board.plain + n ≤ 2 ^ 40 → k ≤ n → Ran k s.board t.board → t.stops ≡ s.stops → t.first ≡ s.first → fault ≡ Memory (Some (clock_of t.board.plain)) → RefusesMaking n s t fault
+pub stands_short : (n k : ℕ) (s t : SessionState) (fault : DebugFault) → clock_of s.board.plain + n ≤ 2 ^ 40 → k ≤ n
+    → Ran k s.board t.board → t.stops ≡ s.stops → t.first ≡ s.first → fault ≡ Memory (Some (clock_of t.board.plain)) → RefusesMaking n s t fault
 stands_short n k s t fault all within ran stops first is = subst (RefusesMaking n s t) (sym is) (record {
   within_all = all;
   passed = k;
@@ -39,7 +40,8 @@ begun_on p k s t begun at is =
     ∙ map-append begun_of (trail_in s p) (trail_in (after_clocks s p) k)
     ∙ ap (λ xs. begun_in s p ++ xs) (ap (λ q. begun_in q k) (sym at) ∙ is)
 
-pub none_counted : (end : ℕ) (s : SessionState) (c : Counts) → length s.board.trail ≤ 32 → clock_of s.board.plain ≤ end → HasCounted [] c → ((clock : ℕ) → IsBefore clock c) → c.first ≡ clock_of s.board.plain → IsCounted end s s c
+pub none_counted : (end : ℕ) (s : SessionState) (c : Counts) → length s.board.trail ≤ 32 → clock_of s.board.plain ≤ end
+    → HasCounted [] c → ((clock : ℕ) → IsBefore clock c) → c.first ≡ clock_of s.board.plain → IsCounted end s s c
 none_counted end s c few within noted before from = record {
   passed = 0;
   ran = ran_none s.board few;
@@ -65,14 +67,15 @@ before_later clock later c less before = record {
 }
 
 -- what begins in a turn comes after what began before it
-pub begins_after : {edges : Bool} (end clock : ℕ) (s t u : SessionState) (c : Counts) (begun : Option Begun) → IsCounted end s t c → IsOneTurn edges end end t.board u.board begun → IfSome begun (λ b. IsBefore b.clock c)
+pub begins_after : {edges : Bool} (end clock : ℕ) (s t u : SessionState) (c : Counts) (begun : Option Begun)
+    → IsCounted end s t c → IsOneTurn edges end end t.board u.board begun → IfSome begun (λ b. IsBefore b.clock c)
 begins_after end clock s t u c begun counted turn = if_some begun turn.clock (λ b is. subst (λ n. IsBefore n c) (sym is) counted.before)
 
-pub more_counted : {edges : Bool} (end : ℕ) (s t u : SessionState) (c d : Counts) (begun : Option Begun) → IsCounted end s t c → IsOneTurn edges end end t.board u.board begun → u.stops ≡ t.stops → u.first ≡ t.first
-    → ((all : List Begun) → HasCounted all c → HasCounted (all ++ option_to_list begun) d)
+pub more_counted : {edges : Bool} (end : ℕ) (s t u : SessionState) (c d : Counts) (begun : Option Begun)
+    → IsCounted end s t c → IsOneTurn edges end end t.board u.board begun → u.stops ≡ t.stops
+    → u.first ≡ t.first → ((all : List Begun) → HasCounted all c → HasCounted (all ++ option_to_list begun) d)
     → ((clock : ℕ) → IfSome begun (λ b. b.clock < clock) → IsBefore clock c → IsBefore clock d)
-    → ((start : ℕ) → IfSome begun (λ b. start ≤ b.clock) → start ≤ c.first → start ≤ d.first)
-    → IsCounted end s u d
+    → ((start : ℕ) → IfSome begun (λ b. start ≤ b.clock) → start ≤ c.first → start ≤ d.first) → IsCounted end s u d
 more_counted end s t u c d begun counted turn stops first notes before starts =
     let n : ℕ = counted.passed in
     let k : ℕ = turn.passed in
@@ -86,14 +89,17 @@ more_counted end s t u c d begun counted turn stops first notes before starts =
       stops = stops ∙ counted.stops;
       first = first ∙ counted.first;
       within = omega (arith, clock, within);
-      noted = subst (λ xs. HasCounted xs d) (sym (begun_on n k s.board.plain t.board.plain (option_to_list begun) counted.ran.plain turn.begins)) (notes _ counted.noted);
-      before = before (clock_of u.board.plain) (if_some begun turn.clock (λ b is. omega (arith, is, clock, some))) (before_later (clock_of t.board.plain) (clock_of u.board.plain) c (omega (arith, clock)) counted.before);
+      noted = subst (λ xs. HasCounted xs d)
+          (sym (begun_on n k s.board.plain t.board.plain (option_to_list begun) counted.ran.plain turn.begins)) (notes _ counted.noted);
+      before = before (clock_of u.board.plain) (if_some begun turn.clock (λ b is. omega (arith, is, clock, some)))
+          (before_later (clock_of t.board.plain) (clock_of u.board.plain) c (omega (arith, clock)) counted.before);
       started = starts (clock_of s.board.plain) (if_some begun turn.clock (λ b is. omega (arith, is, so_far))) counted.started;
     }
 
 -- all clocks have passed
 
-pub all_counted : (end n : ℕ) (s t : SessionState) (c : Counts) → (counted : IsCounted end s t c) → end ≡ clock_of s.board.plain + n → end ≤ clock_of t.board.plain → counted.passed ≡ n
+pub all_counted : (end n : ℕ) (s t : SessionState) (c : Counts)
+    → (counted : IsCounted end s t c) → end ≡ clock_of s.board.plain + n → end ≤ clock_of t.board.plain → counted.passed ≡ n
 all_counted end n s t c counted is past =
     let clock = counted.ran.clock in
     let within = counted.within in omega (arith, clock, within, is, past)
@@ -103,7 +109,8 @@ few_passed end n s t c counted is =
     let clock = counted.ran.clock in
     let within = counted.within in omega (arith, clock, within, is)
 
-pub text_counted : (end n : ℕ) (s t : SessionState) (c : Counts) (text : List ℕ) → (counted : IsCounted end s t c) → end ≡ clock_of s.board.plain + n → end ≤ clock_of t.board.plain → text ≡ counts_of (begun_in s.board.plain counted.passed) (clock_of s.board.plain) end → text ≡ counts_text s.board.plain n
+pub text_counted : (end n : ℕ) (s t : SessionState) (c : Counts) (text : List ℕ) → (counted : IsCounted end s t c) → end ≡ clock_of s.board.plain + n
+    → end ≤ clock_of t.board.plain → text ≡ counts_of (begun_in s.board.plain counted.passed) (clock_of s.board.plain) end → text ≡ counts_text s.board.plain n
 unfolding counts_text
 text_counted end n s t c text counted is past told =
     told ∙ (λ i. counts_of (begun_in s.board.plain (all_counted end n s t c counted is past i)) (clock_of s.board.plain) (is i))

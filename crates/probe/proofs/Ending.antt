@@ -41,7 +41,8 @@ one_end stops n s (Some a) None is none = absurd (none_ends stops n s a none is)
 one_end stops n s (Some a) (Some b) first second = ap Some (same_end stops n s a b first second)
 
 -- a run from a clock up to which no stop was met
-pub ends_on : (stops : List Stop) (m n : ℕ) (s p : Plain) (end : Option End) → p ≡ after_clocks s m → clock_of p ≡ clock_of s + m → NoneMet stops m s → IsEndOf stops n p end → IsEndOf stops (m + n) s end
+pub ends_on : (stops : List Stop) (m n : ℕ) (s p : Plain) (end : Option End)
+    → p ≡ after_clocks s m → clock_of p ≡ clock_of s + m → NoneMet stops m s → IsEndOf stops n p end → IsEndOf stops (m + n) s end
 ends_on stops m n s p None is clock none ends = none_on stops m n s p is none ends
 ends_on stops m n s p (Some end) is clock none ends =
     let some = ends.after_start in
@@ -56,7 +57,8 @@ ends_on stops m n s p (Some end) is clock none ends =
     }
 
 -- a key that comes after a stop changes nothing of it
-pub end_waits : (stops : List Stop) (m n : ℕ) (s : Plain) (key : StampedKey) (end : End) → EndsAt stops m s end → m ≤ n → clock_of s + m < key.stamp → EndsAt stops n (with_key s key) end
+pub end_waits : (stops : List Stop) (m n : ℕ) (s : Plain) (key : StampedKey) (end : End)
+    → EndsAt stops m s end → m ≤ n → clock_of s + m < key.stamp → EndsAt stops n (with_key s key) end
 end_waits stops m n s key end is longer before =
     let some = is.after_start in
     let within = is.within in
@@ -69,7 +71,8 @@ end_waits stops m n s key end is longer before =
       clock = is.clock ∙ ap (λ c. c + is.passed) (sym (clock_same s key));
     }
 
-end_waited : (stops : List Stop) (n : ℕ) (s : Plain) (key : StampedKey) (end : End) → EndsAt stops n (with_key s key) end → clock_of s + n < key.stamp → EndsAt stops n s end
+end_waited : (stops : List Stop) (n : ℕ) (s : Plain) (key : StampedKey) (end : End)
+    → EndsAt stops n (with_key s key) end → clock_of s + n < key.stamp → EndsAt stops n s end
 end_waited stops n s key end is before =
     let some = is.after_start in
     let within = is.within in
@@ -82,17 +85,20 @@ end_waited stops n s key end is before =
       clock = is.clock ∙ ap (λ c. c + is.passed) (clock_same s key);
     }
 
-pub past_end : (stops : List Stop) (n : ℕ) (s : Plain) (key : StampedKey) (end : Option End) → clock_of s + n < key.stamp → IsEndOf stops n s end → IsEndOf stops n (with_key s key) end
+pub past_end : (stops : List Stop) (n : ℕ) (s : Plain) (key : StampedKey) (end : Option End)
+    → clock_of s + n < key.stamp → IsEndOf stops n s end → IsEndOf stops n (with_key s key) end
 past_end stops n s key None before none = none_waits stops n s key before none
 past_end stops n s key (Some end) before is = end_waits stops n n s key end is (omega arith) before
 
-pub past_end_back : (stops : List Stop) (n : ℕ) (s : Plain) (key : StampedKey) (end : Option End) → clock_of s + n < key.stamp → IsEndOf stops n (with_key s key) end → IsEndOf stops n s end
+pub past_end_back : (stops : List Stop) (n : ℕ) (s : Plain) (key : StampedKey) (end : Option End)
+    → clock_of s + n < key.stamp → IsEndOf stops n (with_key s key) end → IsEndOf stops n s end
 past_end_back stops n s key None before none = none_waited stops n s key before none
 past_end_back stops n s key (Some end) before is = end_waited stops n s key end is before
 
 -- a board that runs without the key up to before its stamp, gets it there and goes on, ends as one that had it from the
 -- start
-pub ends_with_key : (stops : List Stop) (m n : ℕ) (s p : Plain) (key : StampedKey) (end : Option End) → p ≡ after_clocks s m → clock_of p ≡ clock_of s + m → clock_of s + m < key.stamp → NoneMet stops m s → IsEndOf stops n (with_key p key) end → IsEndOf stops (m + n) (with_key s key) end
+pub ends_with_key : (stops : List Stop) (m n : ℕ) (s p : Plain) (key : StampedKey) (end : Option End) → p ≡ after_clocks s m → clock_of p ≡ clock_of s + m
+    → clock_of s + m < key.stamp → NoneMet stops m s → IsEndOf stops n (with_key p key) end → IsEndOf stops (m + n) (with_key s key) end
 ends_with_key stops m n s p key end is clock before none ends =
     ends_on stops m n (with_key s key) (with_key p key) end
     (ap (λ (q : Plain). with_key q key) is ∙ sym (key_waits m s key before))

@@ -77,7 +77,8 @@ or_false : (b : Bool) → (b || false) ≡ b
 or_false true = refl
 or_false false = refl
 
-begins_listed : (kinds : List Kind) (entries : List TrailEntry) (begun : Option Begun) → map begun_of entries ≡ option_to_list begun → list_any (is_listed kinds) (map Began entries) ≡ lists_entered kinds begun
+begins_listed : (kinds : List Kind) (entries : List TrailEntry) (begun : Option Begun) → map begun_of entries ≡ option_to_list begun
+    → list_any (is_listed kinds) (map Began entries) ≡ lists_entered kinds begun
 begins_listed kinds [] None is = refl
 begins_listed kinds [] (Some b) is = absurd (cc)
 begins_listed kinds (e ∷ es) None is = absurd (cc)
@@ -88,19 +89,22 @@ begins_listed kinds (e ∷ f ∷ es) (Some b) is = absurd (cc)
 
 -- accesses
 
-accesses_listed : (kinds : List Kind) (clock : ℕ) (accesses : List Access) → list_any (is_listed kinds) (map (Reached clock) accesses) ≡ lists_some kinds accesses
+accesses_listed : (kinds : List Kind) (clock : ℕ) (accesses : List Access)
+    → list_any (is_listed kinds) (map (Reached clock) accesses) ≡ lists_some kinds accesses
 accesses_listed kinds clock [] = refl
 accesses_listed kinds clock (a ∷ more) = ap (λ rest. list_any (λ kind. lists_access kind a) kinds || rest) (accesses_listed kinds clock more)
 
 -- a state
 
-unless_same : (b same : Bool) (kinds : List Kind) (event : Event) → is_listed kinds event ≡ b → list_any (is_listed kinds) (if same then [] else event ∷ []) ≡ (b && not same)
+unless_same : (b same : Bool) (kinds : List Kind) (event : Event) → is_listed kinds event ≡ b
+    → list_any (is_listed kinds) (if same then [] else event ∷ []) ≡ (b && not same)
 unless_same true true kinds event is = refl
 unless_same true false kinds event is = ap (λ l. l || false) is
 unless_same false true kinds event is = refl
 unless_same false false kinds event is = ap (λ l. l || false) is
 
-state_listed : (kinds : List Kind) (clock : ℕ) (before after : State) → list_any (is_listed kinds) (state_events clock before after) ≡ (list_any lists_states kinds && not (is_same_state before after))
+state_listed : (kinds : List Kind) (clock : ℕ) (before after : State)
+    → list_any (is_listed kinds) (state_events clock before after) ≡ (list_any lists_states kinds && not (is_same_state before after))
 state_listed kinds clock before after = unless_same (list_any lists_states kinds) (is_same_state before after) kinds (Became clock after) refl
 
 -- keys
@@ -124,13 +128,15 @@ twice false c = refl
 some_codes : (n : ℕ) → nat_eq (suc n) 0 ≡ false
 some_codes n = grind (arith, nat_tests)
 
-arrivals_listed : (kinds : List Kind) (clock : ℕ) (k : KeyboardState) (codes : List ℕ) → list_any (is_listed kinds) (arrival_events clock k codes) ≡ (list_any lists_keys kinds && not (nat_eq (length codes) 0))
+arrivals_listed : (kinds : List Kind) (clock : ℕ) (k : KeyboardState) (codes : List ℕ)
+    → list_any (is_listed kinds) (arrival_events clock k codes) ≡ (list_any lists_keys kinds && not (nat_eq (length codes) 0))
 arrivals_listed kinds clock k [] = sym (and_false (list_any lists_keys kinds))
 arrivals_listed kinds clock k (code ∷ codes) =
     let b : Bool = list_any lists_keys kinds in
     let rest : Bool = list_any (is_listed kinds) (arrival_events clock (keys.after_arrival k code) codes) in
     let so : rest ≡ (b && not (nat_eq (length codes) 0)) = arrivals_listed kinds clock (keys.after_arrival k code) codes in
-    once_more b rest (so ∙ twice b (not (nat_eq (length codes) 0)) ∙ ap (λ r. b && r) (sym so)) ∙ sym (and_true b) ∙ ap (λ r. b && not r) (sym (some_codes (length codes)))
+    once_more b rest (so ∙ twice b (not (nat_eq (length codes) 0)) ∙ ap (λ r. b && r) (sym so))
+    ∙ sym (and_true b) ∙ ap (λ r. b && not r) (sym (some_codes (length codes)))
 
 -- the first code that waits moves into the latch, or none does
 
@@ -140,10 +146,12 @@ same_size n = grind (arith, nat_tests)
 one_more_differs : (n : ℕ) → nat_eq (n + 1) n ≡ false
 one_more_differs n = grind (arith, nat_tests)
 
-latch_listed : (kinds : List Kind) (clock : ℕ) (waiting : List ℕ) → list_any (is_listed kinds) (latch_events clock (slice_get waiting 0)) ≡ (list_any lists_keys kinds && nat_eq (length (drop 1 waiting) + 1) (length waiting))
+latch_listed : (kinds : List Kind) (clock : ℕ) (waiting : List ℕ) → list_any (is_listed kinds) (latch_events clock (slice_get waiting 0))
+    ≡ (list_any lists_keys kinds && nat_eq (length (drop 1 waiting) + 1) (length waiting))
 latch_listed kinds clock [] = sym (and_false (list_any lists_keys kinds))
 latch_listed kinds clock (code ∷ codes) =
-    or_false (list_any lists_keys kinds) ∙ sym (and_true (list_any lists_keys kinds)) ∙ ap (λ r. list_any lists_keys kinds && r) (sym (same_size (length codes)))
+    or_false (list_any lists_keys kinds) ∙ sym (and_true (list_any lists_keys kinds))
+    ∙ ap (λ r. list_any lists_keys kinds && r) (sym (same_size (length codes)))
 
 none_listed : (kinds : List Kind) (n : ℕ) → false ≡ (list_any lists_keys kinds && nat_eq (n + 1) n)
 none_listed kinds n = sym (and_false (list_any lists_keys kinds)) ∙ ap (λ r. list_any lists_keys kinds && r) (sym (one_more_differs n))
@@ -153,19 +161,22 @@ settled k clears sending = if clears then after_clearing k else (if sending then
 
 moved_by : (kinds : List Kind) (clock : ℕ) (k : KeyboardState) (clears sending : Bool)
     → list_any (is_listed kinds) (latch_events clock (if clears then None else (if sending then slice_get k.waiting 0 else None)))
-    ≡ (list_any lists_keys kinds && nat_eq (length (if clears then after_clearing (settled k clears sending) else settled k clears sending).waiting + 1) (length k.waiting))
+    ≡ (list_any lists_keys kinds
+    && nat_eq (length (if clears then after_clearing (settled k clears sending) else settled k clears sending).waiting + 1) (length k.waiting))
 moved_by kinds clock k true sending = none_listed kinds (length k.waiting)
 moved_by kinds clock k false true = latch_listed kinds clock k.waiting
 moved_by kinds clock k false false = none_listed kinds (length k.waiting)
 
-settling_listed : (kinds : List Kind) (clock : ℕ) (c : ChipsState) → list_any (is_listed kinds) (settling_events clock c) ≡ (list_any lists_keys kinds && nat_eq (length (after_key_settling c).keyboard.waiting + 1) (length c.keyboard.waiting))
+settling_listed : (kinds : List Kind) (clock : ℕ) (c : ChipsState) → list_any (is_listed kinds) (settling_events clock c)
+    ≡ (list_any lists_keys kinds && nat_eq (length (after_key_settling c).keyboard.waiting + 1) (length c.keyboard.waiting))
 unfolding after_key_settling after_settling keys.after_settling
 settling_listed kinds clock c = moved_by kinds clock c.keyboard (has_bit (lines_b c.ppi) 7) (sends c.keyboard (lines_b c.ppi))
 
 -- if codes come, something happens to the keys; otherwise only if one fewer waits
 
 moves : (b : Bool) (codes : List ℕ) (c d : ChipsState) (n : ℕ) → (codes ≡ [] → length d.keyboard.waiting ≡ n)
-    → (b && not (nat_eq (length codes) 0) || (b && nat_eq (length (after_key_settling d).keyboard.waiting + 1) (length d.keyboard.waiting))) ≡ (b && (not (nat_eq (length codes) 0) || nat_eq (length (after_key_settling d).keyboard.waiting + 1) n))
+    → (b && not (nat_eq (length codes) 0) || (b && nat_eq (length (after_key_settling d).keyboard.waiting + 1) (length d.keyboard.waiting)))
+    ≡ (b && (not (nat_eq (length codes) 0) || nat_eq (length (after_key_settling d).keyboard.waiting + 1) n))
 moves true [] c d n same = ap (λ m. nat_eq (length (after_key_settling d).keyboard.waiting + 1) m) (same refl)
 moves true (code ∷ codes) c d n same =
     ap (λ r. not r || nat_eq (length (after_key_settling d).keyboard.waiting + 1) (length d.keyboard.waiting)) (some_codes (length codes))
@@ -186,14 +197,18 @@ keys_listed kinds s =
     list_any-append (is_listed kinds) (arrival_events clock (chips_reached s).keyboard codes) (settling_events clock arrived)
     ∙ (λ i. arrivals_listed kinds clock (chips_reached s).keyboard codes i || settling_listed kinds clock arrived i)
     ∙ moves b codes (chips_reached s) arrived (length s.chips.keyboard.waiting) (λ is. none_come s codes is)
-    ∙ ap (λ (c : ChipsState). b && (not (nat_eq (length codes) 0) || nat_eq (length c.keyboard.waiting + 1) (length s.chips.keyboard.waiting))) (sym (next_chips s))
+    ∙ ap (λ (c : ChipsState). b && (not (nat_eq (length codes) 0) || nat_eq (length c.keyboard.waiting + 1) (length s.chips.keyboard.waiting)))
+    (sym (next_chips s))
 
 -- wires
 
-wire_listed : (kinds : List Kind) (clock : ℕ) (s t : Plain) (wire : Wire) → list_any (is_listed kinds) (wire_event clock s t wire) ≡ (list_any lists_wires kinds && not (beq (level_of s wire) (level_of t wire)))
-wire_listed kinds clock s t wire = unless_same (list_any lists_wires kinds) (beq (level_of s wire) (level_of t wire)) kinds (Wired clock wire (level_of t wire)) refl
+wire_listed : (kinds : List Kind) (clock : ℕ) (s t : Plain) (wire : Wire)
+    → list_any (is_listed kinds) (wire_event clock s t wire) ≡ (list_any lists_wires kinds && not (beq (level_of s wire) (level_of t wire)))
+wire_listed kinds clock s t wire =
+    unless_same (list_any lists_wires kinds) (beq (level_of s wire) (level_of t wire)) kinds (Wired clock wire (level_of t wire)) refl
 
-six_differ : (b x y z u v w : Bool) → (b && not x || (b && not y || (b && not z || (b && not u || (b && not v || (b && not w || false)))))) ≡ (b && not (((((x && y) && z) && u) && v) && w))
+six_differ : (b x y z u v w : Bool)
+    → (b && not x || (b && not y || (b && not z || (b && not u || (b && not v || (b && not w || false)))))) ≡ (b && not (((((x && y) && z) && u) && v) && w))
 six_differ false x y z u v w = refl
 six_differ true false y z u v w = refl
 six_differ true true false z u v w = refl
@@ -203,7 +218,8 @@ six_differ true true true true true false w = refl
 six_differ true true true true true true true = refl
 six_differ true true true true true true false = refl
 
-wires_listed : (kinds : List Kind) (clock : ℕ) (s t : Plain) → list_any (is_listed kinds) (wire_events clock s t) ≡ (list_any lists_wires kinds && not (same_levels (levels_of s) (levels_of t)))
+wires_listed : (kinds : List Kind) (clock : ℕ) (s t : Plain)
+    → list_any (is_listed kinds) (wire_events clock s t) ≡ (list_any lists_wires kinds && not (same_levels (levels_of s) (levels_of t)))
 unfolding levels_of level_of
 wires_listed kinds clock s t =
     let b : Bool = list_any lists_wires kinds in
@@ -215,7 +231,8 @@ wires_listed kinds clock s t =
     ∙ ap (λ r. list_any p (e Ir0) || r) (list_any-append p (e Ir1) _
     ∙ ap (λ r. list_any p (e Ir1) || r) (list_any-append p (e Int) _
     ∙ ap (λ r. list_any p (e Int) || r) (list_any-append p (e Speaker) [])))))
-    ∙ (λ i. wire_listed kinds clock s t Out0 i || (wire_listed kinds clock s t Out2 i || (wire_listed kinds clock s t Ir0 i || (wire_listed kinds clock s t Ir1 i || (wire_listed kinds clock s t Int i || (wire_listed kinds clock s t Speaker i || false))))))
+    ∙ (λ i. wire_listed kinds clock s t Out0 i || (wire_listed kinds clock s t Out2 i || (wire_listed kinds clock s t Ir0 i
+    || (wire_listed kinds clock s t Ir1 i || (wire_listed kinds clock s t Int i || (wire_listed kinds clock s t Speaker i || false))))))
     ∙ six_differ b (same Out0) (same Out2) (same Ir0) (same Ir1) (same Int) (same Speaker)
 
 -- all of a clock
@@ -229,17 +246,20 @@ five true b c d e = refl
 five false true c d e = refl
 five false false c d e = refl
 
-asked_keys : (b asked : Bool) (s : Plain) (codes : List ℕ) (n : ℕ) → (IsTrue b → IsTrue asked) → (b && keys_moved (length s.chips.keyboard.waiting) codes n) ≡ (b && keys_moved (waiting_seen asked s) codes n)
+asked_keys : (b asked : Bool) (s : Plain) (codes : List ℕ) (n : ℕ) → (IsTrue b → IsTrue asked)
+    → (b && keys_moved (length s.chips.keyboard.waiting) codes n) ≡ (b && keys_moved (waiting_seen asked s) codes n)
 asked_keys true true s codes n so = refl
 asked_keys true false s codes n so = let never : false ≡ true = so refl in absurd (cc)
 asked_keys false asked s codes n so = refl
 
-asked_wires : (b asked : Bool) (s t : Plain) → (IsTrue b → IsTrue asked) → (b && not (same_levels (levels_of s) (levels_of t))) ≡ (b && wires_moved (levels_seen asked s) (levels_of t))
+asked_wires : (b asked : Bool) (s t : Plain) → (IsTrue b → IsTrue asked)
+    → (b && not (same_levels (levels_of s) (levels_of t))) ≡ (b && wires_moved (levels_seen asked s) (levels_of t))
 asked_wires true true s t so = refl
 asked_wires true false s t so = let never : false ≡ true = so refl in absurd (cc)
 asked_wires false asked s t so = refl
 
-pub happens_seen : (kinds : List Kind) (asked : Asked) (s : Plain) (begun : Option Begun) → map begun_of (trail_next s) ≡ option_to_list begun → (IsTrue (list_any lists_wires kinds) → IsTrue asked.wires) → (IsTrue (list_any lists_keys kinds) → IsTrue asked.keys)
+pub happens_seen : (kinds : List Kind) (asked : Asked) (s : Plain) (begun : Option Begun) → map begun_of (trail_next s) ≡ option_to_list begun
+    → (IsTrue (list_any lists_wires kinds) → IsTrue asked.wires) → (IsTrue (list_any lists_keys kinds) → IsTrue asked.keys)
     → happens kinds s ≡ happened kinds (seen_of asked s) begun (accesses_next s) (after_clock s)
 unfolding events_next unwired_next seen_of
 happens_seen kinds asked s begun begins wires keys =
@@ -263,7 +283,8 @@ happens_seen kinds asked s begun begins wires keys =
     ∙ five (lists_entered kinds begun) (lists_some kinds (accesses_next s)) (list_any lists_states kinds && not (is_same_state (state_of s) (state_of t)))
     (list_any lists_keys kinds && keys_moved (waiting_seen asked.keys s) (codes_next s) (length t.chips.keyboard.waiting))
     (list_any lists_wires kinds && wires_moved (levels_seen asked.wires s) (levels_of t))
-    ∙ ap (λ codes. (((lists_entered kinds begun || lists_some kinds (accesses_next s)) || (list_any lists_states kinds && not (is_same_state (state_of s) (state_of t))))
+    ∙ ap (λ codes.
+    (((lists_entered kinds begun || lists_some kinds (accesses_next s)) || (list_any lists_states kinds && not (is_same_state (state_of s) (state_of t))))
     || (list_any lists_keys kinds && keys_moved (waiting_seen asked.keys s) codes (length t.chips.keyboard.waiting)))
     || (list_any lists_wires kinds && wires_moved (levels_seen asked.wires s) (levels_of t))) (ap (λ keys. codes_at keys (clock + 1)) (sym (keys_stay s)))
 
@@ -301,7 +322,8 @@ same_wires_levels s t same = λ i. record {
   speaker = is_high (same.speaker i);
 }
 
-pub nothing_happens : (kinds : List Kind) (s : Plain) → unwired_next s ≡ [] → (IsTrue (list_any lists_wires kinds) → HaveSameWires s (after_clock s)) → happens kinds s ≡ false
+pub nothing_happens : (kinds : List Kind) (s : Plain) → unwired_next s ≡ []
+    → (IsTrue (list_any lists_wires kinds) → HaveSameWires s (after_clock s)) → happens kinds s ≡ false
 unfolding events_next
 nothing_happens kinds s none same =
     ap (λ (es : List Event). list_any (is_listed kinds) (es ++ wire_events (clock_of s + 1) s (after_clock s))) none

@@ -41,7 +41,8 @@ rate c =
     let count : ℕ = count_minus c.count_radix c.count 1 in
     let falls : CounterState = record c { count = count; out = (if count == 1 then Low else c.out) } in
     let n : CounterState = null_of c in
-    choose (c.count == 1) RateGenerator c (after_load c High) (after_load n High) falls (record falls { is_null = true }) (record { is = refl }) (record { is = refl })
+    choose (c.count == 1) RateGenerator c (after_load c High) (after_load n High) falls
+    (record falls { is_null = true }) (record { is = refl }) (record { is = refl })
 
 -- mode 3 loads at 1, at a fall to 0, and a tick after a 0 that is kept
 square : (c : CounterState) → Told SquareWave c (after_square_count c) (after_square_count (null_of c))
@@ -54,12 +55,14 @@ square c =
     choose (c.count == 1) SquareWave c (after_square_load c High) (after_square_load n High)
     (if ends then after_square_load c turned else falls) (if ends then after_square_load n turned else record falls { is_null = true })
     (record { is = refl })
-    (choose ends SquareWave c (after_square_load c turned) (after_square_load n turned) falls (record falls { is_null = true }) (record { is = refl }) (record { is = refl }))
+    (choose ends SquareWave c (after_square_load c turned) (after_square_load n turned) falls
+    (record falls { is_null = true }) (record { is = refl }) (record { is = refl }))
 
 count : (mode : Mode) (c : CounterState) → Told mode c (after_count c mode) (after_count (null_of c) mode)
 count TerminalCount c =
     let n : CounterState = null_of c in
-    choose (is_loaded c.progress && is_high c.gate && is_none c.first_byte) TerminalCount c (after_decrement c) (after_decrement n) c n (record { is = refl }) (record { is = refl })
+    choose (is_loaded c.progress && is_high c.gate && is_none c.first_byte) TerminalCount c
+    (after_decrement c) (after_decrement n) c n (record { is = refl }) (record { is = refl })
 count OneShot c =
     let n : CounterState = null_of c in
     choose (is_loaded c.progress) OneShot c (after_decrement c) (after_decrement n) c n (record { is = refl }) (record { is = refl })
@@ -71,10 +74,12 @@ count SquareWave c =
     choose (is_loaded c.progress && is_high c.gate) SquareWave c (after_square_count c) (after_square_count n) c n (square c) (record { is = refl })
 count SoftwareStrobe c =
     let n : CounterState = null_of c in
-    choose (is_loaded c.progress && is_high c.gate) SoftwareStrobe c (after_strobe_count c) (after_strobe_count n) (after_rest c) (after_rest n) (record { is = refl }) (record { is = refl })
+    choose (is_loaded c.progress && is_high c.gate) SoftwareStrobe c (after_strobe_count c)
+    (after_strobe_count n) (after_rest c) (after_rest n) (record { is = refl }) (record { is = refl })
 count HardwareStrobe c =
     let n : CounterState = null_of c in
-    choose (is_loaded c.progress) HardwareStrobe c (after_strobe_count c) (after_strobe_count n) (after_rest c) (after_rest n) (record { is = refl }) (record { is = refl })
+    choose (is_loaded c.progress) HardwareStrobe c (after_strobe_count c) (after_strobe_count n)
+    (after_rest c) (after_rest n) (record { is = refl }) (record { is = refl })
 
 tick : (c : CounterState) → Told c.mode c (after_tick c) (after_tick (null_of c))
 unfolding after_tick

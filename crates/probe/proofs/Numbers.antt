@@ -43,7 +43,8 @@ in_put : (q k : ℕ) (ks : List ℕ) → is_in q (insert_key nat_cmp ks k) ≡ (
 in_put q k [] = ap (λ b. b || false) (same_number q k)
 in_put q k (x ∷ ks) = by (nat_cmp k x) refl (in_put q k ks)
   where
-    by : (o : Ordering) → nat_cmp k x ≡ o → is_in q (insert_key nat_cmp ks k) ≡ ((q == k) || is_in q ks) → is_in q (match_ordering o (k ∷ x ∷ ks) (x ∷ ks) (x ∷ insert_key nat_cmp ks k)) ≡ ((q == k) || is_in q (x ∷ ks))
+    by : (o : Ordering) → nat_cmp k x ≡ o → is_in q (insert_key nat_cmp ks k) ≡ ((q == k) || is_in q ks)
+        → is_in q (match_ordering o (k ∷ x ∷ ks) (x ∷ ks) (x ∷ insert_key nat_cmp ks k)) ≡ ((q == k) || is_in q (x ∷ ks))
     by Less is rest = ap (λ b. b || is_in q (x ∷ ks)) (same_number q k)
     by Equal is rest =
         or_again (is_eq (nat_cmp q x)) (is_in q ks)
@@ -53,7 +54,9 @@ in_put q k (x ∷ ks) = by (nat_cmp k x) refl (in_put q k ks)
 -- a number is there if something with it began
 
 in_more : (q k c : ℕ) (here : Bool) → (k == q) ≡ here → ((q == k) || nat_lt 0 c) ≡ nat_lt 0 ((if here then 1 else 0) + c)
-in_more q k c true is = let turned : (q == k) ≡ true = grind (arith, nat_tests, is) in ap (λ b. b || nat_lt 0 c) turned ∙ (let some : nat_lt 0 (1 + c) ≡ true = grind (arith, nat_tests) in sym some)
+in_more q k c true is =
+    let turned : (q == k) ≡ true = grind (arith, nat_tests, is) in
+    ap (λ b. b || nat_lt 0 c) turned ∙ (let some : nat_lt 0 (1 + c) ≡ true = grind (arith, nat_tests) in sym some)
 in_more q k c false is = let turned : (q == k) ≡ false = grind (arith, nat_tests, is) in ap (λ b. b || nat_lt 0 c) turned ∙ ap (nat_lt 0) (omega arith)
 
 in_with : (o : Option ℕ) (q c : ℕ) (ks : List ℕ) → is_in q ks ≡ nat_lt 0 c → is_in q (with_number o ks) ≡ nat_lt 0 ((if is_number q o then 1 else 0) + c)
@@ -95,7 +98,8 @@ unfolding IsStrictlySortedBy
 put_rises k [] sorted = (tt, tt)
 put_rises k (x ∷ ks) sorted = by (nat_cmp k x) refl (put_rises k ks sorted.1)
   where
-    by : (o : Ordering) → nat_cmp k x ≡ o → IsStrictlySortedBy nat_cmp (insert_key nat_cmp ks k) → IsStrictlySortedBy nat_cmp (match_ordering o (k ∷ x ∷ ks) (x ∷ ks) (x ∷ insert_key nat_cmp ks k))
+    by : (o : Ordering) → nat_cmp k x ≡ o → IsStrictlySortedBy nat_cmp (insert_key nat_cmp ks k)
+        → IsStrictlySortedBy nat_cmp (match_ordering o (k ∷ x ∷ ks) (x ∷ ks) (x ∷ insert_key nat_cmp ks k))
     by Less is rest = ((is, above_less k x ks is sorted.0), sorted)
     by Equal is rest = sorted
     by Greater is rest = (above_put x k ks (less_turned k x is) sorted.0, rest)
@@ -122,13 +126,15 @@ lookup_with : (f : ℕ → Tally) (q : ℕ) (ks : List ℕ) → lookup (is_at (n
 lookup_with f q [] = refl
 lookup_with f q (k ∷ ks) = by (is_at (nat_cmp q) k) refl (lookup_with f q ks)
   where
-    by : (here : Bool) → is_at (nat_cmp q) k ≡ here → lookup (is_at (nat_cmp q)) (map (with_tally f) ks) ≡ (if is_in q ks then Some (f q) else None) → cond here (Some (f k)) (lookup (is_at (nat_cmp q)) (map (with_tally f) ks)) ≡ (if here || is_in q ks then Some (f q) else None)
+    by : (here : Bool) → is_at (nat_cmp q) k ≡ here → lookup (is_at (nat_cmp q)) (map (with_tally f) ks) ≡ (if is_in q ks then Some (f q) else None)
+        → cond here (Some (f k)) (lookup (is_at (nat_cmp q)) (map (with_tally f) ks)) ≡ (if here || is_in q ks then Some (f q) else None)
     by true is rest = let same : k ≡ q = grind (arith, nat_tests, is) in ap (λ n. Some (f n)) same
     by false is rest = rest
 
 some_tally : (count clocks : ℕ) → (if nat_lt 0 count then Some (record { count = count; clocks = clocks }) else None) ≡ tally_of count clocks
 some_tally zero clocks = refl
-some_tally (suc n) clocks = let some : nat_lt 0 (suc n) ≡ true = grind (arith, nat_tests) in ap (λ b. if b then Some (record { count = suc n; clocks = clocks }) else None) some
+some_tally (suc n) clocks =
+    let some : nat_lt 0 (suc n) ≡ true = grind (arith, nat_tests) in ap (λ b. if b then Some (record { count = suc n; clocks = clocks }) else None) some
 
 abbrev tally_with : (Begun → Option ℕ) → List Begun → ℕ → ℕ → Tally
 tally_with number bs end k = record { count = count_by (has number k) bs; clocks = clocks_from (has number k) bs end }
@@ -139,7 +145,8 @@ none_at : (q : ℕ) (es : List (ℕ × Tally)) → AreAbove q (keys_of es) → l
 none_at q [] above = refl
 none_at q (e ∷ es) above = ap (λ o. cond (is_eq o) (Some e.1) (lookup (is_at (nat_cmp q)) es)) above.0 ∙ none_at q es above.1
 
-none_before : (q : ℕ) (e : ℕ × Tally) (es : List (ℕ × Tally)) → IsStrictlySortedBy nat_cmp (keys_of (e ∷ es)) → nat_cmp q e.0 ≡ Less → lookup (is_at (nat_cmp q)) (e ∷ es) ≡ None
+none_before : (q : ℕ) (e : ℕ × Tally) (es : List (ℕ × Tally)) → IsStrictlySortedBy nat_cmp (keys_of (e ∷ es)) → nat_cmp q e.0 ≡ Less
+    → lookup (is_at (nat_cmp q)) (e ∷ es) ≡ None
 unfolding IsStrictlySortedBy
 none_before q e es sorted less = none_at q (e ∷ es) (less, above_less q e.0 (keys_of es) less sorted.0)
 
@@ -152,7 +159,9 @@ never x is = cc
 abbrev HaveSame : List (ℕ × Tally) → List (ℕ × Tally) → Type 0
 HaveSame xs ys = (q : ℕ) → lookup (is_at (nat_cmp q)) xs ≡ lookup (is_at (nat_cmp q)) ys
 
-same_rest : (q : ℕ) (x y : ℕ × Tally) (xs ys : List (ℕ × Tally)) (here : Bool) → is_at (nat_cmp q) x.0 ≡ here → x.0 ≡ y.0 → AreAbove x.0 (keys_of xs) → AreAbove y.0 (keys_of ys) → lookup (is_at (nat_cmp q)) (x ∷ xs) ≡ lookup (is_at (nat_cmp q)) (y ∷ ys) → lookup (is_at (nat_cmp q)) xs ≡ lookup (is_at (nat_cmp q)) ys
+same_rest : (q : ℕ) (x y : ℕ × Tally) (xs ys : List (ℕ × Tally)) (here : Bool) → is_at (nat_cmp q) x.0 ≡ here → x.0 ≡ y.0
+    → AreAbove x.0 (keys_of xs) → AreAbove y.0 (keys_of ys) → lookup (is_at (nat_cmp q)) (x ∷ xs) ≡ lookup (is_at (nat_cmp q)) (y ∷ ys)
+    → lookup (is_at (nat_cmp q)) xs ≡ lookup (is_at (nat_cmp q)) ys
 same_rest q x y xs ys true is one first second same =
     let at : x.0 ≡ q = grind (arith, nat_tests, is) in
     none_at q xs (subst (λ n. AreAbove n (keys_of xs)) at first) ∙ sym (none_at q ys (subst (λ n. AreAbove n (keys_of ys)) (sym one ∙ at) second))
@@ -176,7 +185,8 @@ same_entries (x ∷ xs) (y ∷ ys) first second same = by (nat_cmp x.0 y.0) refl
         let told : x.1 ≡ y.1 = cc in
         (λ k. (one k, told k) ∷ rest (λ q. same_rest q x y xs ys (is_at (nat_cmp q) x.0) refl one first.0 second.0 (same q)) k)
 
-entries_are : (number : Begun → Option ℕ) (bs : List Begun) (end : ℕ) (m : BTreeMap ℕ Tally) → AreTallies number bs end m → IsOrdered nat_cmp m → m.entries ≡ map (with_tally (tally_with number bs end)) (numbers_of number bs)
+entries_are : (number : Begun → Option ℕ) (bs : List Begun) (end : ℕ) (m : BTreeMap ℕ Tally) → AreTallies number bs end m → IsOrdered nat_cmp m
+    → m.entries ≡ map (with_tally (tally_with number bs end)) (numbers_of number bs)
 entries_are number bs end m all ordered =
     let f : ℕ → Tally = tally_with number bs end in
     let ks : List ℕ = numbers_of number bs in
@@ -186,7 +196,8 @@ entries_are number bs end m all ordered =
     ∙ ap (λ b. if b then Some (f q) else None) (sym (in_numbers number bs q)) ∙ sym (lookup_with f q ks))
 
 -- a line for each
-pub lines_are : (kind : Kind) (number : Begun → Option ℕ) (bs : List Begun) (end : ℕ) (m : BTreeMap ℕ Tally) → AreTallies number bs end m → IsOrdered nat_cmp m → flat_map (tally_line kind) m.entries ≡ lines_of (name_of kind) number bs end
+pub lines_are : (kind : Kind) (number : Begun → Option ℕ) (bs : List Begun) (end : ℕ) (m : BTreeMap ℕ Tally)
+    → AreTallies number bs end m → IsOrdered nat_cmp m → flat_map (tally_line kind) m.entries ≡ lines_of (name_of kind) number bs end
 lines_are kind number bs end m all ordered =
     ap (flat_map (tally_line kind)) (entries_are number bs end m all ordered)
     ∙ flat_map-map (tally_line kind) (with_tally (tally_with number bs end)) (numbers_of number bs)

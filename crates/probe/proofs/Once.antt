@@ -36,7 +36,8 @@ not_counted n = omega arith
 count_one : (stamp : ℕ) (m : Moments) (ms : List Moments) → count_by (stands_in stamp) (m ∷ ms) ≡ counted (stands_in stamp m) (count_by (stands_in stamp) ms)
 count_one stamp m ms = sum_by-cons (λ (m : Moments). cond (stands_in stamp m) 1 0) m ms
 
-none_before : (stops : List Stop) (s : Plain) (trial : Trial) (first last : ℕ) (ranges : List Moments) (stamp : ℕ) → AreRanges stops s trial first last ranges → stamp < first → count_by (stands_in stamp) ranges ≡ 0
+none_before : (stops : List Stop) (s : Plain) (trial : Trial) (first last : ℕ) (ranges : List Moments) (stamp : ℕ)
+    → AreRanges stops s trial first last ranges → stamp < first → count_by (stands_in stamp) ranges ≡ 0
 none_before stops s trial first last [] stamp are before = refl
 none_before stops s trial first last (m ∷ ms) stamp are before =
     let begins = are.0 in
@@ -71,7 +72,8 @@ among_number (Some ends) None is = absurd is
 among_number (Some ends) (Some end) is = ap Some (sym is.0)
 
 -- ranges that share a clock have one stop
-same_number : (stops : List Stop) (s : Plain) (trial : Trial) (m n : Moments) (stamp : ℕ) → AreAlike stops s trial m → AreAlike stops s trial n → m.first ≤ stamp → stamp ≤ m.last → n.first ≤ stamp → stamp ≤ n.last → stop_number m ≡ stop_number n
+same_number : (stops : List Stop) (s : Plain) (trial : Trial) (m n : Moments) (stamp : ℕ)
+    → AreAlike stops s trial m → AreAlike stops s trial n → m.first ≤ stamp → stamp ≤ m.last → n.first ≤ stamp → stamp ≤ n.last → stop_number m ≡ stop_number n
 same_number stops s trial m n stamp first second mf ml nf nl =
     let one = first.each stamp mf ml in
     let other = second.each stamp nf nl in
@@ -80,7 +82,8 @@ same_number stops s trial m n stamp first second mf ml nf nl =
     ∙ sym (among_number n.ends other.0 other.1.1)
 
 -- of two ranges that begin at one clock, neither goes on after the other
-not_longer : (stops : List Stop) (s : Plain) (trial : Trial) (first last : ℕ) (m n : Moments) (ms ns : List Moments) → AreRanges stops s trial first last (m ∷ ms) → AreRanges stops s trial first last (n ∷ ns) → m.last < n.last → ⊥
+not_longer : (stops : List Stop) (s : Plain) (trial : Trial) (first last : ℕ) (m n : Moments) (ms ns : List Moments)
+    → AreRanges stops s trial first last (m ∷ ms) → AreRanges stops s trial first last (n ∷ ns) → m.last < n.last → ⊥
 not_longer stops s trial first last m n [] ns are others less = let end = are.1.1.1.1 in let within = others.1.0 in absurd (omega (arith, end, within, less))
 not_longer stops s trial first last m n (o ∷ ms) ns are others less =
     let rest = are.1.1.1.1 in
@@ -91,34 +94,45 @@ not_longer stops s trial first last m n (o ∷ ms) ns are others less =
     let n_rising = others.1.1.0.rising in
     let o_rising = rest.1.1.0.rising in
     are.1.1.1.0 (
-    same_number stops s trial o n (m.last + 1) rest.1.1.0 others.1.1.0 (omega (arith, o_first)) (omega (arith, o_first, o_rising)) (omega (arith, n_first, m_first, m_rising)) (omega (arith, less))
-    ∙ sym (same_number stops s trial m n first are.1.1.0 others.1.1.0 (omega (arith, m_first)) (omega (arith, m_first, m_rising)) (omega (arith, n_first)) (omega (arith, n_first, n_rising)))
+    same_number stops s trial o n (m.last + 1) rest.1.1.0 others.1.1.0 (omega (arith, o_first))
+    (omega (arith, o_first, o_rising)) (omega (arith, n_first, m_first, m_rising)) (omega (arith, less))
+    ∙ sym (same_number stops s trial m n first are.1.1.0 others.1.1.0 (omega (arith, m_first))
+    (omega (arith, m_first, m_rising)) (omega (arith, n_first)) (omega (arith, n_first, n_rising)))
     )
 
 -- a clock in one range is between the first and last clock of the other
 
-reached_within : (stops : List Stop) (s : Plain) (trial : Trial) (m n : Moments) (number clock : ℕ) (f : Ends) → m.first ≡ n.first → m.last ≡ n.last → n.ends ≡ Some f → AreAlike stops s trial n → IsReached stops s trial m number clock → (f.least ≤ clock) × (clock ≤ f.greatest)
+reached_within : (stops : List Stop) (s : Plain) (trial : Trial) (m n : Moments) (number clock : ℕ) (f : Ends) → m.first ≡ n.first
+    → m.last ≡ n.last → n.ends ≡ Some f → AreAlike stops s trial n → IsReached stops s trial m number clock → (f.least ≤ clock) × (clock ≤ f.greatest)
 reached_within stops s trial m n number clock f first last is alike reached =
     let from = reached.from in
     let to = reached.to in
     let one = alike.each reached.stamp (omega (arith, first, from)) (omega (arith, last, to)) in
-    let same = one_end stops trial.count (with_key s (key_tried trial reached.stamp)) one.0 (Some (record { number = number; clock = clock })) one.1.0 reached.ends in
-    let among : IsAmong (Some f) (Some (record { number = number; clock = clock })) = subst (IsAmong (Some f)) same (subst (λ (o : Option Ends). IsAmong o one.0) is one.1.1) in
+    let same =
+    one_end stops trial.count (with_key s (key_tried trial reached.stamp)) one.0 (Some (record { number = number; clock = clock })) one.1.0 reached.ends in
+    let among : IsAmong (Some f) (Some (record { number = number; clock = clock })) =
+    subst (IsAmong (Some f)) same (subst (λ (o : Option Ends). IsAmong o one.0) is one.1.1) in
     among.1
 
 same_ends_parts : (e f : Ends) → e.number ≡ f.number → e.least ≡ f.least → e.greatest ≡ f.greatest → e ≡ f
 same_ends_parts e f number least greatest = λ i. record { number = number i; least = least i; greatest = greatest i }
 
-same_ends : (stops : List Stop) (s : Plain) (trial : Trial) (m n : Moments) (e f : Option Ends) → m.ends ≡ e → n.ends ≡ f → m.first ≡ n.first → m.last ≡ n.last → AreAlike stops s trial m → AreAlike stops s trial n → option_map (λ (e : Ends). e.number) e ≡ option_map (λ (e : Ends). e.number) f → e ≡ f
+same_ends : (stops : List Stop) (s : Plain) (trial : Trial) (m n : Moments) (e f : Option Ends)
+    → m.ends ≡ e → n.ends ≡ f → m.first ≡ n.first → m.last ≡ n.last → AreAlike stops s trial m
+    → AreAlike stops s trial n → option_map (λ (e : Ends). e.number) e ≡ option_map (λ (e : Ends). e.number) f → e ≡ f
 same_ends stops s trial m n None None is is' first last alike other number = refl
 same_ends stops s trial m n None (Some f) is is' first last alike other number = absurd (cc)
 same_ends stops s trial m n (Some e) None is is' first last alike other number = absurd (cc)
 same_ends stops s trial m n (Some e) (Some f) is is' first last alike other number =
     let there : e.number ≡ f.number = cc in
-    let e_least : IsReached stops s trial m e.number e.least = subst (λ (o : Option Ends). IfSome o (λ (x : Ends). IsReached stops s trial m x.number x.least)) is alike.least in
-    let e_greatest : IsReached stops s trial m e.number e.greatest = subst (λ (o : Option Ends). IfSome o (λ (x : Ends). IsReached stops s trial m x.number x.greatest)) is alike.greatest in
-    let f_least : IsReached stops s trial n f.number f.least = subst (λ (o : Option Ends). IfSome o (λ (x : Ends). IsReached stops s trial n x.number x.least)) is' other.least in
-    let f_greatest : IsReached stops s trial n f.number f.greatest = subst (λ (o : Option Ends). IfSome o (λ (x : Ends). IsReached stops s trial n x.number x.greatest)) is' other.greatest in
+    let e_least : IsReached stops s trial m e.number e.least =
+    subst (λ (o : Option Ends). IfSome o (λ (x : Ends). IsReached stops s trial m x.number x.least)) is alike.least in
+    let e_greatest : IsReached stops s trial m e.number e.greatest =
+    subst (λ (o : Option Ends). IfSome o (λ (x : Ends). IsReached stops s trial m x.number x.greatest)) is alike.greatest in
+    let f_least : IsReached stops s trial n f.number f.least =
+    subst (λ (o : Option Ends). IfSome o (λ (x : Ends). IsReached stops s trial n x.number x.least)) is' other.least in
+    let f_greatest : IsReached stops s trial n f.number f.greatest =
+    subst (λ (o : Option Ends). IfSome o (λ (x : Ends). IsReached stops s trial n x.number x.greatest)) is' other.greatest in
     let a = (reached_within stops s trial m n e.number e.least f first last is' other e_least).0 in
     let b = (reached_within stops s trial n m f.number f.least e (sym first) (sym last) is alike f_least).0 in
     let c = (reached_within stops s trial m n e.number e.greatest f first last is' other e_greatest).1 in
@@ -143,7 +157,8 @@ one_list stops s trial first last (m ∷ ms) (n ∷ ns) are others =
     let n_rising = others.1.1.0.rising in
     let m_first = are.0 in
     let m_rising = are.1.1.0.rising in
-    let number = same_number stops s trial n m first others.1.1.0 are.1.1.0 (omega (arith, n_first)) (omega (arith, n_first, n_rising)) (omega (arith, m_first)) (omega (arith, m_first, m_rising)) in
+    let number = same_number stops s trial n m first others.1.1.0 are.1.1.0 (omega (arith, n_first))
+    (omega (arith, n_first, n_rising)) (omega (arith, m_first)) (omega (arith, m_first, m_rising)) in
     let ends = same_ends stops s trial n m n.ends m.ends refl refl begins_there ends_there others.1.1.0 are.1.1.0 number in
     let rest = one_list stops s trial (m.last + 1) last ms ns are.1.1.1.1 (subst (λ k. AreRanges stops s trial (k + 1) last ns) ends_there others.1.1.1.1) in
     λ i. same_moments n m begins_there ends_there ends i ∷ rest i

@@ -83,7 +83,8 @@ refuses_back_to sought s t (Memory None) is = unchanged s t is.1
 refuses_back_to sought s t (Memory (Some clock)) is = absurd is
 refuses_back_to sought s t BeforeStart is = unchanged s t is.1
 
-commanded : (command : Option Command) (s t : SessionState) (result : Result Answer DebugFault) → request_by command ≡ None → AnswersLine command s result t → same s t
+commanded : (command : Option Command) (s t : SessionState) (result : Result Answer DebugFault)
+    → request_by command ≡ None → AnswersLine command s result t → same s t
 commanded None s t result none is = unchanged s t is.1
 commanded (Some (commands.Break cs ip)) s t result none is = absurd (cc)
 commanded (Some (commands.Byte address byte)) s t result none is = absurd (cc)
@@ -107,11 +108,13 @@ no_request (Some trial) stop command none = absurd (cc)
 no_request None (Some stop) command none = absurd (cc)
 no_request None None command none = none
 
-answered : (inquiry : Option Inquiry) (line : List ℕ) (s t : SessionState) (result : Result Answer DebugFault) → request_by (command_of line) ≡ None → AnswersOr inquiry line s result t → same s t
+answered : (inquiry : Option Inquiry) (line : List ℕ) (s t : SessionState) (result : Result Answer DebugFault)
+    → request_by (command_of line) ≡ None → AnswersOr inquiry line s result t → same s t
 answered None line s t result none is = commanded (command_of line) s t result none is
 answered (Some inquiry) line s t result none is = inquires inquiry s t result is
 
-pub stops_stay : (line : List ℕ) (s t : SessionState) (result : Result Answer DebugFault) → request_of line ≡ None → AnswersProbe line s result t → t.stops ≡ s.stops
+pub stops_stay : (line : List ℕ) (s t : SessionState) (result : Result Answer DebugFault)
+    → request_of line ≡ None → AnswersProbe line s result t → t.stops ≡ s.stops
 stops_stay line s t result none is = answered (inquiry_of line) line s t result (no_request (trial_of line) (stop_of line) (command_of line) none) is
 
 -- what the session does by itself for a probe leaves its stops
@@ -120,7 +123,8 @@ pub goes_keep : (n : ℕ) (s t : SessionState) (result : Result Answer DebugFaul
 goes_keep n s t (Ok answer) is = is.stops
 goes_keep n s t (Err fault) is = is.1
 
-pub back_to_keep : (sought : List Condition) (tell : ℕ → ℕ → Answer) (s t : SessionState) (result : Result Answer DebugFault) → MatchResult result (GoesBackTo sought tell s t) (RefusesBackTo sought s t) → t.stops ≡ s.stops
+pub back_to_keep : (sought : List Condition) (tell : ℕ → ℕ → Answer) (s t : SessionState) (result : Result Answer DebugFault)
+    → MatchResult result (GoesBackTo sought tell s t) (RefusesBackTo sought s t) → t.stops ≡ s.stops
 back_to_keep sought tell s t (Ok answer) is = is.stops
 back_to_keep sought tell s t (Err fault) is = refuses_back_to sought s t fault is
 
@@ -129,9 +133,15 @@ back_keep n s t (Ok answer) is = is.stops
 back_keep n s t (Err fault) is = refuses_back n s t fault is
 
 -- a line that has nothing to do with stops is answered for the probe as for its session
-pub passes_on : (line : List ℕ) (old new : SessionState) (stops : List Stop) (result : Result Answer DebugFault) → request_of line ≡ None → old.stops ≡ conditions_of stops → AnswersProbe line old result new
-    → AnswersUnless None line (record { first = old.first; board = old.board; stops = stops }) result (record { first = new.first; board = new.board; stops = stops })
+pub passes_on : (line : List ℕ) (old new : SessionState) (stops : List Stop) (result : Result Answer DebugFault)
+    → request_of line ≡ None → old.stops ≡ conditions_of stops → AnswersProbe line old result new
+    → AnswersUnless None line (record { first = old.first; board = old.board; stops = stops }) result
+    (record { first = new.first; board = new.board; stops = stops })
 passes_on line old new stops result none is answers =
     let old_is : old ≡ record old { stops = conditions_of stops } = ap (λ (xs : List Condition). record old { stops = xs }) is in
-    let new_is : new ≡ record new { stops = conditions_of stops } = ap (λ (xs : List Condition). record new { stops = xs }) (stops_stay line old new result none answers ∙ is) in
-    (subst (λ (s : SessionState). AnswersProbe line s result (record new { stops = conditions_of stops })) old_is (subst (AnswersProbe line old result) new_is answers), refl)
+    let new_is : new ≡ record new { stops = conditions_of stops } =
+    ap (λ (xs : List Condition). record new { stops = xs }) (stops_stay line old new result none answers ∙ is) in (
+      subst (λ (s : SessionState). AnswersProbe line s result (record new { stops = conditions_of stops })) old_is
+          (subst (AnswersProbe line old result) new_is answers),
+      refl,
+    )

@@ -4,14 +4,16 @@ use Rattle.std.specs.Prelude.{◌||◌}
 use Rattle.std.specs.List.{list_any, position_from}
 use Rattle.std.proofs.lemmas.Bool.{cases_lt}
 
-pub there_first : {K : Type 0} (t : K → Bool) (i n : ℕ) (xs : List K) (e : K) → n < length xs → ((k : ℕ) (d : K) → k < n → t (get_or xs k d) ≡ false) → t (get_or xs n e) ≡ true → position_from t i xs ≡ Some (i + n)
+pub there_first : {K : Type 0} (t : K → Bool) (i n : ℕ) (xs : List K) (e : K)
+    → n < length xs → ((k : ℕ) (d : K) → k < n → t (get_or xs k d) ≡ false) → t (get_or xs n e) ≡ true → position_from t i xs ≡ Some (i + n)
 there_first t i n [] e within none here = absurd (omega (arith, within))
 there_first t i zero (x ∷ xs) e within none here = ap (λ (b : Bool). cond b (Some i) (position_from t (i + 1) xs)) here ∙ ap Some (omega arith)
 there_first t i (suc n) (x ∷ xs) e within none here =
     ap (λ (b : Bool). cond b (Some i) (position_from t (i + 1) xs)) (none 0 x (omega arith))
     ∙ there_first t (i + 1) n xs e (omega (arith, within)) (λ k d h. none (suc k) d (omega (arith, h))) here ∙ ap Some (omega arith)
 
-pub none_before : {K : Type 0} (t : K → Bool) (i : ℕ) (xs : List K) → ((k : ℕ) (d : K) → k < length xs → t (get_or xs k d) ≡ false) → position_from t i xs ≡ None
+pub none_before : {K : Type 0} (t : K → Bool) (i : ℕ) (xs : List K)
+    → ((k : ℕ) (d : K) → k < length xs → t (get_or xs k d) ≡ false) → position_from t i xs ≡ None
 none_before t i [] none = refl
 none_before t i (x ∷ xs) none =
     ap (λ (b : Bool). cond b (Some i) (position_from t (i + 1) xs)) (none 0 x (omega arith))
@@ -22,7 +24,8 @@ same_there n [] d e within = absurd (omega (arith, within))
 same_there zero (x ∷ xs) d e within = refl
 same_there (suc n) (x ∷ xs) d e within = same_there n xs d e (omega (arith, within))
 
-pub below_also : {K : Type 0} (t : K → Bool) (n : ℕ) (xs : List K) (e : K) → n < length xs → ((k : ℕ) (d : K) → k < n → t (get_or xs k d) ≡ false) → t (get_or xs n e) ≡ false → (k : ℕ) (d : K) → k < n + 1 → t (get_or xs k d) ≡ false
+pub below_also : {K : Type 0} (t : K → Bool) (n : ℕ) (xs : List K) (e : K) → n < length xs
+    → ((k : ℕ) (d : K) → k < n → t (get_or xs k d) ≡ false) → t (get_or xs n e) ≡ false → (k : ℕ) (d : K) → k < n + 1 → t (get_or xs k d) ≡ false
 below_also t n xs e size before here k d within =
     elim (cases_lt k n) [
       | inl sooner ↦ before k d sooner

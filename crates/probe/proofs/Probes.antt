@@ -45,13 +45,15 @@ all_standing (Changes address count ∷ stops) all = let never : false ≡ true 
 abbrev pub probe_of : SessionState → List Stop → ProbeState
 probe_of session stops = record { first = session.first; board = session.board; stops = stops }
 
-pub ends_of : (stops : List Stop) (n : ℕ) (s : Plain) (end : Option End) → stops ≡ map Standing (conditions_of stops) → IsStopOf (conditions_of stops) n s end → IsEndOf stops n s end
+pub ends_of : (stops : List Stop) (n : ℕ) (s : Plain) (end : Option End)
+    → stops ≡ map Standing (conditions_of stops) → IsStopOf (conditions_of stops) n s end → IsEndOf stops n s end
 ends_of stops n s end are is = subst (λ xs. IsEndOf xs n s end) (sym are) (here (conditions_of stops) n s end is)
 
 none_of : (stops : List Stop) (n : ℕ) (s : Plain) → stops ≡ map Standing (conditions_of stops) → NoStop (conditions_of stops) n s → NoneMet stops n s
 none_of stops n s are is = subst (λ xs. NoneMet xs n s) (sym are) (none_here (conditions_of stops) n s is)
 
-goes_on : (n : ℕ) (old new : SessionState) (stops : List Stop) (answer : Answer) → stops ≡ map Standing (conditions_of stops) → old.stops ≡ conditions_of stops → Goes n old new answer → GoesOn n (probe_of old stops) (probe_of new stops) answer
+goes_on : (n : ℕ) (old new : SessionState) (stops : List Stop) (answer : Answer) → stops ≡ map Standing (conditions_of stops)
+    → old.stops ≡ conditions_of stops → Goes n old new answer → GoesOn n (probe_of old stops) (probe_of new stops) answer
 goes_on n old new stops answer are is goes = record {
   stopped = goes.stopped;
   within = goes.runs.within;
@@ -62,11 +64,13 @@ goes_on n old new stops answer are is goes = record {
   answer_is = goes.answer_is;
 }
 
-stops_short : (n clock : ℕ) (old new : SessionState) (stops : List Stop) → stops ≡ map Standing (conditions_of stops) → old.stops ≡ conditions_of stops → FindsNoMemory old.stops n old.board new.board clock → new.first ≡ old.first → StopsShort n (probe_of old stops) (probe_of new stops) clock
+stops_short : (n clock : ℕ) (old new : SessionState) (stops : List Stop) → stops ≡ map Standing (conditions_of stops) → old.stops ≡ conditions_of stops
+    → FindsNoMemory old.stops n old.board new.board clock → new.first ≡ old.first → StopsShort n (probe_of old stops) (probe_of new stops) clock
 stops_short n clock old new stops are is finds first = record {
   within = finds.within;
   early = finds.early;
-  none_passed = none_of stops (clock_of new.board.plain - clock_of old.board.plain) old.board.plain are (subst (λ xs. NoStop xs (clock_of new.board.plain - clock_of old.board.plain) old.board.plain) is finds.none_passed);
+  none_passed = none_of stops (clock_of new.board.plain - clock_of old.board.plain) old.board.plain are
+      (subst (λ xs. NoStop xs (clock_of new.board.plain - clock_of old.board.plain) old.board.plain) is finds.none_passed);
   stops = refl;
   first = first;
   clock_is = finds.clock_is;
@@ -75,7 +79,8 @@ stops_short n clock old new stops are is finds first = record {
 same_probe : (old new : SessionState) (stops : List Stop) → new ≡ old → probe_of new stops ≡ probe_of old stops
 same_probe old new stops same = ap (λ (s : SessionState). probe_of s stops) same
 
-refuses_going : (n : ℕ) (old new : SessionState) (stops : List Stop) (fault : DebugFault) → stops ≡ map Standing (conditions_of stops) → old.stops ≡ conditions_of stops → RefusesGo n old new fault → RefusesGoing n (probe_of old stops) (probe_of new stops) fault
+refuses_going : (n : ℕ) (old new : SessionState) (stops : List Stop) (fault : DebugFault) → stops ≡ map Standing (conditions_of stops)
+    → old.stops ≡ conditions_of stops → RefusesGo n old new fault → RefusesGoing n (probe_of old stops) (probe_of new stops) fault
 refuses_going n old new stops ClockLimit are is refuses = (refuses.0.0, λ i. record { first = refuses.2 i; board = refuses.0.1 i; stops = stops })
 refuses_going n old new stops BadScan are is refuses = absurd refuses.0
 refuses_going n old new stops StampsFall are is refuses = absurd refuses.0
@@ -85,20 +90,24 @@ refuses_going n old new stops (Memory None) are is refuses = absurd refuses.0
 refuses_going n old new stops (Memory (Some clock)) are is refuses = stops_short n clock old new stops are is refuses.0 refuses.2
 refuses_going n old new stops BeforeStart are is refuses = absurd refuses.0
 
-pub goes_standing : (n : ℕ) (old new : SessionState) (stops : List Stop) (result : Result Answer DebugFault) → list_all is_standing stops ≡ true → old.stops ≡ conditions_of stops → MatchResult result (Goes n old new) (RefusesGo n old new)
+pub goes_standing : (n : ℕ) (old new : SessionState) (stops : List Stop) (result : Result Answer DebugFault)
+    → list_all is_standing stops ≡ true → old.stops ≡ conditions_of stops → MatchResult result (Goes n old new) (RefusesGo n old new)
     → MatchResult result (GoesOn n (probe_of old stops) (probe_of new stops)) (RefusesGoing n (probe_of old stops) (probe_of new stops))
 goes_standing n old new stops (Ok answer) all is goes = goes_on n old new stops answer (all_standing stops all) is goes
 goes_standing n old new stops (Err fault) all is refuses = refuses_going n old new stops fault (all_standing stops all) is refuses
 
 -- a way back
 
-met_of : (stops : List Stop) (j : ℕ) (s : Plain) → stops ≡ map Standing (conditions_of stops) → met_from stops s j ≡ holding (conditions_of stops) (after_clocks s j)
+met_of : (stops : List Stop) (j : ℕ) (s : Plain) → stops ≡ map Standing (conditions_of stops)
+    → met_from stops s j ≡ holding (conditions_of stops) (after_clocks s j)
 met_of stops j s are = ap (λ xs. met_from xs s j) are ∙ met_alike (conditions_of stops) j s
 
-held_of : (stops : List Stop) (conditions : List Condition) (j : ℕ) (s : Plain) → stops ≡ map Standing (conditions_of stops) → conditions ≡ conditions_of stops → met_from stops s j ≡ holding conditions (after_clocks s j)
+held_of : (stops : List Stop) (conditions : List Condition) (j : ℕ) (s : Plain)
+    → stops ≡ map Standing (conditions_of stops) → conditions ≡ conditions_of stops → met_from stops s j ≡ holding conditions (after_clocks s j)
 held_of stops conditions j s are is = met_of stops j s are ∙ ap (λ xs. holding xs (after_clocks s j)) (sym is)
 
-goes_back : (old new : SessionState) (stops : List Stop) (answer : Answer) → stops ≡ map Standing (conditions_of stops) → old.stops ≡ conditions_of stops → GoesBackTo old.stops answers.StopAt old new answer → GoesBackToStop (probe_of old stops) (probe_of new stops) answer
+goes_back : (old new : SessionState) (stops : List Stop) (answer : Answer) → stops ≡ map Standing (conditions_of stops)
+    → old.stops ≡ conditions_of stops → GoesBackTo old.stops answers.StopAt old new answer → GoesBackToStop (probe_of old stops) (probe_of new stops) answer
 goes_back old new stops answer are is goes = record {
   number = goes.number;
   last = record {
@@ -114,15 +123,19 @@ goes_back old new stops answer are is goes = record {
   answer_is = goes.answer_is;
 }
 
-refuses_back : (old new : SessionState) (stops : List Stop) (fault : DebugFault) → stops ≡ map Standing (conditions_of stops) → old.stops ≡ conditions_of stops → length (conditions_of stops) ≤ length stops → RefusesBackTo old.stops old new fault → RefusesBackToStop (probe_of old stops) (probe_of new stops) fault
+refuses_back : (old new : SessionState) (stops : List Stop) (fault : DebugFault) → stops ≡ map Standing (conditions_of stops)
+    → old.stops ≡ conditions_of stops → length (conditions_of stops) ≤ length stops → RefusesBackTo old.stops old new fault
+    → RefusesBackToStop (probe_of old stops) (probe_of new stops) fault
 refuses_back old new stops ClockLimit are is few refuses = absurd refuses
 refuses_back old new stops BadScan are is few refuses = absurd refuses
 refuses_back old new stops StampsFall are is few refuses = absurd refuses
 refuses_back old new stops BadCommand are is few refuses = absurd refuses
 refuses_back old new stops TooManyStops are is few refuses = absurd refuses
-refuses_back old new stops (Memory None) are is few refuses = (let some = refuses.0 in omega (arith, some, few, ap length is), same_probe old new stops refuses.1)
+refuses_back old new stops (Memory None) are is few refuses =
+    (let some = refuses.0 in omega (arith, some, few, ap length is), same_probe old new stops refuses.1)
 refuses_back old new stops (Memory (Some clock)) are is few refuses = absurd refuses
-refuses_back old new stops BeforeStart are is few refuses = (λ j within. held_of stops old.stops j old.first.plain are is ∙ refuses.0 j within, same_probe old new stops refuses.1)
+refuses_back old new stops BeforeStart are is few refuses =
+    (λ j within. held_of stops old.stops j old.first.plain are is ∙ refuses.0 j within, same_probe old new stops refuses.1)
 
 pub fewer : (stops : List Stop) → length (conditions_of stops) ≤ length stops
 fewer [] = omega arith
@@ -130,15 +143,17 @@ fewer (Standing condition ∷ stops) = let few = fewer stops in omega (arith, fe
 fewer (When kinds ∷ stops) = let few = fewer stops in omega (arith, few)
 fewer (Changes address count ∷ stops) = let few = fewer stops in omega (arith, few)
 
-pub goes_back_standing : (old new : SessionState) (stops : List Stop) (result : Result Answer DebugFault) → list_all is_standing stops ≡ true → old.stops ≡ conditions_of stops → MatchResult result (GoesBackTo old.stops answers.StopAt old new) (RefusesBackTo old.stops old new)
+pub goes_back_standing : (old new : SessionState) (stops : List Stop) (result : Result Answer DebugFault) → list_all is_standing stops ≡ true
+    → old.stops ≡ conditions_of stops → MatchResult result (GoesBackTo old.stops answers.StopAt old new) (RefusesBackTo old.stops old new)
     → MatchResult result (GoesBackToStop (probe_of old stops) (probe_of new stops)) (RefusesBackToStop (probe_of old stops) (probe_of new stops))
 goes_back_standing old new stops (Ok answer) all is goes = goes_back old new stops answer (all_standing stops all) is goes
 goes_back_standing old new stops (Err fault) all is refuses = refuses_back old new stops fault (all_standing stops all) is (fewer stops) refuses
 
 -- a run by the probe's own search
 
-pub goes_to_stop : (n end number : ℕ) (old new : SessionState) (stops : List Stop) (answer : Answer) → clock_of old.board.plain + n ≤ 2 ^ 40 → end ≡ clock_of old.board.plain + n → RanToStop stops end old new (Some number) → answer ≡ answers.StopAt number (clock_of new.board.plain)
-    → GoesOn n (probe_of old stops) (probe_of new stops) answer
+pub goes_to_stop : (n end number : ℕ) (old new : SessionState) (stops : List Stop) (answer : Answer)
+    → clock_of old.board.plain + n ≤ 2 ^ 40 → end ≡ clock_of old.board.plain + n → RanToStop stops end old new (Some number)
+    → answer ≡ answers.StopAt number (clock_of new.board.plain) → GoesOn n (probe_of old stops) (probe_of new stops) answer
 goes_to_stop n end number old new stops answer within at ran is =
     let clock = ran.ran.clock in
     let most = ran.within in
@@ -161,8 +176,9 @@ goes_to_stop n end number old new stops answer within at ran is =
       answer_is = is;
     }
 
-pub goes_to_end : (n end : ℕ) (old new : SessionState) (stops : List Stop) (answer : Answer) → clock_of old.board.plain + n ≤ 2 ^ 40 → end ≡ clock_of old.board.plain + n → RanToStop stops end old new None → answer ≡ answers.Clock (clock_of new.board.plain)
-    → GoesOn n (probe_of old stops) (probe_of new stops) answer
+pub goes_to_end : (n end : ℕ) (old new : SessionState) (stops : List Stop) (answer : Answer)
+    → clock_of old.board.plain + n ≤ 2 ^ 40 → end ≡ clock_of old.board.plain + n → RanToStop stops end old new None
+    → answer ≡ answers.Clock (clock_of new.board.plain) → GoesOn n (probe_of old stops) (probe_of new stops) answer
 goes_to_end n end old new stops answer within at ran is =
     let whole : ran.passed ≡ n = let ended = ran.ended.0 in omega (arith, ended, at) in
     record {
@@ -175,7 +191,8 @@ goes_to_end n end old new stops answer within at ran is =
       answer_is = is;
     }
 
-pub goes_short : (n end : ℕ) (old new : SessionState) (stops : List Stop) (fault : DebugFault) → clock_of old.board.plain + n ≤ 2 ^ 40 → end ≡ clock_of old.board.plain + n → ShortOfMemory stops end old new fault → RefusesGoing n (probe_of old stops) (probe_of new stops) fault
+pub goes_short : (n end : ℕ) (old new : SessionState) (stops : List Stop) (fault : DebugFault) → clock_of old.board.plain + n ≤ 2 ^ 40
+    → end ≡ clock_of old.board.plain + n → ShortOfMemory stops end old new fault → RefusesGoing n (probe_of old stops) (probe_of new stops) fault
 goes_short n end old new stops ClockLimit within at short = absurd short
 goes_short n end old new stops BadScan within at short = absurd short
 goes_short n end old new stops StampsFall within at short = absurd short
@@ -203,8 +220,9 @@ goes_short n end old new stops BeforeStart within at short = absurd short
 
 -- a way back to what was found
 
-pub goes_back_found : (count clock number : ℕ) (old new : SessionState) (stops : List Stop) (answer told : Answer) → MetLast stops (gone_by (probe_of old stops)) old.first.plain clock number → count ≡ clock_of old.board.plain - clock → GoesBack count old new told
-    → answer ≡ answers.StopAt number clock → GoesBackToStop (probe_of old stops) (probe_of new stops) answer
+pub goes_back_found : (count clock number : ℕ) (old new : SessionState) (stops : List Stop) (answer told : Answer)
+    → MetLast stops (gone_by (probe_of old stops)) old.first.plain clock number → count ≡ clock_of old.board.plain - clock
+    → GoesBack count old new told → answer ≡ answers.StopAt number clock → GoesBackToStop (probe_of old stops) (probe_of new stops) answer
 goes_back_found count clock number old new stops answer told last is goes tells =
     let within = last.within in
     let place = last.clock_is in
@@ -227,8 +245,9 @@ goes_back_found count clock number old new stops answer told last is goes tells 
       answer_is = tells ∙ ap (answers.StopAt number) here;
     }
 
-pub refuses_back_found : (count clock number : ℕ) (old new : SessionState) (stops : List Stop) (fault : DebugFault) → 1 ≤ length stops → MetLast stops (gone_by (probe_of old stops)) old.first.plain clock number → count ≡ clock_of old.board.plain - clock → RefusesBack count old new fault
-    → RefusesBackToStop (probe_of old stops) (probe_of new stops) fault
+pub refuses_back_found : (count clock number : ℕ) (old new : SessionState) (stops : List Stop) (fault : DebugFault)
+    → 1 ≤ length stops → MetLast stops (gone_by (probe_of old stops)) old.first.plain clock number → count ≡ clock_of old.board.plain - clock
+    → RefusesBack count old new fault → RefusesBackToStop (probe_of old stops) (probe_of new stops) fault
 refuses_back_found count clock number old new stops ClockLimit some last is refuses = absurd refuses
 refuses_back_found count clock number old new stops BadScan some last is refuses = absurd refuses
 refuses_back_found count clock number old new stops StampsFall some last is refuses = absurd refuses
@@ -241,16 +260,21 @@ refuses_back_found count clock number old new stops BeforeStart some last is ref
     let within = last.within in
     let place = last.clock_is in absurd (omega (arith, before, is, within, place))
 
-pub goes_back_by : (p : ProbeState) (count clock number : ℕ) (old new : SessionState) (stops : List Stop) (back : Result Answer DebugFault) → probe_of old stops ≡ p → MetLast p.stops (gone_by p) p.first.plain clock number → 1 ≤ length p.stops → count ≡ clock_of old.board.plain - clock
-    → MatchResult back (GoesBack count old new) (RefusesBack count old new) → MatchResult (with_number back clock number) (GoesBackToStop p (probe_of new stops)) (RefusesBackToStop p (probe_of new stops))
+pub goes_back_by : (p : ProbeState) (count clock number : ℕ) (old new : SessionState) (stops : List Stop) (back : Result Answer DebugFault)
+    → probe_of old stops ≡ p → MetLast p.stops (gone_by p) p.first.plain clock number → 1 ≤ length p.stops
+    → count ≡ clock_of old.board.plain - clock → MatchResult back (GoesBack count old new) (RefusesBack count old new)
+    → MatchResult (with_number back clock number) (GoesBackToStop p (probe_of new stops)) (RefusesBackToStop p (probe_of new stops))
 goes_back_by p count clock number old new stops (Ok told) view last some is goes =
     subst (λ (q : ProbeState). GoesBackToStop q (probe_of new stops) (answers.StopAt number clock)) view
-    (goes_back_found count clock number old new stops (answers.StopAt number clock) told (subst (λ (q : ProbeState). MetLast q.stops (gone_by q) q.first.plain clock number) (sym view) last) is goes refl)
+    (goes_back_found count clock number old new stops (answers.StopAt number clock) told
+    (subst (λ (q : ProbeState). MetLast q.stops (gone_by q) q.first.plain clock number) (sym view) last) is goes refl)
 goes_back_by p count clock number old new stops (Err fault) view last some is refuses =
     subst (λ (q : ProbeState). RefusesBackToStop q (probe_of new stops) fault) view
-    (refuses_back_found count clock number old new stops fault (subst (λ (q : ProbeState). 1 ≤ length q.stops) (sym view) some) (subst (λ (q : ProbeState). MetLast q.stops (gone_by q) q.first.plain clock number) (sym view) last) is refuses)
+    (refuses_back_found count clock number old new stops fault (subst (λ (q : ProbeState). 1 ≤ length q.stops) (sym view) some)
+    (subst (λ (q : ProbeState). MetLast q.stops (gone_by q) q.first.plain clock number) (sym view) last) is refuses)
 
-pub finds_no_stop : (old : SessionState) (stops : List Stop) (fault : DebugFault) → 1 ≤ length stops → FindsNoStop stops (gone_by (probe_of old stops)) old.first.plain fault → RefusesBackToStop (probe_of old stops) (probe_of old stops) fault
+pub finds_no_stop : (old : SessionState) (stops : List Stop) (fault : DebugFault) → 1 ≤ length stops
+    → FindsNoStop stops (gone_by (probe_of old stops)) old.first.plain fault → RefusesBackToStop (probe_of old stops) (probe_of old stops) fault
 finds_no_stop old stops ClockLimit some finds = absurd finds
 finds_no_stop old stops BadScan some finds = absurd finds
 finds_no_stop old stops StampsFall some finds = absurd finds
@@ -285,7 +309,8 @@ unstanding (Changes address count) none = refl
 all_stops : (watches : List Watched) (w : Watched) → stops_of (watches ++ w ∷ []) ≡ stops_of watches ++ w.stop ∷ []
 all_stops watches w = map-append (λ (x : Watched). x.stop) watches (w ∷ [])
 
-pub probe_more : (session next : SessionState) (watches : List Watched) (w : Watched) → IsProbe session watches → IsWatched w → next ≡ record session { stops = session.stops ++ conditions_of (w.stop ∷ []) } → IsProbe next (watches ++ w ∷ [])
+pub probe_more : (session next : SessionState) (watches : List Watched) (w : Watched)
+    → IsProbe session watches → IsWatched w → next ≡ record session { stops = session.stops ++ conditions_of (w.stop ∷ []) } → IsProbe next (watches ++ w ∷ [])
 probe_more session next watches w is watched more = record {
   conditions =
       ap (λ (s : SessionState). s.stops) more
@@ -295,8 +320,9 @@ probe_more session next watches w is watched more = record {
   watched = All-push IsWatched watches w is.watched watched;
 }
 
-pub adds_stop : (session next : SessionState) (watches : List Watched) (w : Watched) (stop : Stop) (answer : Answer) → next ≡ record session { stops = session.stops ++ conditions_of (w.stop ∷ []) } → w.stop ≡ stop → length watches < 16 → answer ≡ answers.Stop (length watches + 1)
-    → AddsStop stop (probe_of session (stops_of watches)) (probe_of next (stops_of (watches ++ w ∷ []))) answer
+pub adds_stop : (session next : SessionState) (watches : List Watched) (w : Watched) (stop : Stop) (answer : Answer)
+    → next ≡ record session { stops = session.stops ++ conditions_of (w.stop ∷ []) } → w.stop ≡ stop → length watches < 16
+    → answer ≡ answers.Stop (length watches + 1) → AddsStop stop (probe_of session (stops_of watches)) (probe_of next (stops_of (watches ++ w ∷ []))) answer
 adds_stop session next watches w stop answer more is few tells =
     let size : length (stops_of watches) ≡ length watches = length-map watches (λ (x : Watched). x.stop) in record {
       room = omega (arith, few, size);
@@ -308,7 +334,8 @@ adds_stop session next watches w stop answer more is few tells =
 
 -- a session that takes a stop's condition
 
-pub condition_added : (condition : Condition) (old new : SessionState) (result : Result Answer DebugFault) → length old.stops < 16 → AnswersStop condition old result new → new ≡ record old { stops = old.stops ++ condition ∷ [] }
+pub condition_added : (condition : Condition) (old new : SessionState) (result : Result Answer DebugFault)
+    → length old.stops < 16 → AnswersStop condition old result new → new ≡ record old { stops = old.stops ++ condition ∷ [] }
 condition_added condition old new (Ok answer) few is = λ i. record { first = is.first i; board = is.board i; stops = is.stops i }
 condition_added condition old new (Err fault) few is =
     let full = is.full in absurd (omega (arith, few, full))
@@ -318,9 +345,12 @@ none_added old = ap (λ (xs : List Condition). record old { stops = xs }) (sym (
 
 -- a run's end
 
-pub goes_found : (n end : ℕ) (old new : SessionState) (stops : List Stop) (found : Option ℕ) → clock_of old.board.plain + n ≤ 2 ^ 40 → end ≡ clock_of old.board.plain + n → RanToStop stops end old new found → GoesOn n (probe_of old stops) (probe_of new stops) (answer_at found (clock_of new.board.plain))
+pub goes_found : (n end : ℕ) (old new : SessionState) (stops : List Stop) (found : Option ℕ)
+    → clock_of old.board.plain + n ≤ 2 ^ 40 → end ≡ clock_of old.board.plain + n → RanToStop stops end old new found
+    → GoesOn n (probe_of old stops) (probe_of new stops) (answer_at found (clock_of new.board.plain))
 goes_found n end old new stops None within at ran = goes_to_end n end old new stops (answers.Clock (clock_of new.board.plain)) within at ran refl
-goes_found n end old new stops (Some number) within at ran = goes_to_stop n end number old new stops (answers.StopAt number (clock_of new.board.plain)) within at ran refl
+goes_found n end old new stops (Some number) within at ran =
+    goes_to_stop n end number old new stops (answers.StopAt number (clock_of new.board.plain)) within at ran refl
 
 ran_keeps : (stops : List Stop) (end : ℕ) (old new : SessionState) (found : Option ℕ) → RanToStop stops end old new found → new.stops ≡ old.stops
 ran_keeps stops end old new found ran = ran.kept
@@ -335,7 +365,8 @@ short_keeps stops end old new (Memory None) short = absurd short
 short_keeps stops end old new (Memory (Some clock)) short = short.kept
 short_keeps stops end old new BeforeStart short = absurd short
 
-pub run_keeps : (stops : List Stop) (end : ℕ) (old new : SessionState) (result : Result (Option ℕ) DebugFault) → MatchResult result (RanToStop stops end old new) (ShortOfMemory stops end old new) → new.stops ≡ old.stops
+pub run_keeps : (stops : List Stop) (end : ℕ) (old new : SessionState) (result : Result (Option ℕ) DebugFault)
+    → MatchResult result (RanToStop stops end old new) (ShortOfMemory stops end old new) → new.stops ≡ old.stops
 run_keeps stops end old new (Ok found) is = ran_keeps stops end old new found is
 run_keeps stops end old new (Err fault) is = short_keeps stops end old new fault is
 
@@ -346,7 +377,8 @@ probe_on old new watches more is same keeps = record {
   watched = keeps.watched;
 }
 
-pub same_stops : (session : SessionState) (watches more : List Watched) → KeepsStops watches more → probe_of session (stops_of more) ≡ probe_of session (stops_of watches)
+pub same_stops : (session : SessionState) (watches more : List Watched) → KeepsStops watches more
+    → probe_of session (stops_of more) ≡ probe_of session (stops_of watches)
 same_stops session watches more keeps = ap (probe_of session) keeps.stops
 
 -- stops whose copies were made anew in their places
@@ -355,7 +387,8 @@ with_more : (v : ArrayVec Watched) (now more : List Watched) → now ≡ v.items
 with_more v now more at keeps =
     items-with_items v more (sym (length-map more (λ (w : Watched). w.stop)) ∙ ap length keeps.stops ∙ length-map now (λ (w : Watched). w.stop) ∙ ap length at)
 
-pub probe_with : (old new : SessionState) (v : ArrayVec Watched) (now more : List Watched) → now ≡ v.items → IsProbe old v.items → new.stops ≡ old.stops → KeepsStops now more → IsProbe new (with_items v more).items
+pub probe_with : (old new : SessionState) (v : ArrayVec Watched) (now more : List Watched)
+    → now ≡ v.items → IsProbe old v.items → new.stops ≡ old.stops → KeepsStops now more → IsProbe new (with_items v more).items
 probe_with old new v now more at is same keeps =
     subst (IsProbe new) (sym (with_more v now more at keeps)) (probe_on old new v.items more is same (subst (λ xs. KeepsStops xs more) at keeps))
 
@@ -364,16 +397,19 @@ stops_with v now more at keeps = ap stops_of (with_more v now more at keeps) ∙
 
 -- what a run answers of a probe like this
 
-pub goes_with : (p : ProbeState) (n end : ℕ) (old new : SessionState) (v : ArrayVec Watched) (now more : List Watched) (found : Option ℕ) (answer : Answer) → probe_of old (stops_of v.items) ≡ p → now ≡ v.items → KeepsStops now more → clock_of old.board.plain + n ≤ 2 ^ 40 → end ≡ clock_of old.board.plain + n → RanToStop (stops_of now) end old new found
-    → answer ≡ answer_at found (clock_of new.board.plain) → GoesOn n p (probe_of new (stops_of (with_items v more).items)) answer
+pub goes_with : (p : ProbeState) (n end : ℕ) (old new : SessionState) (v : ArrayVec Watched) (now more : List Watched) (found : Option ℕ) (answer : Answer)
+    → probe_of old (stops_of v.items) ≡ p → now ≡ v.items → KeepsStops now more → clock_of old.board.plain + n ≤ 2 ^ 40
+    → end ≡ clock_of old.board.plain + n → RanToStop (stops_of now) end old new found → answer ≡ answer_at found (clock_of new.board.plain)
+    → GoesOn n p (probe_of new (stops_of (with_items v more).items)) answer
 goes_with p n end old new v now more found answer view at keeps within is ran tells =
     subst (λ (q : ProbeState). GoesOn n q (probe_of new (stops_of (with_items v more).items)) answer) view
     (subst (λ stops. GoesOn n (probe_of old (stops_of v.items)) (probe_of new stops) answer) (sym (stops_with v now more at keeps))
     (subst (GoesOn n (probe_of old (stops_of v.items)) (probe_of new (stops_of v.items))) (sym tells)
     (goes_found n end old new (stops_of v.items) found within is (subst (λ xs. RanToStop (stops_of xs) end old new found) at ran))))
 
-pub short_with : (p : ProbeState) (n end : ℕ) (old new : SessionState) (v : ArrayVec Watched) (now more : List Watched) (fault : DebugFault) → probe_of old (stops_of v.items) ≡ p → now ≡ v.items → KeepsStops now more → clock_of old.board.plain + n ≤ 2 ^ 40 → end ≡ clock_of old.board.plain + n → ShortOfMemory (stops_of now) end old new fault
-    → RefusesGoing n p (probe_of new (stops_of (with_items v more).items)) fault
+pub short_with : (p : ProbeState) (n end : ℕ) (old new : SessionState) (v : ArrayVec Watched) (now more : List Watched) (fault : DebugFault)
+    → probe_of old (stops_of v.items) ≡ p → now ≡ v.items → KeepsStops now more → clock_of old.board.plain + n ≤ 2 ^ 40 → end ≡ clock_of old.board.plain + n
+    → ShortOfMemory (stops_of now) end old new fault → RefusesGoing n p (probe_of new (stops_of (with_items v more).items)) fault
 short_with p n end old new v now more fault view at keeps within is short =
     subst (λ (q : ProbeState). RefusesGoing n q (probe_of new (stops_of (with_items v more).items)) fault) view
     (subst (λ stops. RefusesGoing n (probe_of old (stops_of v.items)) (probe_of new stops) fault) (sym (stops_with v now more at keeps))

@@ -36,6 +36,7 @@ type_lines = refl
 abbrev low : Levels
 low = record { out_0 = false; out_2 = false; ir_0 = false; ir_1 = false; int = false; speaker = false }
 
-raised : changes_between 96 low (record low { out_0 = true; int = true }) ≡ change_line (codes "OUT0") 96 false true ++ (change_line (codes "INT") 96 false true ++ [])
+raised : changes_between 96 low (record low { out_0 = true; int = true })
+    ≡ change_line (codes "OUT0") 96 false true ++ (change_line (codes "INT") 96 false true ++ [])
 unfolding changes_between
 raised = refl

@@ -37,11 +37,13 @@ use Rattle.probe.specs.Signals.{signal_line, signals_text}
 
 -- the lines of a clock's events are its wires' changes
 
-one_line : (clock : ℕ) (wire : Wire) (after same : Bool) → flat_map signal_line (if same then [] else Wired clock wire after ∷ []) ≡ (if same then [] else signal_line (Wired clock wire after))
+one_line : (clock : ℕ) (wire : Wire) (after same : Bool)
+    → flat_map signal_line (if same then [] else Wired clock wire after ∷ []) ≡ (if same then [] else signal_line (Wired clock wire after))
 one_line clock wire after true = refl
 one_line clock wire after false = append-nil (signal_line (Wired clock wire after))
 
-by_wire : (clock : ℕ) (s t : Plain) (some : List Wire) → flat_map signal_line (flat_map (wire_event clock s t) some) ≡ flat_map (λ wire. flat_map signal_line (wire_event clock s t wire)) some
+by_wire : (clock : ℕ) (s t : Plain) (some : List Wire)
+    → flat_map signal_line (flat_map (wire_event clock s t) some) ≡ flat_map (λ wire. flat_map signal_line (wire_event clock s t wire)) some
 by_wire clock s t [] = refl
 by_wire clock s t (w ∷ ws) =
     flat_map-append signal_line (wire_event clock s t w) (flat_map (wire_event clock s t) ws)
@@ -50,10 +52,12 @@ by_wire clock s t (w ∷ ws) =
 wires_signalled : (clock : ℕ) (s t : Plain) → flat_map signal_line (wire_events clock s t) ≡ changes_between clock (levels_of s) (levels_of t)
 unfolding changes_between levels_of level_of
 wires_signalled clock s t =
-    let line : (wire : Wire) → flat_map signal_line (wire_event clock s t wire) ≡ (if beq (level_of s wire) (level_of t wire) then [] else signal_line (Wired clock wire (level_of t wire))) =
+    let line : (wire : Wire) → flat_map signal_line (wire_event clock s t wire)
+    ≡ (if beq (level_of s wire) (level_of t wire) then [] else signal_line (Wired clock wire (level_of t wire))) =
     λ wire. one_line clock wire (level_of t wire) (beq (level_of s wire) (level_of t wire)) in
     by_wire clock s t all_wires
-    ∙ (λ i. line Out0 i ++ (line Out2 i ++ (line Ir0 i ++ (line Ir1 i ++ (line Int i ++ (append-nil (flat_map signal_line (wire_event clock s t Speaker)) ∙ line Speaker) i)))))
+    ∙ (λ i. line Out0 i
+    ++ (line Out2 i ++ (line Ir0 i ++ (line Ir1 i ++ (line Int i ++ (append-nil (flat_map signal_line (wire_event clock s t Speaker)) ∙ line Speaker) i)))))
 
 -- none of the other events of a clock has a line
 
@@ -95,7 +99,8 @@ unwired s =
     ∙ flat_map-append signal_line reached (became ++ keyed)
     ∙ ap (λ xs. xs ++ flat_map signal_line (became ++ keyed)) (none_reached (clock_of s) (accesses_next s))
     ∙ flat_map-append signal_line became keyed
-    ∙ (λ i. no_state (clock_of s) (state_of (after_clock s)) (is_same_state (state_of s) (state_of (after_clock s))) i ++ no_keys (clock_of s + 1) (chips_reached s) (codes_next s) i)
+    ∙ (λ i. no_state (clock_of s) (state_of (after_clock s)) (is_same_state (state_of s) (state_of (after_clock s))) i
+    ++ no_keys (clock_of s + 1) (chips_reached s) (codes_next s) i)
 
 clock_signalled : (s : Plain) → flat_map signal_line (events_next s) ≡ changes_next s
 unfolding events_next
@@ -138,7 +143,8 @@ no_changes clock l = λ i.
 nothing_told : (s : Plain) → levels_of (after_clock s) ≡ levels_of s → changes_next s ≡ []
 nothing_told s same = ap (changes_between (clock_of s + 1) (levels_of s)) same ∙ no_changes (clock_of s + 1) (levels_of s)
 
-none_told : (n : ℕ) (s : Plain) → ((i : ℕ) → i < n → levels_of (after_clock (after_clocks s i)) ≡ levels_of (after_clocks s i)) → gathered after_clock changes_next n s ≡ []
+none_told : (n : ℕ) (s : Plain) → ((i : ℕ) → i < n → levels_of (after_clock (after_clocks s i)) ≡ levels_of (after_clocks s i))
+    → gathered after_clock changes_next n s ≡ []
 none_told zero s same = gathered_zero after_clock changes_next s
 none_told (suc n) s same =
     let more : suc n ≡ n + 1 = omega arith in
@@ -157,12 +163,15 @@ first_told s =
     ∙ ap changes_next (iterate_zero after_clock s)
 
 -- a turn's changes
-turn_told : (k : ℕ) (s : Plain) → 1 ≤ k → ((j : ℕ) → 1 ≤ j → j ≤ k → HaveSameWires (after_clock s) (after_clocks s j)) → gathered after_clock changes_next k s ≡ changes_between (clock_of s + 1) (levels_of s) (levels_of (after_clocks s k))
+turn_told : (k : ℕ) (s : Plain) → 1 ≤ k → ((j : ℕ) → 1 ≤ j → j ≤ k → HaveSameWires (after_clock s) (after_clocks s j))
+    → gathered after_clock changes_next k s ≡ changes_between (clock_of s + 1) (levels_of s) (levels_of (after_clocks s k))
 turn_told k s some wires =
     let whole : k ≡ 1 + (k - 1) = omega (arith, some) in
-    let level : (j : ℕ) → 1 ≤ j → j ≤ k → levels_of (after_clocks s j) ≡ levels_of (after_clock s) = λ j first last. same_levels (after_clock s) (after_clocks s j) (wires j first last) in
+    let level : (j : ℕ) → 1 ≤ j → j ≤ k → levels_of (after_clocks s j) ≡ levels_of (after_clock s) = λ j first last.
+    same_levels (after_clock s) (after_clocks s j) (wires j first last) in
     let later : (i : ℕ) → after_clocks (after_clocks s 1) i ≡ after_clocks s (1 + i) = λ i. sym (iterate_add after_clock 1 i s) in
-    let next : (i : ℕ) → after_clock (after_clocks (after_clocks s 1) i) ≡ after_clocks s (1 + i + 1) = λ i. ap after_clock (later i) ∙ sym (iterate_more after_clock (1 + i) s) in
+    let next : (i : ℕ) → after_clock (after_clocks (after_clocks s 1) i) ≡ after_clocks s (1 + i + 1) = λ i.
+    ap after_clock (later i) ∙ sym (iterate_more after_clock (1 + i) s) in
     let rest : gathered after_clock changes_next (k - 1) (after_clocks s 1) ≡ [] =
     none_told (k - 1) (after_clocks s 1) (λ i before.
     ap levels_of (next i) ∙ level (1 + i + 1) (omega arith) (omega (arith, before, some))
@@ -174,7 +183,8 @@ turn_told k s some wires =
     ∙ first_told s
     ∙ ap (changes_between (clock_of s + 1) (levels_of s)) (sym (level k some (omega arith)))
 
-pub none_signalled : (end : ℕ) (s : SessionState) (text : List ℕ) (levels : Levels) → length s.board.trail ≤ 32 → clock_of s.board.plain ≤ end → text ≡ [] → levels ≡ levels_of s.board.plain → IsSignalled end s s text levels
+pub none_signalled : (end : ℕ) (s : SessionState) (text : List ℕ) (levels : Levels)
+    → length s.board.trail ≤ 32 → clock_of s.board.plain ≤ end → text ≡ [] → levels ≡ levels_of s.board.plain → IsSignalled end s s text levels
 none_signalled end s text levels few within none known = record {
   passed = 0;
   ran = ran_none s.board few;
@@ -185,7 +195,9 @@ none_signalled end s text levels few within none known = record {
   known = known;
 }
 
-pub more_signalled : (end clock : ℕ) (s t u : SessionState) (text more : List ℕ) (levels after : Levels) (begun : Option Begun) → IsSignalled end s t text levels → IsOneTurn false end end t.board u.board begun → u.stops ≡ t.stops → u.first ≡ t.first → clock ≡ clock_of t.board.plain + 1 → after ≡ levels_of u.board.plain → more ≡ text ++ changes_between clock levels after → IsSignalled end s u more after
+pub more_signalled : (end clock : ℕ) (s t u : SessionState) (text more : List ℕ) (levels after : Levels) (begun : Option Begun)
+    → IsSignalled end s t text levels → IsOneTurn false end end t.board u.board begun → u.stops ≡ t.stops → u.first ≡ t.first
+    → clock ≡ clock_of t.board.plain + 1 → after ≡ levels_of u.board.plain → more ≡ text ++ changes_between clock levels after → IsSignalled end s u more after
 more_signalled end clock s t u text more levels after begun so_far turn stops first is known told =
     let n : ℕ = so_far.passed in
     let k : ℕ = turn.passed in
@@ -208,20 +220,25 @@ more_signalled end clock s t u text more levels after begun so_far turn stops fi
       known = known;
     }
 
-pub all_signalled : (end n : ℕ) (s t : SessionState) (text : List ℕ) (levels : Levels) → (so_far : IsSignalled end s t text levels) → end ≡ clock_of s.board.plain + n → end ≤ clock_of t.board.plain → so_far.passed ≡ n
+pub all_signalled : (end n : ℕ) (s t : SessionState) (text : List ℕ) (levels : Levels)
+    → (so_far : IsSignalled end s t text levels) → end ≡ clock_of s.board.plain + n → end ≤ clock_of t.board.plain → so_far.passed ≡ n
 all_signalled end n s t text levels so_far is past =
     let clock = so_far.ran.clock in
     let within = so_far.within in omega (arith, clock, within, is, past)
 
-pub few_signalled : (end n : ℕ) (s t : SessionState) (text : List ℕ) (levels : Levels) → (so_far : IsSignalled end s t text levels) → end ≡ clock_of s.board.plain + n → so_far.passed ≤ n
+pub few_signalled : (end n : ℕ) (s t : SessionState) (text : List ℕ) (levels : Levels)
+    → (so_far : IsSignalled end s t text levels) → end ≡ clock_of s.board.plain + n → so_far.passed ≤ n
 few_signalled end n s t text levels so_far is =
     let clock = so_far.ran.clock in
     let within = so_far.within in omega (arith, clock, within, is)
 
-pub text_signalled : (end n : ℕ) (s t : SessionState) (text whole : List ℕ) (levels : Levels) → (so_far : IsSignalled end s t text levels) → end ≡ clock_of s.board.plain + n → end ≤ clock_of t.board.plain → whole ≡ text ++ (codes "clock " ++ (decimal end ++ codes "\n")) → whole ≡ signals_text s.board.plain n
+pub text_signalled : (end n : ℕ) (s t : SessionState) (text whole : List ℕ) (levels : Levels)
+    → (so_far : IsSignalled end s t text levels) → end ≡ clock_of s.board.plain + n → end ≤ clock_of t.board.plain
+    → whole ≡ text ++ (codes "clock " ++ (decimal end ++ codes "\n")) → whole ≡ signals_text s.board.plain n
 unfolding signals_text
 text_signalled end n s t text whole levels so_far is past ended =
     ended
     ∙ ap (λ xs. xs ++ (codes "clock " ++ (decimal end ++ codes "\n")))
-    (so_far.told ∙ ap (λ k. gathered after_clock changes_next k s.board.plain) (all_signalled end n s t text levels so_far is past) ∙ sym (signalled_in s.board.plain n))
+    (so_far.told ∙ ap (λ k. gathered after_clock changes_next k s.board.plain) (all_signalled end n s t text levels so_far is past)
+    ∙ sym (signalled_in s.board.plain n))
     ∙ ap (λ m. flat_map signal_line (events_in s.board.plain n) ++ (codes "clock " ++ (decimal m ++ codes "\n"))) is

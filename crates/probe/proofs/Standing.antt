@@ -11,7 +11,8 @@ use Rattle.probe.specs.declared.stops.Stop.TheVariants.{Standing}
 use Rattle.probe.specs.ProbeLaws.{StandingEndsAlike, StandingMetAlike}
 use Rattle.probe.specs.ProbeStops.{EndsAt, IsEndOf, meeting, meeting_at, meets, NoneMet, standing, stands}
 
-standing_from : (conditions : List Condition) (i : ℕ) (before now : Plain) → position_from (λ (stop : Stop). meets stop before now) i (map Standing conditions) ≡ position_from (λ condition. holds condition now) i conditions
+standing_from : (conditions : List Condition) (i : ℕ) (before now : Plain)
+    → position_from (λ (stop : Stop). meets stop before now) i (map Standing conditions) ≡ position_from (λ condition. holds condition now) i conditions
 unfolding meets
 standing_from [] i before now = refl
 standing_from (x ∷ xs) i before now = ap (λ rest. cond (holds x now) (Some i) rest) (standing_from xs (i + 1) before now)
@@ -54,7 +55,8 @@ here conditions n s (Some end) ends = record {
 pub ends_alike : StandingEndsAlike
 ends_alike conditions n s end = (there conditions n s end, here conditions n s end)
 
-stands_from : (conditions : List Condition) (i : ℕ) (s : Plain) → position_from (λ (stop : Stop). stands stop s) i (map Standing conditions) ≡ position_from (λ condition. holds condition s) i conditions
+stands_from : (conditions : List Condition) (i : ℕ) (s : Plain)
+    → position_from (λ (stop : Stop). stands stop s) i (map Standing conditions) ≡ position_from (λ condition. holds condition s) i conditions
 unfolding stands
 stands_from [] i s = refl
 stands_from (x ∷ xs) i s = ap (λ rest. cond (holds x s) (Some i) rest) (stands_from xs (i + 1) s)

@@ -24,7 +24,8 @@ next_more : (bs : List Begun) (b : Begun) (end : ℕ) → next_clock (bs ++ b �
 next_more [] b end = refl
 next_more (a ∷ bs) b end = refl
 
-clocks_more : (is : Begun → Bool) (bs : List Begun) (b : Begun) (end : ℕ) → clocks_from is (bs ++ b ∷ []) end ≡ clocks_from is bs b.clock + (if is b then end - b.clock else 0)
+clocks_more : (is : Begun → Bool) (bs : List Begun) (b : Begun) (end : ℕ)
+    → clocks_from is (bs ++ b ∷ []) end ≡ clocks_from is bs b.clock + (if is b then end - b.clock else 0)
 clocks_more is [] b end = omega arith
 clocks_more is (a ∷ bs) b end =
     let rest = clocks_more is bs b end in
@@ -47,7 +48,8 @@ goes_on : (count clocks more : ℕ) → (count ≡ 0 → clocks ≡ 0) → tally
 goes_on zero clocks more none = ap (λ n. Some (record { count = 1; clocks = n })) (let no = none refl in omega (arith, no))
 goes_on (suc n) clocks more none = ap (λ k. Some (record { count = k; clocks = clocks + more })) (omega arith)
 
-tally_more : (number : Begun → Option ℕ) (bs : List Begun) (b : Begun) (end k : ℕ) (yes : Bool) → has number k b ≡ yes → tally_at number (bs ++ b ∷ []) end k ≡ (if yes then Some (one_more (tally_at number bs b.clock k) (end - b.clock)) else tally_at number bs b.clock k)
+tally_more : (number : Begun → Option ℕ) (bs : List Begun) (b : Begun) (end k : ℕ) (yes : Bool) → has number k b ≡ yes
+    → tally_at number (bs ++ b ∷ []) end k ≡ (if yes then Some (one_more (tally_at number bs b.clock k) (end - b.clock)) else tally_at number bs b.clock k)
 tally_more number bs b end k true is =
     let count : count_by (has number k) (bs ++ b ∷ []) ≡ suc (count_by (has number k) bs) =
     count_more (has number k) bs b ∙ ap (λ y. count_by (has number k) bs + (if y then 1 else 0)) is ∙ omega arith in
@@ -65,7 +67,10 @@ tally_more number bs b end k false is =
     ∙ ap (tally_of (count_by (has number k) bs)) clocks
 
 -- the tallies after one more beginning that has a number
-pub add_numbered : (number : Begun → Option ℕ) (bs : List Begun) (b : Begun) (n end : ℕ) (old new : BTreeMap ℕ Tally) → number b ≡ Some n → AreTallies number bs b.clock old → ((k : ℕ) → get nat_cmp new k ≡ (if k == n then Some (one_more (get nat_cmp old n) (end - b.clock)) else get nat_cmp old k)) → AreTallies number (bs ++ b ∷ []) end new
+pub add_numbered : (number : Begun → Option ℕ) (bs : List Begun) (b : Begun) (n end : ℕ) (old new : BTreeMap ℕ Tally)
+    → number b ≡ Some n → AreTallies number bs b.clock old
+    → ((k : ℕ) → get nat_cmp new k ≡ (if k == n then Some (one_more (get nat_cmp old n) (end - b.clock)) else get nat_cmp old k))
+    → AreTallies number (bs ++ b ∷ []) end new
 add_numbered number bs b n end old new is all added k = numbered_by (k == n) refl
   where
     here : (same : Bool) → (k == n) ≡ same → has number k b ≡ same
@@ -83,7 +88,8 @@ add_numbered number bs b n end old new is all added k = numbered_by (k == n) ref
         ∙ sym (tally_more number bs b end k false (here false at))
 
 -- the tallies after one more beginning that has none
-pub add_numberless : (number : Begun → Option ℕ) (bs : List Begun) (b : Begun) (end : ℕ) (old : BTreeMap ℕ Tally) → number b ≡ None → AreTallies number bs b.clock old → AreTallies number (bs ++ b ∷ []) end old
+pub add_numberless : (number : Begun → Option ℕ) (bs : List Begun) (b : Begun) (end : ℕ) (old : BTreeMap ℕ Tally)
+    → number b ≡ None → AreTallies number bs b.clock old → AreTallies number (bs ++ b ∷ []) end old
 add_numberless number bs b end old is all k = all k ∙ sym (tally_more number bs b end k false (ap (is_number k) is))
 
 pub if_ok : {A B E : Type 0} (result : Result Unit E) → OnOk result A → (A → B) → OnOk result B
@@ -92,21 +98,31 @@ if_ok (Err e) a f = a
 
 -- the latest is tallied, an instruction or an entry
 
-pub tallied_place : (all : List Begun) (old : Counts) (b : Begun) (n end : ℕ) (new : BTreeMap ℕ Tally) → old.latest ≡ Some b → place_of b ≡ Some n → type_of b ≡ None → ((k : ℕ) → get nat_cmp new k ≡ (if k == n then Some (one_more (get nat_cmp old.places n) (end - b.clock)) else get nat_cmp old.places k)) → HasCounted all old → HasTallied all end (record old { places = new })
+pub tallied_place : (all : List Begun) (old : Counts) (b : Begun) (n end : ℕ) (new : BTreeMap ℕ Tally)
+    → old.latest ≡ Some b → place_of b ≡ Some n → type_of b ≡ None
+    → ((k : ℕ) → get nat_cmp new k ≡ (if k == n then Some (one_more (get nat_cmp old.places n) (end - b.clock)) else get nat_cmp old.places k))
+    → HasCounted all old → HasTallied all end (record old { places = new })
 tallied_place all old b n end new latest is none added noted =
     let whole : noted.earlier ++ b ∷ [] ≡ all = sym (noted.all ∙ ap (λ l. noted.earlier ++ option_to_list l) latest) in
-    let places : AreTallies place_of noted.earlier b.clock old.places = subst (λ l. AreTallies place_of noted.earlier (tallied_to l) old.places) latest noted.tallied.places in
-    let types : AreTallies type_of noted.earlier b.clock old.types = subst (λ l. AreTallies type_of noted.earlier (tallied_to l) old.types) latest noted.tallied.types in
+    let places : AreTallies place_of noted.earlier b.clock old.places =
+    subst (λ l. AreTallies place_of noted.earlier (tallied_to l) old.places) latest noted.tallied.places in
+    let types : AreTallies type_of noted.earlier b.clock old.types =
+    subst (λ l. AreTallies type_of noted.earlier (tallied_to l) old.types) latest noted.tallied.types in
     record {
       places = subst (λ xs. AreTallies place_of xs end new) whole (add_numbered place_of noted.earlier b n end old.places new is places added);
       types = subst (λ xs. AreTallies type_of xs end old.types) whole (add_numberless type_of noted.earlier b end old.types none types);
     }
 
-pub tallied_type : (all : List Begun) (old : Counts) (b : Begun) (n end : ℕ) (new : BTreeMap ℕ Tally) → old.latest ≡ Some b → place_of b ≡ None → type_of b ≡ Some n → ((k : ℕ) → get nat_cmp new k ≡ (if k == n then Some (one_more (get nat_cmp old.types n) (end - b.clock)) else get nat_cmp old.types k)) → HasCounted all old → HasTallied all end (record old { types = new })
+pub tallied_type : (all : List Begun) (old : Counts) (b : Begun) (n end : ℕ) (new : BTreeMap ℕ Tally)
+    → old.latest ≡ Some b → place_of b ≡ None → type_of b ≡ Some n
+    → ((k : ℕ) → get nat_cmp new k ≡ (if k == n then Some (one_more (get nat_cmp old.types n) (end - b.clock)) else get nat_cmp old.types k))
+    → HasCounted all old → HasTallied all end (record old { types = new })
 tallied_type all old b n end new latest none is added noted =
     let whole : noted.earlier ++ b ∷ [] ≡ all = sym (noted.all ∙ ap (λ l. noted.earlier ++ option_to_list l) latest) in
-    let places : AreTallies place_of noted.earlier b.clock old.places = subst (λ l. AreTallies place_of noted.earlier (tallied_to l) old.places) latest noted.tallied.places in
-    let types : AreTallies type_of noted.earlier b.clock old.types = subst (λ l. AreTallies type_of noted.earlier (tallied_to l) old.types) latest noted.tallied.types in
+    let places : AreTallies place_of noted.earlier b.clock old.places =
+    subst (λ l. AreTallies place_of noted.earlier (tallied_to l) old.places) latest noted.tallied.places in
+    let types : AreTallies type_of noted.earlier b.clock old.types =
+    subst (λ l. AreTallies type_of noted.earlier (tallied_to l) old.types) latest noted.tallied.types in
     record {
       places = subst (λ xs. AreTallies place_of xs end old.places) whole (add_numberless place_of noted.earlier b end old.places none places);
       types = subst (λ xs. AreTallies type_of xs end new) whole (add_numbered type_of noted.earlier b n end old.types new is types added);
@@ -120,7 +136,8 @@ if_text (Err e) p f = p
 
 pub first_stays : (all : List Begun) (old : Counts) (b : Begun) (end : ℕ) → old.latest ≡ Some b → HasCounted all old → old.first ≡ next_clock all end
 first_stays all old b end latest noted =
-    let first : old.first ≡ next_clock noted.earlier b.clock = subst (λ (l : Option Begun). IfSome l (λ b. old.first ≡ next_clock noted.earlier b.clock)) latest noted.first in
+    let first : old.first ≡ next_clock noted.earlier b.clock =
+    subst (λ (l : Option Begun). IfSome l (λ b. old.first ≡ next_clock noted.earlier b.clock)) latest noted.first in
     let whole : noted.earlier ++ b ∷ [] ≡ all = sym (noted.all ∙ ap (λ l. noted.earlier ++ option_to_list l) latest) in
     first ∙ sym (next_more noted.earlier b end) ∙ ap (λ bs. next_clock bs end) whole
 

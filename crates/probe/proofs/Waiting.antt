@@ -37,18 +37,21 @@ due clock k = k.stamp == clock
 abbrev codes_if : Bool → StampedKey → List StampedKey → ℕ → List ℕ
 codes_if is k ks clock = map (λ (k : StampedKey). k.code) (cond is (k ∷ filter (due clock) ks) (filter (due clock) ks))
 
-same_after : (k : StampedKey) (xs ys : List StampedKey) (clock : ℕ) (is : Bool) → codes_at xs clock ≡ codes_at ys clock → codes_if is k xs clock ≡ codes_if is k ys clock
+same_after : (k : StampedKey) (xs ys : List StampedKey) (clock : ℕ) (is : Bool) → codes_at xs clock ≡ codes_at ys clock
+    → codes_if is k xs clock ≡ codes_if is k ys clock
 same_after k xs ys clock true same = ap (λ cs. k.code ∷ cs) same
 same_after k xs ys clock false same = same
 
 passed_over : (key : StampedKey) (ks : List StampedKey) (clock : ℕ) → nat_eq key.stamp clock ≡ false → codes_at (key ∷ ks) clock ≡ codes_at ks clock
 passed_over key ks clock is = ap (λ (b : Bool). codes_if b key ks clock) is
 
-inserted_by : (b : Bool) (k key : StampedKey) (ks : List StampedKey) (clock : ℕ) → nat_eq key.stamp clock ≡ false → codes_at (inserted ks key) clock ≡ codes_at ks clock → codes_at (if b then k ∷ inserted ks key else key ∷ k ∷ ks) clock ≡ codes_at (k ∷ ks) clock
+inserted_by : (b : Bool) (k key : StampedKey) (ks : List StampedKey) (clock : ℕ) → nat_eq key.stamp clock ≡ false
+    → codes_at (inserted ks key) clock ≡ codes_at ks clock → codes_at (if b then k ∷ inserted ks key else key ∷ k ∷ ks) clock ≡ codes_at (k ∷ ks) clock
 inserted_by true k key ks clock is same = same_after k (inserted ks key) ks clock (nat_eq k.stamp clock) same
 inserted_by false k key ks clock is same = passed_over key (k ∷ ks) clock is
 
-other_codes : (keys : List StampedKey) (key : StampedKey) (clock : ℕ) → nat_eq key.stamp clock ≡ false → codes_at (inserted keys key) clock ≡ codes_at keys clock
+other_codes : (keys : List StampedKey) (key : StampedKey) (clock : ℕ) → nat_eq key.stamp clock ≡ false
+    → codes_at (inserted keys key) clock ≡ codes_at keys clock
 other_codes [] key clock is = passed_over key [] clock is
 other_codes (k ∷ ks) key clock is = inserted_by (nat_le k.stamp key.stamp) k key ks clock is (other_codes ks key clock is)
 
@@ -105,7 +108,8 @@ level_same s key Speaker = refl
 wire_same : (clock : ℕ) (s t : Plain) (key : StampedKey) (w : Wire) → wire_event clock (with_key s key) (with_key t key) w ≡ wire_event clock s t w
 wire_same clock s t key w = λ i. if beq (level_same s key w i) (level_same t key w i) then [] else Wired clock w (level_same t key w i) ∷ []
 
-wires_same : (clock : ℕ) (s t : Plain) (key : StampedKey) (ws : List Wire) → flat_map (wire_event clock (with_key s key) (with_key t key)) ws ≡ flat_map (wire_event clock s t) ws
+wires_same : (clock : ℕ) (s t : Plain) (key : StampedKey) (ws : List Wire)
+    → flat_map (wire_event clock (with_key s key) (with_key t key)) ws ≡ flat_map (wire_event clock s t) ws
 wires_same clock s t key [] = refl
 wires_same clock s t key (w ∷ ws) = λ i. wire_same clock s t key w i ++ wires_same clock s t key ws i
 
@@ -131,7 +135,9 @@ byte_same : (s : Plain) (key : StampedKey) (address : ℕ) → byte_of (with_key
 unfolding byte_of with_key
 byte_same s key address = refl
 
-differs_same : (address : ℕ) (s t : Plain) (key : StampedKey) (ks : List ℕ) → list_any (λ k. not (byte_of (with_key s key) (address + k) == byte_of (with_key t key) (address + k))) ks ≡ list_any (λ k. not (byte_of s (address + k) == byte_of t (address + k))) ks
+differs_same : (address : ℕ) (s t : Plain) (key : StampedKey) (ks : List ℕ)
+    → list_any (λ k. not (byte_of (with_key s key) (address + k) == byte_of (with_key t key) (address + k))) ks
+    ≡ list_any (λ k. not (byte_of s (address + k) == byte_of t (address + k))) ks
 unfolding byte_of with_key
 differs_same address s t key ks = refl
 
@@ -141,12 +147,14 @@ meets_same (Standing condition) s t key before = holds_same condition t key
 meets_same (When kinds) s t key before = ap (list_any (is_listed kinds.items)) (events_same s key before)
 meets_same (Changes address count) s t key before = differs_same address s t key _
 
-meeting_from : (stops : List Stop) (i : ℕ) (s t : Plain) (key : StampedKey) → clock_of s + 1 < key.stamp → position_from (λ stop. meets stop (with_key s key) (with_key t key)) i stops ≡ position_from (λ stop. meets stop s t) i stops
+meeting_from : (stops : List Stop) (i : ℕ) (s t : Plain) (key : StampedKey) → clock_of s + 1 < key.stamp
+    → position_from (λ stop. meets stop (with_key s key) (with_key t key)) i stops ≡ position_from (λ stop. meets stop s t) i stops
 meeting_from [] i s t key before = refl
 meeting_from (x ∷ xs) i s t key before = λ j. cond (meets_same x s t key before j) (Some i) (meeting_from xs (i + 1) s t key before j)
 
 -- a stop is met before the stamp if it is met without the key
-pub meeting_waits : (stops : List Stop) (n : ℕ) (s : Plain) (key : StampedKey) → 1 ≤ n → clock_of s + n < key.stamp → meeting_at stops (with_key s key) n ≡ meeting_at stops s n
+pub meeting_waits : (stops : List Stop) (n : ℕ) (s : Plain) (key : StampedKey) → 1 ≤ n → clock_of s + n < key.stamp
+    → meeting_at stops (with_key s key) n ≡ meeting_at stops s n
 unfolding meeting
 meeting_waits stops n s key some before =
     let at = clocks_go_by (n - 1) s in

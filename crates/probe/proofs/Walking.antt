@@ -50,7 +50,8 @@ short first n s t (Memory None) at is = absurd is
 short first n s t (Memory (Some clock)) at is = same_first first s t at is.first (stands_further s.first is.passed s.board t.board (own first s at) is.stands)
 short first n s t BeforeStart at is = absurd is
 
-makes : (first : Shown) (n : ℕ) (text : List ℕ) (s t : SessionState) (result : Result Answer DebugFault) → StandsFrom first s → AnswersMaking n text s result t → StandsFrom first t
+makes : (first : Shown) (n : ℕ) (text : List ℕ) (s t : SessionState) (result : Result Answer DebugFault)
+    → StandsFrom first s → AnswersMaking n text s result t → StandsFrom first t
 makes first n text s t (Ok answer) at is = same_first first s t at is.first (stands_later s.first n s.board t.board (own first s at) is.ran)
 makes first n text s t (Err fault) at is = short first n s t fault at is
 
@@ -66,10 +67,12 @@ takes : (first : Shown) (key : StampedKey) (s t : SessionState) (answer : Answer
 takes first key s t answer at is = (
   is.first ∙ ap (λ (f : Shown). record f { plain = with_key f.plain key }) at.0,
   subst (λ (f : Shown). StandsAfter f t.board) (sym is.first)
-      (subst (StandsAfter (record s.first { plain = with_key s.first.plain key })) (sym is.board) (stands_after_with s.first s.board key is.to_come.later (own first s at))),
+      (subst (StandsAfter (record s.first { plain = with_key s.first.plain key }))
+      (sym is.board) (stands_after_with s.first s.board key is.to_come.later (own first s at))),
 )
 
-inquires : (first : Shown) (inquiry : Inquiry) (s t : SessionState) (result : Result Answer DebugFault) → StandsFrom first s → AnswersInquiry inquiry s result t → Leads first (key_typed None (Some inquiry) (clock_of s.board.plain) result) t
+inquires : (first : Shown) (inquiry : Inquiry) (s t : SessionState) (result : Result Answer DebugFault)
+    → StandsFrom first s → AnswersInquiry inquiry s result t → Leads first (key_typed None (Some inquiry) (clock_of s.board.plain) result) t
 inquires first inquiries.Chips s t result at is = no_keys first t (same_state first s t at is.1)
 inquires first (inquiries.List place count) s t result at is = no_keys first t (same_state first s t at is.1)
 inquires first (inquiries.Counts n) s t result at is = no_keys first t (makes first n _ s t result at is)
@@ -78,11 +81,13 @@ inquires first (inquiries.Events n kinds) s t result at is = no_keys first t (ma
 inquires first (inquiries.Key code stamp) s t (Ok answer) at is = takes first _ s t answer at is
 inquires first (inquiries.Key code stamp) s t (Err fault) at is = no_keys first t (same_state first s t at is.1)
 
-commanded : (first : Shown) (command : Option Command) (s t : SessionState) (result : Result Answer DebugFault) → StandsFrom first s → AnswersLine command s result t → StandsFrom first t
+commanded : (first : Shown) (command : Option Command) (s t : SessionState) (result : Result Answer DebugFault)
+    → StandsFrom first s → AnswersLine command s result t → StandsFrom first t
 commanded first None s t result at is = same_state first s t at is.1
 commanded first (Some command) s t result at is = still_stands first command s t result at is
 
-inquires_or : (first : Shown) (inquiry : Option Inquiry) (line : List ℕ) (s t : SessionState) (result : Result Answer DebugFault) → StandsFrom first s → AnswersOr inquiry line s result t → Leads first (key_typed None inquiry (clock_of s.board.plain) result) t
+inquires_or : (first : Shown) (inquiry : Option Inquiry) (line : List ℕ) (s t : SessionState) (result : Result Answer DebugFault)
+    → StandsFrom first s → AnswersOr inquiry line s result t → Leads first (key_typed None inquiry (clock_of s.board.plain) result) t
 inquires_or first None line s t result at is = no_keys first t (commanded first (command_of line) s t result at is)
 inquires_or first (Some inquiry) line s t result at is = inquires first inquiry s t result at is
 
@@ -91,7 +96,8 @@ inquires_or first (Some inquiry) line s t result at is = inquires first inquiry 
 abbrev same_session : (s t : ProbeState) → t ≡ s → session_of t ≡ session_of s
 same_session s t is = ap session_of is
 
-refuses_stop : (first : Shown) (stop : Stop) (s t : ProbeState) (fault : DebugFault) → StandsFrom first (session_of s) → RefusesStop stop s t fault → StandsFrom first (session_of t)
+refuses_stop : (first : Shown) (stop : Stop) (s t : ProbeState) (fault : DebugFault)
+    → StandsFrom first (session_of s) → RefusesStop stop s t fault → StandsFrom first (session_of t)
 refuses_stop first stop s t ClockLimit at is = absurd is
 refuses_stop first stop s t BadScan at is = absurd is
 refuses_stop first stop s t StampsFall at is = absurd is
@@ -101,17 +107,20 @@ refuses_stop first stop s t (Memory None) at is = same_state first (session_of s
 refuses_stop first stop s t (Memory (Some clock)) at is = absurd is
 refuses_stop first stop s t BeforeStart at is = absurd is
 
-refuses_going : (first : Shown) (n : ℕ) (s t : ProbeState) (fault : DebugFault) → StandsFrom first (session_of s) → RefusesGoing n s t fault → StandsFrom first (session_of t)
+refuses_going : (first : Shown) (n : ℕ) (s t : ProbeState) (fault : DebugFault)
+    → StandsFrom first (session_of s) → RefusesGoing n s t fault → StandsFrom first (session_of t)
 refuses_going first n s t ClockLimit at is = same_state first (session_of s) (session_of t) at (same_session s t is.1)
 refuses_going first n s t BadScan at is = absurd is
 refuses_going first n s t StampsFall at is = absurd is
 refuses_going first n s t BadCommand at is = absurd is
 refuses_going first n s t TooManyStops at is = absurd is
 refuses_going first n s t (Memory None) at is = absurd is
-refuses_going first n s t (Memory (Some clock)) at is = same_first first (session_of s) (session_of t) at is.first (stands_early s.first n s.board t.board (own first (session_of s) at) is.early)
+refuses_going first n s t (Memory (Some clock)) at is =
+    same_first first (session_of s) (session_of t) at is.first (stands_early s.first n s.board t.board (own first (session_of s) at) is.early)
 refuses_going first n s t BeforeStart at is = absurd is
 
-refuses_back : (first : Shown) (s t : ProbeState) (fault : DebugFault) → StandsFrom first (session_of s) → RefusesBackToStop s t fault → StandsFrom first (session_of t)
+refuses_back : (first : Shown) (s t : ProbeState) (fault : DebugFault)
+    → StandsFrom first (session_of s) → RefusesBackToStop s t fault → StandsFrom first (session_of t)
 refuses_back first s t ClockLimit at is = absurd is
 refuses_back first s t BadScan at is = absurd is
 refuses_back first s t StampsFall at is = absurd is
@@ -121,16 +130,20 @@ refuses_back first s t (Memory None) at is = same_state first (session_of s) (se
 refuses_back first s t (Memory (Some clock)) at is = absurd is
 refuses_back first s t BeforeStart at is = same_state first (session_of s) (session_of t) at (same_session s t is.1)
 
-requested : (first : Shown) (request : Request) (s t : ProbeState) (result : Result Answer DebugFault) → StandsFrom first (session_of s) → AnswersRequest request s result t → StandsFrom first (session_of t)
-requested first (Add stop) s t (Ok answer) at is = same_first first (session_of s) (session_of t) at is.first (subst (StandsAfter s.first) (sym is.board) (own first (session_of s) at))
+requested : (first : Shown) (request : Request) (s t : ProbeState) (result : Result Answer DebugFault)
+    → StandsFrom first (session_of s) → AnswersRequest request s result t → StandsFrom first (session_of t)
+requested first (Add stop) s t (Ok answer) at is =
+    same_first first (session_of s) (session_of t) at is.first (subst (StandsAfter s.first) (sym is.board) (own first (session_of s) at))
 requested first (Add stop) s t (Err fault) at is = refuses_stop first stop s t fault at is
-requested first (Go n) s t (Ok answer) at is = same_first first (session_of s) (session_of t) at is.first (stands_later s.first _ s.board t.board (own first (session_of s) at) is.ran)
+requested first (Go n) s t (Ok answer) at is =
+    same_first first (session_of s) (session_of t) at is.first (stands_later s.first _ s.board t.board (own first (session_of s) at) is.ran)
 requested first (Go n) s t (Err fault) at is = refuses_going first n s t fault at is
 requested first BackStop s t (Ok answer) at is = same_first first (session_of s) (session_of t) at is.first (is.last.passed, is.stands)
 requested first BackStop s t (Err fault) at is = refuses_back first s t fault at is
 requested first (Try trial) s t result at is = same_state first (session_of s) (session_of t) at (same_session s t is.1)
 
-answered : (first : Shown) (request : Option Request) (line : List ℕ) (s t : ProbeState) (result : Result Answer DebugFault) → StandsFrom first (session_of s) → AnswersUnless request line s result t
+answered : (first : Shown) (request : Option Request) (line : List ℕ) (s t : ProbeState) (result : Result Answer DebugFault)
+    → StandsFrom first (session_of s) → AnswersUnless request line s result t
     → Leads first (key_typed request (inquiry_of line) (clock_of s.board.plain) result) (session_of t)
 answered first (Some request) line s t result at is = no_keys first (session_of t) (requested first request s t result at is)
 answered first None line s t result at is = inquires_or first (inquiry_of line) line (session_of s) (session_of t) result at is.0
@@ -140,13 +153,18 @@ answered first None line s t result at is = inquires_or first (inquiry_of line) 
 with_more : (first : Shown) (some more : List StampedKey) → shown_with (shown_with first some) more ≡ shown_with first (some ++ more)
 with_more first some more = ap (λ p. record first { plain = p }) (sym (fold-append with_key first.plain some more))
 
-through : (lines : List (List ℕ)) (keys : List StampedKey) (first : Shown) (s t : ProbeState) → StandsFrom first (session_of s) → Walk lines keys s t → Leads first keys (session_of t)
-through [] keys first s t at walk = subst (λ ks. Leads first ks (session_of t)) (sym walk.1) (no_keys first (session_of t) (same_state first (session_of s) (session_of t) at (same_session s t walk.0)))
+through : (lines : List (List ℕ)) (keys : List StampedKey) (first : Shown) (s t : ProbeState)
+    → StandsFrom first (session_of s) → Walk lines keys s t → Leads first keys (session_of t)
+through [] keys first s t at walk =
+    subst (λ ks. Leads first ks (session_of t)) (sym walk.1)
+    (no_keys first (session_of t) (same_state first (session_of s) (session_of t) at (same_session s t walk.0)))
 through (line ∷ lines) keys first s t at walk =
     let typed : List StampedKey = key_typed (request_of line) (inquiry_of line) (clock_of s.board.plain) walk.result in
     let led = answered first (request_of line) line s walk.next walk.result at walk.answers in
-    let rest = through lines walk.later (shown_with first typed) walk.next t (led.0, subst (λ (f : Shown). StandsAfter f walk.next.board) led.0 led.1) walk.after in
+    let rest =
+    through lines walk.later (shown_with first typed) walk.next t (led.0, subst (λ (f : Shown). StandsAfter f walk.next.board) led.0 led.1) walk.after in
     (rest.0 ∙ with_more first typed walk.later ∙ ap (shown_with first) (sym walk.are), rest.1)
 
 pub probes_stand : ProbesStand
-probes_stand lines keys board new few walk = through lines keys (shown_of board) (probe_about board) new (refl, stands_none (shown_of board) board refl few) walk
+probes_stand lines keys board new few walk =
+    through lines keys (shown_of board) (probe_about board) new (refl, stands_none (shown_of board) board refl few) walk

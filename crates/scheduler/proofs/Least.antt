@@ -10,7 +10,8 @@ use Rattle.scheduler.specs.Sooner.{sooner, next_of}
 -- the first of the sources in the places below k
 pub record IsLeast (d : DeadlinesState) (k clock : ℕ) (source : Source) : Type 0 where
   pub due : deadline_of d source ≡ Some clock
-  pub first : (other : Source) (at : ℕ) → place_of other < k → deadline_of d other ≡ Some at → (clock < at) ⊎ ((clock ≡ at) × (place_of source ≤ place_of other))
+  pub first : (other : Source) (at : ℕ) → place_of other < k → deadline_of d other ≡ Some at
+      → (clock < at) ⊎ ((clock ≡ at) × (place_of source ≤ place_of other))
   pub place : place_of source < k
 
 abbrev pub Least : DeadlinesState → ℕ → Option (ℕ × Source) → Type 0
@@ -47,7 +48,8 @@ same_clock d other s at clock same due here = some_same (sym due ∙ ap (deadlin
 in_place : (other s : Source) → other ≡ s → place_of other ≡ place_of s
 in_place other s same = ap place_of same
 
-by_order : (d : DeadlinesState) (k : ℕ) (s kept : Source) (clock at : ℕ) → place_of s ≡ k → IsLeast d k clock kept → deadline_of d s ≡ Some at → (b : Bool) → nat_le clock at ≡ b → Least d (k + 1) (if b then Some (clock, kept) else Some (at, s))
+by_order : (d : DeadlinesState) (k : ℕ) (s kept : Source) (clock at : ℕ) → place_of s ≡ k → IsLeast d k clock kept
+    → deadline_of d s ≡ Some at → (b : Bool) → nat_le clock at ≡ b → Least d (k + 1) (if b then Some (clock, kept) else Some (at, s))
 by_order d k s kept clock at here least due true before =
     let le : clock ≤ at = grind (arith, nat_tests) in
     record {
@@ -84,7 +86,8 @@ by_order d k s kept clock at here least due false after =
     later (inr same) less = omega (arith, same.0)
 
 -- one more source
-one_more : (d : DeadlinesState) (k : ℕ) (s : Source) (first : Option (ℕ × Source)) (at : Option ℕ) → place_of s ≡ k → Least d k first → deadline_of d s ≡ at → Least d (k + 1) (sooner first at s)
+one_more : (d : DeadlinesState) (k : ℕ) (s : Source) (first : Option (ℕ × Source)) (at : Option ℕ)
+    → place_of s ≡ k → Least d k first → deadline_of d s ≡ at → Least d (k + 1) (sooner first at s)
 one_more d k s None None here none due = λ other less. elim (earlier_or_here other s k here less) [
   | inl earlier ↦ none other earlier
   | inr same ↦ ap (deadline_of d) same ∙ due
@@ -129,7 +132,10 @@ IsFirst d first = MatchOption first ((source : Source) → deadline_of d source 
 pub next_is : (d : DeadlinesState) → IsFirst d (next_of d)
 unfolding next_of
 next_is d =
-    finish _ (one_more d 4 End _ d.end refl (one_more d 3 Processor _ d.processor refl (one_more d 2 Keys _ d.keys refl (one_more d 1 Counter2 _ d.counter_2 refl (one_more d 0 Counter0 None d.counter_0 refl (λ other less. absurd (omega arith)) refl) refl) refl) refl) refl)
+    finish _ (one_more d 4 End _ d.end refl (one_more d 3 Processor _ d.processor refl (one_more d 2 Keys _ d.keys refl
+    (one_more d 1 Counter2 _ d.counter_2 refl (one_more d 0 Counter0 None d.counter_0 refl (λ other less. absurd (omega arith)) refl) refl) refl)
+    refl)
+    refl)
   where
     finish : (first : Option (ℕ × Source)) → Least d 5 first → MatchOption first ((source : Source) → deadline_of d source ≡ None) (λ it. IsNext d it.0 it.1)
     finish None none = λ source. none source (all_places source)

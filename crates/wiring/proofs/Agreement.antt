@@ -24,7 +24,8 @@ high_after_line s level Low = refl
 high_after_line s level High = refl
 
 -- which lines are high, once the two lines that the board drives have taken their levels
-pub high_after_requests : (pic : PicState) (timer : PitState) (keyboard : KeyboardState) → (after_request_wires pic timer keyboard).high ≡ slice_set (slice_set pic.high 0 (is_high timer.counter_0.out)) 1 (is_high (from_bool (is_some keyboard.latch)))
+pub high_after_requests : (pic : PicState) (timer : PitState) (keyboard : KeyboardState) → (after_request_wires pic timer keyboard).high
+    ≡ slice_set (slice_set pic.high 0 (is_high timer.counter_0.out)) 1 (is_high (from_bool (is_some keyboard.latch)))
 high_after_requests pic timer keyboard =
     high_after_line (after_line pic 0 timer.counter_0.out) 1 (from_bool (is_some keyboard.latch))
     ∙ ap (λ (high : Levels). slice_set high 1 (is_high (from_bool (is_some keyboard.latch)))) (high_after_line pic 0 timer.counter_0.out)

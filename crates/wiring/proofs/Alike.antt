@@ -32,20 +32,24 @@ same_then s t u first second = record {
 }
 
 -- a counter changes by a rule, in two timers
-changed_by : (zeroth first second : Bool) (rule : CounterState → CounterState) (p q : PitState) → IsUnread rule → unread p.counter_2 ≡ unread q.counter_2 → unread (changed_at zeroth first second rule p).counter_2 ≡ unread (changed_at zeroth first second rule q).counter_2
+changed_by : (zeroth first second : Bool) (rule : CounterState → CounterState) (p q : PitState) → IsUnread rule → unread p.counter_2 ≡ unread q.counter_2
+    → unread (changed_at zeroth first second rule p).counter_2 ≡ unread (changed_at zeroth first second rule q).counter_2
 changed_by true first second rule p q is_unread same = same
 changed_by false true second rule p q is_unread same = same
 changed_by false false true rule p q is_unread same = same_rest rule is_unread p.counter_2 q.counter_2 same
 changed_by false false false rule p q is_unread same = same
 
-changed : (n : ℕ) (rule : CounterState → CounterState) (p q : PitState) → IsUnread rule → unread p.counter_2 ≡ unread q.counter_2 → unread (with_counter p n (rule (counter p n))).counter_2 ≡ unread (with_counter q n (rule (counter q n))).counter_2
+changed : (n : ℕ) (rule : CounterState → CounterState) (p q : PitState) → IsUnread rule → unread p.counter_2 ≡ unread q.counter_2
+    → unread (with_counter p n (rule (counter p n))).counter_2 ≡ unread (with_counter q n (rule (counter q n))).counter_2
 changed n rule p q is_unread same = changed_by (n == 0) (n == 1) (n == 2) rule p q is_unread same
 
-one_of : (b : Bool) (p x q y : PitState) → unread p.counter_2 ≡ unread q.counter_2 → unread x.counter_2 ≡ unread y.counter_2 → unread (if b then p else x).counter_2 ≡ unread (if b then q else y).counter_2
+one_of : (b : Bool) (p x q y : PitState) → unread p.counter_2 ≡ unread q.counter_2 → unread x.counter_2 ≡ unread y.counter_2
+    → unread (if b then p else x).counter_2 ≡ unread (if b then q else y).counter_2
 one_of true p x q y first second = first
 one_of false p x q y first second = second
 
-write_rest : (n byte : ℕ) (p q : PitState) → unread p.counter_2 ≡ unread q.counter_2 → unread (pit.after_write p n byte).counter_2 ≡ unread (pit.after_write q n byte).counter_2
+write_rest : (n byte : ℕ) (p q : PitState) → unread p.counter_2 ≡ unread q.counter_2
+    → unread (pit.after_write p n byte).counter_2 ≡ unread (pit.after_write q n byte).counter_2
 unfolding pit.after_write
 write_rest n byte p q same =
     one_of (n == 3) _ _ _ _
@@ -54,7 +58,8 @@ write_rest n byte p q same =
     (changed (byte / 64) (λ c. one.after_control_word c byte) p q (control_unread byte) same))
     (changed n (λ c. one.after_write c byte) p q (write_unread byte) same)
 
-clock_rest : (clock : ℕ) (p q : PitState) → unread p.counter_2 ≡ unread q.counter_2 → unread (pit_after_clock p clock).counter_2 ≡ unread (pit_after_clock q clock).counter_2
+clock_rest : (clock : ℕ) (p q : PitState) → unread p.counter_2 ≡ unread q.counter_2
+    → unread (pit_after_clock p clock).counter_2 ≡ unread (pit_after_clock q clock).counter_2
 unfolding pit.after_tick
 clock_rest clock p q same = one_of (clock % 4 == 0) _ _ _ _ (same_rest one.after_tick tick_unread p.counter_2 q.counter_2 same) same
 
@@ -86,7 +91,8 @@ pub alike_after_output : (s t : ChipsState) (port byte : ℕ) → SoundsAlike s 
 unfolding after_output
 alike_after_output s t port byte alike = alike_after_settling _ _ (alike_after_write s t (port_at port) byte alike)
 
-alike_after_writes : (s t : ChipsState) (writes : List (ℕ × ℕ)) → SoundsAlike s t → SoundsAlike (after_port_writes after_output s writes) (after_port_writes after_output t writes)
+alike_after_writes : (s t : ChipsState) (writes : List (ℕ × ℕ)) → SoundsAlike s t
+    → SoundsAlike (after_port_writes after_output s writes) (after_port_writes after_output t writes)
 alike_after_writes s t [] alike = alike
 alike_after_writes s t (w ∷ writes) alike = alike_after_writes (after_output s w.0 w.1) (after_output t w.0 w.1) writes (alike_after_output s t w.0 w.1 alike)
 
@@ -110,7 +116,8 @@ alike_after_arrival s code = record { clock = refl; ppi = refl; counter_2 = refl
 alike_after_arrivals : (s : ChipsState) (codes : List ℕ) → SoundsAlike (after_arrivals s codes) s
 alike_after_arrivals s [] = same_all s
 alike_after_arrivals s (code ∷ codes) =
-    same_then (after_arrivals (after_arrival s code) codes) (after_arrival s code) s (alike_after_arrivals (after_arrival s code) codes) (alike_after_arrival s code)
+    same_then (after_arrivals (after_arrival s code) codes) (after_arrival s code) s
+    (alike_after_arrivals (after_arrival s code) codes) (alike_after_arrival s code)
 
 high_alike : (s t : ChipsState) → SoundsAlike s t → is_speaker_high s ≡ is_speaker_high t
 unfolding is_speaker_high
@@ -149,4 +156,5 @@ unfolding after_input
 alike_after_input s port = alike_after_settling (after_port_read s (port_at port)) s (alike_after_read s (port_at port))
 
 pub no_read_touches : NoReadTouches
-no_read_touches s writes port still = depends_on_writes (after_input s port) (after_settling s) writes (alike_after_input s port) ∙ ap (λ t. is_speaker_high_after t writes) still
+no_read_touches s writes port still =
+    depends_on_writes (after_input s port) (after_settling s) writes (alike_after_input s port) ∙ ap (λ t. is_speaker_high_after t writes) still

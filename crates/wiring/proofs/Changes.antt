@@ -27,7 +27,8 @@ latch_by true k = refl
 latch_by false k = refl
 
 -- a line changes which lines are high and which have risen
-line_alone : (s : PicState) (level : ℕ) (line : Line) → after_line s level line ≡ record s { high = (after_line s level line).high; risen = (after_line s level line).risen }
+line_alone : (s : PicState) (level : ℕ) (line : Line)
+    → after_line s level line ≡ record s { high = (after_line s level line).high; risen = (after_line s level line).risen }
 unfolding after_line
 line_alone s level Low = refl
 line_alone s level High = refl
@@ -63,11 +64,13 @@ or_true true = refl
 or_true false = refl
 
 -- a line that goes high has risen, and no other
-own_rise : (was_high : Bool) (risen : Levels) (n : ℕ) → n < length risen → contains (if was_high then risen else with_level risen n) n ≡ (contains risen n || (not was_high && true))
+own_rise : (was_high : Bool) (risen : Levels) (n : ℕ) → n < length risen
+    → contains (if was_high then risen else with_level risen n) n ≡ (contains risen n || (not was_high && true))
 own_rise true risen n within = or_neither (contains risen n) true
 own_rise false risen n within = get_or-set_same risen n true false within ∙ or_true (contains risen n)
 
-risen_own : (s : PicState) (n : ℕ) (line : Line) → n < length s.high → n < length s.risen → contains (after_line s n line).risen n ≡ (contains s.risen n || (not (contains s.high n) && contains (after_line s n line).high n))
+risen_own : (s : PicState) (n : ℕ) (line : Line) → n < length s.high → n < length s.risen
+    → contains (after_line s n line).risen n ≡ (contains s.risen n || (not (contains s.high n) && contains (after_line s n line).high n))
 unfolding after_line
 risen_own s n Low within known =
     or_neither (contains s.risen n) (not (contains s.high n))
@@ -89,7 +92,9 @@ length_risen s n Low = refl
 length_risen s n High = length_by (contains s.high n) s.risen n
 
 -- the rises of the two lines that the board drives
-two_rises : (s : PicState) (a b : Line) (level : ℕ) → level < 2 → length s.high ≡ 8 → length s.risen ≡ 8 → (let t : PicState = after_line (after_line s 0 a) 1 b in contains t.risen level ≡ (contains s.risen level || (not (contains s.high level) && contains t.high level)))
+two_rises : (s : PicState) (a b : Line) (level : ℕ) → level < 2 → length s.high ≡ 8 → length s.risen ≡ 8
+    → (let t : PicState = after_line (after_line s 0 a) 1 b in
+    contains t.risen level ≡ (contains s.risen level || (not (contains s.high level) && contains t.high level)))
 two_rises s a b zero below high risen =
     let other : 0 ≢ 1 = differ 0 1 (omega arith) in
     risen_other (after_line s 0 a) 1 b 0 other
@@ -114,7 +119,8 @@ settling_changes_alone s high risen =
     record {
       nothing_else =
           ap (λ (k : KeyboardState). record s { keyboard = k; pit = timer; pic = pic }) (latch_alone (has_bit (lines_b s.ppi) 7) s.keyboard)
-          ∙ ap (λ (c : PicState). record s { keyboard = record s.keyboard { latch = keyboard.latch }; pit = timer; pic = c }) (requests_alone s.pic timer.counter_0.out full);
+          ∙ ap (λ (c : PicState). record s { keyboard = record s.keyboard { latch = keyboard.latch }; pit = timer; pic = c })
+          (requests_alone s.pic timer.counter_0.out full);
       latch = latch_by (has_bit (lines_b s.ppi) 7) s.keyboard;
       counter_2 = refl;
       other_lines = λ level from. ap (λ (lines : Levels). contains lines level) (high_after_requests s.pic timer keyboard)

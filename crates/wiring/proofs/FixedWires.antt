@@ -37,7 +37,8 @@ pub above : (n m : ℕ) → n < m → m ≢ n
 above n m less same = omega arith
 
 -- a line from IR2 on, when IR0 and IR1 take levels
-pub other_line : (high : Levels) (zeroth first : Bool) (level : ℕ) → 2 ≤ level → contains (slice_set (slice_set high 0 zeroth) 1 first) level ≡ contains high level
+pub other_line : (high : Levels) (zeroth first : Bool) (level : ℕ) → 2 ≤ level
+    → contains (slice_set (slice_set high 0 zeroth) 1 first) level ≡ contains high level
 other_line high zeroth first level from =
     get_or-set_other (slice_set high 0 zeroth) 1 level first false (above 1 level (omega arith))
     ∙ get_or-set_other high 0 level zeroth false (above 0 level (omega arith))

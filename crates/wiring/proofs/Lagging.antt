@@ -51,20 +51,24 @@ before_less (Some n) a b least before =
     let less : b < n = is_less b n before in
     is_less_test a n (omega (arith, least, less))
 
-pub steady_until : (c : CounterState) (turn : Option ℕ) (ticks : ℕ) → IsUntilTurn one.after_ticks out_of c turn → is_before ticks turn ≡ true → IsSteady one.after_ticks out_of c ticks
+pub steady_until : (c : CounterState) (turn : Option ℕ) (ticks : ℕ)
+    → IsUntilTurn one.after_ticks out_of c turn → is_before ticks turn ≡ true → IsSteady one.after_ticks out_of c ticks
 steady_until c turn ticks first before j few = stays c turn j first (before_less turn j ticks few before)
 
-steady_while : (c : CounterState) (turn : Option ℕ) (k n : ℕ) → IsLagging c turn k → is_before (k + n) turn ≡ true → IsSteady one.after_ticks out_of (one.after_ticks c k) n
+steady_while : (c : CounterState) (turn : Option ℕ) (k n : ℕ) → IsLagging c turn k → is_before (k + n) turn ≡ true
+    → IsSteady one.after_ticks out_of (one.after_ticks c k) n
 steady_while c turn k n lag before j few =
     ap (λ (d : CounterState). d.out) (sym (iterate_add one.after_tick k j c))
     ∙ stays c turn (k + j) lag.first (before_less turn (k + j) (k + n) (omega (arith, few)) before)
     ∙ sym (stays c turn k lag.first lag.before)
 
-pub steady_while_0 : (p : PitState) (turn : Option ℕ) (k n : ℕ) → IsLagging p.counter_0 turn k → is_before (k + n) turn ≡ true → IsSteady one.after_ticks out_of (after_ticks p k).counter_0 n
+pub steady_while_0 : (p : PitState) (turn : Option ℕ) (k n : ℕ) → IsLagging p.counter_0 turn k → is_before (k + n) turn ≡ true
+    → IsSteady one.after_ticks out_of (after_ticks p k).counter_0 n
 steady_while_0 p turn k n lag before =
     subst (λ (q : PitState). IsSteady one.after_ticks out_of q.counter_0 n) (sym (each_counter k p)) (steady_while p.counter_0 turn k n lag before)
 
-pub steady_while_2 : (p : PitState) (turn : Option ℕ) (k n : ℕ) → IsLagging p.counter_2 turn k → is_before (k + n) turn ≡ true → IsSteady one.after_ticks out_of (after_ticks p k).counter_2 n
+pub steady_while_2 : (p : PitState) (turn : Option ℕ) (k n : ℕ) → IsLagging p.counter_2 turn k → is_before (k + n) turn ≡ true
+    → IsSteady one.after_ticks out_of (after_ticks p k).counter_2 n
 steady_while_2 p turn k n lag before =
     subst (λ (q : PitState). IsSteady one.after_ticks out_of q.counter_2 n) (sym (each_counter k p)) (steady_while p.counter_2 turn k n lag before)
 
@@ -91,14 +95,18 @@ turns_later c (Some n) k lag =
     record {
       some = omega arith;
       before = λ j less. ap (λ (d : CounterState). d.out) (sym (iterate_add one.after_tick k j c)) ∙ lag.first.before (k + j) (omega arith) ∙ sym now;
-      turns = λ same. lag.first.turns (ap (λ j. (one.after_ticks c j).out) (sym whole) ∙ ap (λ (d : CounterState). d.out) (iterate_add one.after_tick k (n - k) c) ∙ same ∙ now);
+      turns = λ same.
+          lag.first.turns
+          (ap (λ j. (one.after_ticks c j).out) (sym whole) ∙ ap (λ (d : CounterState). d.out) (iterate_add one.after_tick k (n - k) c) ∙ same ∙ now);
     }
 
-pub turns_later_0 : (p : PitState) (turn : Option ℕ) (k : ℕ) → IsLagging p.counter_0 turn k → IsUntilTurn one.after_ticks out_of (after_ticks p k).counter_0 (later_turn turn k)
+pub turns_later_0 : (p : PitState) (turn : Option ℕ) (k : ℕ) → IsLagging p.counter_0 turn k
+    → IsUntilTurn one.after_ticks out_of (after_ticks p k).counter_0 (later_turn turn k)
 turns_later_0 p turn k lag =
     subst (λ (q : PitState). IsUntilTurn one.after_ticks out_of q.counter_0 (later_turn turn k)) (sym (each_counter k p)) (turns_later p.counter_0 turn k lag)
 
-pub turns_later_2 : (p : PitState) (turn : Option ℕ) (k : ℕ) → IsLagging p.counter_2 turn k → IsUntilTurn one.after_ticks out_of (after_ticks p k).counter_2 (later_turn turn k)
+pub turns_later_2 : (p : PitState) (turn : Option ℕ) (k : ℕ) → IsLagging p.counter_2 turn k
+    → IsUntilTurn one.after_ticks out_of (after_ticks p k).counter_2 (later_turn turn k)
 turns_later_2 p turn k lag =
     subst (λ (q : PitState). IsUntilTurn one.after_ticks out_of q.counter_2 (later_turn turn k)) (sym (each_counter k p)) (turns_later p.counter_2 turn k lag)
 

@@ -45,7 +45,8 @@ settled_parts s still =
     }
 
 -- settled wires stay settled with another timer, whose gate 2 keeps its level and whose OUT0 is as it was
-parts_settled : (s : ChipsState) (p : PitState) (clock : ℕ) (m : MdaState) → Settled s → after_gate_wire p s.ppi ≡ p → p.counter_0.out ≡ s.pit.counter_0.out → after_settling (record s { clock = clock; pit = p; mda = m }) ≡ record s { clock = clock; pit = p; mda = m }
+parts_settled : (s : ChipsState) (p : PitState) (clock : ℕ) (m : MdaState) → Settled s → after_gate_wire p s.ppi ≡ p → p.counter_0.out ≡ s.pit.counter_0.out
+    → after_settling (record s { clock = clock; pit = p; mda = m }) ≡ record s { clock = clock; pit = p; mda = m }
 unfolding after_settling
 parts_settled s p clock m parts gate same =
     let t : ChipsState = record s { clock = clock; pit = p; mda = m } in
@@ -55,7 +56,8 @@ parts_settled s p clock m parts gate same =
     ∙ ap (λ (out : Line). record t { pic = after_line (after_line s.pic 0 out) 1 (from_bool (is_some s.keyboard.latch)) }) same
     ∙ ap (λ c. record t { pic = c }) parts.lines
 
-with_parts : (s : ChipsState) (clock : ℕ) (p : PitState) (m : MdaState) → clock ≡ s.clock → p ≡ s.pit → m ≡ s.mda → record s { clock = clock; pit = p; mda = m } ≡ s
+with_parts : (s : ChipsState) (clock : ℕ) (p : PitState) (m : MdaState) → clock ≡ s.clock → p ≡ s.pit → m ≡ s.mda
+    → record s { clock = clock; pit = p; mda = m } ≡ s
 with_parts s clock p m same_clock same_pit same_mda =
     ap (λ c. record s { clock = c; pit = p; mda = m }) same_clock
     ∙ ap (λ q. record s { pit = q; mda = m }) same_pit
@@ -111,7 +113,8 @@ clocks_to_turn n s some still steady =
 -- once IR0 has risen, and until it is taken, OUT0's last level alone counts
 
 wires_after : (s : ChipsState) (clock : ℕ) (p : PitState) (m : MdaState) (c : PicState) → Settled s → after_gate_wire p s.ppi ≡ p
-    → after_settling (record s { clock = clock; pit = p; mda = m; pic = c }) ≡ record s { clock = clock; pit = p; mda = m; pic = after_request_wires c p s.keyboard }
+    → after_settling (record s { clock = clock; pit = p; mda = m; pic = c })
+    ≡ record s { clock = clock; pit = p; mda = m; pic = after_request_wires c p s.keyboard }
 unfolding after_settling
 wires_after s clock p m c parts gate =
     let t : ChipsState = record s { clock = clock; pit = p; mda = m } in
@@ -120,7 +123,8 @@ wires_after s clock p m c parts gate =
     ∙ ap (λ q. record t { pit = q; pic = after_request_wires c q s.keyboard }) gate
 
 -- a clock after clocks that were leapt over
-settle_later : (n : ℕ) (s : ChipsState) → after_settling s ≡ s → contains s.pic.risen 0 ≡ true → after_clock (after_settling (after_leap s n)) ≡ after_settling (after_leap s (n + 1))
+settle_later : (n : ℕ) (s : ChipsState) → after_settling s ≡ s → contains s.pic.risen 0 ≡ true
+    → after_clock (after_settling (after_leap s n)) ≡ after_settling (after_leap s (n + 1))
 unfolding after_clock
 settle_later n s still risen =
     let parts : Settled s = settled_parts s still in
@@ -160,7 +164,8 @@ risen_clocks n s some still risen =
     ap (λ k. after_clocks s k) (sym whole) ∙ risen_more (n - 1) s still risen ∙ ap (λ k. after_settling (after_leap s k)) whole
 
 -- settled wires stay settled with a controller whose lines are as they were
-pub same_lines_settled : (s : ChipsState) (p : PicState) → length s.pic.high ≡ 8 → after_settling s ≡ s → p.high ≡ s.pic.high → after_settling (record s { pic = p }) ≡ record s { pic = p }
+pub same_lines_settled : (s : ChipsState) (p : PicState) → length s.pic.high ≡ 8 → after_settling s ≡ s → p.high ≡ s.pic.high
+    → after_settling (record s { pic = p }) ≡ record s { pic = p }
 same_lines_settled s p eight still same =
     let parts : Settled s = settled_parts s still in
     let zeroth : Line = s.pit.counter_0.out in
@@ -185,7 +190,8 @@ settled_leap n s still steady =
     (gate_stays ticks s.pit (port_b_line s.ppi 0) parts.gate) same
 
 -- settled wires stay settled while only the timer and the adapter go on and OUT0 stays
-pub settled_still : (s : ChipsState) (p : PitState) (clock ticks : ℕ) (m : MdaState) → after_settling s ≡ s → p ≡ pit.after_ticks s.pit ticks → IsSteady one.after_ticks out_of s.pit.counter_0 ticks
+pub settled_still : (s : ChipsState) (p : PitState) (clock ticks : ℕ) (m : MdaState)
+    → after_settling s ≡ s → p ≡ pit.after_ticks s.pit ticks → IsSteady one.after_ticks out_of s.pit.counter_0 ticks
     → after_settling (record s { clock = clock; pit = p; mda = m }) ≡ record s { clock = clock; pit = p; mda = m }
 settled_still s p clock ticks m still is steady =
     let parts : Settled s = settled_parts s still in
@@ -209,7 +215,8 @@ no_clocks s =
     let none : s.clock - s.clock ≡ 0 = omega arith in
     sym (ap (λ k. after_clocks s k) none ∙ iterate_zero after_clock s)
 
-pub more_clocks : (s t u : ChipsState) (n : ℕ) → s.clock ≤ t.clock → t ≡ after_clocks s (t.clock - s.clock) → u ≡ after_clocks t n → u.clock ≡ t.clock + n → u ≡ after_clocks s (u.clock - s.clock)
+pub more_clocks : (s t u : ChipsState) (n : ℕ) → s.clock ≤ t.clock → t ≡ after_clocks s (t.clock - s.clock)
+    → u ≡ after_clocks t n → u.clock ≡ t.clock + n → u ≡ after_clocks s (u.clock - s.clock)
 more_clocks s t u n before first second clock =
     let whole : t.clock - s.clock + n ≡ u.clock - s.clock = omega arith in
     second ∙ ap (λ x. after_clocks x n) first ∙ sym (iterate_add after_clock (t.clock - s.clock) n s) ∙ ap (λ k. after_clocks s k) whole

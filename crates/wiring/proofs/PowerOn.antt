@@ -58,11 +58,13 @@ arrival_empty : (s : ChipsState) (code : ℕ) → s.keyboard.latch ≡ None → 
 unfolding after_arrival
 arrival_empty s code empty = latch_kept s.keyboard code ∙ empty
 
-arrivals_settled : (codes : List ℕ) (s : ChipsState) → after_settling s ≡ s → s.keyboard.latch ≡ None → after_settling (after_arrivals s codes) ≡ after_arrivals s codes
+arrivals_settled : (codes : List ℕ) (s : ChipsState) → after_settling s ≡ s → s.keyboard.latch ≡ None
+    → after_settling (after_arrivals s codes) ≡ after_arrivals s codes
 arrivals_settled [] s still empty = still
 arrivals_settled (code ∷ codes) s still empty = arrivals_settled codes (after_arrival s code) (arrival_settled s code still empty) (arrival_empty s code empty)
 
-first_settled : (image : List (ℕ × ℕ)) (size sw1 sw2 : ℕ) (kind : TimerKind) → after_settling (power_on image size sw1 sw2 kind) ≡ power_on image size sw1 sw2 kind
+first_settled : (image : List (ℕ × ℕ)) (size sw1 sw2 : ℕ) (kind : TimerKind)
+    → after_settling (power_on image size sw1 sw2 kind) ≡ power_on image size sw1 sw2 kind
 unfolding after_settling power_on pit.power_on pit.after_gate counter.after_gate after_line
 first_settled image size sw1 sw2 kind = refl
 
@@ -70,8 +72,10 @@ empty_first : (image : List (ℕ × ℕ)) (size sw1 sw2 : ℕ) (kind : TimerKind
 unfolding power_on
 empty_first image size sw1 sw2 kind = refl
 
-pub power_on_settled : (image : List (ℕ × ℕ)) (size sw1 sw2 : ℕ) (kind : TimerKind) (codes : List ℕ) → after_settling (after_arrivals (power_on image size sw1 sw2 kind) codes) ≡ after_arrivals (power_on image size sw1 sw2 kind) codes
-power_on_settled image size sw1 sw2 kind codes = arrivals_settled codes (power_on image size sw1 sw2 kind) (first_settled image size sw1 sw2 kind) (empty_first image size sw1 sw2 kind)
+pub power_on_settled : (image : List (ℕ × ℕ)) (size sw1 sw2 : ℕ) (kind : TimerKind) (codes : List ℕ)
+    → after_settling (after_arrivals (power_on image size sw1 sw2 kind) codes) ≡ after_arrivals (power_on image size sw1 sw2 kind) codes
+power_on_settled image size sw1 sw2 kind codes =
+    arrivals_settled codes (power_on image size sw1 sw2 kind) (first_settled image size sw1 sw2 kind) (empty_first image size sw1 sw2 kind)
 
 -- line 6 of port B is 0, so no code moves
 ppi_after_arrival : (s : ChipsState) (code : ℕ) → (after_arrival s code).ppi ≡ s.ppi
@@ -90,7 +94,9 @@ quiet : (k : KeyboardState) (sw1 sw2 : ℕ) → keys.after_settling k (lines_b (
 unfolding keys.after_settling
 quiet k sw1 sw2 = refl
 
-pub power_on_keys_settled : (image : List (ℕ × ℕ)) (size sw1 sw2 : ℕ) (kind : TimerKind) (codes : List ℕ) → KeysSettled (after_arrivals (power_on image size sw1 sw2 kind) codes)
+pub power_on_keys_settled : (image : List (ℕ × ℕ)) (size sw1 sw2 : ℕ) (kind : TimerKind) (codes : List ℕ)
+    → KeysSettled (after_arrivals (power_on image size sw1 sw2 kind) codes)
 power_on_keys_settled image size sw1 sw2 kind codes =
-    ap (λ (ports : PpiState). keys.after_settling (after_arrivals (power_on image size sw1 sw2 kind) codes).keyboard (lines_b ports)) (ppi_after_arrivals codes (power_on image size sw1 sw2 kind) ∙ ppi_first image size sw1 sw2 kind)
+    ap (λ (ports : PpiState). keys.after_settling (after_arrivals (power_on image size sw1 sw2 kind) codes).keyboard (lines_b ports))
+    (ppi_after_arrivals codes (power_on image size sw1 sw2 kind) ∙ ppi_first image size sw1 sw2 kind)
     ∙ quiet (after_arrivals (power_on image size sw1 sw2 kind) codes).keyboard sw1 sw2

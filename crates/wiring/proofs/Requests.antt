@@ -24,7 +24,8 @@ written_twice set level b =
 abbrev pub risen_by : Bool → ℕ → Levels → Levels
 risen_by was_high level risen = if was_high then risen else with_level risen level
 
-risen_twice : (was_high now_high : Bool) (level : ℕ) (risen : Levels) → (was_high ≡ true → now_high ≡ true) → risen_by now_high level (risen_by was_high level risen) ≡ risen_by was_high level risen
+risen_twice : (was_high now_high : Bool) (level : ℕ) (risen : Levels) → (was_high ≡ true → now_high ≡ true)
+    → risen_by now_high level (risen_by was_high level risen) ≡ risen_by was_high level risen
 risen_twice true now_high level risen stays = ap (λ b. risen_by b level risen) (stays refl)
 risen_twice false true level risen stays = refl
 risen_twice false false level risen stays = written_twice risen level true
@@ -62,12 +63,17 @@ lines_either s n m High Low differ back =
     ap (λ high. record s { high = high; risen = risen_by (contains (without_level s.high m) n) n s.risen }) (sym (set_comm s.high n m true false differ))
     ∙ ap (λ b. record s { high = without_level (with_level s.high n) m; risen = risen_by b n s.risen }) (get_or-set_other s.high m n false false differ)
 lines_either s n m High High differ back =
-    ap (λ high. record s { high = high; risen = risen_by (contains (with_level s.high m) n) n (risen_by (contains s.high m) m s.risen) }) (sym (set_comm s.high n m true true differ))
-    ∙ ap (λ b. record s { high = with_level (with_level s.high n) m; risen = risen_by b n (risen_by (contains s.high m) m s.risen) }) (get_or-set_other s.high m n true false differ)
-    ∙ ap (λ risen. record s { high = with_level (with_level s.high n) m; risen = risen }) (risen_either (contains s.high n) (contains s.high m) n m s.risen differ)
-    ∙ ap (λ b. record s { high = with_level (with_level s.high n) m; risen = risen_by b m (risen_by (contains s.high n) n s.risen) }) (sym (get_or-set_other s.high n m true false back))
+    ap (λ high. record s { high = high; risen = risen_by (contains (with_level s.high m) n) n (risen_by (contains s.high m) m s.risen) })
+    (sym (set_comm s.high n m true true differ))
+    ∙ ap (λ b. record s { high = with_level (with_level s.high n) m; risen = risen_by b n (risen_by (contains s.high m) m s.risen) })
+    (get_or-set_other s.high m n true false differ)
+    ∙ ap (λ risen. record s { high = with_level (with_level s.high n) m; risen = risen })
+    (risen_either (contains s.high n) (contains s.high m) n m s.risen differ)
+    ∙ ap (λ b. record s { high = with_level (with_level s.high n) m; risen = risen_by b m (risen_by (contains s.high n) n s.risen) })
+    (sym (get_or-set_other s.high n m true false back))
 
-pub both_lines_twice : (s : PicState) (n m : ℕ) (a b : Line) → n ≢ m → m ≢ n → after_line (after_line (after_line (after_line s m b) n a) m b) n a ≡ after_line (after_line s m b) n a
+pub both_lines_twice : (s : PicState) (n m : ℕ) (a b : Line) → n ≢ m → m ≢ n
+    → after_line (after_line (after_line (after_line s m b) n a) m b) n a ≡ after_line (after_line s m b) n a
 both_lines_twice s n m a b differ back =
     ap (λ t. after_line t n a) (lines_either (after_line s m b) m n b a back differ)
     ∙ line_twice (after_line (after_line s m b) m b) n a
@@ -79,10 +85,12 @@ risen_stays : (was_high : Bool) (level : ℕ) (risen : Levels) → contains rise
 risen_stays true level risen is_in = refl
 risen_stays false level risen is_in = ap (λ b. slice_set risen level b) (sym is_in) ∙ set-get_or risen level false
 
-line_of_risen : (s : PicState) (level : ℕ) (line : Line) → contains s.risen level ≡ true → after_line s level line ≡ record s { high = slice_set s.high level (is_high line) }
+line_of_risen : (s : PicState) (level : ℕ) (line : Line) → contains s.risen level ≡ true
+    → after_line s level line ≡ record s { high = slice_set s.high level (is_high line) }
 unfolding after_line
 line_of_risen s level Low is_in = refl
-line_of_risen s level High is_in = ap (λ risen. record s { high = with_level s.high level; risen = risen }) (risen_stays (contains s.high level) level s.risen is_in)
+line_of_risen s level High is_in =
+    ap (λ risen. record s { high = with_level s.high level; risen = risen }) (risen_stays (contains s.high level) level s.risen is_in)
 
 line_again : (s : PicState) (level : ℕ) (a b : Line) → contains s.risen level ≡ true → after_line (after_line s level a) level b ≡ after_line s level b
 line_again s level a b is_in =

@@ -16,7 +16,8 @@ use Rattle.wiring.specs.WiringLaws.{SettlesOnce, KeysSettleOnce}
 use Rattle.wiring.proofs.Gates.{gate_2_twice}
 use Rattle.wiring.proofs.Requests.{both_lines_twice}
 
-cleared_twice : (b : Bool) (k : KeyboardState) → (if b then after_clearing (if b then after_clearing k else k) else (if b then after_clearing k else k)) ≡ (if b then after_clearing k else k)
+cleared_twice : (b : Bool) (k : KeyboardState)
+    → (if b then after_clearing (if b then after_clearing k else k) else (if b then after_clearing k else k)) ≡ (if b then after_clearing k else k)
 cleared_twice true k = refl
 cleared_twice false k = refl
 
@@ -29,7 +30,8 @@ below n m less same = omega arith
 pub above : (n m : ℕ) → n < m → m ≢ n
 above n m less same = omega arith
 
-requests_twice : (pic : PicState) (pit : PitState) (k : KeyboardState) → after_request_wires (after_request_wires pic pit k) pit k ≡ after_request_wires pic pit k
+requests_twice : (pic : PicState) (pit : PitState) (k : KeyboardState)
+    → after_request_wires (after_request_wires pic pit k) pit k ≡ after_request_wires pic pit k
 requests_twice pic pit k =
     let one : 0 < 1 = omega arith in
     both_lines_twice pic 1 0 (from_bool (is_some k.latch)) pit.counter_0.out (above 0 1 one) (below 0 1 one)
@@ -50,7 +52,8 @@ abbrev settled_by : Bool → Bool → KeyboardState → KeyboardState
 settled_by seventh sixth k = if seventh then after_clearing k else (if sixth && is_none k.latch then after_sending k else k)
 
 -- a code that moved in, or none that waited, leaves nothing to move
-moved_twice : (sixth : Bool) (waiting : List ℕ) (latch : Option ℕ) (lost : ℕ) → (let t : KeyboardState = settled_by false sixth (record { waiting = waiting; latch = latch; lost = lost }) in settled_by false sixth t ≡ t)
+moved_twice : (sixth : Bool) (waiting : List ℕ) (latch : Option ℕ) (lost : ℕ)
+    → (let t : KeyboardState = settled_by false sixth (record { waiting = waiting; latch = latch; lost = lost }) in settled_by false sixth t ≡ t)
 moved_twice false waiting latch lost = refl
 moved_twice true waiting (Some code) lost = refl
 moved_twice true [] None lost = refl
@@ -65,7 +68,8 @@ unfolding keys.after_settling
 keys_again k port_b = keys_twice (has_bit port_b 7) (has_bit port_b 6) k
 
 -- the wires empty no latch that the keyboard has settled
-cleared_by : (b : Bool) (k other : KeyboardState) → (if b then after_clearing (if b then after_clearing k else other) else (if b then after_clearing k else other)) ≡ (if b then after_clearing k else other)
+cleared_by : (b : Bool) (k other : KeyboardState)
+    → (if b then after_clearing (if b then after_clearing k else other) else (if b then after_clearing k else other)) ≡ (if b then after_clearing k else other)
 cleared_by true k other = refl
 cleared_by false k other = refl
 

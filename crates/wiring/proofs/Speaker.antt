@@ -63,7 +63,9 @@ unfolding is_speaker_high
 high_sound s = refl
 
 -- one write more
-pub more_written : (s : ChipsState) (writes : List (ℕ × ℕ)) (n : ℕ) (w : ℕ × ℕ) (sound : Sound) → n < length writes → sound ≡ sound_of (after_port_writes after_output s (take n writes)) → sound_after_output sound (get_or writes n w).0 (get_or writes n w).1 ≡ sound_of (after_port_writes after_output s (take (n + 1) writes))
+pub more_written : (s : ChipsState) (writes : List (ℕ × ℕ)) (n : ℕ) (w : ℕ × ℕ) (sound : Sound)
+    → n < length writes → sound ≡ sound_of (after_port_writes after_output s (take n writes))
+    → sound_after_output sound (get_or writes n w).0 (get_or writes n w).1 ≡ sound_of (after_port_writes after_output s (take (n + 1) writes))
 more_written s writes n w sound within is =
     let last : ℕ × ℕ = get_or writes n w in
     ap (λ x. sound_after_output x last.0 last.1) is
@@ -71,11 +73,14 @@ more_written s writes n w sound within is =
     ∙ ap sound_of (sym (fold_more (λ x v. after_output x v.0 v.1) s writes n w within))
 
 -- the parallel port after one write more
-pub more_written_ppi : (s : ChipsState) (writes : List (ℕ × ℕ)) (n : ℕ) (w : ℕ × ℕ) → n < length writes → (sound_after_write (sound_of (after_port_writes after_output s (take n writes))) (port_at (get_or writes n w).0) (get_or writes n w).1).ppi ≡ (after_port_writes after_output s (take (n + 1) writes)).ppi
+pub more_written_ppi : (s : ChipsState) (writes : List (ℕ × ℕ)) (n : ℕ) (w : ℕ × ℕ) → n < length writes
+    → (sound_after_write (sound_of (after_port_writes after_output s (take n writes))) (port_at (get_or writes n w).0) (get_or writes n w).1).ppi
+    ≡ (after_port_writes after_output s (take (n + 1) writes)).ppi
 more_written_ppi s writes n w within =
     ap (λ (sound : Sound). sound.ppi) (more_written s writes n w (sound_of (after_port_writes after_output s (take n writes))) within refl)
 
-pub level_told : (s : ChipsState) (writes : List (ℕ × ℕ)) → is_sound_high (sound_after_clock (sound_of (after_port_writes after_output s writes)) (s.clock + 1)) ≡ is_speaker_high_after s writes
+pub level_told : (s : ChipsState) (writes : List (ℕ × ℕ))
+    → is_sound_high (sound_after_clock (sound_of (after_port_writes after_output s writes)) (s.clock + 1)) ≡ is_speaker_high_after s writes
 unfolding is_speaker_high_after
 level_told s writes =
     ap (λ clock. is_sound_high (sound_after_clock (sound_of (after_port_writes after_output s writes)) (clock + 1))) (sym (clock_of_writes s writes))
@@ -83,7 +88,8 @@ level_told s writes =
     ∙ sym (high_sound (after_key_settling (after_clock (after_port_writes after_output s writes))))
 
 -- if port B holds the speaker low, it is low whatever the timer does
-pub stays_low : (s : ChipsState) (writes : List (ℕ × ℕ)) → has_bit (lines_b (after_port_writes after_output s writes).ppi) 1 ≡ false → is_speaker_high_after s writes ≡ false
+pub stays_low : (s : ChipsState) (writes : List (ℕ × ℕ)) → has_bit (lines_b (after_port_writes after_output s writes).ppi) 1 ≡ false
+    → is_speaker_high_after s writes ≡ false
 stays_low s writes low =
     let next : Sound = sound_after_clock (sound_of (after_port_writes after_output s writes)) (s.clock + 1) in
     sym (level_told s writes) ∙ ap (λ b. b && is_high next.pit.counter_2.out) low
@@ -100,7 +106,8 @@ ppi_of_output : (s t : ChipsState) (port byte : ℕ) → s.ppi ≡ t.ppi → (af
 unfolding after_output after_settling
 ppi_of_output s t port byte same = ppi_of_write s t (port_at port) byte same
 
-ppi_of_writes : (s t : ChipsState) (writes : List (ℕ × ℕ)) → s.ppi ≡ t.ppi → (after_port_writes after_output s writes).ppi ≡ (after_port_writes after_output t writes).ppi
+ppi_of_writes : (s t : ChipsState) (writes : List (ℕ × ℕ)) → s.ppi ≡ t.ppi
+    → (after_port_writes after_output s writes).ppi ≡ (after_port_writes after_output t writes).ppi
 ppi_of_writes s t [] same = same
 ppi_of_writes s t (w ∷ writes) same = ppi_of_writes (after_output s w.0 w.1) (after_output t w.0 w.1) writes (ppi_of_output s t w.0 w.1 same)
 
@@ -116,7 +123,8 @@ ppi_of_clocks s (suc n) =
     ∙ ppi_of_clock (after_clocks s n) ∙ ppi_of_clocks s n
 
 -- if port B holds the speaker low, it is low at any later clock
-pub stays_speaker_off : (s : ChipsState) (writes : List (ℕ × ℕ)) (clocks : ℕ) → has_bit (lines_b (after_port_writes after_output s writes).ppi) 1 ≡ false → is_speaker_high_after (after_clocks s clocks) writes ≡ false
+pub stays_speaker_off : (s : ChipsState) (writes : List (ℕ × ℕ)) (clocks : ℕ) → has_bit (lines_b (after_port_writes after_output s writes).ppi) 1 ≡ false
+    → is_speaker_high_after (after_clocks s clocks) writes ≡ false
 stays_speaker_off s writes clocks low =
     stays_low (after_clocks s clocks) writes
     (ap (λ p. has_bit (lines_b p) 1) (ppi_of_writes (after_clocks s clocks) s writes (ppi_of_clocks s clocks)) ∙ low)

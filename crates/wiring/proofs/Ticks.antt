@@ -37,7 +37,8 @@ none_of true = refl
 none_of false = refl
 
 -- under a low gate OUT stays high in modes 2 and 3, even if a count is loaded
-tick_out : (c : CounterState) (mode : Mode) (gate : Line) → out_at_gate mode gate c.out ≡ c.out → (let x : CounterState = one.after_tick (record c { mode = mode; gate = gate }) in out_at_gate mode gate x.out ≡ x.out)
+tick_out : (c : CounterState) (mode : Mode) (gate : Line) → out_at_gate mode gate c.out ≡ c.out
+    → (let x : CounterState = one.after_tick (record c { mode = mode; gate = gate }) in out_at_gate mode gate x.out ≡ x.out)
 unfolding one.after_tick
 tick_out c TerminalCount gate still = refl
 tick_out c OneShot gate still = refl
@@ -79,7 +80,8 @@ line_then_tick p line still =
 wire_then_tick : (p : PitState) (ppi : PpiState) → after_gate_wire p ppi ≡ p → after_gate_wire (pit.after_tick p) ppi ≡ pit.after_tick p
 wire_then_tick p ppi still = line_then_tick p (port_b_line ppi 0) still
 
-wire_then_clock : (b : Bool) (p : PitState) (ppi : PpiState) → after_gate_wire p ppi ≡ p → after_gate_wire (if b then pit.after_tick p else p) ppi ≡ (if b then pit.after_tick p else p)
+wire_then_clock : (b : Bool) (p : PitState) (ppi : PpiState) → after_gate_wire p ppi ≡ p
+    → after_gate_wire (if b then pit.after_tick p else p) ppi ≡ (if b then pit.after_tick p else p)
 wire_then_clock true p ppi still = wire_then_tick p ppi still
 wire_then_clock false p ppi still = still
 
@@ -101,7 +103,8 @@ settled_later (suc n) s still =
     ∙ sym (iterate_more after_clock n s) ∙ ap (after_clocks s) (sym more)
 
 -- one tick more if the number of the clock is divisible by 4
-pub more_ticks : (b : Bool) (p : PitState) (k : ℕ) → (if b then pit.after_tick (pit.after_ticks p k) else pit.after_ticks p k) ≡ pit.after_ticks p (k + (if b then 1 else 0))
+pub more_ticks : (b : Bool) (p : PitState) (k : ℕ)
+    → (if b then pit.after_tick (pit.after_ticks p k) else pit.after_ticks p k) ≡ pit.after_ticks p (k + (if b then 1 else 0))
 more_ticks true p k = sym (iterate_more pit.after_tick k p)
 more_ticks false p k = let none : k ≡ k + 0 = omega arith in ap (pit.after_ticks p) none
 

@@ -120,13 +120,15 @@ changed_at zeroth first second rule p =
     if zeroth then record p { counter_0 = c } else (if first then record p { counter_1 = c } else (if second then record p { counter_2 = c } else p))
 
 -- a timer of which one counter changes by a rule that leaves its gate keeps gates 0 and 1
-changed_by : (zeroth first second : Bool) (rule : CounterState → CounterState) (p : PitState) → ((c : CounterState) → (rule c).gate ≡ c.gate) → SameGates (changed_at zeroth first second rule p) p
+changed_by : (zeroth first second : Bool) (rule : CounterState → CounterState) (p : PitState)
+    → ((c : CounterState) → (rule c).gate ≡ c.gate) → SameGates (changed_at zeroth first second rule p) p
 changed_by true first second rule p keeps = record { gate_0 = keeps p.counter_0; gate_1 = refl }
 changed_by false true second rule p keeps = record { gate_0 = refl; gate_1 = keeps p.counter_1 }
 changed_by false false true rule p keeps = record { gate_0 = refl; gate_1 = refl }
 changed_by false false false rule p keeps = record { gate_0 = refl; gate_1 = refl }
 
-changed : (n : ℕ) (rule : CounterState → CounterState) (p : PitState) → ((c : CounterState) → (rule c).gate ≡ c.gate) → SameGates (with_counter p n (rule (counter p n))) p
+changed : (n : ℕ) (rule : CounterState → CounterState) (p : PitState) → ((c : CounterState) → (rule c).gate ≡ c.gate)
+    → SameGates (with_counter p n (rule (counter p n))) p
 changed n rule p keeps = changed_by (n == 0) (n == 1) (n == 2) rule p keeps
 
 pub write_gates : (p : PitState) (n byte : ℕ) → SameGates (pit.after_write p n byte) p

@@ -40,7 +40,8 @@ pub handle_told : (p : Ptr) (b : Bool) (vs : List Val) → shadow (handle_own p 
 handle_told p b vs s = s.1.0 ∙ (λ i. vstruct (of_list (s.1.1.0 i ++ (s.1.1.1.0 i ++ []))) ∷ [])
 
 pub handle_made : {M : Type 1} {𝓤 : Ura M} (𝓛 : Logic 𝓤) (p : Ptr) (b : Bool) → ent 𝓤 (emp 𝓤) (sem 𝓛 (handle_own p b (handle_val p b ∷ [])))
-handle_made 𝓛 p b = makes_shadow 𝓛 (handle_own p b (handle_val p b ∷ [])) (λ _. (tt, (tt, (tt, tt)))) ((ptr_val p ∷ [], (vbool b ∷ [], tt)), (refl, (refl, (refl, tt))))
+handle_made 𝓛 p b =
+    makes_shadow 𝓛 (handle_own p b (handle_val p b ∷ [])) (λ _. (tt, (tt, (tt, tt)))) ((ptr_val p ∷ [], (vbool b ∷ [], tt)), (refl, (refl, (refl, tt))))
 
 pub handle_typed : (p : Ptr) (b : Bool) → Good (ty_struct [] (tcons ty_ptr (tcons ty_bool tnil))) (handle_val p b)
 handle_typed (block_ptr b o) flag = (tt, (tt, (tt, tt)))
@@ -53,7 +54,8 @@ pair_val u v = vstruct (vcons u (vcons v vnil))
 pub pair_of : {M : Type 1} {𝓤 : Ura M} (𝓛 : Logic 𝓤) (R S : RattleType) (x : R.Denot) (y : S.Denot) (u v : Val)
     → ent 𝓤 (sep 𝓤 (sem 𝓛 (R.own_val x (u ∷ []))) (sem 𝓛 (S.own_val y (v ∷ [])))) (sem 𝓛 ((Tuple (R ∷ S ∷ [])).own_val (x, y) (pair_val u v ∷ [])))
 pair_of 𝓛 R S x y u v =
-    qed 𝓛 (‵ (R.own_val x (u ∷ [])) ∷ ‵ (S.own_val y (v ∷ [])) ∷ []) ∵ nothing ! $ move ! (2 ∷ 0 ∷ []) $ fjoin ! $ move ! (1 ∷ 0 ∷ []) $ fjoin ! $ feq_i ! (List Val) (pair_val u v ∷ []) (pair_val u v ∷ []) refl $ fjoin ! $
+    qed 𝓛 (‵ (R.own_val x (u ∷ [])) ∷ ‵ (S.own_val y (v ∷ [])) ∷ []) ∵ nothing ! $ move ! (2 ∷ 0 ∷ []) $ fjoin ! $
+    move ! (1 ∷ 0 ∷ []) $ fjoin ! $ feq_i ! (List Val) (pair_val u v ∷ []) (pair_val u v ∷ []) refl $ fjoin ! $
     fpack ! (Valss (R ∷ S ∷ [])) (within (shape (tuple_type (R ∷ S ∷ []))) (x, (y, tt)) (pair_val u v ∷ [])) (u ∷ [], (v ∷ [], tt)) $ done !
 
 -- what is there

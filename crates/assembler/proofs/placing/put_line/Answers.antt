@@ -12,8 +12,11 @@ content_is : (c : After-deref) → content_in c.args.located.now ≡ Some c.dere
 content_is c = ap (option_map box_value) c.in-Some-content.is ∙ ap (λ (x : Content). Some x) (sym c.deref.ensures)
 
 stands : (c : After-deref)
-    → CanStand c.args.symbols.now.entries (has_byte c.args.image.now) c.args.located.now.has_label c.in-Some.location c.args.located.now.size (Some c.deref.result.now)
-stands c = kept_stands c.args.symbols.now.entries (has_byte c.args.image.now) c.args.located.now c.in-Some.location (Some c.deref.result.now) c.in-Some.is (content_is c) c.requires.free
+    → CanStand c.args.symbols.now.entries (has_byte c.args.image.now) c.args.located.now.has_label
+    c.in-Some.location c.args.located.now.size (Some c.deref.result.now)
+stands c =
+    kept_stands c.args.symbols.now.entries (has_byte c.args.image.now) c.args.located.now c.in-Some.location
+    (Some c.deref.result.now) c.in-Some.is (content_is c) c.requires.free
 
 has_size : (c : After-deref) → HasSizeAt c.args.symbols.now.entries c.in-Some.location c.args.located.now.size (Some c.deref.result.now)
 has_size c = kept_size c.args.symbols.now.entries c.args.located.now c.in-Some.location (Some c.deref.result.now) c.in-Some.is (content_is c) c.requires.size
@@ -21,18 +24,19 @@ has_size c = kept_size c.args.symbols.now.entries c.args.located.now c.in-Some.l
 -- what the row places has no fault
 pub content_bytes-requires-clause-free : goal.content_bytes-requires-clause-free
 content_bytes-requires-clause-free c =
-    content_free c.args.symbols.now.entries (has_byte c.args.image.now) c.args.located.now.has_label c.in-Some.location c.args.located.now.size (Some c.deref.result.now) (stands c)
+    content_free c.args.symbols.now.entries (has_byte c.args.image.now) c.args.located.now.has_label
+    c.in-Some.location c.args.located.now.size (Some c.deref.result.now) (stands c)
 
 -- the row's bytes are within the segment
 pub put_bytes-requires-clause-within : goal.put_bytes-requires-clause-within
 put_bytes-requires-clause-within c =
     let from = (goal.at.put_bytes-requires-clause-within c).After-deref in
-    bytes_within c.args.symbols.now.entries (has_byte c.args.image.now) c.args.located.now.has_label c.in-Some.location c.args.located.now.size (Some c.deref.result.now)
-    c.as_slice.result.now (stands from) (has_size from) (c.as_slice.ensures.value ∙ c.in_ok-bytes.ensures)
+    bytes_within c.args.symbols.now.entries (has_byte c.args.image.now) c.args.located.now.has_label c.in-Some.location c.args.located.now.size
+    (Some c.deref.result.now) c.as_slice.result.now (stands from) (has_size from) (c.as_slice.ensures.value ∙ c.in_ok-bytes.ensures)
 
 -- the board can be loaded at the addresses of the row's bytes
 pub put_bytes-requires-clause-loadable : goal.put_bytes-requires-clause-loadable
 put_bytes-requires-clause-loadable c =
     let from = (goal.at.put_bytes-requires-clause-loadable c).After-deref in
-    bytes_loadable c.args.symbols.now.entries (has_byte c.args.image.now) c.args.located.now.has_label c.in-Some.location c.args.located.now.size (Some c.deref.result.now)
-    c.as_slice.result.now (stands from) (has_size from) (c.as_slice.ensures.value ∙ c.in_ok-bytes.ensures)
+    bytes_loadable c.args.symbols.now.entries (has_byte c.args.image.now) c.args.located.now.has_label c.in-Some.location c.args.located.now.size
+    (Some c.deref.result.now) c.as_slice.result.now (stands from) (has_size from) (c.as_slice.ensures.value ∙ c.in_ok-bytes.ensures)

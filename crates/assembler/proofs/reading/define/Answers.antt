@@ -7,7 +7,8 @@ use Rattle.assembler.proofs.reading.define.Goals as goal
 
 pub returns : goal.returns
 returns c =
-    let undefined : is_defined c.args.symbols.now.entries c.in-Some.name ≡ false = subst (λ d. IsNewDefinition c.args.symbols.now.entries d) c.in-Some.is c.requires in
+    let undefined : is_defined c.args.symbols.now.entries c.in-Some.name ≡ false =
+    subst (λ d. IsNewDefinition c.args.symbols.now.entries d) c.in-Some.is c.requires in
     c.in_ok-insert.ensures.entries
     ∙ insert_entry-new _ c.args.symbols.now c.in-Some.name c.in-Some.symbol (none_is (meaning c.args.symbols.now.entries c.in-Some.name) undefined)
     ∙ ap (λ d. c.args.symbols.now.entries ++ definition_names d) (sym c.in-Some.is)

@@ -7,7 +7,8 @@ pub returns-in-39-clause-some : goal.returns-in-39-clause-some
 unfolding lexemes
 returns-in-39-clause-some c =
     rw (c.split_at.ensures.front, c.split_at.ensures.back)
-    (sym c.skip_blanks-text.ensures.same ∙ text_at c.skip_blanks-text.result.now c.text_length.result c.in-39.len_at_least (omega arith) c.text_length.ensures.size)
+    (sym c.skip_blanks-text.ensures.same
+    ∙ text_at c.skip_blanks-text.result.now c.text_length.result c.in-39.len_at_least (omega arith) c.text_length.ensures.size)
 
 pub returns-in-len1-up-clause-some : goal.returns-in-len1-up-clause-some
 unfolding lexemes

@@ -15,6 +15,7 @@ returns-then-digit-base c =
 pub returns-then-longer : goal.returns-then-longer
 unfolding number_to
 returns-then-longer c =
-    let large : 4294967296 ≤ c.loop-byte.number * c.args.base + digit_of (get_or c.args.digits.now c.loop-byte.byte-index 0) = omega (arith, c.digit_of-digit.ensures) in
+    let large : 4294967296 ≤ c.loop-byte.number * c.args.base + digit_of (get_or c.args.digits.now c.loop-byte.byte-index 0) =
+    omega (arith, c.digit_of-digit.ensures) in
     large_at c.args.base c.loop-byte.number c.loop-byte.byte-index c.args.digits.now c.requires.low c.loop-byte-test.true large
     ∙ ap (option_and_then in_bounds) c.loop-byte.invariant.rest

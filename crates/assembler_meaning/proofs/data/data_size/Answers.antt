@@ -9,7 +9,8 @@ overflow_add-size c =
     let each_is = c.pieces_size.ensures.value ∙ ap (pieces_size c.args.width) c.item_pieces.ensures in
     let light = c.pieces_size.ensures.bound in
     let weight = ap pieces_weight c.item_pieces.ensures in
-    let adds = item_adds c.args.symbols.now.entries c.args.width c.args.items.now c.loop-item.item-index c.item-item.result c.item_count.result c.pieces_size.result c.loop-item-test.true c.item-item.is c.loop-item.invariant.counts c.item_count.ensures each_is (omega (arith, light, weight)) in
+    let adds = item_adds c.args.symbols.now.entries c.args.width c.args.items.now c.loop-item.item-index c.item-item.result c.item_count.result
+    c.pieces_size.result c.loop-item-test.true c.item-item.is c.loop-item.invariant.counts c.item_count.ensures each_is (omega (arith, light, weight)) in
     omega arith
 
 pub loop-item-preserved : goal.loop-item-preserved
@@ -17,7 +18,8 @@ loop-item-preserved c =
     let each_is = c.pieces_size.ensures.value ∙ ap (pieces_size c.args.width) c.item_pieces.ensures in
     let light = c.pieces_size.ensures.bound in
     let weight = ap pieces_weight c.item_pieces.ensures in
-    let adds = item_adds c.args.symbols.now.entries c.args.width c.args.items.now c.loop-item.item-index c.item-item.result c.item_count.result c.pieces_size.result c.loop-item-test.true c.item-item.is c.loop-item.invariant.counts c.item_count.ensures each_is (omega (arith, light, weight)) in
+    let adds = item_adds c.args.symbols.now.entries c.args.width c.args.items.now c.loop-item.item-index c.item-item.result c.item_count.result
+    c.pieces_size.result c.loop-item-test.true c.item-item.is c.loop-item.invariant.counts c.item_count.ensures each_is (omega (arith, light, weight)) in
     record {
       rest = omega arith;
       bound = omega arith;

@@ -7,6 +7,7 @@ use Rattle.assembler_meaning.proofs.data.do_pieces_fit.Given as goal
 
 abbrev pub invariant-loop-piece : goal.invariant-loop-piece
 invariant-loop-piece l = record {
-  rest : list_all (does_piece_fit l.symbols.entries l.here l.width) (drop l.piece-index l.pieces) ≡ list_all (does_piece_fit l.symbols.entries l.here l.width) l.pieces;
+  rest : list_all (does_piece_fit l.symbols.entries l.here l.width) (drop l.piece-index l.pieces)
+      ≡ list_all (does_piece_fit l.symbols.entries l.here l.width) l.pieces;
   short : list_all (is_piece_within term_limit) (drop l.piece-index l.pieces) ≡ true;
 }

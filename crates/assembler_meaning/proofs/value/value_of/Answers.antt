@@ -12,6 +12,8 @@ loop-term-preserved c =
     let few = few_terms c.args.expression.now c.terms.result.1.now c.terms.result.0 c.requires.short c.terms.ensures in
     let is = sum_kept (c.loop-term.term-index + 1) sum value (omega arith) more small in
     record {
-      rest = rw is (sym (value_more c.args.symbols.now.entries c.args.here c.terms.result.1.now c.loop-term.term-index _ sum value c.loop-term-test.true (sym c.in_ok-sum-2.ensures.value)) ∙ c.loop-term.invariant.rest);
+      rest = rw is (sym (value_more c.args.symbols.now.entries c.args.here c.terms.result.1.now
+          c.loop-term.term-index _ sum value c.loop-term-test.true (sym c.in_ok-sum-2.ensures.value))
+          ∙ c.loop-term.invariant.rest);
       small = rw is more;
     }

@@ -25,11 +25,13 @@ returns-then-length-gt0-clause-entries c =
     c.add_instruction.ensures.entries
     ∙ ap (λ xs. last 32 (c.args.trail.now ++ xs))
     ((λ k. record { clock = c.args.chips.now.clock; cs = c.cs.ensures k; ip = c.ip.ensures k; event = event_in c.args.decoded.now 0 } ∷ [])
-    ∙ ap (entry_at s) (sym (keeps_start c.args.cpu.now c.args.chips.now c.args.decoded.now c.requires.exact (subst (λ n. 0 < n) c.length.ensures c.if-length-gt0.true))))
+    ∙ ap (entry_at s)
+    (sym (keeps_start c.args.cpu.now c.args.chips.now c.args.decoded.now c.requires.exact (subst (λ n. 0 < n) c.length.ensures c.if-length-gt0.true))))
 
 pub returns-else-length-gt0-clause-entries : goal.returns-else-length-gt0-clause-entries
 returns-else-length-gt0-clause-entries c =
     let s : Plain = record { cpu = c.args.cpu.now; busy = 0; chips = c.args.chips.now; keys = []; clocks = C1 } in
     nothing_added 32 c.args.trail.now c.requires.few
     ∙ ap (λ xs. last 32 (c.args.trail.now ++ xs))
-    (ap (entry_at s) (sym (no_start c.args.cpu.now c.args.chips.now c.args.decoded.now c.requires.exact (subst (λ n. n ≤ 0) c.length.ensures c.if-length-gt0.false))))
+    (ap (entry_at s)
+    (sym (no_start c.args.cpu.now c.args.chips.now c.args.decoded.now c.requires.exact (subst (λ n. n ≤ 0) c.length.ensures c.if-length-gt0.false))))

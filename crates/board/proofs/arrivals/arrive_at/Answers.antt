@@ -15,11 +15,13 @@ pub returns-then-get-clock-clause-chips : goal.returns-then-get-clock-clause-chi
 returns-then-get-clock-clause-chips c =
     let differs : (get_or c.args.keys.now c.loop-index.index c.index-keys-index.result).stamp ≢ c.args.clock =
     λ e. c.if-get-clock.true (c.get.ensures.value ∙ ap (λ (k : StampedKey). k.stamp) c.index-keys-index.is ∙ e) in
-    let all = arrived_before c.args.next c.loop-index.index c.args.clock c.args.keys.now c.index-keys-index.result c.requires.in_order c.requires.awaits c.loop-index.invariant.2 c.loop-index-test.true differs in
+    let all = arrived_before c.args.next c.loop-index.index c.args.clock c.args.keys.now c.index-keys-index.result
+    c.requires.in_order c.requires.awaits c.loop-index.invariant.2 c.loop-index-test.true differs in
     c.loop-index.invariant.0 ∙ ap (λ codes. after_arrivals c.args.chips.now codes) (sym all.codes)
 
 pub returns-then-get-clock-clause-awaits : goal.returns-then-get-clock-clause-awaits
 returns-then-get-clock-clause-awaits c =
     let differs : (get_or c.args.keys.now c.loop-index.index c.index-keys-index.result).stamp ≢ c.args.clock =
     λ e. c.if-get-clock.true (c.get.ensures.value ∙ ap (λ (k : StampedKey). k.stamp) c.index-keys-index.is ∙ e) in
-    (arrived_before c.args.next c.loop-index.index c.args.clock c.args.keys.now c.index-keys-index.result c.requires.in_order c.requires.awaits c.loop-index.invariant.2 c.loop-index-test.true differs).awaits
+    (arrived_before c.args.next c.loop-index.index c.args.clock c.args.keys.now c.index-keys-index.result
+    c.requires.in_order c.requires.awaits c.loop-index.invariant.2 c.loop-index-test.true differs).awaits

@@ -12,10 +12,12 @@ use Rattle.board_plain.proofs.Quiet.{none_comes}
 use Rattle.board.proofs.arrivals.let_arrive.Goals as goal
 
 -- no stamp is that of the clock
-none : (a : Arrived) (clock : ℕ) (keys : List StampedKey) → 1 ≤ clock → HaveArrived a clock keys → ComesAfter clock a.next → All (λ k. (k.stamp ≤ clock - 1) ⊎ (clock - 1 + 1 < k.stamp)) keys
+none : (a : Arrived) (clock : ℕ) (keys : List StampedKey) → 1 ≤ clock → HaveArrived a clock keys → ComesAfter clock a.next
+    → All (λ k. (k.stamp ≤ clock - 1) ⊎ (clock - 1 + 1 < k.stamp)) keys
 none a clock keys some have later =
     let whole : clock ≡ clock - 1 + 1 = omega (arith, some) in
-    no_key_by (clock - 1) 1 keys a.next (next_of a (clock - 1) keys (subst (λ n. HaveArrived a n keys) whole have)) (subst (λ n. ComesAfter n a.next) whole later)
+    no_key_by (clock - 1) 1 keys a.next (next_of a (clock - 1) keys (subst (λ n. HaveArrived a n keys) whole have))
+    (subst (λ n. ComesAfter n a.next) whole later)
 
 pub returns-then-comes_after-clause-chips : goal.returns-then-comes_after-clause-chips
 returns-then-comes_after-clause-chips c =
@@ -29,5 +31,6 @@ pub returns-then-comes_after-clause-arrived : goal.returns-then-comes_after-clau
 returns-then-comes_after-clause-arrived c =
     let some = c.requires.some in
     let whole : c.args.clock ≡ c.args.clock - 1 + 1 = omega (arith, some) in
-    have_later c.args.arrived.now (c.args.clock - 1) 1 c.args.clock c.args.keys.now (subst (λ n. HaveArrived c.args.arrived.now n c.args.keys.now) whole c.requires.arrived)
+    have_later c.args.arrived.now (c.args.clock - 1) 1 c.args.clock c.args.keys.now
+    (subst (λ n. HaveArrived c.args.arrived.now n c.args.keys.now) whole c.requires.arrived)
     (none c.args.arrived.now c.args.clock c.args.keys.now some c.requires.arrived (c.comes_after.ensures c.if-comes_after.true)) whole

@@ -6,7 +6,8 @@ use Rattle.board_types.proofs.text.next_line.Goals as goal
 pub returns-in-empty-clause-some : goal.returns-in-empty-clause-some
 returns-in-empty-clause-some c =
     rw c.split_at.ensures.front
-    (last_at c.args.text.now c.length_before.result c.split_at.result.1.now (sym c.is_empty.ensures ∙ c.if-is_empty.false) c.length_before.ensures.size c.split_at.ensures.back c.in-empty.len_below)
+    (last_at c.args.text.now c.length_before.result c.split_at.result.1.now
+    (sym c.is_empty.ensures ∙ c.if-is_empty.false) c.length_before.ensures.size c.split_at.ensures.back c.in-empty.len_below)
 
 pub returns-in-len1-up-clause-some : goal.returns-in-len1-up-clause-some
 returns-in-len1-up-clause-some c =

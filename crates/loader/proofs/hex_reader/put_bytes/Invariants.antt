@@ -7,5 +7,6 @@ abbrev pub invariant-loop-byte : goal.invariant-loop-byte
 invariant-loop-byte l = record {
   at : l.at ≡ l.offset + l.byte-index;
   loadable : are_loadable (placed_bytes l.extension l.at (drop l.byte-index l.bytes)) ≡ are_loadable (placed_bytes l.extension l.offset l.bytes);
-  image : with_bytes l.image (placed_bytes l.extension l.at (drop l.byte-index l.bytes)) ≡ with_bytes l.initial.image (placed_bytes l.extension l.offset l.bytes);
+  image : with_bytes l.image (placed_bytes l.extension l.at (drop l.byte-index l.bytes))
+      ≡ with_bytes l.initial.image (placed_bytes l.extension l.offset l.bytes);
 }

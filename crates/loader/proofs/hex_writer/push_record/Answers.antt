@@ -13,5 +13,6 @@ loop-byte-preserved c = record {
 
 pub returns-clause-line : goal.returns-clause-line
 returns-clause-line c =
-    line_whole c.args.text.now.items c.loop-byte.text.items c.push_byte-2.new.text.items c.push-2.new.self.items c.args.bytes.now c.loop-byte.byte-index c.loop-byte-test.false
-    c.loop-byte.invariant.items (c.push_byte-2.ensures.digits ∙ ap (λ b. c.loop-byte.text.items ++ encode_upper (b ∷ [])) c.checksum.ensures) c.push-2.ensures.items
+    line_whole c.args.text.now.items c.loop-byte.text.items c.push_byte-2.new.text.items c.push-2.new.self.items
+    c.args.bytes.now c.loop-byte.byte-index c.loop-byte-test.false c.loop-byte.invariant.items
+    (c.push_byte-2.ensures.digits ∙ ap (λ b. c.loop-byte.text.items ++ encode_upper (b ∷ [])) c.checksum.ensures) c.push-2.ensures.items

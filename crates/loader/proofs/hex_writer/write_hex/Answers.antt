@@ -32,7 +32,8 @@ loop-address-init g c = record {
 
 pub loop-address-preserved-then-is_none : goal.loop-address-preserved-then-is_none
 loop-address-preserved-then-is_none g c =
-    let none : image_byte c.args.image.now c.loop-address.address ≡ None = sym c.get.ensures.byte ∙ none_is c.get.result c.is_none.result c.is_none.ensures c.if-is_none.true in
+    let none : image_byte c.args.image.now c.loop-address.address ≡ None =
+    sym c.get.ensures.byte ∙ none_is c.get.result c.is_none.result c.is_none.ensures c.if-is_none.true in
     let t = c.loop-address.invariant.text in record {
       is_image = λ some. c.get.ensures.is_image;
       text = (t.0, t.1, ap (λ r. t.0 ++ hex_lines c.loop-address.bank 0 r) (sym (gets_none c.loop-address.address c.args.image.now none)) ∙ t.2);
@@ -42,7 +43,8 @@ pub loop-address-smaller : goal.loop-address-smaller
 loop-address-smaller g c =
     let there = some_is c.get.result c.is_none.result c.is_none.ensures c.if-is_none.false in
     let some : image_byte c.args.image.now c.loop-address.address ≡ Some there.0 = sym c.get.ensures.byte ∙ there.1 in
-    let size : c.len.result ≡ length (longest_run (bytes_from c.args.image.now c.loop-address.address) c.loop-address.address 16) = c.len.ensures.value ∙ ap length c.row_at-row.ensures in
+    let size : c.len.result ≡ length (longest_run (bytes_from c.args.image.now c.loop-address.address) c.loop-address.address 16) =
+    c.len.ensures.value ∙ ap length c.row_at-row.ensures in
     omega (arith, size, some_row c.loop-address.address there.0 c.args.image.now c.get.ensures.is_image.rising some, c.loop-address-test.true)
 
 pub loop-address-preserved : goal.loop-address-preserved
@@ -63,7 +65,8 @@ loop-address-preserved g c =
       text = (
         t.0 ++ row_lines bank a row,
         Appends-trans _ _ _ t.0 (row_lines bank a row) t.1 wrote,
-        rw size (append_assoc t.0 (row_lines bank a row) _ ∙ ap (λ r. t.0 ++ r) (sym (row_before a there.0 image bank c.get.ensures.is_image.rising some)) ∙ t.2),
+        rw size
+            (append_assoc t.0 (row_lines bank a row) _ ∙ ap (λ r. t.0 ++ r) (sym (row_before a there.0 image bank c.get.ensures.is_image.rising some)) ∙ t.2),
       );
     }
 
@@ -72,9 +75,12 @@ returns g c =
     let image = c.args.image.now in
     let t = c.loop-address.invariant.text in
     let is_image : IsImage image = c.loop-address.invariant.is_image (omega (arith, c.loop-address-test.false)) in
-    let none : bytes_from image c.loop-address.address ≡ [] = from_end c.loop-address.address image (recursion_from_All IsLoadable (keys_of image) is_image.loadable) c.loop-address-test.false in
+    let none : bytes_from image c.loop-address.address ≡ [] =
+    from_end c.loop-address.address image (recursion_from_All IsLoadable (keys_of image) is_image.loadable) c.loop-address-test.false in
     let whole : t.0 ++ end_line ≡ hex_text image = ap (λ r. t.0 ++ hex_lines c.loop-address.bank 0 r) (sym none) ∙ t.2 in
-    ended c.write_text-2.result (λ wrote. subst (λ bytes. Appends (g.W.Write.contents c.args.to.now) (g.W.Write.contents c.write_text-2.new.to) bytes) whole (Appends-trans _ _ _ t.0 end_line t.1 wrote)) c.write_text-2.ensures
+    ended c.write_text-2.result (λ wrote. subst (λ bytes. Appends (g.W.Write.contents c.args.to.now) (g.W.Write.contents c.write_text-2.new.to) bytes) whole
+    (Appends-trans _ _ _ t.0 end_line t.1 wrote))
+    c.write_text-2.ensures
   where
     ended : {T E P Q : Type 0} (r : Result T E) → (P → Q) → OnOk r P → OnOk r Q
     ended (Ok x) more wrote = more wrote

@@ -13,7 +13,8 @@ loop-last-preserved c =
 pub returns-then-last-ne32 : goal.returns-then-last-ne32
 returns-then-last-ne32 c =
     let is = c.in-Some.ensures.cases.0 in
-    is ∙ sym (others_stay c.in-Some.front.now c.in-Some.last.now (other c.in-Some.last.now c.if-last-ne32.true)) ∙ ap without_spaces (sym is) ∙ c.loop-last.invariant
+    is ∙ sym (others_stay c.in-Some.front.now c.in-Some.last.now (other c.in-Some.last.now c.if-last-ne32.true))
+    ∙ ap without_spaces (sym is) ∙ c.loop-last.invariant
   where
     other : (b : ℕ) → b ≢ 32 → (b == 32) ≡ false
     other b differs = grind (arith, nat_tests)

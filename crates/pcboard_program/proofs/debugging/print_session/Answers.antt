@@ -17,15 +17,20 @@ pub returns-clause-transcript : goal.returns-clause-transcript
 returns-clause-transcript g c =
     subst
     (λ (session : _). OnOk c.answer_lines-answered.result (IfSome (g.I.ByteInput.remaining c.args.input.now)
-    (λ typed. AppendsA (Transcript g.T.Tool.answers session (input_lines typed)) (g.O.Write.contents c.args.out.now) (g.O.Write.contents c.answer_lines-answered.new.out)))) c.in_ok-session.ensures.session c.answer_lines-answered.ensures.transcript
+    (λ typed. AppendsA (Transcript g.T.Tool.answers session (input_lines typed))
+    (g.O.Write.contents c.args.out.now) (g.O.Write.contents c.answer_lines-answered.new.out))))
+    c.in_ok-session.ensures.session c.answer_lines-answered.ensures.transcript
 
 pub returns-clause-cut : goal.returns-clause-cut
 returns-clause-cut g c =
     or_nothing (g.O.Write.contents c.answer_lines-answered.new.out ≡ g.O.Write.contents c.args.out.now) _ c.answer_lines-answered.result
     (subst
     (λ (session : _). IfErr c.answer_lines-answered.result (WhereRefused (IfSome (g.I.ByteInput.remaining c.args.input.now)
-    (λ typed. AppendsA (BeginsTranscript g.T.Tool.answers session (input_lines typed)) (g.O.Write.contents c.args.out.now) (g.O.Write.contents c.answer_lines-answered.new.out))))) c.in_ok-session.ensures.session c.answer_lines-answered.ensures.cut)
+    (λ typed. AppendsA (BeginsTranscript g.T.Tool.answers session (input_lines typed))
+    (g.O.Write.contents c.args.out.now) (g.O.Write.contents c.answer_lines-answered.new.out)))))
+    c.in_ok-session.ensures.session c.answer_lines-answered.ensures.cut)
 
 pub returns-clause-end : goal.returns-clause-end
 returns-clause-end g c =
-    unjudged_wider c.answer_lines-answered.result (λ fault. fault ≡ want_of_board) (λ fault. fault ≡ want_of_board ⊎ fault ≡ want_of_session) (λ fault is. inl is) c.answer_lines-answered.ensures.end
+    unjudged_wider c.answer_lines-answered.result (λ fault. fault ≡ want_of_board)
+    (λ fault. fault ≡ want_of_board ⊎ fault ≡ want_of_session) (λ fault is. inl is) c.answer_lines-answered.ensures.end

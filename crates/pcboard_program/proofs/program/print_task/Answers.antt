@@ -13,7 +13,8 @@ returns-in_ok-report-in-Stored-clause-printed g c =
     let old = g.O.Write.contents c.args.out.now in
     let new = g.O.Write.contents c.print_report.new.out in
     subst (λ task. OnOk c.print_report.result (PrintsTask g.T.Tool.answers task (g.F.Opener.file_bytes c.args.files.now) input old new)) (sym c.in-Stored.is)
-    (on_ok_weaker c.print_report.result (printed_stored input old new (string_bytes c.in_ok-report-in-Stored.report.text) c.in_ok-report-in-Stored.ensures.report)
+    (on_ok_weaker c.print_report.result
+    (printed_stored input old new (string_bytes c.in_ok-report-in-Stored.report.text) c.in_ok-report-in-Stored.ensures.report)
     c.print_report.ensures.printed)
 
 pub returns-in_ok-report-in-Run-clause-printed : goal.returns-in_ok-report-in-Run-clause-printed
@@ -21,7 +22,8 @@ returns-in_ok-report-in-Run-clause-printed g c =
     let files = g.F.Opener.file_bytes c.args.files.now in
     let old = g.O.Write.contents c.args.out.now in
     let new = g.O.Write.contents c.print_report-in-Run.new.out in
-    subst (λ task. OnOk c.print_report-in-Run.result (PrintsTask g.T.Tool.answers task files (g.I.ByteInput.remaining c.args.input.now) old new)) (sym c.in-Run.is)
+    subst (λ task. OnOk c.print_report-in-Run.result (PrintsTask g.T.Tool.answers task files (g.I.ByteInput.remaining c.args.input.now) old new))
+    (sym c.in-Run.is)
     (on_ok_weaker c.print_report-in-Run.result (printed_run (files c.in-Run.file.now) (files c.in-Run.run'.now) old new c.in-Run.hex
     (string_bytes c.in_ok-report-in-Run.report.text) c.in_ok-report-in-Run.ensures.report) c.print_report-in-Run.ensures.printed)
 
@@ -32,7 +34,8 @@ returns-in_ok-board-in-Debug-clause-withheld g c =
     let old = g.O.Write.contents c.args.out.now in
     let new = g.O.Write.contents c.print_session.new.out in
     subst (λ task. IfErr c.print_session.result (WhereRefused (new ≡ old ⊎ PrintsReplies g.T.Tool.answers task files input old new))) (sym c.in-Debug.is)
-    (replies_withheld g.T.Tool.answers c.print_session.result (files c.in-Debug.file.now) (files c.in-Debug.run'.now) input old new c.in-Debug.hex c.in_ok-board-in-Debug.board
+    (replies_withheld g.T.Tool.answers c.print_session.result (files c.in-Debug.file.now)
+    (files c.in-Debug.run'.now) input old new c.in-Debug.hex c.in_ok-board-in-Debug.board
     c.in_ok-board-in-Debug.ensures.board c.print_session.ensures.cut)
 
 pub returns-in_ok-board-in-Debug-clause-printed : goal.returns-in_ok-board-in-Debug-clause-printed
@@ -42,5 +45,6 @@ returns-in_ok-board-in-Debug-clause-printed g c =
     let old = g.O.Write.contents c.args.out.now in
     let new = g.O.Write.contents c.print_session.new.out in
     subst (λ task. OnOk c.print_session.result (PrintsTask g.T.Tool.answers task files input old new)) (sym c.in-Debug.is)
-    (on_ok_weaker c.print_session.result (printed_session g.T.Tool.answers (files c.in-Debug.file.now) (files c.in-Debug.run'.now) input old new c.in-Debug.hex c.in_ok-board-in-Debug.board
+    (on_ok_weaker c.print_session.result
+    (printed_session g.T.Tool.answers (files c.in-Debug.file.now) (files c.in-Debug.run'.now) input old new c.in-Debug.hex c.in_ok-board-in-Debug.board
     c.in_ok-board-in-Debug.ensures.board) c.print_session.ensures.transcript)

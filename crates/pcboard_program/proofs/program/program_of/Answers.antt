@@ -9,7 +9,8 @@ use Rattle.pcboard_program.proofs.program.program_of.Goals as goal
 
 pub returns-in-Err-Usage-clause-lacking : goal.returns-in-Err-Usage-clause-lacking
 returns-in-Err-Usage-clause-lacking g c = λ task names lacks.
-    let same : c.in-Err-Usage.field-0 ≡ Memory = g.met.T.Tool.one_task (map (λ word. word.now) c.args.words.now) task (Err c.in-Err-Usage.field-0) names c.in-Err-Usage.ensures in
+    let same : c.in-Err-Usage.field-0 ≡ Memory =
+    g.met.T.Tool.one_task (map (λ word. word.now) c.args.words.now) task (Err c.in-Err-Usage.field-0) names c.in-Err-Usage.ensures in
     let never : Usage c.in-Err-Usage.text ≡ Memory = sym c.in-Err-Usage.field-0-is ∙ same in cc
 
 pub returns-in-Ok-print_task-clause-lacking : goal.returns-in-Ok-print_task-clause-lacking

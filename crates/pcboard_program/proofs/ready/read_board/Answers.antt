@@ -13,7 +13,8 @@ returns-clause-board g c =
 
 pub returns-in_err-board_of-clause-end : goal.returns-in_err-board_of-clause-end
 returns-in_err-board_of-clause-end g c =
-    let seen = subst (λ bytes. IsTrueRefusal c.args.hex bytes c.as_slice-2.result.now c.in_err-board_of.field-0.0) c.as_slice.ensures.value c.in_err-board_of.ensures.fault in
+    let seen = subst (λ bytes. IsTrueRefusal c.args.hex bytes c.as_slice-2.result.now c.in_err-board_of.field-0.0)
+    c.as_slice.ensures.value c.in_err-board_of.ensures.fault in
     let true_of = subst (λ run. IsTrueRefusal c.args.hex c.in_ok-bytes.bytes.items run c.in_err-board_of.field-0.0) c.as_slice-2.ensures.value seen in
     let refused = refused_files (g.F.Opener.file_bytes c.args.files.now c.args.file.now) (g.F.Opener.file_bytes c.args.files.now c.args.run.now) c.args.hex
     c.in_ok-bytes.bytes.items c.in_ok-bytes.said.items c.in_err-board_of.field-0.0 c.in_ok-bytes.ensures.bytes c.in_ok-bytes.ensures.said true_of in

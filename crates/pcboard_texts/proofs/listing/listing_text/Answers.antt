@@ -27,9 +27,11 @@ returns-clause-listing c =
     (c.loop-i.invariant rows c.requires.gives.are_located_lines) in
     let none : listing_text c.args.listing.now.names (drop c.loop-i.i texts) (drop c.loop-i.i rows) ≡ [] =
     elim c.loop-i-test.branch [
-      | else-loop-i-test w ↦ all_shown c.args.listing.now.names texts rows c.loop-i.i (omega (arith, few_lines c.args.listing.now.source, c.requires.size, w.loop-i-test.false))
+      | else-loop-i-test w ↦
+          all_shown c.args.listing.now.names texts rows c.loop-i.i (omega (arith, few_lines c.args.listing.now.source, c.requires.size, w.loop-i-test.false))
       | then-loop-i-test+in_ok-line+in_default w ↦ line_none c.args.listing.now.names texts rows c.loop-i.i
-          (sym (w.in_ok-line.ensures.line rows c.requires.gives.are_located_lines) ∙ ap (option_map string_bytes) (holds_none w.in_ok-line.field-0 w.in_default.not-Some))
+          (sym (w.in_ok-line.ensures.line rows c.requires.gives.are_located_lines)
+          ∙ ap (option_map string_bytes) (holds_none w.in_ok-line.field-0 w.in_default.not-Some))
     ] in
     record {
       image = c.args.listing.now.image;

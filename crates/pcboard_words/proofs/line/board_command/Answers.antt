@@ -10,5 +10,6 @@ returns-clause-shape c =
     IfOk-weaker c.arg-3.result _ _
     (λ r added. added.shape (search rules)
     ∙ ap₂ with_rule (c.in_ok-arg-2.ensures.shape (search rules)
-    ∙ ap₂ with_rule (c.in_ok-arg.ensures.shape (search rules) ∙ ap₂ with_rule bare c.required_word.ensures.rule) c.required_word-2.ensures.rule) c.flag.ensures.rule)
+    ∙ ap₂ with_rule (c.in_ok-arg.ensures.shape (search rules) ∙ ap₂ with_rule bare c.required_word.ensures.rule) c.required_word-2.ensures.rule)
+    c.flag.ensures.rule)
     c.arg-3.ensures

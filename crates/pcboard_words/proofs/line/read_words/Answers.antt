@@ -31,4 +31,5 @@ returns-in-Err-try_get_matches_from c =
     let command : app_of c.in-Ok.command ≡ app = c.in-Ok.ensures in
     refused words c.line_fault-fault.result c.in-Err-try_get_matches_from.error c.line_fault-fault.ensures
     (λ taken. c.in-Err-try_get_matches_from.ensures.passes (ap (λ (a : App). takes a words) command ∙ taken))
-    (subst (λ (a : App). HasKind (fault_of a words) c.in-Err-try_get_matches_from.error) command (c.in-Err-try_get_matches_from.ensures.kinds (ap is_simple_and_free command)))
+    (subst (λ (a : App). HasKind (fault_of a words) c.in-Err-try_get_matches_from.error) command
+    (c.in-Err-try_get_matches_from.ensures.kinds (ap is_simple_and_free command)))

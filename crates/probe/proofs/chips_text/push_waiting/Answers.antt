@@ -22,4 +22,5 @@ pub returns : goal.returns
 returns c =
     let none : slice_get c.args.keyboard.now.waiting c.loop-code.index ≡ None = sym c.waiting.ensures.code ∙ c.in_default.is in
     c.loop-code.invariant.text
-    ∙ ap (λ (front : List ℕ). string_bytes c.args.text.now ++ front) (entries_all spaced_byte c.args.keyboard.now.waiting c.loop-code.index c.loop-code.invariant.within none)
+    ∙ ap (λ (front : List ℕ). string_bytes c.args.text.now ++ front)
+    (entries_all spaced_byte c.args.keyboard.now.waiting c.loop-code.index c.loop-code.invariant.within none)

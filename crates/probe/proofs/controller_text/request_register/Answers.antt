@@ -15,4 +15,5 @@ returns-else-image-eq0 c =
     let within : c.args.image.now.high < 256 = search rules in
     let both : bit_and c.args.image.now.high c.args.image.now.risen < 256 = search rules in
     sym (requests_of c.args.image.now within both
-    ∙ ap (λ set. if set then c.args.image.now.high else bit_and c.args.image.now.high c.args.image.now.risen) (is_set c.args.image.now.is_level_triggered c.if-image-eq0.false))
+    ∙ ap (λ set. if set then c.args.image.now.high else bit_and c.args.image.now.high c.args.image.now.risen)
+    (is_set c.args.image.now.is_level_triggered c.if-image-eq0.false))

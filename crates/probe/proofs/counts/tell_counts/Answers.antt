@@ -14,8 +14,8 @@ pub turns-init : goal.turns-init
 turns-init c =
     let s : SessionState = c.args.session.now in
     let end : c.unwrap-end.result ≡ clock_of s.board.plain + c.args.count =
-    ends_at c.new.result c.unwrap-end.result c.get-2.result c.clock-start.result (clock_of s.board.plain) c.args.count _ c.new.ensures c.unwrap-end.ensures c.get-2.ensures.value
-    (c.clock-start.ensures ∙ ap (λ (b : BoardState). clock_of b.plain) c.board.ensures.board) in
+    ends_at c.new.result c.unwrap-end.result c.get-2.result c.clock-start.result (clock_of s.board.plain) c.args.count _ c.new.ensures
+    c.unwrap-end.ensures c.get-2.ensures.value (c.clock-start.ensures ∙ ap (λ (b : BoardState). clock_of b.plain) c.board.ensures.board) in
     none_counted c.unwrap-end.result s c.new-counts.result c.board.ensures.few (omega (arith, end)) c.new-counts.ensures.noted c.new-counts.ensures.before
     (c.new-counts.ensures.started ∙ c.clock-start.ensures ∙ ap (λ (b : BoardState). clock_of b.plain) c.board.ensures.board)
 
@@ -25,19 +25,20 @@ returns-then-is_err c =
     let counted = c.turns.invariant in
     let turn = c.in_ok-begun.ensures.ok in
     let end : c.unwrap-end.result ≡ clock_of s.board.plain + c.args.count =
-    ends_at c.new.result c.unwrap-end.result c.get-2.result c.clock-start.result (clock_of s.board.plain) c.args.count _ c.new.ensures c.unwrap-end.ensures c.get-2.ensures.value
-    (c.clock-start.ensures ∙ ap (λ (b : BoardState). clock_of b.plain) c.board.ensures.board) in
+    ends_at c.new.result c.unwrap-end.result c.get-2.result c.clock-start.result (clock_of s.board.plain) c.args.count _ c.new.ensures
+    c.unwrap-end.ensures c.get-2.ensures.value (c.clock-start.ensures ∙ ap (λ (b : BoardState). clock_of b.plain) c.board.ensures.board) in
     let clock = counted.ran.clock in
     let within = turn.before_end in
     let start : c.clock-start.result ≡ clock_of s.board.plain = c.clock-start.ensures ∙ ap (λ (b : BoardState). clock_of b.plain) c.board.ensures.board in
-    stands_short c.args.count (counted.passed + turn.passed) s c.run_turn.new.self c.lacking.result (omega (arith, c.if-get-count.false, c.get.ensures.value, start)) (omega (arith, end, clock, within))
+    stands_short c.args.count (counted.passed + turn.passed) s c.run_turn.new.self c.lacking.result
+    (omega (arith, c.if-get-count.false, c.get.ensures.value, start)) (omega (arith, end, clock, within))
     (runs_join counted.passed turn.passed s.board c.turns.session.board c.run_turn.new.self.board counted.ran turn.ran)
     (c.in_ok-begun.ensures.stops ∙ counted.stops) (c.in_ok-begun.ensures.first ∙ counted.first) c.lacking.ensures
 
 pub turns-preserved : goal.turns-preserved
 turns-preserved c =
-    more_counted c.unwrap-end.result c.args.session.now c.turns.session c.run_turn.new.self c.turns.counts c.note.new.self c.in_ok-begun.begun c.turns.invariant c.in_ok-begun.ensures.ok
-    c.in_ok-begun.ensures.stops c.in_ok-begun.ensures.first
+    more_counted c.unwrap-end.result c.args.session.now c.turns.session c.run_turn.new.self c.turns.counts c.note.new.self
+    c.in_ok-begun.begun c.turns.invariant c.in_ok-begun.ensures.ok c.in_ok-begun.ensures.stops c.in_ok-begun.ensures.first
     (on_ok c.note.result c.is_err.result c.is_err.ensures.value c.if-is_err.false c.note.ensures.noted)
     (on_ok c.note.result c.is_err.result c.is_err.ensures.value c.if-is_err.false c.note.ensures.before)
     (on_ok c.note.result c.is_err.result c.is_err.ensures.value c.if-is_err.false c.note.ensures.started)
@@ -47,10 +48,11 @@ returns-in-Ok c =
     let s : SessionState = c.args.session.now in
     let counted = c.turns.invariant in
     let end : c.unwrap-end.result ≡ clock_of s.board.plain + c.args.count =
-    ends_at c.new.result c.unwrap-end.result c.get-2.result c.clock-start.result (clock_of s.board.plain) c.args.count _ c.new.ensures c.unwrap-end.ensures c.get-2.ensures.value
-    (c.clock-start.ensures ∙ ap (λ (b : BoardState). clock_of b.plain) c.board.ensures.board) in
+    ends_at c.new.result c.unwrap-end.result c.get-2.result c.clock-start.result (clock_of s.board.plain) c.args.count _ c.new.ensures
+    c.unwrap-end.ensures c.get-2.ensures.value (c.clock-start.ensures ∙ ap (λ (b : BoardState). clock_of b.plain) c.board.ensures.board) in
     let late : c.unwrap-end.result ≤ c.clock.result = ge_from_not_lt c.clock.result c.unwrap-end.result (sym c.lt.ensures ∙ c.turns-test.false) in
-    let here : c.clock.result ≡ clock_of c.turns.session.board.plain = c.clock.ensures ∙ ap (λ (b : BoardState). clock_of b.plain) c.board-in-turns.ensures.board in
+    let here : c.clock.result ≡ clock_of c.turns.session.board.plain =
+    c.clock.ensures ∙ ap (λ (b : BoardState). clock_of b.plain) c.board-in-turns.ensures.board in
     let past : c.unwrap-end.result ≤ clock_of c.turns.session.board.plain = omega (arith, late, here) in
     let all : counted.passed ≡ c.args.count = all_counted c.unwrap-end.result c.args.count s c.turns.session c.turns.counts counted end past in
     let start : c.clock-start.result ≡ clock_of s.board.plain = c.clock-start.ensures ∙ ap (λ b. clock_of b.plain) c.board.ensures.board in

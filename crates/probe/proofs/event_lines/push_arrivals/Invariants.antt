@@ -8,5 +8,6 @@ use Rattle.probe.proofs.event_lines.push_arrivals.Given as goal
 
 abbrev pub invariant-loop-key : goal.invariant-loop-key
 invariant-loop-key l =
-    (string_bytes l.text ≡ string_bytes l.initial.text ++ listed_lines l.kinds (arrivals_from l.clock l.waiting (map (λ (k : StampedKey). k.code) (take l.key-index l.keys))))
+    (string_bytes l.text
+    ≡ string_bytes l.initial.text ++ listed_lines l.kinds (arrivals_from l.clock l.waiting (map (λ (k : StampedKey). k.code) (take l.key-index l.keys))))
     × (l.held ≡ held_from l.waiting (map (λ (k : StampedKey). k.code) (take l.key-index l.keys))) × (l.held ≤ 16)

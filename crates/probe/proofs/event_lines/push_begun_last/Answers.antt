@@ -12,7 +12,8 @@ use Rattle.probe.proofs.Telling.{begun_told, none_begun_told, unlisted_told}
 use Rattle.probe.proofs.event_lines.push_begun_last.Goals as goal
 
 pub returns-in_default : goal.returns-in_default
-returns-in_default c = λ before entries are ends. none_begun_told c.args.kinds.now (string_bytes c.args.text.now) entries (are ∙ ap option_to_list c.in_default.is)
+returns-in_default c = λ before entries are ends.
+    none_begun_told c.args.kinds.now (string_bytes c.args.text.now) entries (are ∙ ap option_to_list c.in_default.is)
 
 pub returns-then-not-lists_beginning : goal.returns-then-not-lists_beginning
 returns-then-not-lists_beginning c = λ before entries are ends.
@@ -21,5 +22,8 @@ returns-then-not-lists_beginning c = λ before entries are ends.
 
 pub returns : goal.returns
 returns c =
-    subst (λ (begun : Option Begun). OnOk c.push_last.result ((before entries : List TrailEntry) → map begun_of entries ≡ option_to_list begun → c.args.board.now.trail ≡ last 32 (before ++ entries) → string_bytes c.push_last.new.text ≡ string_bytes c.args.text.now ++ listed_lines c.args.kinds.now (map Began entries))) (sym c.in-Some.is)
-    (begun_told c.args.kinds.now (string_bytes c.args.text.now) (string_bytes c.push_last.new.text) c.in-Some.begun c.args.board.now.trail c.push_last.result c.push_last.ensures)
+    subst (λ (begun : Option Begun). OnOk c.push_last.result
+    ((before entries : List TrailEntry) → map begun_of entries ≡ option_to_list begun → c.args.board.now.trail ≡ last 32 (before ++ entries)
+    → string_bytes c.push_last.new.text ≡ string_bytes c.args.text.now ++ listed_lines c.args.kinds.now (map Began entries)))
+    (sym c.in-Some.is) (begun_told c.args.kinds.now (string_bytes c.args.text.now)
+    (string_bytes c.push_last.new.text) c.in-Some.begun c.args.board.now.trail c.push_last.result c.push_last.ensures)

@@ -15,8 +15,10 @@ use Rattle.probe.proofs.looking.last_met.Goals as goal
 
 pub turns-init : goal.turns-init
 turns-init c =
-    last_none (stops_of c.args.watches.now) c.args.is_first c.args.to c.clock.result c.args.board.now c.copy_bytes.new.watches c.standing-here.result c.found_first-last.result c.requires.few c.requires.from
-    (c.standing-here.ensures ∙ ap (λ xs. standing xs c.args.board.now.plain) c.copy_bytes.ensures.keeps.stops) c.clock.ensures c.found_first-last.ensures c.copy_bytes.ensures.keeps.stops c.copy_bytes.ensures.copies c.copy_bytes.ensures.keeps.watched
+    last_none (stops_of c.args.watches.now) c.args.is_first c.args.to c.clock.result c.args.board.now
+    c.copy_bytes.new.watches c.standing-here.result c.found_first-last.result c.requires.few c.requires.from
+    (c.standing-here.ensures ∙ ap (λ xs. standing xs c.args.board.now.plain) c.copy_bytes.ensures.keeps.stops) c.clock.ensures
+    c.found_first-last.ensures c.copy_bytes.ensures.keeps.stops c.copy_bytes.ensures.copies c.copy_bytes.ensures.keeps.watched
 
 pub found-number-requires-clause-within : goal.found-number-requires-clause-within
 found-number-requires-clause-within c = c.turns.invariant.watched
@@ -36,7 +38,8 @@ standing_now-here-requires-clause-none c = λ none.
     let copied = c.copy_bytes.new.watches in
     let asked : c.asked_by-asked.result ≡ asked_by stops = c.asked_by-asked.ensures ∙ asked_is copied ∙ ap asked_by c.copy_bytes.ensures.keeps.stops in
     let turn =
-    turned_by stops c.asked_by-asked.result c.next_clock-next.result c.args.to t u t u c.seen_of-before.result c.in-Ok.begun c.as_slice-noted.result.now old new c.found-number.result so_far.stops_are asked c.seen_of-before.ensures.seen refl (c.as_slice-noted.ensures.value ∙ c.in-Ok.ensures.noted) refl
+    turned_by stops c.asked_by-asked.result c.next_clock-next.result c.args.to t u t u c.seen_of-before.result c.in-Ok.begun c.as_slice-noted.result.now
+    old new c.found-number.result so_far.stops_are asked c.seen_of-before.ensures.seen refl (c.as_slice-noted.ensures.value ∙ c.in-Ok.ensures.noted) refl
     c.next_clock-next.ensures one so_far.copies so_far.watched c.found-number.ensures.clock c.found-number.ensures.leap c.found-number.ensures.copied in
     ap (λ xs. standing xs u.plain) (c.found-number.ensures.keeps.stops ∙ so_far.stops_are) ∙ none_here stops t u new (subst (Turned stops t u new) none turn)
 
@@ -55,9 +58,11 @@ turns-preserved c =
     let one = c.in-Ok.ensures.ok in
     let copied = c.copy_bytes.new.watches in
     let asked : c.asked_by-asked.result ≡ asked_by stops = c.asked_by-asked.ensures ∙ asked_is copied ∙ ap asked_by c.copy_bytes.ensures.keeps.stops in
-    let start : c.seen_of-before.result.clock ≡ clock_of t.plain = ap (λ (x : Seen). x.clock) c.seen_of-before.ensures.seen ∙ seen_clock c.asked_by-asked.result t.plain in
+    let start : c.seen_of-before.result.clock ≡ clock_of t.plain =
+    ap (λ (x : Seen). x.clock) c.seen_of-before.ensures.seen ∙ seen_clock c.asked_by-asked.result t.plain in
     let turn =
-    turned_by stops c.asked_by-asked.result c.next_clock-next.result c.args.to t u t u c.seen_of-before.result c.in-Ok.begun c.as_slice-noted.result.now old new c.found-number.result so_far.stops_are asked c.seen_of-before.ensures.seen refl (c.as_slice-noted.ensures.value ∙ c.in-Ok.ensures.noted) refl
+    turned_by stops c.asked_by-asked.result c.next_clock-next.result c.args.to t u t u c.seen_of-before.result c.in-Ok.begun c.as_slice-noted.result.now
+    old new c.found-number.result so_far.stops_are asked c.seen_of-before.ensures.seen refl (c.as_slice-noted.ensures.value ∙ c.in-Ok.ensures.noted) refl
     c.next_clock-next.ensures one so_far.copies so_far.watched c.found-number.ensures.clock c.found-number.ensures.leap c.found-number.ensures.copied in
     let before_end = one.before_end in
     let clock = one.ran.clock in
@@ -65,16 +70,20 @@ turns-preserved c =
     let end : c.clock-clock.result ≡ clock_of u.plain = c.clock-clock.ensures in
     let far : 1 < turn.passed → c.found_before-before_end.result ≡ found_at c.turns.last c.turns.here (clock_of u.plain - 1) = λ more.
     c.found_before-before_end.ensures.far (omega (arith, start, more, passed, end)) ∙ ap (found_at c.turns.last c.turns.here) (omega (arith, end)) in
-    let once : turn.passed ≡ 1 → c.found_before-before_end.result ≡ c.turns.last = λ is. c.found_before-before_end.ensures.once (omega (arith, start, is, passed, end)) in
-    let now : c.standing_now-here.result ≡ standing stops u.plain = c.standing_now-here.ensures ∙ ap (λ xs. standing xs u.plain) (c.found-number.ensures.keeps.stops ∙ so_far.stops_are) in
+    let once : turn.passed ≡ 1 → c.found_before-before_end.result ≡ c.turns.last = λ is.
+    c.found_before-before_end.ensures.once (omega (arith, start, is, passed, end)) in
+    let now : c.standing_now-here.result ≡ standing stops u.plain =
+    c.standing_now-here.ensures ∙ ap (λ xs. standing xs u.plain) (c.found-number.ensures.keeps.stops ∙ so_far.stops_are) in
     subst (LastSoFar stops c.args.is_first c.args.to s u new c.standing_now-here.result) (sym c.found_at-last.ensures)
-    (last_more stops c.args.is_first c.args.to s t u old new c.turns.here c.found-number.result c.standing_now-here.result c.turns.last c.found_before-before_end.result c.clock-clock.result so_far turn far once end
+    (last_more stops c.args.is_first c.args.to s t u old new c.turns.here c.found-number.result
+    c.standing_now-here.result c.turns.last c.found_before-before_end.result c.clock-clock.result so_far turn far once end
     (omega (arith, before_end, clock)) now c.found-number.ensures.keeps)
 
 pub returns-clause-found : goal.returns-clause-found
 returns-clause-found c =
     let late : c.args.to ≤ c.clock-in-turns.result = ge_from_not_lt c.clock-in-turns.result c.args.to (sym c.lt.ensures ∙ c.turns-test.false) in
-    last_all (stops_of c.args.watches.now) c.args.is_first c.args.to c.args.board.now c.turns.board c.turns.watches c.turns.here c.turns.last c.turns.invariant (omega (arith, late, c.clock-in-turns.ensures))
+    last_all (stops_of c.args.watches.now) c.args.is_first c.args.to c.args.board.now c.turns.board
+    c.turns.watches c.turns.here c.turns.last c.turns.invariant (omega (arith, late, c.clock-in-turns.ensures))
 
 pub returns-clause-keeps : goal.returns-clause-keeps
 returns-clause-keeps c = record { stops = c.turns.invariant.stops_are; watched = c.turns.invariant.watched }

@@ -14,15 +14,18 @@ returns-then-stands c =
     let s = c.args.board.now.plain in
     ap Some (omega arith)
     ∙ sym (of_each (λ (stop : Stop). stands stop s) (λ (w : Watched). w.stop) 1 c.args.watches.now
-    ∙ there_first (λ (w : Watched). stands w.stop s) 1 c.loop-index.index c.args.watches.now c.index-watches-index.result (omega arith) c.loop-index.invariant (sym c.stands.ensures ∙ c.if-stands.true))
+    ∙ there_first (λ (w : Watched). stands w.stop s) 1 c.loop-index.index c.args.watches.now c.index-watches-index.result
+    (omega arith) c.loop-index.invariant (sym c.stands.ensures ∙ c.if-stands.true))
 
 pub loop-index-preserved : goal.loop-index-preserved
 loop-index-preserved c =
-    below_also (λ (w : Watched). stands w.stop c.args.board.now.plain) c.loop-index.index c.args.watches.now c.index-watches-index.result (omega arith) c.loop-index.invariant (sym c.stands.ensures ∙ c.if-stands.false)
+    below_also (λ (w : Watched). stands w.stop c.args.board.now.plain) c.loop-index.index c.args.watches.now c.index-watches-index.result
+    (omega arith) c.loop-index.invariant (sym c.stands.ensures ∙ c.if-stands.false)
 
 pub returns : goal.returns
 unfolding standing
 returns c =
     let s = c.args.board.now.plain in
     sym (of_each (λ (stop : Stop). stands stop s) (λ (w : Watched). w.stop) 1 c.args.watches.now
-    ∙ none_before (λ (w : Watched). stands w.stop s) 1 c.args.watches.now (λ k d below. c.loop-index.invariant k d (omega (arith, below, c.loop-index-test.false))))
+    ∙ none_before (λ (w : Watched). stands w.stop s) 1 c.args.watches.now
+    (λ k d below. c.loop-index.invariant k d (omega (arith, below, c.loop-index-test.false))))

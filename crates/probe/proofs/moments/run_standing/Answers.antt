@@ -13,8 +13,8 @@ run_until-requires c = subst (λ (xs : List Condition). All HasAddress xs) (sym 
 pub returns-in-Ok-clause-runs : goal.returns-in-Ok-clause-runs
 returns-in-Ok-clause-runs c =
     let count = c.get.result - c.get-2.result in
-    runs_standing c.args.watches.now c.conditions_of.result.items c.args.end count c.args.board.now c.run_until.new.self c.in-Ok.stopped c.requires.stand c.conditions_of.ensures
-    (ap₂ (λ m n. m - n) c.get.ensures.value (c.get-2.ensures.value ∙ c.clock.ensures)) c.in-Ok.ensures.stop c.in-Ok.ensures.ran
+    runs_standing c.args.watches.now c.conditions_of.result.items c.args.end count c.args.board.now c.run_until.new.self c.in-Ok.stopped c.requires.stand
+    c.conditions_of.ensures (ap₂ (λ m n. m - n) c.get.ensures.value (c.get-2.ensures.value ∙ c.clock.ensures)) c.in-Ok.ensures.stop c.in-Ok.ensures.ran
 
 pub returns-in-Ok-clause-trail : goal.returns-in-Ok-clause-trail
 returns-in-Ok-clause-trail c =

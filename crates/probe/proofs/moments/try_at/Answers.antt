@@ -24,18 +24,22 @@ returns-then-is_some-clause-tried c = λ s so.
     let decided : (is_some c.in_ok-stopped.stopped || nat_eq before c.args.end) ≡ true =
     elim c.then-is_some.branch [
       | then-is_some-via-then-is_some w ↦ ap (λ (b : Bool). b || nat_eq before c.args.end) (sym c.is_some.ensures ∙ w.if-is_some.true)
-      | then-is_some-via-else-is_some+then-eq w ↦ ap (λ (b : Bool). b || nat_eq before c.args.end) (sym c.is_some.ensures ∙ w.if-is_some.false) ∙ sym w.eq.ensures ∙ w.if-eq.true
+      | then-is_some-via-else-is_some+then-eq w ↦
+          ap (λ (b : Bool). b || nat_eq before c.args.end) (sym c.is_some.ensures ∙ w.if-is_some.false) ∙ sym w.eq.ensures ∙ w.if-eq.true
     ] in
     subst (λ (ranges : List Moments). AreRanges stops s c.args.trial c.args.trial.first c.args.trial.last ranges) (sym c.in_ok-add.ensures)
-    (rest stops s c.args.bare.now.plain c.run.new.board.plain c.args.trial c.args.end before c.args.stamp c.args.ranges.now.items c.args.watches.now c.in_ok-stopped.stopped so.so_far so.first so.last from early within so.in_time decided c.in_ok-stopped.ensures.runs)
+    (rest stops s c.args.bare.now.plain c.run.new.board.plain c.args.trial c.args.end before c.args.stamp c.args.ranges.now.items
+    c.args.watches.now c.in_ok-stopped.stopped so.so_far so.first so.last from early within so.in_time decided c.in_ok-stopped.ensures.runs)
 
 pub run-requires-2-clause-from : goal.run-requires-2-clause-from
 run-requires-2-clause-from c =
     let before = c.clock_before-before.result in
     let from : clock_of c.args.bare.now.plain ≤ before = omega (arith, c.clock_before-before.ensures, c.requires.before, c.requires.in_time) in
     let within : before ≤ c.args.end = omega (arith, c.clock_before-before.ensures) in
-    let there = stands_within (stops_of c.args.watches.now) before c.args.bare.now.plain c.run.new.board.plain c.in_ok-stopped.stopped from c.in_ok-stopped.ensures.runs in
-    let same : clock_of c.in_ok-tried.tried.plain ≡ clock_of c.run.new.board.plain = ap clock_of c.in_ok-tried.ensures.plain ∙ clock_same c.run.new.board.plain _ in
+    let there =
+    stands_within (stops_of c.args.watches.now) before c.args.bare.now.plain c.run.new.board.plain c.in_ok-stopped.stopped from c.in_ok-stopped.ensures.runs in
+    let same : clock_of c.in_ok-tried.tried.plain ≡ clock_of c.run.new.board.plain =
+    ap clock_of c.in_ok-tried.ensures.plain ∙ clock_same c.run.new.board.plain _ in
     omega (arith, there, same, within)
 
 pub returns-in_err-add-2-clause-keeps : goal.returns-in_err-add-2-clause-keeps
@@ -63,6 +67,8 @@ returns-clause-tried c = λ s so.
     let ended =
     copy_ends stops next c.in_ok-tried.tried.plain c.run-2.new.board.plain (key_tried c.args.trial c.args.stamp) c.args.end c.in_ok-stopped-2.stopped
     (c.in_ok-tried.ensures.plain ∙ ap (λ n. with_key next (key_tried c.args.trial n)) stamp)
-    (subst (λ (xs : List Stop). RunsTo xs c.args.end c.in_ok-tried.tried.plain c.run-2.new.board.plain c.in_ok-stopped-2.stopped) c.in_ok-stopped.ensures.keeps.stops c.in_ok-stopped-2.ensures.runs) in
+    (subst (λ (xs : List Stop). RunsTo xs c.args.end c.in_ok-tried.tried.plain c.run-2.new.board.plain c.in_ok-stopped-2.stopped)
+    c.in_ok-stopped.ensures.keeps.stops c.in_ok-stopped-2.ensures.runs) in
     subst (λ (rs : List Moments). Tried stops s next c.args.trial c.args.end (c.args.stamp + 1) rs c.run-2.new.watches) (sym c.in_ok-add-2.ensures)
-    (tried_more stops s next c.args.trial c.args.end c.args.stamp ranges c.run.new.watches c.run-2.new.watches c.in_ok-stopped-2.stopped moved so.first so.in_time ended c.in_ok-stopped-2.ensures.keeps)
+    (tried_more stops s next c.args.trial c.args.end c.args.stamp ranges c.run.new.watches c.run-2.new.watches
+    c.in_ok-stopped-2.stopped moved so.first so.in_time ended c.in_ok-stopped-2.ensures.keeps)

@@ -15,7 +15,8 @@ pub returns : goal.returns
 returns c =
     let old = c.args.session.now in
     let at : c.clock.result ≡ clock_of old.board.plain = c.clock.ensures ∙ ap (λ (b : BoardState). clock_of b.plain) c.board.ensures.board in
-    let is : c.in_ok-key.key ≡ typed_key (clock_of old.board.plain) c.args.code c.args.at = c.in_ok-key.ensures.0 ∙ ap (λ (n : ℕ). typed_key n c.args.code c.args.at) at in
+    let is : c.in_ok-key.key ≡ typed_key (clock_of old.board.plain) c.args.code c.args.at =
+    c.in_ok-key.ensures.0 ∙ ap (λ (n : ℕ). typed_key n c.args.code c.args.at) at in
     subst (λ (k : StampedKey). Takes k old c.take_key.new.self (Text c.in_ok-text.text)) is
     (record {
       to_come = subst (λ (n : ℕ). IsToCome n c.in_ok-key.key) at c.in_ok-key.ensures.1;

@@ -38,5 +38,6 @@ loop-watched-preserved c =
           ∙ ap (λ (xs : List Condition). xs ++ w.in-Standing.condition ∷ []) c.loop-watched.invariant
           ∙ sym (more ∙ ap (λ (stop : Stop). conditions_of before ++ conditions_of (stop ∷ [])) w.in-Standing.is)
       | in_default w ↦ ap (λ (v : ArrayVec Condition). v.items) w.conditions-is ∙ c.loop-watched.invariant
-          ∙ sym (more ∙ ap (λ (xs : List Condition). conditions_of before ++ xs) (unstanding item.stop w.in_default.not-Standing) ∙ append-nil (conditions_of before))
+          ∙ sym
+          (more ∙ ap (λ (xs : List Condition). conditions_of before ++ xs) (unstanding item.stop w.in_default.not-Standing) ∙ append-nil (conditions_of before))
     ]

@@ -15,8 +15,11 @@ loop-index-preserved c =
     let watches = c.loop-index.watches in
     let i = c.loop-index.index in
     let d = c.index-watches-index.result in
-    let w : Watched = record { stop = (get_or watches i d).stop; copied = c.copy.new.self } in
-    (keeps_more c.args.watches.now watches i c.copy.new.self d (omega arith) c.copy.ensures.first c.copy.ensures.count c.loop-index.invariant.0, copies_more watches i w c.args.board.now.plain (omega arith) c.copy.ensures.copy c.loop-index.invariant.1)
+    let w : Watched = record { stop = (get_or watches i d).stop; copied = c.copy.new.self } in (
+      keeps_more c.args.watches.now watches i c.copy.new.self d (omega arith) c.copy.ensures.first c.copy.ensures.count c.loop-index.invariant.0,
+      copies_more watches i w c.args.board.now.plain (omega arith) c.copy.ensures.copy c.loop-index.invariant.1,
+    )
 
 pub returns-clause-copies : goal.returns-clause-copies
-returns-clause-copies c = copies_all c.loop-index.watches c.loop-index.index c.args.board.now.plain (omega (arith, c.loop-index-test.false)) c.loop-index.invariant.1
+returns-clause-copies c =
+    copies_all c.loop-index.watches c.loop-index.index c.args.board.now.plain (omega (arith, c.loop-index-test.false)) c.loop-index.invariant.1

@@ -14,8 +14,11 @@ loop-index-preserved c =
     let i = c.loop-index.index in
     let d = c.index-watches-index.result in (
       keeps_more c.args.watches.now watches i c.renew.new.self d (omega arith) c.renew.ensures.first c.renew.ensures.count c.loop-index.invariant.0,
-      renewed_more i c.args.accesses.now c.args.board.now.plain c.args.watches.now watches c.renew.new.self d (omega arith) c.renew.ensures c.loop-index.invariant.1,
+      renewed_more i c.args.accesses.now c.args.board.now.plain c.args.watches.now watches c.renew.new.self d
+          (omega arith) c.renew.ensures c.loop-index.invariant.1,
     )
 
 pub returns-clause-copies : goal.returns-clause-copies
-returns-clause-copies c = renewed_all c.loop-index.index c.args.accesses.now c.args.board.now.plain c.args.watches.now c.loop-index.watches (omega (arith, c.loop-index-test.false)) c.loop-index.invariant.1
+returns-clause-copies c =
+    renewed_all c.loop-index.index c.args.accesses.now c.args.board.now.plain c.args.watches.now c.loop-index.watches
+    (omega (arith, c.loop-index-test.false)) c.loop-index.invariant.1

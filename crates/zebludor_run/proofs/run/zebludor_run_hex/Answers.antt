@@ -13,4 +13,5 @@ returns-clause-told c =
 pub returns-clause-accepted : goal.returns-clause-accepted
 returns-clause-accepted c = λ accepts.
     tells (λ (report : Report). string_bytes report.text) (IsReport true c.args.text.now c.args.run.now) IsWantOfMemory
-    c.run_texts.result _ _ _ c.tell.ensures.outcome c.tell.ensures.buffer c.run_texts.ensures.report (c.run_texts.ensures.accepted accepts.image accepts.gives accepts.run_file accepts.says accepts.fits)
+    c.run_texts.result _ _ _ c.tell.ensures.outcome c.tell.ensures.buffer c.run_texts.ensures.report
+    (c.run_texts.ensures.accepted accepts.image accepts.gives accepts.run_file accepts.says accepts.fits)

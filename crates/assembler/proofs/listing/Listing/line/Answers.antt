@@ -23,8 +23,11 @@ kept_is c =
 pub returns-in_default-clause-line : goal.returns-in_default-clause-line
 returns-in_default-clause-line c =
     let past : slice_get c.self.inside.reading.located_lines.items c.args.i ≡ None =
-    ap (λ (zs : List KeptLine). slice_get zs c.args.i) (sym c.as_slice.ensures.value) ∙ slice_get_past c.as_slice.result.now c.args.i c.in_default.ensures.lookup.3 in
-    subst (λ (l : ListingState). (located_lines : List LocatedLine) → AreLocatedLines [] (text_lines l.source) located_lines → None ≡ line_at l.names (text_lines l.source) located_lines c.args.i) c.self.view_is
+    ap (λ (zs : List KeptLine). slice_get zs c.args.i) (sym c.as_slice.ensures.value)
+    ∙ slice_get_past c.as_slice.result.now c.args.i c.in_default.ensures.lookup.3 in
+    subst (λ (l : ListingState). (located_lines : List LocatedLine) → AreLocatedLines [] (text_lines l.source) located_lines
+    → None ≡ line_at l.names (text_lines l.source) located_lines c.args.i)
+    c.self.view_is
     (no_own_line c.self.inside.reading.source.items c.self.inside.reading.symbols.entries c.self.inside.reading.located_lines.items c.self.inside.image
     c.self.invariant.0 c.self.invariant.1 c.args.i past)
 
@@ -51,6 +54,9 @@ returns-clause-line c =
     found_is c.self.inside.reading.located_lines.items c.as_slice.result.now c.args.i c.in-Some.located.now c.as_slice.ensures.value
     c.in-Some.ensures.lookup.3.0 c.in-Some.ensures.lookup.1 in
     let shown = c.in_ok-text.ensures ∙ ap (λ (s : List ℕ). shown_line s c.self.inside.image c.in-Some.located.now) c.as_slice-2.ensures.value in
-    subst (λ (l : ListingState). (located_lines : List LocatedLine) → AreLocatedLines [] (text_lines l.source) located_lines → Some (string_bytes c.in_ok-text.text) ≡ line_at l.names (text_lines l.source) located_lines c.args.i) c.self.view_is
-    (λ located_lines are. ap (λ (s : List ℕ). Some s) shown ∙ own_line c.self.inside.reading.source.items c.self.inside.reading.symbols.entries c.self.inside.reading.located_lines.items c.self.inside.image
+    subst (λ (l : ListingState). (located_lines : List LocatedLine) → AreLocatedLines [] (text_lines l.source) located_lines
+    → Some (string_bytes c.in_ok-text.text) ≡ line_at l.names (text_lines l.source) located_lines c.args.i)
+    c.self.view_is
+    (λ located_lines are. ap (λ (s : List ℕ). Some s) shown
+    ∙ own_line c.self.inside.reading.source.items c.self.inside.reading.symbols.entries c.self.inside.reading.located_lines.items c.self.inside.image
     c.self.invariant.0 c.self.invariant.1 c.args.i c.in-Some.located.now kept located_lines are)

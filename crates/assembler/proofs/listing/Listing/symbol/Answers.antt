@@ -8,12 +8,13 @@ use Rattle.assembler.proofs.listing.Listing.symbol.Goals as goal
 pub returns-in_err-name : goal.returns-in_err-name
 returns-in_err-name c =
     rw c.from_residual.ensures
-    (subst (λ (l : ListingState). None ≡ symbol_at l.names c.args.i) c.self.view_is (no_symbol c.self.inside.reading.symbols.entries c.args.i c.in_err-name.ensures.entry))
+    (subst (λ (l : ListingState). None ≡ symbol_at l.names c.args.i) c.self.view_is
+    (no_symbol c.self.inside.reading.symbols.entries c.args.i c.in_err-name.ensures.entry))
 
 pub name_text-requires : goal.name_text-requires
 name_text-requires c =
-    own_letters c.self.inside.reading.source.items c.self.inside.reading.symbols.entries c.self.inside.reading.located_lines.items c.args.i c.in_ok-name.name.now c.in_ok-name.symbol.now
-    c.self.invariant.0 c.in_ok-name.ensures.entry
+    own_letters c.self.inside.reading.source.items c.self.inside.reading.symbols.entries c.self.inside.reading.located_lines.items
+    c.args.i c.in_ok-name.name.now c.in_ok-name.symbol.now c.self.invariant.0 c.in_ok-name.ensures.entry
 
 pub value-requires : goal.value-requires
 value-requires c = c.self.invariant.0.small c.in_ok-name.name.now c.in_ok-name.symbol.now c.in_ok-name.ensures.value

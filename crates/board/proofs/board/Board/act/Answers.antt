@@ -28,14 +28,18 @@ returns-clause-ok g c =
 pub returns-clause-steady : goal.returns-clause-steady
 returns-clause-steady g c = λ not.
     let s : BoardState = c.args.self.now in
-    let plain : c.list_change.new.self.plain ≡ s.plain = c.list_change.ensures.plain ∙ c.is_high_next-high.ensures.plain ∙ ap (λ (b : BoardState). b.plain) c.self.view_is in
-    let passed : PassesOver c.args.within (after_clock s.plain) c.make.new.self.plain = subst (λ (p : Plain). PassesOver c.args.within (after_clock p) c.make.new.self.plain) plain c.make.ensures.passed in
-    stay_after_first c.args.within s.plain c.make.new.self.plain (passes_within c.args.within s.plain c.make.new.self.plain c.requires.before passed) (subst (λ (p : Plain). WiresStay (after_clock p) c.make.new.self.plain) plain (c.make.ensures.steady not))
+    let plain : c.list_change.new.self.plain ≡ s.plain =
+    c.list_change.ensures.plain ∙ c.is_high_next-high.ensures.plain ∙ ap (λ (b : BoardState). b.plain) c.self.view_is in
+    let passed : PassesOver c.args.within (after_clock s.plain) c.make.new.self.plain =
+    subst (λ (p : Plain). PassesOver c.args.within (after_clock p) c.make.new.self.plain) plain c.make.ensures.passed in
+    stay_after_first c.args.within s.plain c.make.new.self.plain (passes_within c.args.within s.plain c.make.new.self.plain c.requires.before passed)
+    (subst (λ (p : Plain). WiresStay (after_clock p) c.make.new.self.plain) plain (c.make.ensures.steady not))
 
 pub returns-clause-noted : goal.returns-clause-noted
 returns-clause-noted g c =
     let s : BoardState = c.args.self.now in
-    let plain : c.list_change.new.self.plain ≡ s.plain = c.list_change.ensures.plain ∙ c.is_high_next-high.ensures.plain ∙ ap (λ (b : BoardState). b.plain) c.self.view_is in
+    let plain : c.list_change.new.self.plain ≡ s.plain =
+    c.list_change.ensures.plain ∙ c.is_high_next-high.ensures.plain ∙ ap (λ (b : BoardState). b.plain) c.self.view_is in
     subst (λ (p : Plain). g.N.Notes.are c.make.new.notes (accesses_next p)) plain c.make.ensures.noted
 
 pub returns-clause-begun : goal.returns-clause-begun

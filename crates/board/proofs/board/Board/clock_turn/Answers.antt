@@ -11,7 +11,8 @@ use Rattle.board.proofs.board.Board.clock_turn.Goals as goal
 pub returns-then-quiet_steps-clause-ok : goal.returns-then-quiet_steps-clause-ok
 returns-then-quiet_steps-clause-ok g c =
     inr (steps_alone all_unwatched c.args.self.now c.quiet_steps.new.self (c.quiet_steps.ensures.made c.if-quiet_steps.true)
-    (subst (λ n. AreStepsOn all_unwatched n c.args.self.now c.quiet_steps.new.self) (ap (λ n. n + 1) (c.get-next.ensures.value ∙ c.clock.ensures)) c.quiet_steps.ensures.steps))
+    (subst (λ n. AreStepsOn all_unwatched n c.args.self.now c.quiet_steps.new.self)
+    (ap (λ n. n + 1) (c.get-next.ensures.value ∙ c.clock.ensures)) c.quiet_steps.ensures.steps))
 
 pub returns-clause-ok : goal.returns-clause-ok
 returns-clause-ok g c =

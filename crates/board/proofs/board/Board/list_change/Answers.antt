@@ -13,7 +13,8 @@ returns-then-high-is_high-clause-changes g c =
 
 pub returns-clause-changes : goal.returns-clause-changes
 returns-clause-changes g c =
-    let now : from_bool c.is_high.result ≡ speaker_level c.args.self.now.plain = c.is_high.ensures ∙ ap (λ (b : BoardState). speaker_level b.plain) c.self.view_is in
+    let now : from_bool c.is_high.result ≡ speaker_level c.args.self.now.plain =
+    c.is_high.ensures ∙ ap (λ (b : BoardState). speaker_level b.plain) c.self.view_is in
     let differs : speaker_level (after_clock c.args.self.now.plain) ≢ speaker_level c.args.self.now.plain =
     λ e. let same : c.args.high ≡ c.is_high.result = high_again _ _ (c.requires.next ∙ e ∙ sym now) in grind (arith, common_steps) in
     let listed = change_listed c.args.self.now.plain (from_bool c.args.high) differs c.requires.next in

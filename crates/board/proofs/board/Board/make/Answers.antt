@@ -8,7 +8,8 @@ use Rattle.board.proofs.board.Board.make.Goals as goal
 
 pub invariant_of-self : goal.invariant_of-self
 invariant_of-self g c =
-    let before : clock_of c.self.inside.engine < c.args.within = subst (λ (b : BoardState). clock_of b.plain < c.args.within) (sym c.self.view_is) c.requires.before in
+    let before : clock_of c.self.inside.engine < c.args.within =
+    subst (λ (b : BoardState). clock_of b.plain < c.args.within) (sym c.self.view_is) c.requires.before in
     let on : GoesOn c.args.within c.self.inside.engine c.act.new.self = goes_over c.args.within _ _ before c.act.ensures.passed in
     let some = on.some in
     let within = on.within in

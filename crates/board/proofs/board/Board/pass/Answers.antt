@@ -33,19 +33,23 @@ act-requires-clause-next g c =
 
 pub act-requires-clause-works : goal.act-requires-clause-works
 act-requires-clause-works g c =
-    subst (λ (b : BoardState). 1 ≤ work_next b.plain) (sym (c.leap.ensures.not_made (λ yes. let no = c.if-leap.false in cc))) (c.leap.ensures.works (λ yes. let no = c.if-leap.false in cc))
+    subst (λ (b : BoardState). 1 ≤ work_next b.plain) (sym (c.leap.ensures.not_made (λ yes. let no = c.if-leap.false in cc)))
+    (c.leap.ensures.works (λ yes. let no = c.if-leap.false in cc))
 
 pub returns-clause-ok : goal.returns-clause-ok
 returns-clause-ok g c =
-    if_act c.args.within c.args.end c.args.self.now c.leap.new.self c.act.new.self c.act.result (c.leap.ensures.not_made (λ yes. let no = c.if-leap.false in cc)) c.act.ensures.ok
+    if_act c.args.within c.args.end c.args.self.now c.leap.new.self c.act.new.self c.act.result
+    (c.leap.ensures.not_made (λ yes. let no = c.if-leap.false in cc)) c.act.ensures.ok
 
 pub returns-clause-steady : goal.returns-clause-steady
 returns-clause-steady g c = λ not.
-    subst (λ (b : BoardState). OnOk c.act.result (WiresStayThen c.args.within b.plain c.act.new.self.plain)) (c.leap.ensures.not_made (λ yes. let no = c.if-leap.false in cc)) (c.act.ensures.steady not)
+    subst (λ (b : BoardState). OnOk c.act.result (WiresStayThen c.args.within b.plain c.act.new.self.plain))
+    (c.leap.ensures.not_made (λ yes. let no = c.if-leap.false in cc)) (c.act.ensures.steady not)
 
 pub returns-clause-err : goal.returns-clause-err
 returns-clause-err g c =
-    subst (λ (b : BoardState). OnErr c.act.result (IsHeldBack b c.act.new.self)) (c.leap.ensures.not_made (λ yes. let no = c.if-leap.false in cc)) c.act.ensures.err
+    subst (λ (b : BoardState). OnErr c.act.result (IsHeldBack b c.act.new.self))
+    (c.leap.ensures.not_made (λ yes. let no = c.if-leap.false in cc)) c.act.ensures.err
 
 pub returns-then-leap-clause-noted : goal.returns-then-leap-clause-noted
 returns-then-leap-clause-noted g c =
@@ -53,15 +57,18 @@ returns-then-leap-clause-noted g c =
 
 pub returns-clause-noted : goal.returns-clause-noted
 returns-clause-noted g c =
-    subst (λ (b : BoardState). OnOk c.act.result (g.N.Notes.are c.act.new.notes (accesses_next b.plain))) (c.leap.ensures.not_made (λ yes. let no = c.if-leap.false in cc)) c.act.ensures.noted
+    subst (λ (b : BoardState). OnOk c.act.result (g.N.Notes.are c.act.new.notes (accesses_next b.plain)))
+    (c.leap.ensures.not_made (λ yes. let no = c.if-leap.false in cc)) c.act.ensures.noted
 
 pub returns-then-leap-clause-begun : goal.returns-then-leap-clause-begun
 returns-then-leap-clause-begun g c = sym (ap (map begun_of) (nothing_begins c.args.self.now.plain (sym c.requires.idle)))
 
 pub returns-clause-begun : goal.returns-clause-begun
 returns-clause-begun g c =
-    subst (λ (b : BoardState). IfOk c.act.result (λ begun. option_to_list begun ≡ map begun_of (trail_next b.plain))) (c.leap.ensures.not_made (λ yes. let no = c.if-leap.false in cc)) c.act.ensures.begun
+    subst (λ (b : BoardState). IfOk c.act.result (λ begun. option_to_list begun ≡ map begun_of (trail_next b.plain)))
+    (c.leap.ensures.not_made (λ yes. let no = c.if-leap.false in cc)) c.act.ensures.begun
 
 pub returns-clause-clock : goal.returns-clause-clock
 returns-clause-clock g c =
-    subst (λ (b : BoardState). IfOk c.act.result (λ begun. IfSome begun (λ o. o.clock ≡ clock_of b.plain))) (c.leap.ensures.not_made (λ yes. let no = c.if-leap.false in cc)) c.act.ensures.clock
+    subst (λ (b : BoardState). IfOk c.act.result (λ begun. IfSome begun (λ o. o.clock ≡ clock_of b.plain)))
+    (c.leap.ensures.not_made (λ yes. let no = c.if-leap.false in cc)) c.act.ensures.clock

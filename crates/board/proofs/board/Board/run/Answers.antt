@@ -27,11 +27,13 @@ turns-smaller-in-Continue-1 g c =
 
 pub turns-preserved-in-Continue-1 : goal.turns-preserved-in-Continue-1
 turns-preserved-in-Continue-1 g c =
-    so_far_turn 1 _ _ _ _ (so_far_steps _ 1 _ _ _ _ c.turns.invariant c.quiet_steps.ensures.steps) (omega (arith, c.if-get-end.true, c.clock-in-turns-2.ensures, c.get-in-turns-2.ensures.value)) c.in_ok-turn.ensures.ok
+    so_far_turn 1 _ _ _ _ (so_far_steps _ 1 _ _ _ _ c.turns.invariant c.quiet_steps.ensures.steps)
+    (omega (arith, c.if-get-end.true, c.clock-in-turns-2.ensures, c.get-in-turns-2.ensures.value)) c.in_ok-turn.ensures.ok
 
 held : (g : Over) (c : After-from_residual g) → HeldRun c.args.count c.args.self.now c.turn.new.self
 held g c =
-    held_run 1 _ c.args.count _ _ _ (so_far_steps _ 1 _ _ _ _ c.turns.invariant c.quiet_steps.ensures.steps) (omega arith) (omega (arith, c.clock.ensures, c.get.ensures.value))
+    held_run 1 _ c.args.count _ _ _ (so_far_steps _ 1 _ _ _ _ c.turns.invariant c.quiet_steps.ensures.steps)
+    (omega arith) (omega (arith, c.clock.ensures, c.get.ensures.value))
     (omega (arith, c.if-get-end.true, c.clock-in-turns-2.ensures, c.get-in-turns-2.ensures.value)) c.in_err-turn.ensures.err
 
 pub returns-in_err-turn-clause-succeeds : goal.returns-in_err-turn-clause-succeeds

@@ -28,14 +28,19 @@ returns-in_err-turn_between-clause-succeeds g c = λ within enough.
 
 pub later-last-requires : goal.later-last-requires
 later-last-requires g c =
-    let moves = between_moves _ (c.get.result + c.args.count) _ c.turns.self c.turn_between.new.self (omega (arith, c.turns-test.true, c.clock-in-turns.ensures, c.get-in-turns.ensures.value)) c.in_ok-turn_between.ensures.ok in
+    let moves = between_moves _ (c.get.result + c.args.count) _ c.turns.self c.turn_between.new.self
+    (omega (arith, c.turns-test.true, c.clock-in-turns.ensures, c.get-in-turns.ensures.value)) c.in_ok-turn_between.ensures.ok in
     omega (arith, moves, c.clock-in-turns-2.ensures)
 
 pub turns-preserved : goal.turns-preserved
 turns-preserved g c =
-    let before : clock_of c.turns.self.plain < c.get.result + c.args.count = omega (arith, c.turns-test.true, c.clock-in-turns.ensures, c.get-in-turns.ensures.value) in
+    let before : clock_of c.turns.self.plain < c.get.result + c.args.count =
+    omega (arith, c.turns-test.true, c.clock-in-turns.ensures, c.get-in-turns.ensures.value) in
     let waits : IsTrue c.stops_nowhere.result → AllAwaitFree c.args.stops.now.items × (c.holding-here.result ≡ None) =
     λ yes. (subst AllAwaitFree c.as_slice.ensures.value (c.all_await_free-whole.ensures (c.stops_nowhere.ensures yes).0), (c.stops_nowhere.ensures yes).1) in
-    subst (Looked c.args.stops.now.items (c.get.result + c.args.count) c.args.self.now c.turn_between.new.self) (sym (c.later-last.ensures ∙ ap (found_before c.turns.last c.holding-here.result) c.clock-in-turns-2.ensures))
-    (looked_between (is_unwatched c.of-ip_range.result) c.args.stops.now.items (c.get.result + c.args.count) c.stops_nowhere.result c.args.self.now c.turns.self c.turn_between.new.self c.turns.last c.holding-here.result waits
-    (stops_nowhere c.of-ip_range.result c.args.stops.now.items (subst (AllWithin c.of-ip_range.result) c.as_slice-2.ensures.value c.of-ip_range.ensures)) c.turns.invariant (sym c.holding-here.ensures) before c.in_ok-turn_between.ensures.ok)
+    subst (Looked c.args.stops.now.items (c.get.result + c.args.count) c.args.self.now c.turn_between.new.self)
+    (sym (c.later-last.ensures ∙ ap (found_before c.turns.last c.holding-here.result) c.clock-in-turns-2.ensures))
+    (looked_between (is_unwatched c.of-ip_range.result) c.args.stops.now.items (c.get.result + c.args.count)
+    c.stops_nowhere.result c.args.self.now c.turns.self c.turn_between.new.self c.turns.last c.holding-here.result waits
+    (stops_nowhere c.of-ip_range.result c.args.stops.now.items (subst (AllWithin c.of-ip_range.result) c.as_slice-2.ensures.value c.of-ip_range.ensures))
+    c.turns.invariant (sym c.holding-here.ensures) before c.in_ok-turn_between.ensures.ok)

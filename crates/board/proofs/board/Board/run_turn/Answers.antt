@@ -18,10 +18,21 @@ returns-clause-ok g c =
     let p : Plain = c.look_ahead.new.self in
     let same : p ≡ s.plain = c.look_ahead.ensures ∙ ap (λ (b : BoardState). b.plain) c.self.view_is in
     let changes = c.self.inside.changes in
-    let looked : (record { plain = p; changes = changes.items; room = vec_capacity changes - length changes.items; trail = c.self.inside.trail; turns = c.self.inside.turns }) ≡ s =
-    ap (λ (q : Plain). record { plain = q; changes = changes.items; room = vec_capacity changes - length changes.items; trail = c.self.inside.trail; turns = c.self.inside.turns }) c.look_ahead.ensures ∙ c.self.view_is in
+    let looked : (record {
+      plain = p;
+      changes = changes.items;
+      room = vec_capacity changes - length changes.items;
+      trail = c.self.inside.trail;
+      turns = c.self.inside.turns;
+    })
+    ≡ s =
+    ap (λ (q : Plain).
+    record { plain = q; changes = changes.items; room = vec_capacity changes - length changes.items; trail = c.self.inside.trail; turns = c.self.inside.turns })
+    c.look_ahead.ensures
+    ∙ c.self.view_is in
     let few : length s.trail ≤ 32 = subst (λ (b : BoardState). length b.trail ≤ 32) c.self.view_is c.self.invariant.1 in
-    turned_once c.args.over_edges c.args.within c.args.end c.get-by.result c.get-to.result s c.turn_by.new.self c.turn_by.result few c.requires.before c.requires.order c.get-by.ensures.value c.get-to.ensures.value
+    turned_once c.args.over_edges c.args.within c.args.end c.get-by.result c.get-to.result s c.turn_by.new.self
+    c.turn_by.result few c.requires.before c.requires.order c.get-by.ensures.value c.get-to.ensures.value
     (subst (λ (b : BoardState). OnOk c.turn_by.result (IsTurnOn c.get-by.result c.get-to.result b c.turn_by.new.self)) looked c.turn_by.ensures.ok)
     (λ not. subst (λ (q : Plain). OnOk c.turn_by.result (WiresStayThen c.get-by.result q c.turn_by.new.self.plain)) same (c.turn_by.ensures.steady not))
     (subst (λ (q : Plain). IfOk c.turn_by.result (λ begun. option_to_list begun ≡ map begun_of (trail_next q))) same c.turn_by.ensures.begun)

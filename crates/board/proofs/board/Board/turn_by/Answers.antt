@@ -11,7 +11,8 @@ pub act-requires-clause-next : goal.act-requires-clause-next
 act-requires-clause-next g c =
     let s : Plain = c.self.inside.engine in
     let asked = subst (λ (b : BoardState). act_at b.plain.cpu b.plain.chips c.args.boundary ≡ next_act b.plain) (sym c.self.view_is) c.requires.boundary in
-    c.instruction-next.ensures.act ∙ subst (λ (b : Boundary). act_at s.cpu s.chips b ≡ next_act s) c.in-Instruction.is asked ∙ ap next_act (sym c.instruction-next.ensures.kept)
+    c.instruction-next.ensures.act ∙ subst (λ (b : Boundary). act_at s.cpu s.chips b ≡ next_act s) c.in-Instruction.is asked
+    ∙ ap next_act (sym c.instruction-next.ensures.kept)
 
 pub act-requires-clause-works : goal.act-requires-clause-works
 act-requires-clause-works g c =

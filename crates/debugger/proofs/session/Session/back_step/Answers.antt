@@ -12,5 +12,6 @@ pub returns : goal.returns
 returns g c =
     let free : c.push.new.self.items ≡ Free ∷ [] = c.push.ensures.items ∙ ap (λ (xs : List Condition). xs ++ Free ∷ []) c.new-free.ensures in
     goes_back_to (Free ∷ []) tell_clock c.in_ok-board.found.0 c.in_ok-board.found.1 c.args.self.now c.stand.new.self _
-    (subst (λ (sought : List Condition). HeldLast sought (gone c.args.self.now) c.args.self.now.first.plain c.in_ok-board.found.0 c.in_ok-board.found.1) free c.in_ok-board.ensures.2)
+    (subst (λ (sought : List Condition). HeldLast sought (gone c.args.self.now) c.args.self.now.first.plain c.in_ok-board.found.0 c.in_ok-board.found.1)
+    free c.in_ok-board.ensures.2)
     (subst (λ (clock : ℕ). StandsNow clock c.args.self.now c.stand.new.self) c.in_ok-board.ensures.1 c.stand.ensures) refl

@@ -7,14 +7,17 @@ use Rattle.debugger_meaning.proofs.Standing.{few_of}
 use Rattle.debugger.proofs.session.Session.go.Goals as goal
 
 pub pieces-init : goal.pieces-init
-pieces-init g c = went_none c.args.count c.args.self.now (few_of c.args.self.now.first c.args.self.now.board c.clock.ensures.stands) (omega (arith, c.clock.ensures.clock, c.get.ensures.value, c.get.ensures.bound, c.if-get-count.false))
+pieces-init g c =
+    went_none c.args.count c.args.self.now (few_of c.args.self.now.first c.args.self.now.board c.clock.ensures.stands)
+    (omega (arith, c.clock.ensures.clock, c.get.ensures.value, c.get.ensures.bound, c.if-get-count.false))
 
 pub returns-in_err-stop : goal.returns-in_err-stop
 returns-in_err-stop g c =
     let few : c.min-piece.result ≤ c.pieces.left = omega (arith, c.min-piece.ensures) in
     let p = err_from_is_err_and c.from_residual.result c.from_residual.ensures.1 in
     rw (p.1, p.2)
-    (refuses_go c.args.count c.pieces.left c.min-piece.result c.args.self.now c.pieces.self c.go_piece.new.self c.in_err-stop.field-0.0 few c.pieces.invariant c.in_err-stop.ensures.runs c.go_piece.ensures.stops
+    (refuses_go c.args.count c.pieces.left c.min-piece.result c.args.self.now c.pieces.self c.go_piece.new.self
+    c.in_err-stop.field-0.0 few c.pieces.invariant c.in_err-stop.ensures.runs c.go_piece.ensures.stops
     c.go_piece.ensures.first)
 
 pub returns-in-Some : goal.returns-in-Some

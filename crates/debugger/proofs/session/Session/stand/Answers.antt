@@ -15,7 +15,9 @@ invariant_of-self g c =
 
 pub returns : goal.returns
 returns g c =
-    subst (λ (board : BoardState). StandsNow (clock_of c.args.board.plain) c.args.self.now (record { first = shown_of c.self.inside.first; board = board; stops = c.self.inside.stops.items })) (sym c.replace.ensures.after)
+    subst (λ (board : BoardState).
+    StandsNow (clock_of c.args.board.plain) c.args.self.now (record { first = shown_of c.self.inside.first; board = board; stops = c.self.inside.stops.items }))
+    (sym c.replace.ensures.after)
     (record {
       passed = c.requires.0;
       clock_is = c.requires.1.clock;

@@ -10,4 +10,5 @@ returns-then-addr-self-clause-code c =
 
 pub returns-then-addr-le-ADDRESS_COUNT-clause-code : goal.returns-then-addr-le-ADDRESS_COUNT-clause-code
 returns-then-addr-le-ADDRESS_COUNT-clause-code c =
-    c.eight_cells-then-addr-le-ADDRESS_COUNT.ensures ∙ rom_bytes c.args.self.now c.args.addr (subst IsMap c.self.view_is c.self.invariant) (omega (arith, c.if-addr-ge-ROM_START.true))
+    c.eight_cells-then-addr-le-ADDRESS_COUNT.ensures
+    ∙ rom_bytes c.args.self.now c.args.addr (subst IsMap c.self.view_is c.self.invariant) (omega (arith, c.if-addr-ge-ROM_START.true))

@@ -25,7 +25,8 @@ returns-in-None-clause-tallied c =
     let at : place_of b ≡ Some c.place_of.result = ap (λ e. place_unless e b.cs b.ip) c.in-None.is ∙ ap Some (sym c.place_of.ensures) in
     let clocks : c.get.result - c.get-2.result ≡ c.args.clock - b.clock = ap₂ (λ m n. m - n) c.get.ensures.value c.get-2.ensures.value in
     if_ok c.add.result c.add.ensures (λ added all noted. tallied_place all old b c.place_of.result c.args.clock c.add.new.tallies c.in-Some.is at c.in-None.is
-    (λ k. added k ∙ ap (λ n. if k == c.place_of.result then Some (one_more (get nat_cmp old.places c.place_of.result) n) else get nat_cmp old.places k) clocks) noted)
+    (λ k. added k ∙ ap (λ n. if k == c.place_of.result then Some (one_more (get nat_cmp old.places c.place_of.result) n) else get nat_cmp old.places k) clocks)
+    noted)
 
 pub returns-in-Some-entered-clause-tallied : goal.returns-in-Some-entered-clause-tallied
 returns-in-Some-entered-clause-tallied c =
@@ -35,5 +36,6 @@ returns-in-Some-entered-clause-tallied c =
     let at : place_of b ≡ None = ap (λ e. place_unless e b.cs b.ip) c.in-Some-entered.is in
     let type : type_of b ≡ Some c.from.result = c.in-Some-entered.is ∙ ap Some (sym c.from.ensures) in
     let clocks : c.get.result - c.get-2.result ≡ c.args.clock - b.clock = ap₂ (λ m n. m - n) c.get.ensures.value c.get-2.ensures.value in
-    if_ok c.add-in-Some-entered.result c.add-in-Some-entered.ensures (λ added all noted. tallied_type all old b c.from.result c.args.clock c.add-in-Some-entered.new.tallies c.in-Some.is at type
+    if_ok c.add-in-Some-entered.result c.add-in-Some-entered.ensures
+    (λ added all noted. tallied_type all old b c.from.result c.args.clock c.add-in-Some-entered.new.tallies c.in-Some.is at type
     (λ k. added k ∙ ap (λ n. if k == c.from.result then Some (one_more (get nat_cmp old.types c.from.result) n) else get nat_cmp old.types k) clocks) noted)

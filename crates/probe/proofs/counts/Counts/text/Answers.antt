@@ -14,7 +14,10 @@ returns c = if_text c.format.result c.format.ensures.ok (λ text is all noted.
     let before : c.get.result - c.get-2.result ≡ next_clock all end - c.args.start =
     ap₂ (λ m n. m - n) (c.get.ensures.value ∙ c.in_ok-tally_latest.ensures.before all noted) c.get-2.ensures.value in
     let places : c.as_str-places.result.now ≡ lines_of place_name place_of all end =
-    c.as_str-places.ensures.value ∙ c.in_ok-places.ensures.lines ∙ lines_are Instruction place_of all end c.tally_latest.new.self.places tallied.places c.in_ok-places.ensures.ordered in
+    c.as_str-places.ensures.value ∙ c.in_ok-places.ensures.lines
+    ∙ lines_are Instruction place_of all end c.tally_latest.new.self.places tallied.places c.in_ok-places.ensures.ordered in
     let types : c.as_str-types.result.now ≡ lines_of type_name type_of all end =
-    c.as_str-types.ensures.value ∙ c.in_ok-types.ensures.lines ∙ lines_are Entry type_of all end c.tally_latest.new.self.types tallied.types c.in_ok-types.ensures.ordered in
-    is ∙ (λ k. codes "before " ++ (decimal (before k) ++ (codes "\n" ++ (places k ++ (types k ++ (codes "clock " ++ (decimal (c.get-end.ensures.value k) ++ codes "\n"))))))))
+    c.as_str-types.ensures.value ∙ c.in_ok-types.ensures.lines
+    ∙ lines_are Entry type_of all end c.tally_latest.new.self.types tallied.types c.in_ok-types.ensures.ordered in
+    is ∙ (λ k. codes "before "
+    ++ (decimal (before k) ++ (codes "\n" ++ (places k ++ (types k ++ (codes "clock " ++ (decimal (c.get-end.ensures.value k) ++ codes "\n"))))))))

@@ -18,7 +18,9 @@ push-requires-clause-room c =
     let full : (length items == 16) ≡ false = sym c.is_full.ensures.value ∙ c.if-is_full.false in
     let most : length items ≤ 16 = c.is_full.ensures.fits in
     let few : length items < 16 = grind (arith, nat_tests, full, most) in
-    let size : length c.args.self.now.stops ≡ length items = sym (ap (λ (p : ProbeState). length p.stops) c.self.view_is) ∙ length-map items (λ (w : Watched). w.stop) in omega (arith, few, size)
+    let size : length c.args.self.now.stops ≡ length items =
+    sym (ap (λ (p : ProbeState). length p.stops) c.self.view_is) ∙ length-map items (λ (w : Watched). w.stop) in
+    omega (arith, few, size)
 
 pub returns-in-Err : goal.returns-in-Err
 returns-in-Err c =
@@ -26,7 +28,8 @@ returns-in-Err c =
     let full : (length items == 16) ≡ false = sym c.is_full.ensures.value ∙ c.if-is_full.false in
     let most : length items ≤ 16 = c.is_full.ensures.fits in
     let few : length items < 16 = grind (arith, nat_tests, full, most) in
-    let size : length c.args.self.now.stops ≡ length items = sym (ap (λ (p : ProbeState). length p.stops) c.self.view_is) ∙ length-map items (λ (w : Watched). w.stop) in
+    let size : length c.args.self.now.stops ≡ length items =
+    sym (ap (λ (p : ProbeState). length p.stops) c.self.view_is) ∙ length-map items (λ (w : Watched). w.stop) in
     (omega (arith, few, size), c.in-Err.ensures.changes, refl)
 
 pub returns-in-Ok : goal.returns-in-Ok

@@ -10,7 +10,8 @@ pub invariant_of-self : goal.invariant_of-self
 invariant_of-self c =
     let none : request_of c.args.line.now ≡ None = sym c.read_request.ensures.value ∙ c.in-None.is in
     record {
-      conditions = stops_stay c.args.line.now c.self.inside.session c.command.new.session c.command.result none c.command.ensures.answers ∙ c.self.invariant.conditions;
+      conditions =
+          stops_stay c.args.line.now c.self.inside.session c.command.new.session c.command.result none c.command.ensures.answers ∙ c.self.invariant.conditions;
       watched = c.self.invariant.watched;
     }
 

@@ -24,14 +24,17 @@ invariant_of-self c = record {
 pub returns-then-all_stand : goal.returns-then-all_stand
 returns-then-all_stand c =
     let stops = stops_of c.self.inside.watches.items in
-    let all : list_all is_standing stops ≡ true = standing_is c.self.inside.watches.items ∙ ap all_standing (sym c.as_slice.ensures.value) ∙ sym c.all_stand.ensures ∙ c.if-all_stand.true in
-    subst (λ (p : ProbeState). MatchResult c.go.result (GoesOn c.args.count p (probe_of c.go.new.self stops)) (RefusesGoing c.args.count p (probe_of c.go.new.self stops))) c.self.view_is
-    (goes_standing c.args.count c.self.inside.session c.go.new.self stops c.go.result all c.self.invariant.conditions c.go.ensures)
+    let all : list_all is_standing stops ≡ true =
+    standing_is c.self.inside.watches.items ∙ ap all_standing (sym c.as_slice.ensures.value) ∙ sym c.all_stand.ensures ∙ c.if-all_stand.true in
+    subst (λ (p : ProbeState).
+    MatchResult c.go.result (GoesOn c.args.count p (probe_of c.go.new.self stops)) (RefusesGoing c.args.count p (probe_of c.go.new.self stops)))
+    c.self.view_is (goes_standing c.args.count c.self.inside.session c.go.new.self stops c.go.result all c.self.invariant.conditions c.go.ensures)
 
 pub returns-then-start-count : goal.returns-then-start-count
 returns-then-start-count c =
     let start : c.get-start.result ≡ clock_of c.args.self.now.board.plain =
-    c.get-start.ensures.value ∙ c.clock.ensures ∙ ap (λ (b : BoardState). clock_of b.plain) c.board.ensures.board ∙ ap (λ (p : ProbeState). clock_of p.board.plain) c.self.view_is in
+    c.get-start.ensures.value ∙ c.clock.ensures ∙ ap (λ (b : BoardState). clock_of b.plain) c.board.ensures.board
+    ∙ ap (λ (p : ProbeState). clock_of p.board.plain) c.self.view_is in
     (omega (arith, c.if-start-count.true, start), refl)
 
 pub run_to_stop-requires-clause-within : goal.run_to_stop-requires-clause-within
@@ -40,28 +43,35 @@ run_to_stop-requires-clause-within c = subst (All IsWatched) (sym c.as_mut_slice
 pub run_to_stop-requires-clause-from : goal.run_to_stop-requires-clause-from
 run_to_stop-requires-clause-from c =
     let end : c.unwrap-end.result ≡ clock_of c.self.inside.session.board.plain + c.args.count =
-    ends_at c.new.result c.unwrap-end.result c.get-start.result c.clock.result (clock_of c.self.inside.session.board.plain) c.args.count _ c.new.ensures c.unwrap-end.ensures c.get-start.ensures.value
-    (c.clock.ensures ∙ ap (λ (b : BoardState). clock_of b.plain) c.board.ensures.board) in
+    ends_at c.new.result c.unwrap-end.result c.get-start.result c.clock.result (clock_of c.self.inside.session.board.plain) c.args.count _
+    c.new.ensures c.unwrap-end.ensures c.get-start.ensures.value (c.clock.ensures ∙ ap (λ (b : BoardState). clock_of b.plain) c.board.ensures.board) in
     omega (arith, end)
 
 pub invariant_of-self-2 : goal.invariant_of-self-2
 invariant_of-self-2 c =
-    probe_with c.self.inside.session c.run_to_stop.new.session c.self.inside.watches c.as_mut_slice.result.now c.run_to_stop.new.watches c.as_mut_slice.ensures.value c.self.invariant
-    (run_keeps (stops_of c.as_mut_slice.result.now) c.unwrap-end.result c.self.inside.session c.run_to_stop.new.session c.run_to_stop.result c.run_to_stop.ensures.ran) c.run_to_stop.ensures.keeps
+    probe_with c.self.inside.session c.run_to_stop.new.session
+    c.self.inside.watches c.as_mut_slice.result.now c.run_to_stop.new.watches c.as_mut_slice.ensures.value c.self.invariant (run_keeps
+    (stops_of c.as_mut_slice.result.now) c.unwrap-end.result c.self.inside.session c.run_to_stop.new.session c.run_to_stop.result c.run_to_stop.ensures.ran)
+    c.run_to_stop.ensures.keeps
 
 pub returns : goal.returns
 returns c =
     let end : c.unwrap-end.result ≡ clock_of c.self.inside.session.board.plain + c.args.count =
-    ends_at c.new.result c.unwrap-end.result c.get-start.result c.clock.result (clock_of c.self.inside.session.board.plain) c.args.count _ c.new.ensures c.unwrap-end.ensures c.get-start.ensures.value
-    (c.clock.ensures ∙ ap (λ (b : BoardState). clock_of b.plain) c.board.ensures.board) in
-    let start : c.get-start.result ≡ clock_of c.self.inside.session.board.plain = c.get-start.ensures.value ∙ c.clock.ensures ∙ ap (λ (b : BoardState). clock_of b.plain) c.board.ensures.board in
+    ends_at c.new.result c.unwrap-end.result c.get-start.result c.clock.result (clock_of c.self.inside.session.board.plain) c.args.count _
+    c.new.ensures c.unwrap-end.ensures c.get-start.ensures.value (c.clock.ensures ∙ ap (λ (b : BoardState). clock_of b.plain) c.board.ensures.board) in
+    let start : c.get-start.result ≡ clock_of c.self.inside.session.board.plain =
+    c.get-start.ensures.value ∙ c.clock.ensures ∙ ap (λ (b : BoardState). clock_of b.plain) c.board.ensures.board in
     let within : clock_of c.self.inside.session.board.plain + c.args.count ≤ 2 ^ 40 = omega (arith, c.if-start-count.false, start, c.get-start.ensures.bound) in
     let new : ProbeState = probe_of c.run_to_stop.new.session (stops_of (with_items c.self.inside.watches c.run_to_stop.new.watches).items) in
     elim c.match-run_to_stop.branch [
       | in-Ok w ↦ subst (λ r. MatchResult r (GoesOn c.args.count c.args.self.now new) (RefusesGoing c.args.count c.args.self.now new)) (sym w.result-is)
-          (goes_with c.args.self.now c.args.count c.unwrap-end.result c.self.inside.session c.run_to_stop.new.session c.self.inside.watches c.as_mut_slice.result.now c.run_to_stop.new.watches w.in-Ok.found w.told.result c.self.view_is c.as_mut_slice.ensures.value c.run_to_stop.ensures.keeps
-          within end w.in-Ok.ensures.ran (w.told.ensures ∙ ap (answer_at w.in-Ok.found) (w.clock-in-Ok.ensures ∙ ap (λ (b : BoardState). clock_of b.plain) w.board-in-Ok.ensures.board)))
+          (goes_with c.args.self.now c.args.count c.unwrap-end.result c.self.inside.session
+          c.run_to_stop.new.session c.self.inside.watches c.as_mut_slice.result.now c.run_to_stop.new.watches
+          w.in-Ok.found w.told.result c.self.view_is c.as_mut_slice.ensures.value c.run_to_stop.ensures.keeps
+          within end w.in-Ok.ensures.ran
+          (w.told.ensures ∙ ap (answer_at w.in-Ok.found) (w.clock-in-Ok.ensures ∙ ap (λ (b : BoardState). clock_of b.plain) w.board-in-Ok.ensures.board)))
       | in-Err w ↦ subst (λ r. MatchResult r (GoesOn c.args.count c.args.self.now new) (RefusesGoing c.args.count c.args.self.now new)) (sym w.result-is)
-          (short_with c.args.self.now c.args.count c.unwrap-end.result c.self.inside.session c.run_to_stop.new.session c.self.inside.watches c.as_mut_slice.result.now c.run_to_stop.new.watches w.in-Err.fault c.self.view_is c.as_mut_slice.ensures.value c.run_to_stop.ensures.keeps
+          (short_with c.args.self.now c.args.count c.unwrap-end.result c.self.inside.session c.run_to_stop.new.session c.self.inside.watches
+          c.as_mut_slice.result.now c.run_to_stop.new.watches w.in-Err.fault c.self.view_is c.as_mut_slice.ensures.value c.run_to_stop.ensures.keeps
           within end w.in-Err.ensures.ran)
     ]

@@ -15,7 +15,8 @@ overflow_sub-count c =
     let within = last.within in
     let place = last.clock_is in
     let now : c.get.result ≡ clock_of c.args.self.now.board.plain =
-    c.get.ensures.value ∙ c.clock.ensures ∙ ap (λ (b : BoardState). clock_of b.plain) c.board.ensures.board ∙ ap (λ (p : ProbeState). clock_of p.board.plain) c.self.view_is in
+    c.get.ensures.value ∙ c.clock.ensures ∙ ap (λ (b : BoardState). clock_of b.plain) c.board.ensures.board
+    ∙ ap (λ (p : ProbeState). clock_of p.board.plain) c.self.view_is in
     omega (arith, within, place, now, c.get-2.ensures.value)
 
 pub back-requires : goal.back-requires
@@ -24,7 +25,8 @@ back-requires c =
     let within = last.within in
     let place = last.clock_is in
     let now : c.get.result ≡ clock_of c.args.self.now.board.plain =
-    c.get.ensures.value ∙ c.clock.ensures ∙ ap (λ (b : BoardState). clock_of b.plain) c.board.ensures.board ∙ ap (λ (p : ProbeState). clock_of p.board.plain) c.self.view_is in
+    c.get.ensures.value ∙ c.clock.ensures ∙ ap (λ (b : BoardState). clock_of b.plain) c.board.ensures.board
+    ∙ ap (λ (p : ProbeState). clock_of p.board.plain) c.self.view_is in
     omega (arith, within, place, now, c.get-2.ensures.value)
 
 pub invariant_of-self : goal.invariant_of-self
@@ -36,7 +38,10 @@ invariant_of-self c = record {
 pub returns : goal.returns
 returns c =
     let stops = stops_of c.self.inside.watches.items in
-    let now : c.get.result ≡ clock_of c.self.inside.session.board.plain = c.get.ensures.value ∙ c.clock.ensures ∙ ap (λ (b : BoardState). clock_of b.plain) c.board.ensures.board in
+    let now : c.get.result ≡ clock_of c.self.inside.session.board.plain =
+    c.get.ensures.value ∙ c.clock.ensures ∙ ap (λ (b : BoardState). clock_of b.plain) c.board.ensures.board in
     let count : c.get.result - c.get-2.result ≡ clock_of c.self.inside.session.board.plain - c.args.clock = omega (arith, now, c.get-2.ensures.value) in
-    subst (λ r. MatchResult r (GoesBackToStop c.args.self.now (probe_of c.back.new.self stops)) (RefusesBackToStop c.args.self.now (probe_of c.back.new.self stops))) (sym c.with_number.ensures)
-    (goes_back_by c.args.self.now (c.get.result - c.get-2.result) c.args.clock c.args.number c.self.inside.session c.back.new.self stops c.back.result c.self.view_is c.requires.last c.requires.some count c.back.ensures)
+    subst
+    (λ r. MatchResult r (GoesBackToStop c.args.self.now (probe_of c.back.new.self stops)) (RefusesBackToStop c.args.self.now (probe_of c.back.new.self stops)))
+    (sym c.with_number.ensures) (goes_back_by c.args.self.now (c.get.result - c.get-2.result) c.args.clock c.args.number
+    c.self.inside.session c.back.new.self stops c.back.result c.self.view_is c.requires.last c.requires.some count c.back.ensures)

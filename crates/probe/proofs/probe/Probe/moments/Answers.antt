@@ -19,15 +19,19 @@ tell_moments-requires-clause-few c =
 pub invariant_of-self : goal.invariant_of-self
 invariant_of-self c =
     let session = c.self.inside.session in
-    probe_with session session c.self.inside.watches c.as_mut_slice.result.now c.tell_moments.new.watches c.as_mut_slice.ensures.value c.self.invariant refl c.tell_moments.ensures.keeps
+    probe_with session session c.self.inside.watches c.as_mut_slice.result.now c.tell_moments.new.watches
+    c.as_mut_slice.ensures.value c.self.invariant refl c.tell_moments.ensures.keeps
 
 pub returns-clause-kept : goal.returns-clause-kept
 returns-clause-kept c =
-    ap (probe_of c.self.inside.session) (stops_with c.self.inside.watches c.as_mut_slice.result.now c.tell_moments.new.watches c.as_mut_slice.ensures.value c.tell_moments.ensures.keeps) ∙ c.self.view_is
+    ap (probe_of c.self.inside.session)
+    (stops_with c.self.inside.watches c.as_mut_slice.result.now c.tell_moments.new.watches c.as_mut_slice.ensures.value c.tell_moments.ensures.keeps)
+    ∙ c.self.view_is
 
 pub returns-clause-answers : goal.returns-clause-answers
 returns-clause-answers c =
     let told = c.tell_moments.result in
     subst (λ (p : ProbeState). AnswersTrial p.stops p.board.plain c.args.trial told) c.self.view_is
     (subst (λ xs. AnswersTrial (stops_of xs) c.self.inside.session.board.plain c.args.trial told) c.as_mut_slice.ensures.value
-    (subst (λ (b : BoardState). AnswersTrial (stops_of c.as_mut_slice.result.now) b.plain c.args.trial told) c.board.ensures.board c.tell_moments.ensures.answers))
+    (subst (λ (b : BoardState). AnswersTrial (stops_of c.as_mut_slice.result.now) b.plain c.args.trial told)
+    c.board.ensures.board c.tell_moments.ensures.answers))

@@ -17,7 +17,8 @@ add_condition-requires-clause-room c =
 pub invariant_of-self : goal.invariant_of-self
 invariant_of-self c =
     subst (IsProbe c.add_condition.new.session) (sym c.push.ensures.items)
-    (probe_more c.self.inside.session c.add_condition.new.session c.self.inside.watches.items c.args.watched c.self.invariant c.requires.watched c.add_condition.ensures)
+    (probe_more c.self.inside.session c.add_condition.new.session c.self.inside.watches.items
+    c.args.watched c.self.invariant c.requires.watched c.add_condition.ensures)
 
 pub returns : goal.returns
 returns c =

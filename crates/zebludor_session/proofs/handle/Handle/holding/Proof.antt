@@ -55,10 +55,12 @@ holding_spec 𝓤 𝓛 𝓜 𝓡 wired =
     let s = are.0.0 in
     let h = one (layout Z) s.0.1.0 ((LZ.lawful 𝓛).typed x.alloc s.0.1.0 s.1.1.1.0) in
     let w : Val = pair_val (ptr_val p) h.0 in
-    let typed : Good (ty_struct [] (tcons ty_ptr (tcons (layout Z) tnil))) w = (both_true (has_ty ty_ptr (ptr_val p)) _ (ptr_typed p).0 (and_tt (has_ty (layout Z) h.0) h.2.0), ((ptr_typed p).1, (h.2.1, tt))) in
+    let typed : Good (ty_struct [] (tcons ty_ptr (tcons (layout Z) tnil))) w =
+    (both_true (has_ty ty_ptr (ptr_val p)) _ (ptr_typed p).0 (and_tt (has_ty (layout Z) h.0) h.2.0), ((ptr_typed p).1, (h.2.1, tt))) in
     let new : (handle.the_row).Denot = record { at = p; is_there = true; session = Some x.value; told = refl } in
     let told : z.0.4.0 ≡ w ∷ [] = s.1.0 ∙ (λ i. vstruct (of_list (s.1.1.0 i ++ (h.1 i ++ []))) ∷ []) in
-    qed 𝓛 ((raw (alive 𝓛 ended.signature z.0.0 z.0.1) ⊛ ‵ (owns (types_at ended.signature.params z.0.0) z.0.3 z.0.4)) ∷ ‵ ftrue ∷ []) ∵ move ! (1 ∷ []) $ drop ! $ split ! $ move ! (1 ∷ []) $
+    qed 𝓛 ((raw (alive 𝓛 ended.signature z.0.0 z.0.1) ⊛ ‵ (owns (types_at ended.signature.params z.0.0) z.0.3 z.0.4)) ∷ ‵ ftrue ∷ [])
+    ∵ move ! (1 ∷ []) $ drop ! $ split ! $ move ! (1 ∷ []) $
     fsplit ! $ fsplit ! $ drop ! $ move ! (1 ∷ []) $ drop ! $
     regoal ! (λ (us : List Val). prop (WpFn 𝓤 H C Λ fn us Post)) (λ i. told i ++ []) refl $
     enter ! C Λ fn (w ∷ []) Post $
@@ -69,5 +71,6 @@ holding_spec 𝓤 𝓛 𝓜 𝓡 wired =
     returns ! (look_at ! 0 refl) $ free_all ! refl $
     use1 𝓛 (‵ (owns_session (Some x.value) p)) (id⊢ 𝓤 _) $
     use0 𝓛 (‵ (handle_own p true (handle_val p true ∷ []))) (handle_made 𝓛 p true) $ fjoin ! $
-    use0 𝓛 (raw (fact 𝓤 (new.session ≡ Some x.value))) (fact_i 𝓤 (new.session ≡ Some x.value) (emp 𝓤) refl) $ nothing ! $ nothing ! $ fjoin ! $ move ! (3 ∷ 0 ∷ 2 ∷ 1 ∷ []) $
+    use0 𝓛 (raw (fact 𝓤 (new.session ≡ Some x.value))) (fact_i 𝓤 (new.session ≡ Some x.value) (emp 𝓤) refl) $
+    nothing ! $ nothing ! $ fjoin ! $ move ! (3 ∷ 0 ∷ 2 ∷ 1 ∷ []) $
     by ! (leaves 𝓛 ended stays c z (handle_val p true) new (tt, tt) (tt, tt))))

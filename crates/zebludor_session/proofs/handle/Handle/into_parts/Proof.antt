@@ -54,7 +54,8 @@ into_parts_spec 𝓤 𝓛 𝓜 𝓡 wired =
     let stays : Stays ended.signature.params ended.kept = (stay_dropped slot ended.kept.0, (stay_dropped slot' ended.kept.1.0, tt)) in
     let C = (tables 𝓤 H 𝓜 𝓡 𝓡.env).C in
     let Λ = (tables 𝓤 H 𝓜 𝓡 𝓡.env).Λ in
-    proved_at 𝓛 ended stays c 𝓜 𝓡 (Goes-dropped 𝓛 0 slot ended.kept.0 (λ κs x f. refl), (Goes-dropped 𝓛 0 slot' ended.kept.1.0 (λ κs x f. refl), tt)) #self fn (compiled.unfolded 𝓤 H 𝓜 𝓡 wired) (λ z are.
+    proved_at 𝓛 ended stays c 𝓜 𝓡 (Goes-dropped 𝓛 0 slot ended.kept.0 (λ κs x f. refl), (Goes-dropped 𝓛 0 slot' ended.kept.1.0 (λ κs x f. refl), tt)) #self fn
+    (compiled.unfolded 𝓤 H 𝓜 𝓡 wired) (λ z are.
     let Post : Val → SProp 𝓤 = (walk_of 𝓛 ended stays c).post z in
     let x = z.0.3.0 in
     let a = z.0.3.1.0 in
@@ -64,7 +65,8 @@ into_parts_spec 𝓤 𝓛 𝓜 𝓡 wired =
     let h = one (layout Z) z.0.4.1.0 ((LZ.lawful 𝓛).typed a z.0.4.1.0 are.1.0) in
     let w : Val = pair_val (ptr_val p) h.0 in
     let owning = parts.the_type session.the_row Z ghosts in
-    qed 𝓛 ((raw (alive 𝓛 ended.signature z.0.0 z.0.1) ⊛ ‵ (owns (types_at ended.signature.params z.0.0) z.0.3 z.0.4)) ∷ raw (fact 𝓤 (IsTrue b)) ∷ []) ∵ move ! (1 ∷ []) $ heard ! (IsTrue b) (λ t.
+    qed 𝓛 ((raw (alive 𝓛 ended.signature z.0.0 z.0.1) ⊛ ‵ (owns (types_at ended.signature.params z.0.0) z.0.3 z.0.4)) ∷ raw (fact 𝓤 (IsTrue b)) ∷ [])
+    ∵ move ! (1 ∷ []) $ heard ! (IsTrue b) (λ t.
     let held = there x.session (subst T x.told (subst T (sym t) tt)) in
     let v = held.0 in
     let new : (parts.the_row session.the_row Z ghosts).Denot = record { ptr = p; alloc = a; value = v } in
@@ -76,10 +78,13 @@ into_parts_spec 𝓤 𝓛 𝓜 𝓡 wired =
     alloc_all ! (λ l. pass_all ! refl (handle_typed p b, (h.2, tt)) $
     sets ! (of_opd ! (get_in ! (fld ! refl (stop !)) (sub ! 0 refl (whole !)))) refl (ptr_typed p) $
     sets ! (of_opd ! (get ! refl)) refl (ptr_typed p) $
-    sets ! (agg ! (and_then ! (get ! refl) (and_then ! (get ! refl) (no_more !)))) refl (both_true (has_ty ty_ptr (ptr_val p)) _ (ptr_typed p).0 (and_tt (has_ty (layout Z) h.0) h.2.0), ((ptr_typed p).1, (h.2.1, tt))) $
+    sets ! (agg ! (and_then ! (get ! refl) (and_then ! (get ! refl) (no_more !)))) refl
+    (both_true (has_ty ty_ptr (ptr_val p)) _ (ptr_typed p).0 (and_tt (has_ty (layout Z) h.0) h.2.0), ((ptr_typed p).1, (h.2.1, tt))) $
     returns ! (look_at ! 0 refl) $ free_all ! refl $
-    move ! (1 ∷ []) $ nothing ! $ move ! (1 ∷ 0 ∷ []) $ fjoin ! $ feq_i ! (List Val) (ptr_val p ∷ []) (ptr_val p ∷ []) refl $ fjoin ! $ feq_i ! (List Val) (w ∷ []) (w ∷ []) refl $ fjoin ! $
+    move ! (1 ∷ []) $ nothing ! $ move ! (1 ∷ 0 ∷ []) $ fjoin ! $ feq_i ! (List Val) (ptr_val p ∷ []) (ptr_val p ∷ []) refl $
+    fjoin ! $ feq_i ! (List Val) (w ∷ []) (w ∷ []) refl $ fjoin ! $
     fpack ! (Valss (RawPtr ∷ Z ∷ [])) (within (shape owning) (p, (a, tt)) (w ∷ [])) (ptr_val p ∷ [], (h.0 ∷ [], tt)) $ fjoin ! $
     use1 𝓛 (‵ ((parts.the_row session.the_row Z ghosts).own_val new (w ∷ []))) (id⊢ 𝓤 _) $
-    use0 𝓛 (raw (fact 𝓤 (Some v ≡ x.session))) (fact_i 𝓤 (Some v ≡ x.session) (emp 𝓤) (sym held.1)) $ nothing ! $ nothing ! $ fjoin ! $ nothing ! $ fjoin ! $ move ! (3 ∷ 0 ∷ 2 ∷ 1 ∷ []) $
+    use0 𝓛 (raw (fact 𝓤 (Some v ≡ x.session))) (fact_i 𝓤 (Some v ≡ x.session) (emp 𝓤) (sym held.1)) $
+    nothing ! $ nothing ! $ fjoin ! $ nothing ! $ fjoin ! $ move ! (3 ∷ 0 ∷ 2 ∷ 1 ∷ []) $
     by ! (leaves 𝓛 ended stays c z w new (tt, (tt, tt)) (tt, (tt, tt))))))

@@ -42,7 +42,8 @@ with_flag_spec 𝓤 𝓛 𝓜 𝓡 wired =
     let p = x.at in
     let b = x.is_there in
     let told = handle_told p b z.0.4.0 are.0.0 in
-    qed 𝓛 ((raw (alive 𝓛 ended.signature z.0.0 z.0.1) ⊛ ‵ (owns (types_at ended.signature.params z.0.0) z.0.3 z.0.4)) ∷ ‵ ftrue ∷ []) ∵ move ! (1 ∷ []) $ drop ! $ split ! $ move ! (1 ∷ []) $
+    qed 𝓛 ((raw (alive 𝓛 ended.signature z.0.0 z.0.1) ⊛ ‵ (owns (types_at ended.signature.params z.0.0) z.0.3 z.0.4)) ∷ ‵ ftrue ∷ [])
+    ∵ move ! (1 ∷ []) $ drop ! $ split ! $ move ! (1 ∷ []) $
     fsplit ! $ fsplit ! $ drop ! $ move ! (1 ∷ []) $ drop ! $
     regoal ! (λ (us : List Val). prop (WpFn 𝓤 H C Λ fn us Post)) (λ i. told i ++ []) refl $
     enter ! C Λ fn (handle_val p b ∷ []) Post $
@@ -50,9 +51,12 @@ with_flag_spec 𝓤 𝓛 𝓜 𝓡 wired =
     sets ! (of_opd ! (get_in ! (fld ! refl (stop !)) (sub ! 0 refl (whole !)))) refl (ptr_typed p) $
     sets ! (of_opd ! (get_in ! (fld ! refl (stop !)) (sub ! 1 refl (whole !)))) refl (tt, tt) $
     sets ! (agg ! (and_then ! (get ! refl) (and_then ! (get ! refl) (no_more !)))) refl (handle_typed p b) $
-    sets ! (agg ! (and_then ! (get ! refl) (and_then ! (get ! refl) (no_more !)))) refl (and_tt _ (and_tt _ ((ptr_typed p).0)), (tt, (((ptr_typed p).1, (tt, tt)), tt))) $
+    sets ! (agg ! (and_then ! (get ! refl) (and_then ! (get ! refl) (no_more !)))) refl
+    (and_tt _ (and_tt _ ((ptr_typed p).0)), (tt, (((ptr_typed p).1, (tt, tt)), tt))) $
     returns ! (look_at ! 0 refl) $ free_all ! refl $
     use0 𝓛 (‵ (handle_own p b (handle_val p b ∷ []))) (handle_made 𝓛 p b) $ fjoin ! $ feq_i ! (List Val) (vbool b ∷ []) (vbool b ∷ []) refl $
-    use2 𝓛 (‵ ((Tuple (bool ∷ handle.the_row ∷ [])).own_val (b, x) (pair_val (vbool b) (handle_val p b) ∷ []))) (pair_of 𝓛 bool handle.the_row b x (vbool b) (handle_val p b)) $
-    use0 𝓛 (raw (fact 𝓤 ((b ≡ b) × (x ≡ x)))) (fact_i 𝓤 ((b ≡ b) × (x ≡ x)) (emp 𝓤) (refl, refl)) $ nothing ! $ nothing ! $ fjoin ! $ move ! (3 ∷ 0 ∷ 2 ∷ 1 ∷ []) $
+    use2 𝓛 (‵ ((Tuple (bool ∷ handle.the_row ∷ [])).own_val (b, x) (pair_val (vbool b) (handle_val p b) ∷ [])))
+    (pair_of 𝓛 bool handle.the_row b x (vbool b) (handle_val p b)) $
+    use0 𝓛 (raw (fact 𝓤 ((b ≡ b) × (x ≡ x)))) (fact_i 𝓤 ((b ≡ b) × (x ≡ x)) (emp 𝓤) (refl, refl)) $
+    nothing ! $ nothing ! $ fjoin ! $ move ! (3 ∷ 0 ∷ 2 ∷ 1 ∷ []) $
     by ! (leaves 𝓛 ended stays c z (pair_val (vbool b) (handle_val p b)) (b, x) (tt, tt) (tt, tt))))
