@@ -15,7 +15,8 @@ use Rattle.assembler_form.proofs.First.{one_form}
 use Rattle.assembler_meaning.specs.declared.symbol.Location.{Location}
 use Rattle.assembler_meaning.specs.Values.{Names}
 use Rattle.assembler_meaning.specs.Instructions.{instruction_asked, IsChosenFor, IsFormFor}
-use Rattle.assembler.specs.LocatedLines.{LocatedLine, IsLocatedLine, IsCleanLine, AreLocatedLines, IsFormOf, names_of, location_following, size_of, location_after, label_definition, statement_definition}
+use Rattle.assembler.specs.LocatedLines.{LocatedLine, IsLocatedLine, IsCleanLine, AreLocatedLines, IsFormOf, names_of}
+use Rattle.assembler.specs.LocatedLines.{location_following, size_of, location_after, label_definition, statement_definition}
 
 -- a row of the encoding table that was chosen takes what is asked
 found_there : (rs : List TableRow) (place : ℕ) (r : TableRow) → slice_get rs place ≡ Some r → Contains rs r

@@ -1,5 +1,6 @@
 -- A row whose bytes the image holds has no fault of placing.
-use Rattle.std.proofs.Common.{◌≡◌, ◌∙◌, ℕ, ◌+◌, ◌<◌, ◌≤◌, ◌==◌, List, [], ◌∷◌, ◌++◌, length, refl, sym, ap, subst, arith, inl, inr, Bool, true, false, ◌||◌, Option, None, Some, is_some, nat_lt, append_assoc, append-nil, Contains}
+use Rattle.std.proofs.Common.{◌≡◌, ◌∙◌, ℕ, ◌+◌, ◌<◌, ◌≤◌, ◌==◌, List, [], ◌∷◌, ◌++◌, length, refl, sym, ap, subst, arith, inl, inr}
+use Rattle.std.proofs.Common.{Bool, true, false, ◌||◌, Option, None, Some, is_some, nat_lt, append_assoc, append-nil, Contains}
 use Rattle.std.specs.List.{AllByRecursion, IsDistinct, list_all, list_any}
 use Rattle.std.specs.Map.{keys_of}
 use Rattle.std.specs.Ordering.{nat_cmp}
@@ -13,7 +14,8 @@ use Rattle.board_types.specs.Image.{IsImage, IsLoadable, image_byte}
 use Rattle.assembler.specs.declared.kept_line.Content.{Content}
 use Rattle.assembler_meaning.specs.declared.symbol.Location.{Location}
 use Rattle.assembler_meaning.specs.Values.{Names}
-use Rattle.assembler.specs.Placement.{content_of, bytes_by, bytes_from, address_after, addresses_from, placed_at, placed_by, placed_by_all, lacks_name, has_wrong_number, is_past_end, is_loadable, is_placed, fault_at, late_fault, located_fault}
+use Rattle.assembler.specs.Placement.{content_of, bytes_by, bytes_from, address_after, addresses_from, placed_at, placed_by, placed_by_all}
+use Rattle.assembler.specs.Placement.{lacks_name, has_wrong_number, is_past_end, is_loadable, is_placed, fault_at, late_fault, located_fault}
 use Rattle.assembler.specs.LocatedLines.{LocatedLine, AreLocatedLines, IsCleanLine, names_of}
 use Rattle.assembler.specs.Gives.{ArePlaced, Fits, FitsAt}
 use Rattle.assembler.proofs.LineLength.{keeps_size}

@@ -1,5 +1,6 @@
 -- The names of a source are ASCII.
-use Rattle.std.proofs.Common.{◌≡◌, ◌∙◌, ℕ, zero, suc, ◌-◌, ◌<◌, ◌==◌, List, [], ◌∷◌, ◌++◌, length, map, take, replicate, refl, sym, ap, subst, arith, Bool, true, false, ◌&&◌, Option, None, Some, Result, Ok, Err, nat_le, nat_lt, if◌then◌else◌}
+use Rattle.std.proofs.Common.{◌≡◌, ◌∙◌, ℕ, zero, suc, ◌-◌, ◌<◌, ◌==◌, List, [], ◌∷◌, ◌++◌, length, map, take, replicate, refl, sym, ap}
+use Rattle.std.proofs.Common.{subst, arith, Bool, true, false, ◌&&◌, Option, None, Some, Result, Ok, Err, nat_le, nat_lt, if◌then◌else◌}
 use Rattle.std.specs.Prelude.{slice_get, codes, ℤ}
 use Rattle.std.specs.List.{AllByRecursion, list_all}
 use Rattle.std.specs.Char.{to_ascii_uppercase}
@@ -33,12 +34,15 @@ use Rattle.assembler_lexeme.specs.Lexemes.{is_blank, is_character, is_digit, is_
 use Rattle.board_types.specs.TextLines.{begins_with, onto_first, text_lines}
 use Rattle.assembler_lexeme.specs.Numbers.{number_of, last_byte}
 use Rattle.assembler_lexeme.specs.Faults.{◌>>=◌, wanted, all_of}
-use Rattle.assembler_lexeme.specs.Tokens.{between_quotes, punctuator_of, punctuator_token, name_of, number_token, quoted_token, text_token, token_of, tokens_of, word_token}
+use Rattle.assembler_lexeme.specs.Tokens.{between_quotes, punctuator_of, punctuator_token, name_of, number_token}
+use Rattle.assembler_lexeme.specs.Tokens.{quoted_token, text_token, token_of, tokens_of, word_token}
 use Rattle.assembler_syntax.specs.ExpressionSteps.{constant_of}
 use Rattle.assembler_syntax.specs.OperandSteps.{operands_of}
 use Rattle.assembler_syntax.specs.ItemSteps.{items_of}
 use Rattle.assembler_syntax.specs.PartSteps.{is_colon}
-use Rattle.assembler_syntax.specs.StatementSteps.{data_of, directive_of, ends_of, equ_of, instruction_of, is_at, is_directive, is_equ, keyword_statement, led_statement, onto_prefixes, org_of, prefixed_statement, prefixes_of, segment_by, segment_of, segment_token, statement_after, statement_of, word_statement}
+use Rattle.assembler_syntax.specs.StatementSteps.{data_of, directive_of, ends_of, equ_of, instruction_of, is_at, is_directive, is_equ}
+use Rattle.assembler_syntax.specs.StatementSteps.{keyword_statement, led_statement, onto_prefixes, org_of, prefixed_statement, prefixes_of}
+use Rattle.assembler_syntax.specs.StatementSteps.{segment_by, segment_of, segment_token, statement_after, statement_of, word_statement}
 use Rattle.assembler_syntax.specs.LineSteps.{labelled, line_of, read_line as read_in_steps, with_label}
 use Rattle.assembler_syntax.specs.Lines.{read_line}
 use Rattle.assembler_syntax.proofs.Alike.{text_alike}

@@ -1,5 +1,6 @@
 -- What an image holds after bytes are put into it.
-use Rattle.std.proofs.Common.{suc, ◌+◌, drop, get_or, length, ◌≡◌, ◌∙◌, ℕ, ◌<◌, ◌≤◌, ◌==◌, ◌||◌, List, [], ◌∷◌, refl, sym, ap, arith, Bool, true, false, Option, None, Some, is_some, if◌then◌else◌}
+use Rattle.std.proofs.Common.{suc, ◌+◌, drop, get_or, length, ◌≡◌, ◌∙◌, ℕ, ◌<◌, ◌≤◌, ◌==◌, ◌||◌, List, [], ◌∷◌}
+use Rattle.std.proofs.Common.{refl, sym, ap, arith, Bool, true, false, Option, None, Some, is_some, if◌then◌else◌}
 use Rattle.std.specs.Prelude.{Contains, ◌↔◌}
 use Rattle.std.specs.Ordering.{nat_cmp}
 use Rattle.std.specs.BTreeMap.{insert_entry}

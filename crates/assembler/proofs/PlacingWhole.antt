@@ -1,5 +1,6 @@
 -- What the second pass answers is what the definitions of the image and of the first fault say.
-use Rattle.std.proofs.Common.{suc, zero, ◌≡◌, ◌∙◌, ℕ, ◌+◌, ◌<◌, ◌≤◌, ◌==◌, List, [], ◌∷◌, ◌++◌, length, take, drop, get_or, append_assoc, append-nil, length-take, refl, sym, ap, subst, arith, inr, Bool, false, Option, None, Some, is_some}
+use Rattle.std.proofs.Common.{suc, zero, ◌≡◌, ◌∙◌, ℕ, ◌+◌, ◌<◌, ◌≤◌, ◌==◌, List, [], ◌∷◌, ◌++◌, length, take, drop, get_or, append_assoc}
+use Rattle.std.proofs.Common.{append-nil, length-take, refl, sym, ap, subst, arith, inr, Bool, false, Option, None, Some, is_some}
 use Rattle.std.specs.List.{AllByRecursion, IsDistinct, list_any}
 use Rattle.std.specs.List.Sorted.{IsStrictlySortedBy}
 use Rattle.std.specs.Map.{keys_of}
@@ -21,11 +22,13 @@ use Rattle.assembler.specs.declared.kept_line.KeptLine.{KeptLine}
 use Rattle.assembler_meaning.specs.declared.symbol.Location.{Location}
 use Rattle.assembler_meaning.specs.Values.{Names}
 use Rattle.assembler.specs.LocatedLines.{AreLocatedLines, LocatedLine, names_of}
-use Rattle.assembler.specs.Placement.{addresses_from, bytes_by, content_of, is_past_end, is_placed, late_fault, placed_at, placed_by, placed_by_all, located_fault}
+use Rattle.assembler.specs.Placement.{addresses_from, bytes_by, content_of, is_past_end, is_placed}
+use Rattle.assembler.specs.Placement.{late_fault, placed_at, placed_by, placed_by_all, located_fault}
 use Rattle.assembler.specs.Gives.{ArePlaced, Fits, FitsAt, Gives}
 use Rattle.assembler.specs.FirstFault.{AreFaultless, HasLateFault, IsFirst}
 use Rattle.assembler.specs.KeptLines.{AreKept, Reads, content_in}
-use Rattle.assembler.specs.SecondPass.{AreFaultlessKept, AreKeptLines, HasSize, HasSizeAt, IsKept, KeepsSize, LineHasSize, StopsAt, entries_by, entries_by_all, has_byte, kept_fault, with_entries}
+use Rattle.assembler.specs.SecondPass.{AreFaultlessKept, AreKeptLines, HasSize, HasSizeAt, IsKept, KeepsSize, LineHasSize}
+use Rattle.assembler.specs.SecondPass.{StopsAt, entries_by, entries_by_all, has_byte, kept_fault, with_entries}
 use Rattle.assembler.proofs.PlacingAddresses.{addresses_differ, keys_are, still_differ}
 use Rattle.assembler.proofs.PlacingImage.{bytes_are, taken_is}
 use Rattle.assembler.proofs.LineLength.{keeps_size}

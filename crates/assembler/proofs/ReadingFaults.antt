@@ -1,5 +1,6 @@
 -- What a line without a fault keeps to, and its row.
-use Rattle.std.proofs.Common.{◌≡◌, ℕ, ◌+◌, ◌^◌, ◌≤◌, refl, sym, ap, ◌∙◌, subst, arith, Bool, true, false, ◌||◌, if◌then◌else◌, List, ◌++◌, Option, None, Some, Ok, Err, IfSome, append_assoc, inl, inr, length}
+use Rattle.std.proofs.Common.{◌≡◌, ℕ, ◌+◌, ◌^◌, ◌≤◌, refl, sym, ap, ◌∙◌, subst, arith, Bool, true, false, ◌||◌}
+use Rattle.std.proofs.Common.{if◌then◌else◌, List, ◌++◌, Option, None, Some, Ok, Err, IfSome, append_assoc, inl, inr, length}
 use Rattle.isa.specs.Encoding.{IsForm}
 use Rattle.isa.specs.declared.form.Form.{Form}
 use Rattle.assembler_lexeme.specs.declared.fault.SyntaxFault.{SyntaxFault}
@@ -14,7 +15,8 @@ use Rattle.assembler.specs.declared.kept_line.Content.{Content}
 use Rattle.assembler.specs.declared.early.Before.{Before}
 use Rattle.assembler_meaning.specs.declared.symbol.Location.{Location}
 use Rattle.assembler_meaning.specs.Values.{Names, AreSmall, term_limit}
-use Rattle.assembler.specs.LocatedLines.{IsFormOf, IsLocatedLine, defines_again, early_fault, has_unknown_constant, has_wrong_constant, label_definition, lacks_form, opens_within, size_of, stands_outside, statement_definition}
+use Rattle.assembler.specs.LocatedLines.{IsFormOf, IsLocatedLine, defines_again, early_fault, has_unknown_constant, has_wrong_constant}
+use Rattle.assembler.specs.LocatedLines.{label_definition, lacks_form, opens_within, size_of, stands_outside, statement_definition}
 use Rattle.assembler.specs.Placement.{content_of}
 use Rattle.assembler.specs.FirstFault.{IsTextFault, fault_of_line}
 use Rattle.assembler_meaning.specs.declared.symbol.Symbol.{Symbol}

@@ -1,5 +1,6 @@
 -- The names that a line adds: they are new, and their numbers small.
-use Rattle.std.proofs.Common.{◌≡◌, ℤ, pos, negsuc, ◌^◌, ◌≤◌, refl, sym, ap, ◌∙◌, subst, arith, Bool, true, false, ◌||◌, if◌then◌else◌, [], ◌∷◌, ◌++◌, Option, None, Some, is_some}
+use Rattle.std.proofs.Common.{◌≡◌, ℤ, pos, negsuc, ◌^◌, ◌≤◌, refl, sym, ap, ◌∙◌, subst, arith, Bool, true}
+use Rattle.std.proofs.Common.{false, ◌||◌, if◌then◌else◌, [], ◌∷◌, ◌++◌, Option, None, Some, is_some}
 use Rattle.std.specs.Option.{option_map_or}
 use Rattle.std.specs.Str.{bytes_eq}
 use Rattle.std.proofs.lemmas.Slice.Eq.{bytes_eq-Decides}
@@ -13,7 +14,8 @@ use Rattle.assembler_meaning.specs.declared.symbol.Location.{Location}
 use Rattle.assembler_meaning.specs.declared.symbol.Symbol.{Symbol}
 use Rattle.assembler_meaning.specs.declared.symbol.Symbol.TheVariants.{Label, Constant}
 use Rattle.assembler_meaning.specs.Values.{Names, AreSmall, IsSmall, IsSmallNumber, constant_of, meaning, same_name, is_defined}
-use Rattle.assembler.specs.LocatedLines.{constant_definition, defines_again, has_wrong_constant, is_same, label_definition, statement_definition, statement_name}
+use Rattle.assembler.specs.LocatedLines.{constant_definition, defines_again, has_wrong_constant, is_same}
+use Rattle.assembler.specs.LocatedLines.{label_definition, statement_definition, statement_name}
 use Rattle.assembler_meaning.specs.Data.{is_other}
 use Rattle.assembler.specs.FirstPass.{IsNewDefinition, definition_names, offset_of}
 

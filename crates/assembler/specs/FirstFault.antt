@@ -6,12 +6,15 @@ use Rattle.assembler_lexeme.specs.declared.fault.SyntaxFault.TheVariants as line
 use Rattle.board_types.specs.TextLines.{text_lines}
 use Rattle.assembler_syntax.specs.Lines.{read_line}
 use Rattle.assembler.specs.declared.fault.SourceFault.{SourceFault}
-use Rattle.assembler.specs.declared.fault.SourceFault.TheVariants.{BadCharacter, BadLine, UnknownName, BadForm, TwiceDefined, Undefined, OutOfRange, OutOfSegment, Overlap, NoSegment, NotLoadable}
+use Rattle.assembler.specs.declared.fault.SourceFault.TheVariants.{BadCharacter, BadLine, UnknownName, BadForm}
+use Rattle.assembler.specs.declared.fault.SourceFault.TheVariants.{TwiceDefined, Undefined, OutOfRange}
+use Rattle.assembler.specs.declared.fault.SourceFault.TheVariants.{OutOfSegment, Overlap, NoSegment, NotLoadable}
 use Rattle.assembler.specs.declared.fault.AsmFault.{AsmFault}
 use Rattle.assembler.specs.declared.fault.AsmFault.TheVariants.{SourceTooLong, InLine, Memory}
 use Rattle.assembler_meaning.specs.declared.symbol.Location.{Location}
 use Rattle.assembler_meaning.specs.Values.{Names}
-use Rattle.assembler.specs.LocatedLines.{LocatedLine, IsLocatedLine, AreLocatedLines, early_fault, names_of, location_following}
+use Rattle.assembler.specs.LocatedLines.{LocatedLine, IsLocatedLine, AreLocatedLines}
+use Rattle.assembler.specs.LocatedLines.{early_fault, names_of, location_following}
 use Rattle.assembler.specs.Placement.{located_fault}
 use Rattle.assembler.specs.Gives.{source_limit}
 

@@ -1,6 +1,7 @@
 -- What the first pass does with a line, and what it has read before one.
 -- For proofs alone: no public contract rests on it.
-use Rattle.std.specs.Prelude.{ℕ, ◌≡◌, ◌≤◌, ◌+◌, ◌*◌, ◌^◌, false, List, [], ◌∷◌, ◌++◌, length, Option, None, Some, is_some}
+use Rattle.std.specs.Prelude.{ℕ, ◌≡◌, ◌≤◌, ◌+◌, ◌*◌, ◌^◌, false, List, []}
+use Rattle.std.specs.Prelude.{◌∷◌, ◌++◌, length, Option, None, Some, is_some}
 use Rattle.std.specs.List.{AllByRecursion}
 use Rattle.isa.specs.declared.form.Form.{Form}
 use Rattle.assembler_lexeme.specs.declared.name.Name.{Name}
@@ -15,7 +16,8 @@ use Rattle.assembler.specs.declared.early.Before.{Before}
 use Rattle.assembler_meaning.specs.declared.symbol.Location.{Location}
 use Rattle.assembler_meaning.specs.declared.symbol.Symbol.{Symbol}
 use Rattle.assembler_meaning.specs.Values.{Names, AreSmall, is_defined}
-use Rattle.assembler.specs.LocatedLines.{LocatedLine, IsLocatedLine, AreLocatedLines, early_fault, label_definition, names_of, size_of, location_after, location_following, statement_definition}
+use Rattle.assembler.specs.LocatedLines.{LocatedLine, IsLocatedLine, AreLocatedLines, early_fault, label_definition}
+use Rattle.assembler.specs.LocatedLines.{names_of, size_of, location_after, location_following, statement_definition}
 use Rattle.assembler.specs.Placement.{content_of}
 use Rattle.assembler.specs.FirstFault.{IsTextFault}
 use Rattle.assembler.specs.KeptLines.{AreKept, IsSteady, content_in}

@@ -1,6 +1,7 @@
 -- What the first pass keeps of the rows for the second, and the bounds that keep the second from overflowing.
 -- For proofs alone: no public contract rests on it.
-use Rattle.std.specs.Prelude.{ℕ, ◌≡◌, ◌≤◌, ◌+◌, ◌^◌, true, List, [], ◌∷◌, length, take, drop, Option, None, Some, is_some}
+use Rattle.std.specs.Prelude.{ℕ, ◌≡◌, ◌≤◌, ◌+◌, ◌^◌, true, List, [], ◌∷◌}
+use Rattle.std.specs.Prelude.{length, take, drop, Option, None, Some, is_some}
 use Rattle.std.specs.Option.{option_map}
 use Rattle.std.specs.Box.{box_value}
 use Rattle.std.specs.List.{AllByRecursion}

@@ -1,6 +1,7 @@
 -- The listing: for each line where its bytes stand, the first eight of them, and the line; and the names of a source.
 -- To be believed: the headline rests on it.
-use Rattle.std.specs.Prelude.{ℕ, ℤ, ◌-◌, ◌*◌, nat_lt, if◌then◌else◌, List, [], ◌∷◌, ◌++◌, length, take, replicate, Option, None, Some, zip}
+use Rattle.std.specs.Prelude.{ℕ, ℤ, ◌-◌, ◌*◌, nat_lt, if◌then◌else◌, List, [], ◌∷◌}
+use Rattle.std.specs.Prelude.{◌++◌, length, take, replicate, Option, None, Some, zip}
 use Rattle.std.specs.Option.{option_map}
 use Rattle.std.specs.List.{flat_map, slice_get, take_while}
 use Rattle.board_types.specs.Digits.{hex_byte_text, hex_word}

@@ -1,6 +1,7 @@
 -- The bytes of lines at their addresses, in the light of all names of the source.
 -- To be believed: the headline rests on it.
-use Rattle.std.specs.Prelude.{ℕ, zero, suc, pos, ◌+◌, Bool, false, not, ◌||◌, ◌&&◌, ◌==◌, nat_lt, nat_le, if◌then◌else◌, List, [], ◌∷◌, Option, None, Some, is_some, is_none}
+use Rattle.std.specs.Prelude.{ℕ, zero, suc, pos, ◌+◌, Bool, false, not, ◌||◌, ◌&&◌, ◌==◌, nat_lt, nat_le}
+use Rattle.std.specs.Prelude.{if◌then◌else◌, List, [], ◌∷◌, Option, None, Some, is_some, is_none}
 use Rattle.std.specs.Option.{option_map_or}
 use Rattle.std.specs.List.{list_any, list_all, flat_map}
 use Rattle.board_types.specs.Address.{physical}
@@ -12,7 +13,8 @@ use Rattle.assembler_syntax.specs.declared.statement.Instruction.{Instruction}
 use Rattle.assembler_form.specs.declared.fields.Numbers.{Numbers}
 use Rattle.assembler_form.specs.Fields.{values_of}
 use Rattle.assembler.specs.declared.fault.SourceFault.{SourceFault}
-use Rattle.assembler.specs.declared.fault.SourceFault.TheVariants.{Undefined, OutOfRange, OutOfSegment, Overlap, NotLoadable}
+use Rattle.assembler.specs.declared.fault.SourceFault.TheVariants.{Undefined, OutOfRange}
+use Rattle.assembler.specs.declared.fault.SourceFault.TheVariants.{OutOfSegment, Overlap, NotLoadable}
 use Rattle.assembler.specs.declared.kept_line.Content.{Content}
 use Rattle.assembler.specs.declared.kept_line.Content.TheVariants.{Data, Code}
 use Rattle.assembler_meaning.specs.declared.symbol.Location.{Location}

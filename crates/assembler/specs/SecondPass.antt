@@ -1,6 +1,7 @@
 -- The second pass, by the rows that the first pass keeps.
 -- For proofs alone: no public contract rests on it.
-use Rattle.std.specs.Prelude.{ℕ, ◌≡◌, Bool, not, true, false, List, [], ◌∷◌, ◌++◌, length, fold, Option, None, Some, is_some, if◌then◌else◌}
+use Rattle.std.specs.Prelude.{ℕ, ◌≡◌, Bool, not, true, false, List, [], ◌∷◌, ◌++◌}
+use Rattle.std.specs.Prelude.{length, fold, Option, None, Some, is_some, if◌then◌else◌}
 use Rattle.std.specs.List.{flat_map, list_all, list_any}
 use Rattle.std.specs.Ordering.{nat_cmp}
 use Rattle.std.specs.BTreeMap.{insert_entry}
@@ -8,7 +9,8 @@ use Rattle.board_types.specs.Image.{image_byte}
 use Rattle.assembler_syntax.specs.declared.statement.Item.{Item}
 use Rattle.assembler_syntax.specs.declared.statement.DataWidth.{DataWidth}
 use Rattle.assembler.specs.declared.fault.SourceFault.{SourceFault}
-use Rattle.assembler.specs.declared.fault.SourceFault.TheVariants.{Undefined, OutOfRange, OutOfSegment, Overlap, NotLoadable}
+use Rattle.assembler.specs.declared.fault.SourceFault.TheVariants.{Undefined, OutOfRange}
+use Rattle.assembler.specs.declared.fault.SourceFault.TheVariants.{OutOfSegment, Overlap, NotLoadable}
 use Rattle.assembler.specs.declared.fault.AsmFault.{AsmFault}
 use Rattle.assembler.specs.declared.fault.AsmFault.TheVariants.{SourceTooLong, InLine, Memory}
 use Rattle.assembler.specs.declared.kept_line.Content.{Content}
@@ -16,7 +18,8 @@ use Rattle.assembler.specs.declared.kept_line.KeptLine.{KeptLine}
 use Rattle.assembler_meaning.specs.declared.symbol.Location.{Location}
 use Rattle.assembler_meaning.specs.Values.{Names}
 use Rattle.assembler_meaning.specs.Data.{are_items_known, do_items_fit}
-use Rattle.assembler.specs.Placement.{addresses_from, bytes_by, content_of, has_wrong_number, is_loadable, is_past_end, lacks_name, late_fault, placed_at, is_placed}
+use Rattle.assembler.specs.Placement.{addresses_from, bytes_by, content_of, has_wrong_number, is_loadable}
+use Rattle.assembler.specs.Placement.{is_past_end, lacks_name, late_fault, placed_at, is_placed}
 use Rattle.assembler.specs.KeptLines.{content_in}
 use Rattle.assembler.specs.LocatedLines.{LocatedLine}
 

@@ -1,6 +1,7 @@
 -- How the listing's code shows a row: by the image's bytes at the row's addresses.
 -- For proofs alone: no public contract rests on it.
-use Rattle.std.specs.Prelude.{ℕ, zero, suc, ◌-◌, ◌*◌, nat_lt, if◌then◌else◌, List, [], ◌∷◌, ◌++◌, take, drop, Option, None, Some}
+use Rattle.std.specs.Prelude.{ℕ, zero, suc, ◌-◌, ◌*◌, nat_lt, if◌then◌else◌, List}
+use Rattle.std.specs.Prelude.{[], ◌∷◌, ◌++◌, take, drop, Option, None, Some}
 use Rattle.std.specs.Option.{unwrap_or}
 use Rattle.board_types.specs.Image.{image_byte}
 use Rattle.assembler.specs.declared.kept_line.KeptLine.{KeptLine}

@@ -12,7 +12,8 @@ use Rattle.isa.specs.Layout.{first_field, kind_field}
 use Rattle.isa.specs.Encoding.{displacement_field, FitsField, FitsForm}
 use Rattle.assembler_form.specs.declared.fields.Numbers.{Numbers}
 use Rattle.assembler_form.specs.Takes.{is_within}
-use Rattle.assembler_form.specs.Fields.{byte_of, displacement_in, field_kind, field_kind_of, modulo, number_in, segment_in, signed_byte_of, values_of, values_with, word_of}
+use Rattle.assembler_form.specs.Fields.{byte_of, displacement_in, field_kind, field_kind_of, modulo, number_in}
+use Rattle.assembler_form.specs.Fields.{segment_in, signed_byte_of, values_of, values_with, word_of}
 
 modulo_within : (m : ℕ) (n : ℤ) → 0 < m → modulo m n < m
 modulo_within m (pos n) some = omega arith

@@ -1,6 +1,7 @@
 -- What a row takes fits its parts. That no row has two operands in one part is computed from a test of one row.
 use Rattle.std.specs.Option.{option_map}
-use Rattle.std.proofs.Common.{ℕ, ◌≡◌, ◌≢◌, ◌+◌, ◌<◌, Bool, true, false, not, ◌&&◌, ◌||◌, cond, List, Contains, refl, sym, subst, ap, arith, rules, lit<, Option, Some, None}
+use Rattle.std.proofs.Common.{ℕ, ◌≡◌, ◌≢◌, ◌+◌, ◌<◌, Bool, true, false, not, ◌&&◌, ◌||◌, cond, List}
+use Rattle.std.proofs.Common.{Contains, refl, sym, subst, ap, arith, rules, lit<, Option, Some, None}
 use Rattle.std.specs.Prelude.{IsTrue, pos, negsuc, slice_get}
 use Rattle.std.proofs.lemmas.Bool.{and_parts}
 use Rattle.std.proofs.lemmas.Bool.Decides.{nat_tests}
@@ -42,7 +43,8 @@ use Rattle.assembler_form.specs.Takes.{is_within, Takes}
 use Rattle.assembler_form.specs.Kinds.{is_of, is_segment_not_cs, is_segment_register, is_pointer, is_far_memory, is_word_memory}
 use Rattle.assembler_form.proofs.Alike.{in_steps}
 use Rattle.assembler_form.specs.Choice.{IsChosen, IsFirst}
-use Rattle.assembler_form.specs.OperandBytes.{escape_number, first_place, form_with, in_opcode, in_place, in_reg, is_zero, place_at, place_of, place_with, place_without, register_number}
+use Rattle.assembler_form.specs.OperandBytes.{escape_number, first_place, form_with, in_opcode, in_place, in_reg}
+use Rattle.assembler_form.specs.OperandBytes.{is_zero, place_at, place_of, place_with, place_without, register_number}
 
 -- registers' numbers
 byte_within : (r : ByteRegister) → byte_register_number r < 8

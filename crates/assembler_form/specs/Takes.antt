@@ -17,7 +17,8 @@ use Rattle.dialect.specs.declared.size.Size.{Size}
 use Rattle.dialect.specs.declared.size.Size.TheVariants as sizes
 use Rattle.assembler_form.specs.declared.operand.Number.TheVariants.{Constant}
 use Rattle.assembler_form.specs.declared.operand.KnownOperand.{KnownOperand}
-use Rattle.assembler_form.specs.declared.operand.KnownOperand.TheVariants.{Nothing, Register, One, Number, Short, Far, Memory}
+use Rattle.assembler_form.specs.declared.operand.KnownOperand.TheVariants.{Nothing, Register, One}
+use Rattle.assembler_form.specs.declared.operand.KnownOperand.TheVariants.{Number, Short, Far, Memory}
 use Rattle.assembler_form.specs.declared.asked.Asked.{Asked}
 use Rattle.assembler_form.specs.Asked.{is_far_size}
 

@@ -26,7 +26,8 @@ use Rattle.assembler_form.specs.declared.operand.KnownOperand.TheVariants as kno
 use Rattle.assembler_form.specs.declared.fields.Numbers.{Numbers}
 use Rattle.assembler_form.specs.Asked.{size_beside, size_or, sized}
 use Rattle.assembler_laws.specs.SaidTexts.{said_size}
-use Rattle.assembler_laws.specs.SameMeaning.{a_number, asked_meant, byte_meant, count, far_away, in_memory, memory_meant, operand_meant, pointer_size, size_of, word_meant, AreOf, IsWord, Meant}
+use Rattle.assembler_laws.specs.SameMeaning.{a_number, asked_meant, byte_meant, count, far_away, in_memory, memory_meant}
+use Rattle.assembler_laws.specs.SameMeaning.{operand_meant, pointer_size, size_of, word_meant, AreOf, IsWord, Meant}
 use Rattle.assembler_laws.proofs.WrittenOperands.{signed_small}
 
 -- ---- what is asked by what is written

@@ -1,5 +1,6 @@
 -- The operands of a form that takes what is asked are by value what is asked.
-use Rattle.std.proofs.Common.{◌≡◌, ◌∙◌, ℕ, zero, suc, ◌+◌, ◌-◌, ◌*◌, ◌/◌, ◌%◌, ◌<◌, ◌≤◌, refl, sym, ap, subst, arith, inl, inr, Bool, true, false, ◌&&◌, ◌||◌, nat_lt, nat_le, if◌then◌else◌, Option, None, Some}
+use Rattle.std.proofs.Common.{◌≡◌, ◌∙◌, ℕ, zero, suc, ◌+◌, ◌-◌, ◌*◌, ◌/◌, ◌%◌, ◌<◌, ◌≤◌, refl, sym, ap, subst, arith}
+use Rattle.std.proofs.Common.{inl, inr, Bool, true, false, ◌&&◌, ◌||◌, nat_lt, nat_le, if◌then◌else◌, Option, None, Some}
 use Rattle.std.specs.Prelude.{ℤ, pos, negsuc, ◌-ℤ◌, ◌⊎◌, IsTrue}
 use Rattle.std.proofs.lemmas.Bool.{and_parts}
 use Rattle.std.proofs.lemmas.Bool.Decides.{nat_tests}
@@ -21,7 +22,8 @@ use Rattle.isa.specs.declared.form.Values.{Values}
 use Rattle.isa.specs.declared.row.Kind.{Kind}
 use Rattle.isa.specs.declared.row.Kind.TheVariants as kinds
 use Rattle.isa.specs.Row.{operation_of}
-use Rattle.isa.specs.RegisterNumbers.{byte_register_number, byte_register_of, segment_register_number, segment_register_of, word_register_number, word_register_of}
+use Rattle.isa.specs.RegisterNumbers.{byte_register_number, byte_register_of, segment_register_number}
+use Rattle.isa.specs.RegisterNumbers.{segment_register_of, word_register_number, word_register_of}
 use Rattle.isa.specs.Encoding.{displacement_field, sign_extended}
 use Rattle.dialect.specs.declared.register.Register.TheVariants as registers
 use Rattle.dialect.specs.declared.size.Size.{Size}
@@ -32,11 +34,14 @@ use Rattle.assembler_form.specs.declared.operand.KnownOperand.{KnownOperand}
 use Rattle.assembler_form.specs.declared.operand.KnownOperand.TheVariants as known
 use Rattle.assembler_form.specs.declared.fields.Numbers.{Numbers}
 use Rattle.assembler_form.specs.Asked.{is_far_size}
-use Rattle.assembler_form.specs.Kinds.{is_al, is_ax, is_byte_memory, is_byte_register, is_cl, is_direct, is_dx, is_far_memory, is_far_target, is_near, is_no_base, is_nothing, is_of, is_one, is_pointer, is_segment_not_cs, is_segment_register, is_short, is_word_memory, is_word_register}
+use Rattle.assembler_form.specs.Kinds.{is_al, is_ax, is_byte_memory, is_byte_register, is_cl, is_direct, is_dx, is_far_memory}
+use Rattle.assembler_form.specs.Kinds.{is_far_target, is_near, is_no_base, is_nothing, is_of, is_one, is_pointer}
+use Rattle.assembler_form.specs.Kinds.{is_segment_not_cs, is_segment_register, is_short, is_word_memory, is_word_register}
 use Rattle.assembler_form.specs.Takes.{is_byte_size, is_constant_within, is_number, is_within, is_word_size}
 use Rattle.assembler_form.specs.Fields.{byte_of, displacement_in, modulo, number_in, segment_in, signed_byte_of, word_of}
 use Rattle.assembler_form.specs.OperandBytes.{escape_number, place_at, place_of, place_without, register_number}
-use Rattle.assembler_laws.specs.SameMeaning.{a_number, a_register, asked_meant, count, size_of, byte_meant, far_away, in_memory, memory_meant, nothing, operand_meant, pointer_size, word_meant, AreOf, IsWord}
+use Rattle.assembler_laws.specs.SameMeaning.{a_number, a_register, asked_meant, count, size_of, byte_meant, far_away, in_memory}
+use Rattle.assembler_laws.specs.SameMeaning.{memory_meant, nothing, operand_meant, pointer_size, word_meant, AreOf, IsWord}
 
 -- ---- registers
 byte_back : (r : ByteRegister) → byte_register_of (byte_register_number r) ≡ r

@@ -1,5 +1,6 @@
 -- What is known of an instruction's row in a source that is accepted.
-use Rattle.std.proofs.Common.{◌≡◌, ◌∙◌, ℕ, zero, suc, ◌<◌, ◌≤◌, ◌||◌, List, [], ◌∷◌, ◌++◌, length, get_or, Contains, refl, sym, ap, subst, arith, Bool, true, false, Option, None, Some, is_some, is_none, nat_le, if◌then◌else◌}
+use Rattle.std.proofs.Common.{◌≡◌, ◌∙◌, ℕ, zero, suc, ◌<◌, ◌≤◌, ◌||◌, List, [], ◌∷◌, ◌++◌, length, get_or, Contains, refl, sym}
+use Rattle.std.proofs.Common.{ap, subst, arith, Bool, true, false, Option, None, Some, is_some, is_none, nat_le, if◌then◌else◌}
 use Rattle.std.specs.Prelude.{pos}
 use Rattle.std.specs.List.{AllByRecursion, flat_map}
 use Rattle.std.proofs.lemmas.Bool.{or_parts}
@@ -22,7 +23,8 @@ use Rattle.assembler_meaning.specs.Instructions.{instruction_asked, instruction_
 use Rattle.assembler_meaning.specs.Values.{Names}
 use Rattle.assembler.specs.declared.fault.SourceFault.TheVariants.{BadLine, UnknownName, BadForm, TwiceDefined, NoSegment}
 use Rattle.assembler.specs.Placement.{fields_for}
-use Rattle.assembler.specs.LocatedLines.{LocatedLine, AreLocatedLines, IsCleanLine, IsFormOf, early_fault, defines_again, has_unknown_constant, has_wrong_constant, lacks_form, names_of, opens_within, size_of, stands_outside, wants_segment}
+use Rattle.assembler.specs.LocatedLines.{LocatedLine, AreLocatedLines, IsCleanLine, IsFormOf, early_fault, defines_again, has_unknown_constant}
+use Rattle.assembler.specs.LocatedLines.{has_wrong_constant, lacks_form, names_of, opens_within, size_of, stands_outside, wants_segment}
 
 -- ---- what holds of each row
 there_at : {X : Type 0} (P : X → Type 0) (xs : List X) (x : X) → AllByRecursion P xs → (k : ℕ) → k < length xs → get_or xs k x ≡ x → P x

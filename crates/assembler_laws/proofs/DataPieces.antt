@@ -1,5 +1,6 @@
 -- Where the bytes of a piece stand among those of its data line.
-use Rattle.std.proofs.Common.{◌≡◌, ◌∙◌, ℕ, ℤ, zero, suc, ◌+◌, ◌*◌, ◌<◌, ◌||◌, List, [], ◌∷◌, ◌++◌, length, get_or, refl, sym, ap, subst, arith, Bool, true, false, Option, None, Some, is_some, append_assoc}
+use Rattle.std.proofs.Common.{◌≡◌, ◌∙◌, ℕ, ℤ, zero, suc, ◌+◌, ◌*◌, ◌<◌, ◌||◌, List, [], ◌∷◌, ◌++◌, length, get_or, refl}
+use Rattle.std.proofs.Common.{sym, ap, subst, arith, Bool, true, false, Option, None, Some, is_some, append_assoc}
 use Rattle.std.specs.Prelude.{sum_by}
 use Rattle.std.specs.Option.{option_map_or}
 use Rattle.std.specs.List.{flat_map, list_all, list_any}
@@ -12,7 +13,8 @@ use Rattle.assembler_syntax.specs.declared.statement.DataWidth.{DataWidth}
 use Rattle.assembler_syntax.specs.declared.statement.Piece.{Piece}
 use Rattle.assembler_syntax.specs.declared.statement.Piece.TheVariants.{Value, Text}
 use Rattle.assembler_syntax.specs.declared.statement.Item.{Item}
-use Rattle.assembler_meaning.specs.Data.{are_items_known, data_bytes, do_items_fit, does_piece_fit, is_piece_known, item_bytes, number_bytes, piece_bytes, piece_size, pieces_of, repeated, times_of, width_size}
+use Rattle.assembler_meaning.specs.Data.{are_items_known, data_bytes, do_items_fit, does_piece_fit, is_piece_known, item_bytes}
+use Rattle.assembler_meaning.specs.Data.{number_bytes, piece_bytes, piece_size, pieces_of, repeated, times_of, width_size}
 use Rattle.assembler_meaning.specs.Values.{Names, value_of}
 use Rattle.assembler_laws.specs.DataBytes.{item_size, StandsAfter}
 use Rattle.assembler_laws.proofs.DataNumbers.{number_size}

@@ -1,5 +1,6 @@
 -- The image has the bytes of each data line, in the order of the line.
-use Rattle.std.proofs.Common.{◌≡◌, ◌∙◌, ℕ, ℤ, zero, suc, pos, ◌+◌, ◌*◌, ◌<◌, List, [], ◌∷◌, ◌++◌, length, get_or, take, drop, map, Contains, refl, sym, ap, subst, arith, Bool, true, false, not, Option, None, Some, is_some, is_none}
+use Rattle.std.proofs.Common.{◌≡◌, ◌∙◌, ℕ, ℤ, zero, suc, pos, ◌+◌, ◌*◌, ◌<◌, List, [], ◌∷◌, ◌++◌, length, get_or, take, drop, map}
+use Rattle.std.proofs.Common.{Contains, refl, sym, ap, subst, arith, Bool, true, false, not, Option, None, Some, is_some, is_none}
 use Rattle.std.specs.Prelude.{negsuc, sum_by}
 use Rattle.std.specs.Option.{option_map_or}
 use Rattle.std.specs.List.{AllByRecursion, list_any}
@@ -20,7 +21,8 @@ use Rattle.assembler_syntax.specs.declared.statement.Statement.{Statement}
 use Rattle.assembler_syntax.specs.declared.statement.Statement.TheVariants.{Data}
 use Rattle.board_types.specs.TextLines.{text_lines}
 use Rattle.assembler_meaning.specs.declared.symbol.Location.{Location}
-use Rattle.assembler_meaning.specs.Data.{are_items_known, counts_of, data_bytes, do_items_fit, fits_width, is_other, is_unknown, is_wrong_count, item_counts, natural, number_bytes, piece_bytes, width_size}
+use Rattle.assembler_meaning.specs.Data.{are_items_known, counts_of, data_bytes, do_items_fit, fits_width, is_other, is_unknown}
+use Rattle.assembler_meaning.specs.Data.{is_wrong_count, item_counts, natural, number_bytes, piece_bytes, width_size}
 use Rattle.assembler_meaning.specs.Values.{Names, constant_of, value_of}
 use Rattle.assembler_meaning.proofs.LeavesLength.{constant_stays, keeps_after, Keeps}
 use Rattle.assembler.specs.Gives.{Fits, FitsAt}

@@ -1,5 +1,6 @@
 -- The fault that is answered for a line is the one with the least number, and each fault belongs to one pass.
-use Rattle.std.proofs.Common.{◌≡◌, ◌∙◌, ℕ, ◌<◌, ◌≤◌, ◌&&◌, ◌||◌, not, nat_lt, List, refl, ap, subst, arith, inl, inr, Bool, true, false, Option, None, Some, is_some, if◌then◌else◌}
+use Rattle.std.proofs.Common.{◌≡◌, ◌∙◌, ℕ, ◌<◌, ◌≤◌, ◌&&◌, ◌||◌, not, nat_lt, List, refl, ap, subst, arith}
+use Rattle.std.proofs.Common.{inl, inr, Bool, true, false, Option, None, Some, is_some, if◌then◌else◌}
 use Rattle.std.specs.Prelude.{◌⊎◌, ◌↔◌}
 use Rattle.std.specs.List.{list_all, list_any}
 use Rattle.std.proofs.lemmas.Bool.{and_parts}
@@ -11,11 +12,14 @@ use Rattle.assembler_syntax.specs.declared.statement.Line.{Line}
 use Rattle.assembler_meaning.specs.declared.symbol.Location.{Location}
 use Rattle.assembler_meaning.specs.Values.{Names}
 use Rattle.assembler.specs.declared.fault.SourceFault.{SourceFault}
-use Rattle.assembler.specs.declared.fault.SourceFault.TheVariants.{BadLine, UnknownName, BadForm, TwiceDefined, Undefined, OutOfRange, OutOfSegment, Overlap, NoSegment, NotLoadable}
+use Rattle.assembler.specs.declared.fault.SourceFault.TheVariants.{BadLine, UnknownName, BadForm, TwiceDefined, Undefined}
+use Rattle.assembler.specs.declared.fault.SourceFault.TheVariants.{OutOfRange, OutOfSegment, Overlap, NoSegment, NotLoadable}
 use Rattle.assembler.specs.declared.kept_line.Content.{Content}
 use Rattle.assembler.specs.FirstFault.{HasLateFault, IsTextFault, fault_of_line, source_fault_number}
-use Rattle.assembler.specs.Placement.{addresses_from, content_of, fault_at, has_wrong_number, is_loadable, is_past_end, is_placed, lacks_name, late_fault, placed_by_all}
-use Rattle.assembler.specs.LocatedLines.{LocatedLine, defines_again, early_fault, has_unknown_constant, has_wrong_constant, lacks_form, names_of, opens_within, location_following, stands_outside}
+use Rattle.assembler.specs.Placement.{addresses_from, content_of, fault_at, has_wrong_number, is_loadable}
+use Rattle.assembler.specs.Placement.{is_past_end, is_placed, lacks_name, late_fault, placed_by_all}
+use Rattle.assembler.specs.LocatedLines.{LocatedLine, defines_again, early_fault, has_unknown_constant, has_wrong_constant}
+use Rattle.assembler.specs.LocatedLines.{lacks_form, names_of, opens_within, location_following, stands_outside}
 use Rattle.assembler_laws.specs.FirstFaults.{FaultsComeInPasses, HasEarly, HasLate, IsLeast, LeastNumbersComeFirst, is_early}
 use Rattle.assembler_laws.proofs.Uniqueness.{never_both}
 

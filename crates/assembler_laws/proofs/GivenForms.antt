@@ -44,7 +44,8 @@ use Rattle.assembler_laws.proofs.ChosenRows.{first_field, has_field, second_fiel
 use Rattle.assembler_laws.proofs.FittingTexts.{numbers_fit}
 use Rattle.assembler_laws.proofs.GivenTexts.{in_order_fits, never, rel_length, rel_number, row_strict}
 use Rattle.assembler_laws.proofs.TakenTexts.{xchg_registers}
-use Rattle.assembler_laws.proofs.TextForms.{ask_both, ax, chosen_said, exchanged_is, first_asked, nop_says, numbers_said, plain_says, row_agrees, second_asked, AskBoth, Says}
+use Rattle.assembler_laws.proofs.TextForms.{ask_both, ax, chosen_said, exchanged_is, first_asked, nop_says}
+use Rattle.assembler_laws.proofs.TextForms.{numbers_said, plain_says, row_agrees, second_asked, AskBoth, Says}
 
 -- the text of an instruction, but NOP and XCHG with AX second, in the order in which it is written
 same_size : (i : Instr) (ip : ℕ) (f : Form) → IsInstr i → IsForm f → prefixes_of (said_instruction i ip) ≡ i.prefixes.items

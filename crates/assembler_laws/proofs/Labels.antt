@@ -1,5 +1,6 @@
 -- What labels stand for, how many bytes lines place, and the law of places.
-use Rattle.std.proofs.Common.{◌≡◌, ◌∙◌, ℕ, ℤ, ◌+◌, List, [], ◌∷◌, ◌++◌, length, refl, sym, ap, subst, arith, ◌||◌, Bool, true, false, cond, Option, None, Some, is_some, is_none, append_assoc}
+use Rattle.std.proofs.Common.{◌≡◌, ◌∙◌, ℕ, ℤ, ◌+◌, List, [], ◌∷◌, ◌++◌, length, refl, sym, ap, subst, arith}
+use Rattle.std.proofs.Common.{◌||◌, Bool, true, false, cond, Option, None, Some, is_some, is_none, append_assoc}
 use Rattle.std.specs.Option.{option_map_or}
 use Rattle.std.specs.List.{AllByRecursion}
 use Rattle.std.specs.Str.{bytes_eq}
@@ -19,7 +20,8 @@ use Rattle.assembler_meaning.specs.declared.symbol.Symbol.TheVariants.{Label, Co
 use Rattle.assembler_meaning.specs.Values.{Names, constant_of, is_defined, meaning, same_name}
 use Rattle.assembler.specs.Gives.{Fits}
 use Rattle.assembler.specs.Placement.{bytes_by, bytes_from, content_of, placed_at, placed_by}
-use Rattle.assembler.specs.LocatedLines.{LocatedLine, AreLocatedLines, constant_definition, defines_again, has_unknown_constant, is_same, label_definition, names_of, size_of, location_following, statement_definition, statement_name, stands_outside, wants_segment}
+use Rattle.assembler.specs.LocatedLines.{LocatedLine, AreLocatedLines, constant_definition, defines_again, has_unknown_constant, is_same, label_definition}
+use Rattle.assembler.specs.LocatedLines.{names_of, size_of, location_following, statement_definition, statement_name, stands_outside, wants_segment}
 use Rattle.assembler.proofs.AnsweringPlaces.{clean_there, fits_there, placed_there, line_length, CleanThere}
 use Rattle.assembler_laws.specs.Places.{LinesStandWhereCounted, StandsWhereCounted, said_constant}
 use Rattle.assembler_laws.proofs.Prefixes.{along, has_none, HasNone}

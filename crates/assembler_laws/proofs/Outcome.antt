@@ -1,5 +1,6 @@
 -- Each source has an outcome: an image that it gives, or a first fault.
-use Rattle.std.proofs.Common.{◌≡◌, ◌∙◌, ℕ, zero, suc, ◌+◌, ◌<◌, ◌≤◌, List, [], ◌∷◌, ◌++◌, length, get_or, refl, sym, ap, subst, arith, inl, inr, Bool, true, false, Option, None, Some, Result, Ok, Err, append_assoc, append-nil}
+use Rattle.std.proofs.Common.{◌≡◌, ◌∙◌, ℕ, zero, suc, ◌+◌, ◌<◌, ◌≤◌, List, [], ◌∷◌, ◌++◌, length, get_or, refl, sym, ap, subst}
+use Rattle.std.proofs.Common.{arith, inl, inr, Bool, true, false, Option, None, Some, Result, Ok, Err, append_assoc, append-nil}
 use Rattle.std.specs.Prelude.{◌⊎◌, ◌≢◌, slice_get, IsTrue}
 use Rattle.std.proofs.lemmas.Bool.{cases_lt}
 use Rattle.isa.specs.declared.form.Form.{Form}

@@ -1,5 +1,6 @@
 -- What the rows of an accepted source place are bytes at addresses that can be loaded: they make an image.
-use Rattle.std.proofs.Common.{◌≡◌, ◌∙◌, ℕ, ℤ, zero, suc, pos, ◌+◌, ◌*◌, ◌/◌, ◌%◌, ◌<◌, Bool, true, List, [], ◌∷◌, ◌++◌, length, map, refl, sym, ap, subst, arith, lit<, Option, None, Some}
+use Rattle.std.proofs.Common.{◌≡◌, ◌∙◌, ℕ, ℤ, zero, suc, pos, ◌+◌, ◌*◌, ◌/◌, ◌%◌, ◌<◌, Bool, true, List, []}
+use Rattle.std.proofs.Common.{◌∷◌, ◌++◌, length, map, refl, sym, ap, subst, arith, lit<, Option, None, Some}
 use Rattle.std.specs.Prelude.{negsuc}
 use Rattle.std.specs.Option.{option_map_or}
 use Rattle.std.specs.Ordering.{nat_cmp}
@@ -28,7 +29,8 @@ use Rattle.isa.specs.declared.layout.Second.{Second}
 use Rattle.isa.specs.declared.layout.Second.TheVariants as seconds
 use Rattle.isa.specs.declared.register.SegmentRegister.TheVariants.{Es, Cs, Ss, Ds}
 use Rattle.isa.specs.declared.row.Row.{Row as TableRow}
-use Rattle.isa.specs.Encoding.{addressing, base_number, code_number, displacement_field, encoding, field_bytes, mod_of, prefix_byte, reg_number, rm_of, second_bytes, FitsField, FitsForm, FitsPlace, FitsReg, FitsSecond, IsForm}
+use Rattle.isa.specs.Encoding.{addressing, base_number, code_number, displacement_field, encoding, field_bytes, mod_of, prefix_byte}
+use Rattle.isa.specs.Encoding.{reg_number, rm_of, second_bytes, FitsField, FitsForm, FitsPlace, FitsReg, FitsSecond, IsForm}
 use Rattle.isa.specs.Layout.{code_part, field_part, second_part}
 use Rattle.isa.specs.RowSearch.{HasDigit}
 use Rattle.isa.specs.Table.{rows as table}
@@ -49,7 +51,8 @@ use Rattle.assembler_meaning.specs.Instructions.{code_bytes, numbers_of, prefixe
 use Rattle.assembler_meaning.specs.Values.{Names, value_of}
 use Rattle.assembler.specs.declared.kept_line.Content.{Content}
 use Rattle.assembler.specs.FirstFault.{AreFaultless}
-use Rattle.assembler.specs.Placement.{address_after, addresses_from, bytes_by, bytes_from, content_of, fields_of, is_loadable, is_placed, late_fault, placed_at, placed_by, placed_by_all, located_fault}
+use Rattle.assembler.specs.Placement.{address_after, addresses_from, bytes_by, bytes_from, content_of, fields_of}
+use Rattle.assembler.specs.Placement.{is_loadable, is_placed, late_fault, placed_at, placed_by, placed_by_all, located_fault}
 use Rattle.assembler.specs.LocatedLines.{LocatedLine}
 use Rattle.assembler.specs.SecondPass.{HasSize, LineHasSize, with_entries}
 use Rattle.assembler.proofs.PlacingAddresses.{can_load_at}

@@ -6,7 +6,8 @@ use Rattle.assembler_syntax.specs.declared.statement.Line.{Line}
 use Rattle.assembler_meaning.specs.declared.symbol.Location.{Location}
 use Rattle.assembler_meaning.specs.Values.{Names}
 use Rattle.assembler.specs.declared.fault.SourceFault.TheVariants.{BadLine, UnknownName, BadForm, TwiceDefined, NoSegment}
-use Rattle.assembler.specs.LocatedLines.{LocatedLine, AreLocatedLines, early_fault, defines_again, has_unknown_constant, has_wrong_constant, lacks_form, opens_within, stands_outside}
+use Rattle.assembler.specs.LocatedLines.{LocatedLine, AreLocatedLines, early_fault, defines_again, has_unknown_constant}
+use Rattle.assembler.specs.LocatedLines.{has_wrong_constant, lacks_form, opens_within, stands_outside}
 use Rattle.assembler.proofs.AnsweringPlaces.{CleanThere}
 use Rattle.assembler.proofs.PlacingLines.{is_else}
 

@@ -11,7 +11,8 @@ use Rattle.assembler_syntax.specs.declared.statement.Piece.TheVariants.{Value, T
 use Rattle.assembler_syntax.specs.declared.statement.Item.{Item}
 use Rattle.assembler_syntax.specs.declared.statement.Item.TheVariants.{Once, Repeated}
 use Rattle.assembler_meaning.specs.Values.{Names}
-use Rattle.assembler_meaning.specs.Data.{counts_of, pieces_of, natural, times_of, piece_size, pieces_size, data_size, fits_width, number_bytes, is_piece_known, does_piece_fit, are_items_known, do_items_fit, piece_bytes, repeated, item_bytes, data_bytes}
+use Rattle.assembler_meaning.specs.Data.{counts_of, pieces_of, natural, times_of, piece_size, pieces_size, data_size, fits_width, number_bytes}
+use Rattle.assembler_meaning.specs.Data.{is_piece_known, does_piece_fit, are_items_known, do_items_fit, piece_bytes, repeated, item_bytes, data_bytes}
 use Rattle.assembler_laws.specs.Sameness.{IsOneToOne, renamed_terms, renamed_piece, renamed_item}
 use Rattle.assembler_laws.proofs.SamenessNames.{all_changed, flat_changed, renamed_names, same_value, same_constant}
 

@@ -14,7 +14,10 @@ use Rattle.assembler_form.specs.declared.operand.KnownOperand.TheVariants as ope
 use Rattle.assembler_form.specs.declared.fields.Numbers.{Numbers}
 use Rattle.assembler_form.specs.Asked.{asked}
 use Rattle.assembler_meaning.specs.Values.{Names}
-use Rattle.assembler_meaning.specs.Instructions.{or_else, operand_override, override_of, override_prefix, prefixes_of, number_by, known_number, known_displacement, known_operand, known_operands, instruction_asked, instruction_size, no_numbers, with_number, with_displacement, with_label, with_pointer, displacement_value, numbers_with, numbers_after, numbers_of, code_bytes}
+use Rattle.assembler_meaning.specs.Instructions.{or_else, operand_override, override_of, override_prefix, prefixes_of, number_by}
+use Rattle.assembler_meaning.specs.Instructions.{known_number, known_displacement, known_operand, known_operands, instruction_asked}
+use Rattle.assembler_meaning.specs.Instructions.{instruction_size, no_numbers, with_number, with_displacement, with_label}
+use Rattle.assembler_meaning.specs.Instructions.{with_pointer, displacement_value, numbers_with, numbers_after, numbers_of, code_bytes}
 use Rattle.assembler_laws.specs.Sameness.{IsOneToOne, renamed_terms, renamed_operand, renamed_instruction}
 use Rattle.assembler_laws.proofs.SamenessNames.{renamed_names, same_value, same_constant, same_label}
 

@@ -9,7 +9,8 @@ use Rattle.assembler_syntax.specs.declared.expression.Atom.TheVariants.{Number, 
 use Rattle.assembler_syntax.specs.declared.expression.Term.{Term}
 use Rattle.assembler_meaning.specs.declared.symbol.Location.{Location}
 use Rattle.assembler_meaning.specs.declared.symbol.Symbol.{Symbol}
-use Rattle.assembler_meaning.specs.Values.{Names, meaning, symbol_value, label_place, label_of, atom_value, signed, term_value, added, value_of, is_defined, is_constant_symbol, is_constant_atom, constant_of}
+use Rattle.assembler_meaning.specs.Values.{Names, meaning, symbol_value, label_place, label_of, atom_value, signed, term_value}
+use Rattle.assembler_meaning.specs.Values.{added, value_of, is_defined, is_constant_symbol, is_constant_atom, constant_of}
 use Rattle.assembler_laws.specs.Sameness.{IsOneToOne, renamed_atom, renamed_term, renamed_terms}
 
 -- what passes in a changed list

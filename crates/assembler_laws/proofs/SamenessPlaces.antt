@@ -16,7 +16,8 @@ use Rattle.assembler_meaning.specs.declared.symbol.Location.{Location}
 use Rattle.assembler_meaning.specs.Values.{Names}
 use Rattle.assembler.specs.declared.kept_line.Content.{Content}
 use Rattle.assembler.specs.declared.kept_line.Content.TheVariants.{Data, Code}
-use Rattle.assembler.specs.Placement.{content_of, fields_for, fields_of, bytes_by, bytes_from, placed_at, placed_by, placed_by_all, lacks_name, has_wrong_number, is_past_end}
+use Rattle.assembler.specs.Placement.{content_of, fields_for, fields_of, bytes_by, bytes_from, placed_at}
+use Rattle.assembler.specs.Placement.{placed_by, placed_by_all, lacks_name, has_wrong_number, is_past_end}
 use Rattle.assembler.specs.LocatedLines.{LocatedLine, names_of}
 use Rattle.assembler.specs.Gives.{Fits, ArePlaced}
 use Rattle.assembler_laws.specs.Sameness.{IsOneToOne, renamed_item, renamed_instruction, renamed_statement, RenamingDoesNotCount}

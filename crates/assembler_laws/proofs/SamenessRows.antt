@@ -6,7 +6,8 @@ use Rattle.assembler_lexeme.specs.declared.name.Name.{Name}
 use Rattle.assembler_syntax.specs.declared.statement.Line.{Line}
 use Rattle.assembler_meaning.specs.declared.symbol.Location.{Location}
 use Rattle.assembler_meaning.specs.Values.{Names}
-use Rattle.assembler.specs.LocatedLines.{LocatedLine, IsLocatedLine, IsCleanLine, AreLocatedLines, names_of, location_following, label_definition, statement_definition, early_fault}
+use Rattle.assembler.specs.LocatedLines.{LocatedLine, IsLocatedLine, IsCleanLine, AreLocatedLines, names_of}
+use Rattle.assembler.specs.LocatedLines.{location_following, label_definition, statement_definition, early_fault}
 use Rattle.assembler_laws.specs.Sameness.{IsOneToOne, renamed_line, StandPairwise, DifferInNames}
 use Rattle.assembler_laws.proofs.SamenessNames.{renamed_names, renamed_after}
 use Rattle.assembler_laws.proofs.SamenessStatements.{same_form, same_size, same_next, label_renamed, statement_renamed, same_early}

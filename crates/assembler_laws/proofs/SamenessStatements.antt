@@ -14,7 +14,9 @@ use Rattle.assembler_meaning.specs.Values.{Names, constant_of, is_defined}
 use Rattle.assembler_meaning.specs.Instructions.{IsFormFor}
 use Rattle.assembler_meaning.specs.Data.{is_other, is_wrong_count, is_unknown}
 use Rattle.assembler.specs.declared.fault.SourceFault.TheVariants.{BadLine, UnknownName, BadForm, TwiceDefined, NoSegment}
-use Rattle.assembler.specs.LocatedLines.{IsFormOf, size_of, opened_at, set_to, location_after, label_definition, constant_definition, statement_definition, has_wrong_constant, has_unknown_constant, opens_within, lacks_form, statement_name, is_same, defines_again, wants_segment, stands_outside, early_fault}
+use Rattle.assembler.specs.LocatedLines.{IsFormOf, size_of, opened_at, set_to, location_after, label_definition, constant_definition}
+use Rattle.assembler.specs.LocatedLines.{statement_definition, has_wrong_constant, has_unknown_constant, opens_within, lacks_form}
+use Rattle.assembler.specs.LocatedLines.{statement_name, is_same, defines_again, wants_segment, stands_outside, early_fault}
 use Rattle.assembler_laws.specs.Sameness.{IsOneToOne, renamed_terms, renamed_statement, renamed_line}
 use Rattle.assembler_laws.proofs.SamenessNames.{renamed_names, same_constant, same_defined}
 use Rattle.assembler_laws.proofs.SamenessInstructions.{same_asked, same_instruction_size}

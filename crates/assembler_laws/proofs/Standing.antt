@@ -1,5 +1,6 @@
 -- Where lines stand: what the last SEGMENT and ORG say, and the sizes of the lines since then.
-use Rattle.std.proofs.Common.{◌≡◌, ◌∙◌, ℕ, ℤ, ◌+◌, ◌||◌, List, [], ◌∷◌, ◌++◌, refl, sym, ap, subst, arith, Bool, true, false, inl, inr, Option, None, Some, is_some, is_none, append_assoc, append-nil, option_and_then}
+use Rattle.std.proofs.Common.{◌≡◌, ◌∙◌, ℕ, ℤ, ◌+◌, ◌||◌, List, [], ◌∷◌, ◌++◌, refl, sym, ap, subst, arith, Bool, true, false}
+use Rattle.std.proofs.Common.{inl, inr, Option, None, Some, is_some, is_none, append_assoc, append-nil, option_and_then}
 use Rattle.std.specs.Prelude.{pos, negsuc, ◌⊎◌, sum_by}
 use Rattle.std.specs.Option.{option_map}
 use Rattle.std.specs.List.{AllByRecursion}
@@ -10,7 +11,8 @@ use Rattle.assembler_syntax.specs.declared.statement.Statement.TheVariants.{Empt
 use Rattle.assembler_meaning.specs.declared.symbol.Location.{Location}
 use Rattle.assembler_meaning.specs.Values.{Names, constant_of}
 use Rattle.assembler_meaning.specs.Data.{is_other, natural}
-use Rattle.assembler.specs.LocatedLines.{LocatedLine, has_unknown_constant, has_wrong_constant, names_of, opened_at, set_to, location_after, location_following, stands_outside, wants_segment}
+use Rattle.assembler.specs.LocatedLines.{LocatedLine, has_unknown_constant, has_wrong_constant, names_of, opened_at}
+use Rattle.assembler.specs.LocatedLines.{set_to, location_after, location_following, stands_outside, wants_segment}
 use Rattle.assembler_laws.specs.Places.{IsCountedTo, IsOpenAt, SaysOffset, SaysParagraph, changes_segment, sets_location}
 use Rattle.assembler.proofs.AnsweringPlaces.{CleanThere}
 use Rattle.assembler_laws.proofs.Prefixes.{has_none, HasNone}

@@ -1,5 +1,6 @@
 -- Some row takes what the text of an instruction asks.
-use Rattle.std.proofs.Common.{◌≡◌, ◌≢◌, ◌∙◌, ℕ, zero, suc, ◌+◌, ◌*◌, ◌%◌, ◌<◌, ◌≤◌, List, length, Contains, refl, sym, ap, subst, arith, lit<, Bool, true, false, not, ◌&&◌, nat_le, nat_lt, if◌then◌else◌, Option, None, Some}
+use Rattle.std.proofs.Common.{◌≡◌, ◌≢◌, ◌∙◌, ℕ, zero, suc, ◌+◌, ◌*◌, ◌%◌, ◌<◌, ◌≤◌, List, length, Contains, refl, sym, ap, subst}
+use Rattle.std.proofs.Common.{arith, lit<, Bool, true, false, not, ◌&&◌, nat_le, nat_lt, if◌then◌else◌, Option, None, Some}
 use Rattle.std.specs.Prelude.{pos, negsuc}
 use Rattle.std.specs.List.{list_all}
 use Rattle.std.proofs.lemmas.Bool.{and_parts}
@@ -55,7 +56,8 @@ use Rattle.assembler_laws.specs.SameMeaning.{pointer_size}
 use Rattle.assembler_laws.specs.TextsTaken.{TextsTakeAForm}
 use Rattle.assembler_laws.proofs.AskedTexts.{asked_by, FitsKind, HasSize}
 use Rattle.assembler_laws.proofs.Outcome.{form_for}
-use Rattle.assembler_laws.proofs.TextForms.{ask_both, ax, exchanged_is, first_asked, has_memory, has_size, kind_fits, nop_says, not_true, numbers_said, plain_says, remembered_is, row_agrees, second_asked, unremembered, RowAgrees, Says}
+use Rattle.assembler_laws.proofs.TextForms.{ask_both, ax, exchanged_is, first_asked, has_memory, has_size, kind_fits, nop_says, not_true}
+use Rattle.assembler_laws.proofs.TextForms.{numbers_said, plain_says, remembered_is, row_agrees, second_asked, unremembered, RowAgrees, Says}
 
 -- ---- an operand that is written is one of its kind
 byte_size_is : (s : Option Size) → s ≡ Some sizes.Byte → is_byte_size s ≡ true

@@ -1,5 +1,6 @@
 -- The quoted texts that are read of a line are bytes.
-use Rattle.std.proofs.Common.{◌≡◌, ◌∙◌, ℕ, zero, suc, ◌+◌, ◌-◌, ◌<◌, Bool, true, false, ◌==◌, ◌&&◌, if◌then◌else◌, nat_lt, nat_le, List, [], ◌∷◌, length, take, drop, Option, Some, None, refl, arith, Result, Ok, Err}
+use Rattle.std.proofs.Common.{◌≡◌, ◌∙◌, ℕ, zero, suc, ◌+◌, ◌-◌, ◌<◌, Bool, true, false, ◌==◌, ◌&&◌, if◌then◌else◌, nat_lt}
+use Rattle.std.proofs.Common.{nat_le, List, [], ◌∷◌, length, take, drop, Option, Some, None, refl, arith, Result, Ok, Err}
 use Rattle.std.specs.Prelude.{position}
 use Rattle.std.specs.List.{list_all}
 use Rattle.std.specs.Option.{option_map, option_map_or}
@@ -26,7 +27,8 @@ use Rattle.assembler_lexeme.specs.declared.token.Punctuator.TheVariants as punct
 use Rattle.assembler_lexeme.specs.Lexemes.{is_character, is_letter, is_digit, is_blank, is_word_byte, lexemes_from, lexemes}
 use Rattle.assembler_lexeme.specs.Faults.{◌>>=◌, all_of, wanted}
 use Rattle.assembler_lexeme.specs.Numbers.{last_byte, number_of}
-use Rattle.assembler_lexeme.specs.Tokens.{name_of, word_token, number_token, text_token, between_quotes, quoted_token, punctuator_of, punctuator_token, token_of, tokens_of}
+use Rattle.assembler_lexeme.specs.Tokens.{name_of, word_token, number_token, text_token, between_quotes}
+use Rattle.assembler_lexeme.specs.Tokens.{quoted_token, punctuator_of, punctuator_token, token_of, tokens_of}
 use Rattle.assembler_syntax.specs.declared.expression.Term.{Term}
 use Rattle.assembler_syntax.specs.declared.statement.DataWidth.{DataWidth}
 use Rattle.assembler_syntax.specs.declared.statement.DataWidth.TheVariants as widths
@@ -37,11 +39,14 @@ use Rattle.assembler_syntax.specs.declared.statement.Item.TheVariants as items
 use Rattle.assembler_syntax.specs.declared.statement.Statement.{Statement}
 use Rattle.assembler_syntax.specs.declared.statement.Statement.TheVariants as statements
 use Rattle.assembler_syntax.specs.declared.statement.Line.{Line}
-use Rattle.assembler_syntax.specs.PartSteps.{parts, parts_from, parts_here, is_open_after, onto_part, at_place, around, closed, is_colon, is_open_parenthesis, is_close_parenthesis, is_dup}
+use Rattle.assembler_syntax.specs.PartSteps.{parts, parts_from, parts_here, is_open_after, onto_part, at_place, around}
+use Rattle.assembler_syntax.specs.PartSteps.{closed, is_colon, is_open_parenthesis, is_close_parenthesis, is_dup}
 use Rattle.assembler_syntax.specs.ExpressionSteps.{expression_of, constant_of}
 use Rattle.assembler_syntax.specs.OperandSteps.{operands_of}
 use Rattle.assembler_syntax.specs.ItemSteps.{value_piece, single_piece, piece_of, pieces_of, in_parentheses, repeated, item_by, item_of, items_of}
-use Rattle.assembler_syntax.specs.StatementSteps.{segment_by, is_at, segment_of, ends_of, org_of, data_of, equ_of, directive_of, instruction_of, onto_prefixes, segment_token, prefixes_of, is_directive, keyword_statement, word_statement, led_statement, statement_after, prefixed_statement, is_equ, statement_of}
+use Rattle.assembler_syntax.specs.StatementSteps.{segment_by, is_at, segment_of, ends_of, org_of, data_of, equ_of, directive_of}
+use Rattle.assembler_syntax.specs.StatementSteps.{instruction_of, onto_prefixes, segment_token, prefixes_of, is_directive, keyword_statement}
+use Rattle.assembler_syntax.specs.StatementSteps.{word_statement, led_statement, statement_after, prefixed_statement, is_equ, statement_of}
 use Rattle.assembler_syntax.specs.LineSteps.{with_label, labelled, line_of, read_line as read_in_steps}
 use Rattle.assembler_syntax.specs.Lines.{read_line}
 use Rattle.assembler_syntax.proofs.Alike.{text_alike}

@@ -1,5 +1,6 @@
 -- The text of an instruction takes a form that means the same.
-use Rattle.std.proofs.Common.{◌≡◌, ◌∙◌, ℕ, ◌+◌, ◌%◌, List, [], ◌∷◌, ◌++◌, length, append-nil, refl, sym, ap, subst, arith, inl, inr, Bool, true, false, not, ◌&&◌, ◌||◌, nat_le, if◌then◌else◌, Option, None, Some}
+use Rattle.std.proofs.Common.{◌≡◌, ◌∙◌, ℕ, ◌+◌, ◌%◌, List, [], ◌∷◌, ◌++◌, length, append-nil, refl, sym, ap, subst, arith}
+use Rattle.std.proofs.Common.{inl, inr, Bool, true, false, not, ◌&&◌, ◌||◌, nat_le, if◌then◌else◌, Option, None, Some}
 use Rattle.std.specs.Prelude.{pos, Contains}
 use Rattle.std.specs.List.{list_all}
 use Rattle.std.specs.Option.{option_map}
@@ -41,15 +42,20 @@ use Rattle.assembler_form.specs.declared.operand.KnownOperand.{KnownOperand}
 use Rattle.assembler_form.specs.declared.operand.KnownOperand.TheVariants as known
 use Rattle.assembler_form.specs.declared.asked.Asked.{Asked}
 use Rattle.assembler_form.specs.declared.fields.Numbers.{Numbers}
-use Rattle.assembler_form.specs.Asked.{asked, asked_in_order, asked_of, is_exchanged, is_far, is_memory, operand_meant as operand_as_meant, operation_meant, register_size, size_beside, size_or, sized}
+use Rattle.assembler_form.specs.Asked.{asked, asked_in_order, asked_of, is_exchanged, is_far, is_memory}
+use Rattle.assembler_form.specs.Asked.{operand_meant as operand_as_meant, operation_meant, register_size, size_beside, size_or, sized}
 use Rattle.assembler_form.specs.Choice.{IsChosen}
 use Rattle.assembler_meaning.specs.declared.symbol.Location.{Location}
 use Rattle.assembler_meaning.specs.Values.{Names, constant_of, value_of}
-use Rattle.assembler_meaning.specs.Instructions.{displacement_value, instruction_asked, instruction_size, known_displacement, known_operand, known_operands, no_numbers, number_by, numbers_after, numbers_of, numbers_with, operand_override, or_else, override_of, override_prefix, prefixes_of, with_displacement, with_number, IsFormFor}
+use Rattle.assembler_meaning.specs.Instructions.{displacement_value, instruction_asked, instruction_size, known_displacement, known_operand}
+use Rattle.assembler_meaning.specs.Instructions.{known_operands, no_numbers, number_by, numbers_after, numbers_of, numbers_with, operand_override}
+use Rattle.assembler_meaning.specs.Instructions.{or_else, override_of, override_prefix, prefixes_of, with_displacement, with_number, IsFormFor}
 use Rattle.assembler.specs.Placement.{fields_for, fields_of}
 use Rattle.assembler_laws.specs.DecodingBack.{instr_of}
-use Rattle.assembler_laws.specs.SaidTexts.{first_written, mnemonic_in, next_of, number, operands_in, said_instruction, said_mnemonic, said_operands, said_size, second_written}
-use Rattle.assembler_laws.specs.SameMeaning.{a_register, asked_meant, first_meant, operand_meant, pointer_size, second_meant, AreOf, IsOfValues, Meant, MeansTheSame, TextsMeanTheSame}
+use Rattle.assembler_laws.specs.SaidTexts.{first_written, mnemonic_in, next_of, number, operands_in}
+use Rattle.assembler_laws.specs.SaidTexts.{said_instruction, said_mnemonic, said_operands, said_size, second_written}
+use Rattle.assembler_laws.specs.SameMeaning.{a_register, asked_meant, first_meant, operand_meant, pointer_size}
+use Rattle.assembler_laws.specs.SameMeaning.{second_meant, AreOf, IsOfValues, Meant, MeansTheSame, TextsMeanTheSame}
 use Rattle.assembler_laws.proofs.AskedTexts.{asked_by, displacement_by, kind_asks, numbers_by, memory_is_place, Asks, FitsKind, Has, HasSize, IsSmall}
 use Rattle.assembler_laws.proofs.ChosenRows.{forms_mean_what_is_asked}
 use Rattle.assembler_laws.proofs.CleanRows.{chosen_there}

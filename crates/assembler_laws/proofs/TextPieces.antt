@@ -1,5 +1,6 @@
 -- How pieces of a text are read as tokens, whatever follows them.
-use Rattle.std.proofs.Common.{◌≡◌, ◌∙◌, ℕ, suc, ◌+◌, ◌*◌, ◌/◌, ◌%◌, ◌<◌, List, [], ◌∷◌, ◌++◌, length, append_assoc, refl, sym, ap, subst, arith, Bool, true, false, ◌&&◌, if◌then◌else◌, Option, None, Some, Ok, option_and_then, nat_lt, nat_le}
+use Rattle.std.proofs.Common.{◌≡◌, ◌∙◌, ℕ, suc, ◌+◌, ◌*◌, ◌/◌, ◌%◌, ◌<◌, List, [], ◌∷◌, ◌++◌, length, append_assoc, refl, sym, ap, subst}
+use Rattle.std.proofs.Common.{arith, Bool, true, false, ◌&&◌, if◌then◌else◌, Option, None, Some, Ok, option_and_then, nat_lt, nat_le}
 use Rattle.std.specs.List.{list_all}
 use Rattle.std.specs.Option.{option_map}
 use Rattle.std.specs.Fmt.{digit_glyph}

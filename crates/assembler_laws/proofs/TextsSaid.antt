@@ -1,5 +1,6 @@
 -- The text of an instruction is read as the line that it says.
-use Rattle.std.proofs.Common.{◌≡◌, ◌∙◌, ℕ, List, [], ◌∷◌, ◌++◌, map, flat_map, append-nil, refl, sym, ap, subst, inl, inr, Bool, true, false, if◌then◌else◌, Option, None, Some, Ok}
+use Rattle.std.proofs.Common.{◌≡◌, ◌∙◌, ℕ, List, [], ◌∷◌, ◌++◌, map, flat_map, append-nil, refl, sym, ap}
+use Rattle.std.proofs.Common.{subst, inl, inr, Bool, true, false, if◌then◌else◌, Option, None, Some, Ok}
 use Rattle.std.specs.Option.{option_map}
 use Rattle.isa.specs.declared.operation.Operation.{Operation}
 use Rattle.isa.specs.declared.operation.Operation.TheVariants.{Arithmetic, Shift, Product, Unary, Jump, Looping, Strings, Adjust, Transfer, Control, Processor}
@@ -32,7 +33,8 @@ use Rattle.dialect.specs.Words.{meaning_of, spells, words}
 use Rattle.disassembler.specs.declared.written.Memory.{Memory as WrittenMemory}
 use Rattle.disassembler.specs.declared.written.Written.{Written}
 use Rattle.disassembler.specs.declared.written.Written.TheVariants.{Nothing, Register, One, Byte, Word, Short, Far, Memory}
-use Rattle.disassembler.specs.Text.{address_text, base_text, body_text, instr_text, is_nop, memory_text, operand_text, operands_text, plain_text, prefix_text, second_text, size_text, word_text}
+use Rattle.disassembler.specs.Text.{address_text, base_text, body_text, instr_text, is_nop, memory_text, operand_text}
+use Rattle.disassembler.specs.Text.{operands_text, plain_text, prefix_text, second_text, size_text, word_text}
 use Rattle.assembler_lexeme.specs.declared.token.Token.{Token}
 use Rattle.assembler_lexeme.specs.declared.token.Token.TheVariants as tokens
 use Rattle.assembler_lexeme.specs.declared.token.Punctuator.TheVariants as punctuators
@@ -40,12 +42,16 @@ use Rattle.assembler_lexeme.specs.Lexemes.{lexemes}
 use Rattle.assembler_lexeme.specs.Tokens.{number_token, token_of}
 use Rattle.assembler_syntax.specs.declared.operand.Operand.{Operand}
 use Rattle.assembler_syntax.specs.Lines.{line_of, read_line}
-use Rattle.assembler_syntax.specs.Spelling.{address_tokens, base_tokens, inner_tokens, line_tokens, operand_tokens, prefix_tokens, register, size_tokens, with_commas, word}
+use Rattle.assembler_syntax.specs.Spelling.{address_tokens, base_tokens, inner_tokens, line_tokens, operand_tokens}
+use Rattle.assembler_syntax.specs.Spelling.{prefix_tokens, register, size_tokens, with_commas, word}
 use Rattle.assembler_syntax.specs.SyntaxLaws.{EachLineIsRead}
-use Rattle.assembler_laws.specs.SaidTexts.{first_written, mnemonic_in, next_of, number, operands_in, said_address, said_line, said_mnemonic, said_operands, said_size, second_written, TextsAreRead}
+use Rattle.assembler_laws.specs.SaidTexts.{first_written, mnemonic_in, next_of, number, operands_in, said_address}
+use Rattle.assembler_laws.specs.SaidTexts.{said_line, said_mnemonic, said_operands, said_size, second_written, TextsAreRead}
 use Rattle.assembler_laws.proofs.Operations.{each_operation}
-use Rattle.assembler_laws.proofs.TextPieces.{is_plain, open_says, opens_blank, opens_punctuator, opens_opens, opens_then, reads_nothing, says_byte, says_meant, says_number, says_opens, says_then, says_word, Opens, Reads, Says}
-use Rattle.assembler_laws.proofs.WrittenOperands.{operand_said, operand_written, operands_in_fine, said_is, said_with_first, IsAddress, IsSizeWord, IsWritten, MayBeWritten}
+use Rattle.assembler_laws.proofs.TextPieces.{is_plain, open_says, opens_blank, opens_punctuator, opens_opens, opens_then, reads_nothing}
+use Rattle.assembler_laws.proofs.TextPieces.{says_byte, says_meant, says_number, says_opens, says_then, says_word, Opens, Reads, Says}
+use Rattle.assembler_laws.proofs.WrittenOperands.{operand_said, operand_written, operands_in_fine, said_is}
+use Rattle.assembler_laws.proofs.WrittenOperands.{said_with_first, IsAddress, IsSizeWord, IsWritten, MayBeWritten}
 
 -- ---- marks
 opens_comma : Opens (44 ∷ []) (tokens.Punctuator punctuators.Comma ∷ [])

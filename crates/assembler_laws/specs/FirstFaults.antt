@@ -1,6 +1,7 @@
 -- The order of faults.
 -- Laws: claims above the definitions, each proved as the contract of a function.
-use Rattle.std.specs.Prelude.{ℕ, ◌≡◌, ◌≢◌, ◌⊎◌, ◌<◌, ◌≤◌, ◌+◌, ◌↔◌, Bool, true, false, ◌||◌, List, [], ◌∷◌, ◌++◌, length, take, Option, Some}
+use Rattle.std.specs.Prelude.{ℕ, ◌≡◌, ◌≢◌, ◌⊎◌, ◌<◌, ◌≤◌, ◌+◌, ◌↔◌, Bool, true, false}
+use Rattle.std.specs.Prelude.{◌||◌, List, [], ◌∷◌, ◌++◌, length, take, Option, Some}
 use Rattle.std.specs.List.{list_all, list_any}
 use Rattle.isa.specs.declared.form.Form.{Form}
 use Rattle.assembler_syntax.specs.declared.statement.Line.{Line}
@@ -10,12 +11,15 @@ use Rattle.assembler_meaning.specs.Values.{Names}
 use Rattle.assembler.specs.declared.fault.AsmFault.{AsmFault}
 use Rattle.assembler.specs.declared.fault.AsmFault.TheVariants.{InLine, Memory}
 use Rattle.assembler.specs.declared.fault.SourceFault.{SourceFault}
-use Rattle.assembler.specs.declared.fault.SourceFault.TheVariants.{BadLine, UnknownName, BadForm, TwiceDefined, Undefined, OutOfRange, OutOfSegment, Overlap, NoSegment, NotLoadable}
+use Rattle.assembler.specs.declared.fault.SourceFault.TheVariants.{BadLine, UnknownName, BadForm, TwiceDefined}
+use Rattle.assembler.specs.declared.fault.SourceFault.TheVariants.{Undefined, OutOfRange, OutOfSegment}
+use Rattle.assembler.specs.declared.fault.SourceFault.TheVariants.{Overlap, NoSegment, NotLoadable}
 use Rattle.assembler.specs.declared.kept_line.Content.{Content}
 use Rattle.assembler.specs.FirstFault.{IsEarlyFault, IsFirst, IsLateFault, source_fault_number}
 use Rattle.assembler.specs.Gives.{source_limit, Gives}
 use Rattle.assembler.specs.Placement.{addresses_from, fault_at, has_wrong_number, is_loadable, is_past_end, lacks_name}
-use Rattle.assembler.specs.LocatedLines.{AreLocatedLines, LocatedLine, defines_again, early_fault, has_unknown_constant, has_wrong_constant, lacks_form, opens_within, stands_outside}
+use Rattle.assembler.specs.LocatedLines.{AreLocatedLines, LocatedLine, defines_again, early_fault, has_unknown_constant}
+use Rattle.assembler.specs.LocatedLines.{has_wrong_constant, lacks_form, opens_within, stands_outside}
 
 -- at most one fault is first, not counting want of memory
 abbrev pub OneFaultIsFirst : Type 0

@@ -1,6 +1,7 @@
 -- Where the lines of an accepted source stand, by counting and not by walking the lines.
 -- Laws: claims above the definitions, each proved as the contract of a function.
-use Rattle.std.specs.Prelude.{ℕ, ℤ, pos, ◌≡◌, ◌+◌, ◌↔◌, Bool, true, false, List, ◌∷◌, ◌++◌, length, sum_by, Option, None, Some}
+use Rattle.std.specs.Prelude.{ℕ, ℤ, pos, ◌≡◌, ◌+◌, ◌↔◌, Bool, true, false, List}
+use Rattle.std.specs.Prelude.{◌∷◌, ◌++◌, length, sum_by, Option, None, Some}
 use Rattle.std.specs.List.{AllByRecursion}
 use Rattle.assembler_lexeme.specs.declared.name.Name.{Name}
 use Rattle.assembler_syntax.specs.declared.expression.Term.{Term}

@@ -18,7 +18,8 @@ use Rattle.dialect.specs.declared.size.Size.{Size}
 use Rattle.dialect.specs.declared.size.Size.TheVariants as sizes
 use Rattle.disassembler.specs.declared.written.Memory.{Memory as WrittenMemory}
 use Rattle.disassembler.specs.declared.written.Written.{Written}
-use Rattle.disassembler.specs.declared.written.Written.TheVariants.{Nothing, Register, One, Byte, Word, Short, Far, Memory}
+use Rattle.disassembler.specs.declared.written.Written.TheVariants.{Nothing, Register, One, Byte}
+use Rattle.disassembler.specs.declared.written.Written.TheVariants.{Word, Short, Far, Memory}
 use Rattle.disassembler.specs.Text.{instr_text, is_nop}
 use Rattle.disassembler.specs.Written.{written_operand}
 use Rattle.assembler_syntax.specs.declared.expression.Atom.TheVariants.{Number}

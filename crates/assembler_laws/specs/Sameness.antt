@@ -16,7 +16,8 @@ use Rattle.assembler_syntax.specs.declared.statement.Item.{Item}
 use Rattle.assembler_syntax.specs.declared.statement.Item.TheVariants.{Once, Repeated}
 use Rattle.assembler_syntax.specs.declared.statement.Instruction.{Instruction as InstructionType}
 use Rattle.assembler_syntax.specs.declared.statement.Statement.{Statement}
-use Rattle.assembler_syntax.specs.declared.statement.Statement.TheVariants.{Empty, Segment, Ends, Equ, Org, Data, Instruction}
+use Rattle.assembler_syntax.specs.declared.statement.Statement.TheVariants.{Empty, Segment, Ends, Equ}
+use Rattle.assembler_syntax.specs.declared.statement.Statement.TheVariants.{Org, Data, Instruction}
 use Rattle.assembler_syntax.specs.declared.statement.Line.{Line}
 use Rattle.assembler_syntax.specs.Lines.{read_line}
 use Rattle.assembler_meaning.specs.Values.{same_name}

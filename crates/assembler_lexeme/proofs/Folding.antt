@@ -1,5 +1,6 @@
 -- Case outside quotes doesn't count in tokens.
-use Rattle.std.proofs.Common.{◌≡◌, ℕ, ◌+◌, ◌-◌, ◌*◌, Bool, true, false, ◌==◌, ◌||◌, if◌then◌else◌, nat_lt, List, [], ◌∷◌, ◌++◌, length, map, take, replicate, codes, Option, Some, None, option_and_then, refl, sym, ap, ◌∙◌, arith}
+use Rattle.std.proofs.Common.{◌≡◌, ℕ, ◌+◌, ◌-◌, ◌*◌, Bool, true, false, ◌==◌, ◌||◌, if◌then◌else◌, nat_lt, List, [], ◌∷◌, ◌++◌}
+use Rattle.std.proofs.Common.{length, map, take, replicate, codes, Option, Some, None, option_and_then, refl, sym, ap, ◌∙◌, arith}
 use Rattle.std.specs.Prelude.{slice_index}
 use Rattle.std.specs.Option.{option_map, option_map_or}
 use Rattle.std.specs.Char.{to_ascii_lowercase, to_ascii_uppercase}

@@ -1,5 +1,6 @@
 -- How lexemes stand at the front of a text.
-use Rattle.std.proofs.Common.{◌≡◌, ℕ, ◌+◌, ◌-◌, ◌≤◌, List, [], ◌∷◌, length, take, drop, refl, ap, ◌∙◌, arith, Bool, true, false, ◌==◌, ◌&&◌, if◌then◌else◌, suc, get_or}
+use Rattle.std.proofs.Common.{◌≡◌, ℕ, ◌+◌, ◌-◌, ◌≤◌, List, [], ◌∷◌, length, take, drop, refl, ap}
+use Rattle.std.proofs.Common.{◌∙◌, arith, Bool, true, false, ◌==◌, ◌&&◌, if◌then◌else◌, suc, get_or}
 use Rattle.std.proofs.lemmas.Bool.Decides.{nat_tests}
 use Rattle.assembler_lexeme.specs.Lexemes.{is_word_byte, is_blank, lexemes_from, word_size, text_size}
 use Rattle.board_types.specs.TextLines.{begins_with, onto_first}

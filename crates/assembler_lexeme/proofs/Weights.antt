@@ -1,5 +1,6 @@
 -- The tokens of a line weigh no more than it has bytes.
-use Rattle.std.proofs.Common.{◌≡◌, ℕ, ◌+◌, ◌-◌, ◌≤◌, zero, suc, Bool, true, false, ◌==◌, ◌&&◌, if◌then◌else◌, nat_lt, nat_le, List, [], ◌∷◌, length, take, drop, Option, Some, None, refl, ap, ◌∙◌, arith, Result, Ok, Err}
+use Rattle.std.proofs.Common.{◌≡◌, ℕ, ◌+◌, ◌-◌, ◌≤◌, zero, suc, Bool, true, false, ◌==◌, ◌&&◌, if◌then◌else◌, nat_lt, nat_le}
+use Rattle.std.proofs.Common.{List, [], ◌∷◌, length, take, drop, Option, Some, None, refl, ap, ◌∙◌, arith, Result, Ok, Err}
 use Rattle.std.specs.Prelude.{sum_by}
 use Rattle.std.specs.List.{list_all}
 use Rattle.std.specs.Option.{option_map, option_map_or}
@@ -18,7 +19,8 @@ use Rattle.assembler_lexeme.specs.Lexemes.{is_letter, is_digit, is_blank, is_wor
 use Rattle.board_types.specs.TextLines.{begins_with, onto_first}
 use Rattle.assembler_lexeme.specs.Numbers.{last_byte, number_of}
 use Rattle.assembler_lexeme.specs.Faults.{◌>>=◌, all_of, wanted}
-use Rattle.assembler_lexeme.specs.Tokens.{name_of, word_token, number_token, text_token, between_quotes, quoted_token, punctuator_of, punctuator_token, token_of, tokens_of}
+use Rattle.assembler_lexeme.specs.Tokens.{name_of, word_token, number_token, text_token, between_quotes}
+use Rattle.assembler_lexeme.specs.Tokens.{quoted_token, punctuator_of, punctuator_token, token_of, tokens_of}
 
 pub is_le : (a b : ℕ) → a ≤ b → nat_le a b ≡ true
 is_le a b le = grind (arith, nat_tests)

@@ -1,6 +1,7 @@
 -- Numbers as they are spelled.
 -- To be believed: the headline rests on it.
-use Rattle.std.specs.Prelude.{ℕ, ◌-◌, ◌==◌, ◌||◌, nat_lt, if◌then◌else◌, List, length, take, slice_index, Option, None, Some, option_and_then}
+use Rattle.std.specs.Prelude.{ℕ, ◌-◌, ◌==◌, ◌||◌, nat_lt, if◌then◌else◌, List, length}
+use Rattle.std.specs.Prelude.{take, slice_index, Option, None, Some, option_and_then}
 use Rattle.board_types.specs.Digits.{spelled}
 
 -- a number, if it is at most 4,294,967,295

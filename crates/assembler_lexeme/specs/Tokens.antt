@@ -1,6 +1,7 @@
 -- The tokens of a line: numbers, names, quoted texts, words of the dialect and marks.
 -- To be believed: the headline rests on it.
-use Rattle.std.specs.Prelude.{ℕ, ◌-◌, ◌==◌, ◌&&◌, nat_le, nat_lt, if◌then◌else◌, List, [], ◌∷◌, ◌++◌, length, map, take, drop, replicate, codes, Option, None, Some, Result}
+use Rattle.std.specs.Prelude.{ℕ, ◌-◌, ◌==◌, ◌&&◌, nat_le, nat_lt, if◌then◌else◌, List, [], ◌∷◌, ◌++◌}
+use Rattle.std.specs.Prelude.{length, map, take, drop, replicate, codes, Option, None, Some, Result}
 use Rattle.std.specs.Option.{option_map, option_map_or}
 use Rattle.std.specs.Char.{to_ascii_uppercase}
 use Rattle.std.specs.Str.{bytes_eq}
@@ -11,7 +12,9 @@ use Rattle.assembler_lexeme.specs.declared.token.Token.{Token}
 use Rattle.assembler_lexeme.specs.declared.token.Token.TheVariants.{One, Number, Named, Quoted, Word}
 use Rattle.assembler_lexeme.specs.declared.token.Token.TheVariants as kinds
 use Rattle.assembler_lexeme.specs.declared.token.Punctuator.{Punctuator}
-use Rattle.assembler_lexeme.specs.declared.token.Punctuator.TheVariants.{Comma, Colon, Plus, Minus, OpenBracket, CloseBracket, OpenParenthesis, CloseParenthesis, Dollar}
+use Rattle.assembler_lexeme.specs.declared.token.Punctuator.TheVariants.{Comma, Colon, Plus, Minus, OpenBracket}
+use Rattle.assembler_lexeme.specs.declared.token.Punctuator.TheVariants.{CloseBracket, OpenParenthesis}
+use Rattle.assembler_lexeme.specs.declared.token.Punctuator.TheVariants.{CloseParenthesis, Dollar}
 use Rattle.assembler_lexeme.specs.Lexemes.{is_letter, is_digit}
 use Rattle.board_types.specs.TextLines.{begins_with}
 use Rattle.assembler_lexeme.specs.Numbers.{number_of, last_byte}

@@ -1,5 +1,6 @@
 -- A line places as many bytes as the first pass counts, though it knows fewer names.
-use Rattle.std.proofs.Common.{◌≡◌, ℕ, ℤ, zero, suc, ◌*◌, Bool, true, false, ◌||◌, if◌then◌else◌, cond, List, [], ◌∷◌, ◌++◌, length, map, Option, None, Some, is_some, is_none, refl, sym, ap, ◌∙◌, arith}
+use Rattle.std.proofs.Common.{◌≡◌, ℕ, ℤ, zero, suc, ◌*◌, Bool, true, false, ◌||◌, if◌then◌else◌, cond, List, [], ◌∷◌}
+use Rattle.std.proofs.Common.{◌++◌, length, map, Option, None, Some, is_some, is_none, refl, sym, ap, ◌∙◌, arith}
 use Rattle.std.specs.List.{list_all, list_any, flat_map}
 use Rattle.std.specs.Map.{lookup}
 use Rattle.std.specs.Option.{option_map, option_map_or}
@@ -27,9 +28,11 @@ use Rattle.assembler_syntax.specs.declared.statement.Piece.TheVariants.{Value, T
 use Rattle.assembler_syntax.specs.declared.statement.Item.{Item}
 use Rattle.assembler_syntax.specs.declared.statement.Item.TheVariants.{Once, Repeated}
 use Rattle.assembler_meaning.specs.declared.symbol.Symbol.{Symbol}
-use Rattle.assembler_meaning.specs.Data.{are_items_known, counts_of, data_bytes, data_size, is_piece_known, item_bytes, item_counts, natural, number_bytes, piece_bytes, piece_size, pieces_of, pieces_size, repeated, times_of, width_size, is_unknown}
+use Rattle.assembler_meaning.specs.Data.{are_items_known, counts_of, data_bytes, data_size, is_piece_known, item_bytes, item_counts, natural}
+use Rattle.assembler_meaning.specs.Data.{number_bytes, piece_bytes, piece_size, pieces_of, pieces_size, repeated, times_of, width_size, is_unknown}
 use Rattle.assembler_meaning.specs.Instructions.{instruction_size, prefixes_of, code_bytes}
-use Rattle.assembler_meaning.specs.Values.{Names, added, atom_value, constant_of, is_constant_atom, is_constant_symbol, meaning, same_name, signed, symbol_value, term_value, value_of}
+use Rattle.assembler_meaning.specs.Values.{Names, added, atom_value, constant_of, is_constant_atom, is_constant_symbol}
+use Rattle.assembler_meaning.specs.Values.{meaning, same_name, signed, symbol_value, term_value, value_of}
 
 -- names that keep what these stand for
 pub record Keeps (before all : Names) : Type 0 where

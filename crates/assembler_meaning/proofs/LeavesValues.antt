@@ -1,5 +1,6 @@
 -- Sums of terms.
-use Rattle.std.proofs.Common.{◌≡◌, ℕ, ℤ, pos, neg_ℤ, ◌+ℤ◌, ◌≤ℤ◌, FitsSigned, to_z, of_z, w64, ◌+◌, ◌*◌, ◌^◌, ◌<◌, ◌≤◌, List, ◌∷◌, length, get_or, drop, Option, None, Some, refl, sym, ap, ◌∙◌, arith}
+use Rattle.std.proofs.Common.{◌≡◌, ℕ, ℤ, pos, neg_ℤ, ◌+ℤ◌, ◌≤ℤ◌, FitsSigned, to_z, of_z, w64, ◌+◌, ◌*◌, ◌^◌, ◌<◌}
+use Rattle.std.proofs.Common.{◌≤◌, List, ◌∷◌, length, get_or, drop, Option, None, Some, refl, sym, ap, ◌∙◌, arith}
 use Rattle.std.specs.Prelude.{option_and_then}
 use Rattle.std.proofs.lemmas.Int.{ints, to_z-of_z}
 use Rattle.std.proofs.lemmas.Bool.Decides.{nat_tests}
@@ -9,7 +10,8 @@ use Rattle.assembler_lexeme.specs.declared.name.Name.{Name}
 use Rattle.assembler_meaning.specs.declared.symbol.Location.{Location}
 use Rattle.assembler_meaning.specs.declared.symbol.Symbol.{Symbol}
 use Rattle.assembler_meaning.specs.declared.symbol.Symbol.TheVariants.{Label, Constant}
-use Rattle.assembler_meaning.specs.Values.{Names, AreSmall, IsSmall, IsSmallNumber, IsShort, added, label_of, label_place, meaning, symbol_value, term_value, value_of}
+use Rattle.assembler_meaning.specs.Values.{Names, AreSmall, IsSmall, IsSmallNumber, IsShort, added, label_of}
+use Rattle.assembler_meaning.specs.Values.{label_place, meaning, symbol_value, term_value, value_of}
 
 -- a sum of n small numbers
 pub record IsSum (n : ℕ) (z : ℤ) : Type 0 where

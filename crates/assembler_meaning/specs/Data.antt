@@ -1,6 +1,7 @@
 -- Data lines: DB, DW and DD. The low byte of a number comes first.
 -- To be believed: the headline rests on it.
-use Rattle.std.specs.Prelude.{ℕ, ℤ, pos, negsuc, ◌+◌, ◌*◌, ◌/◌, ◌%◌, Bool, true, false, not, List, [], ◌∷◌, length, Option, None, Some, is_some, is_none, replicate}
+use Rattle.std.specs.Prelude.{ℕ, ℤ, pos, negsuc, ◌+◌, ◌*◌, ◌/◌, ◌%◌, Bool, true, false, not, List}
+use Rattle.std.specs.Prelude.{[], ◌∷◌, length, Option, None, Some, is_some, is_none, replicate}
 use Rattle.std.specs.Option.{option_map_or}
 use Rattle.std.specs.List.{list_all, flat_map}
 use Rattle.assembler_syntax.specs.declared.expression.Term.{Term}

@@ -1,6 +1,7 @@
 -- Instructions: what they ask of the encoding table, their prefixes, and the numbers in their fields.
 -- To be believed: the headline rests on it.
-use Rattle.std.specs.Prelude.{ℕ, ℤ, pos, ◌≡◌, ◌+◌, nat_le, if◌then◌else◌, List, [], ◌∷◌, ◌++◌, length, map, Option, None, Some}
+use Rattle.std.specs.Prelude.{ℕ, ℤ, pos, ◌≡◌, ◌+◌, nat_le, if◌then◌else◌, List}
+use Rattle.std.specs.Prelude.{[], ◌∷◌, ◌++◌, length, map, Option, None, Some}
 use Rattle.std.specs.Option.{option_map}
 use Rattle.isa.specs.declared.register.SegmentRegister.{SegmentRegister}
 use Rattle.isa.specs.declared.form.Prefix.{Prefix}
@@ -12,7 +13,8 @@ use Rattle.isa.specs.Table.{rows}
 use Rattle.assembler_syntax.specs.declared.expression.Term.{Term}
 use Rattle.assembler_syntax.specs.declared.operand.Address.{Address}
 use Rattle.assembler_syntax.specs.declared.operand.Operand.{Operand}
-use Rattle.assembler_syntax.specs.declared.operand.Operand.TheVariants.{Register, One, Value, Memory, Short, FarLabel, FarPointer}
+use Rattle.assembler_syntax.specs.declared.operand.Operand.TheVariants.{Register, One, Value, Memory}
+use Rattle.assembler_syntax.specs.declared.operand.Operand.TheVariants.{Short, FarLabel, FarPointer}
 use Rattle.assembler_syntax.specs.declared.statement.Instruction.{Instruction}
 use Rattle.assembler_form.specs.declared.operand.Number.{Number}
 use Rattle.assembler_form.specs.declared.operand.Number.TheVariants as numbers

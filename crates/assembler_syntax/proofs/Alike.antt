@@ -1,5 +1,6 @@
 -- Reading a line in the code's own steps gives what the definition says.
-use Rattle.std.proofs.Common.{◌≡◌, ℕ, ◌+◌, Bool, true, false, List, [], ◌∷◌, take, drop, position, if◌then◌else◌, Option, None, Some, Result, Ok, Err, refl, ap, ◌∙◌}
+use Rattle.std.proofs.Common.{◌≡◌, ℕ, ◌+◌, Bool, true, false, List, [], ◌∷◌, take, drop, position}
+use Rattle.std.proofs.Common.{if◌then◌else◌, Option, None, Some, Result, Ok, Err, refl, ap, ◌∙◌}
 use Rattle.std.specs.List.{list_all}
 use Rattle.std.specs.Option.{option_map}
 use Rattle.isa.specs.declared.register.SegmentRegister.{SegmentRegister}
@@ -31,11 +32,14 @@ use Rattle.assembler_syntax.specs.OperandSteps as operand_steps
 use Rattle.assembler_syntax.specs.ItemSteps as item_steps
 use Rattle.assembler_syntax.specs.StatementSteps as statement_steps
 use Rattle.assembler_syntax.specs.LineSteps as line_steps
-use Rattle.assembler_syntax.specs.TokenParts.{Signed, around, closed, is_close_parenthesis, is_colon, is_dup, onto_part, onto_signed, parts, parts_from, signed_from, signed_part, signed_parts}
+use Rattle.assembler_syntax.specs.TokenParts.{Signed, around, closed, is_close_parenthesis, is_colon, is_dup, onto_part}
+use Rattle.assembler_syntax.specs.TokenParts.{onto_signed, parts, parts_from, signed_from, signed_part, signed_parts}
 use Rattle.assembler_syntax.specs.Expressions.{atom_of, constant_of, expression_of, term_of}
-use Rattle.assembler_syntax.specs.Operands.{brackets_of, far_label, far_target, memory_of, memory_or, operand_of, operands_of, register_of, short_of, value_of, with_part, with_part_by, with_parts}
+use Rattle.assembler_syntax.specs.Operands.{brackets_of, far_label, far_target, memory_of, memory_or, operand_of, operands_of}
+use Rattle.assembler_syntax.specs.Operands.{register_of, short_of, value_of, with_part, with_part_by, with_parts}
 use Rattle.assembler_syntax.specs.Items.{in_parentheses, item_by, item_of, items_of, piece_of, pieces_of, repeated}
-use Rattle.assembler_syntax.specs.Statements.{data_of, directive_of, ends_of, instruction_of, onto_prefixes, org_of, prefixes_of, segment_of, statement_after, statement_of}
+use Rattle.assembler_syntax.specs.Statements.{data_of, directive_of, ends_of, instruction_of, onto_prefixes}
+use Rattle.assembler_syntax.specs.Statements.{org_of, prefixes_of, segment_of, statement_after, statement_of}
 use Rattle.assembler_syntax.specs.Lines.{line_of, read_line, with_label}
 
 bind_same : {A B : Type 0} (r : Result A SyntaxFault) (f g : A → Result B SyntaxFault) → ((x : A) → f x ≡ g x) → (r >>= f) ≡ (r >>= g)

@@ -1,5 +1,6 @@
 -- Tests that all tokens of a list pass, and what stands around the first token that passes one.
-use Rattle.std.proofs.Common.{◌≡◌, ℕ, ◌+◌, suc, ◌<◌, Bool, true, false, not, nat_lt, List, [], ◌∷◌, ◌++◌, length, take, drop, length-append, Some, None, refl, ap, ◌∙◌, arith}
+use Rattle.std.proofs.Common.{◌≡◌, ℕ, ◌+◌, suc, ◌<◌, Bool, true, false, not, nat_lt, List, [], ◌∷◌}
+use Rattle.std.proofs.Common.{◌++◌, length, take, drop, length-append, Some, None, refl, ap, ◌∙◌, arith}
 use Rattle.std.proofs.lemmas.Bool.{and_parts}
 use Rattle.std.specs.List.{list_all, position_or_len}
 use Rattle.std.proofs.lemmas.List.{take_at}

@@ -1,5 +1,6 @@
 -- Tokens that are read as a line are a spelling of it.
-use Rattle.std.proofs.Common.{◌≡◌, ◌∙◌, Bool, true, false, List, [], ◌∷◌, ◌++◌, append_assoc, refl, sym, ap, subst, inl, inr, Option, Some, None, Result, Ok, Err, if◌then◌else◌}
+use Rattle.std.proofs.Common.{◌≡◌, ◌∙◌, Bool, true, false, List, [], ◌∷◌, ◌++◌, append_assoc, refl, sym}
+use Rattle.std.proofs.Common.{ap, subst, inl, inr, Option, Some, None, Result, Ok, Err, if◌then◌else◌}
 use Rattle.isa.specs.declared.form.Prefix.{Prefix}
 use Rattle.isa.specs.declared.form.Prefix.TheVariants as prefixes
 use Rattle.isa.specs.declared.register.SegmentRegister.{SegmentRegister}
@@ -29,7 +30,9 @@ use Rattle.assembler_syntax.specs.PartSteps.{around, closed, is_colon, is_open_p
 use Rattle.assembler_syntax.specs.ExpressionSteps.{expression_of, constant_of}
 use Rattle.assembler_syntax.specs.OperandSteps.{operands_of}
 use Rattle.assembler_syntax.specs.ItemSteps.{value_piece, single_piece, piece_of, pieces_of, in_parentheses, repeated, item_by, item_of, items_of}
-use Rattle.assembler_syntax.specs.StatementSteps.{segment_at, segment_by, is_at, segment_of, ends_of, org_of, data_of, equ_at, equ_of, directive_of, instruction_of, onto_prefixes, segment_token, prefixes_of, is_directive, keyword_statement, word_statement, led_statement, statement_after, prefixed_statement, is_equ, statement_of}
+use Rattle.assembler_syntax.specs.StatementSteps.{segment_at, segment_by, is_at, segment_of, ends_of, org_of, data_of, equ_at, equ_of, directive_of}
+use Rattle.assembler_syntax.specs.StatementSteps.{instruction_of, onto_prefixes, segment_token, prefixes_of, is_directive, keyword_statement}
+use Rattle.assembler_syntax.specs.StatementSteps.{word_statement, led_statement, statement_after, prefixed_statement, is_equ, statement_of}
 use Rattle.assembler_syntax.specs.LineSteps.{with_label, labelled, line_of}
 use Rattle.assembler_syntax.specs.SyntaxLaws.{EachLineReadIsSpelled}
 use Rattle.assembler_syntax.specs.Spelling.{keyword, label_tokens, width_keyword}

@@ -1,5 +1,6 @@
 -- Tokens that are read as an operand are a spelling of it.
-use Rattle.std.proofs.Common.{◌≡◌, ◌∙◌, Bool, true, false, ◌&&◌, List, [], ◌∷◌, ◌++◌, append_assoc, append-nil, flat_map, refl, sym, ap, ap₂, subst, inl, inr, Option, Some, None, Ok, Err, if◌then◌else◌}
+use Rattle.std.proofs.Common.{◌≡◌, ◌∙◌, Bool, true, false, ◌&&◌, List, [], ◌∷◌, ◌++◌, append_assoc, append-nil}
+use Rattle.std.proofs.Common.{flat_map, refl, sym, ap, ap₂, subst, inl, inr, Option, Some, None, Ok, Err, if◌then◌else◌}
 use Rattle.std.proofs.lemmas.Bool.{and_parts}
 use Rattle.isa.specs.declared.form.Base.{Base}
 use Rattle.isa.specs.declared.form.Base.TheVariants as bases
@@ -23,10 +24,15 @@ use Rattle.assembler_syntax.specs.declared.operand.Operand.{Operand}
 use Rattle.assembler_syntax.specs.declared.operand.Operand.TheVariants as operands
 use Rattle.assembler_syntax.specs.PartSteps.{Signed, signed_parts, around, closed, is_colon, is_open_bracket, is_close_bracket}
 use Rattle.assembler_syntax.specs.ExpressionSteps.{expression_of, term_of}
-use Rattle.assembler_syntax.specs.OperandSteps.{base_with, with_register, terms_with, with_term, single_register, register_of, with_part_by, with_part, with_parts, empty_address, memory_of, value_of, after_segment, brackets_by, brackets_of, memory_in, single_label, far_label, far_pointer, far_target, far_by, far_of, short_of, single_operand, place_or_value, led_operand, operand_of, operands_of}
+use Rattle.assembler_syntax.specs.OperandSteps.{base_with, with_register, terms_with, with_term, single_register, register_of, with_part_by}
+use Rattle.assembler_syntax.specs.OperandSteps.{with_part, with_parts, empty_address, memory_of, value_of, after_segment, brackets_by}
+use Rattle.assembler_syntax.specs.OperandSteps.{brackets_of, memory_in, single_label, far_label, far_pointer, far_target, far_by, far_of}
+use Rattle.assembler_syntax.specs.OperandSteps.{short_of, single_operand, place_or_value, led_operand, operand_of, operands_of}
 use Rattle.assembler_syntax.specs.Spelling.{keyword, register, word, sign_token, size_tokens, segment_tokens}
-use Rattle.assembler_syntax.specs.Spellings.{AddressPart, a_register, a_term, AreOfBase, SpellsAtom, SpellsFirstPart, SpellsInner, SpellsMoreParts, SpellsOperand, SpellsOperands, SpellsPart, WithCommas, leading_tokens, part_registers, part_terms, some_terms}
-use Rattle.assembler_syntax.proofs.BackTerms.{AreParts, StandsAround, around_spelled, after_signs, commas_spelled, expression_spelled, ok_is, parts_are_signed, reads, term_spelled}
+use Rattle.assembler_syntax.specs.Spellings.{AddressPart, a_register, a_term, AreOfBase, SpellsAtom, SpellsFirstPart, SpellsInner, SpellsMoreParts}
+use Rattle.assembler_syntax.specs.Spellings.{SpellsOperand, SpellsOperands, SpellsPart, WithCommas, leading_tokens, part_registers, part_terms, some_terms}
+use Rattle.assembler_syntax.proofs.BackTerms.{AreParts, StandsAround, around_spelled, after_signs, commas_spelled}
+use Rattle.assembler_syntax.proofs.BackTerms.{expression_spelled, ok_is, parts_are_signed, reads, term_spelled}
 
 -- ---- a part in brackets
 -- what stands between two signs

@@ -1,5 +1,6 @@
 -- Tokens that are read as an expression, or between commas, are a spelling of it.
-use Rattle.std.proofs.Common.{◌≡◌, ◌∙◌, ℕ, suc, ◌+◌, ◌<◌, Bool, true, false, not, List, [], ◌∷◌, ◌++◌, length, take, drop, nat_lt, refl, sym, ap, ap₂, subst, arith, inl, inr, Option, Some, None, Result, Ok, Err, if◌then◌else◌}
+use Rattle.std.proofs.Common.{◌≡◌, ◌∙◌, ℕ, suc, ◌+◌, ◌<◌, Bool, true, false, not, List, [], ◌∷◌, ◌++◌, length, take, drop, nat_lt}
+use Rattle.std.proofs.Common.{refl, sym, ap, ap₂, subst, arith, inl, inr, Option, Some, None, Result, Ok, Err, if◌then◌else◌}
 use Rattle.std.specs.List.{list_all, position_or_len}
 use Rattle.std.proofs.lemmas.Bool.{ltb-true}
 use Rattle.dialect.specs.declared.meaning.Meaning.TheVariants as meanings
@@ -13,7 +14,8 @@ use Rattle.assembler_lexeme.specs.Faults.{◌>>=◌, all_of}
 use Rattle.assembler_syntax.specs.declared.expression.Atom.{Atom}
 use Rattle.assembler_syntax.specs.declared.expression.Atom.TheVariants as atoms
 use Rattle.assembler_syntax.specs.declared.expression.Term.{Term}
-use Rattle.assembler_syntax.specs.PartSteps.{Signed, signed_part, parts, parts_from, parts_here, is_open_after, onto_part, sign_of, signed_by, signed_from, onto_signed, signed_parts, is_minus, at_place, around}
+use Rattle.assembler_syntax.specs.PartSteps.{Signed, signed_part, parts, parts_from, parts_here, is_open_after, onto_part, sign_of}
+use Rattle.assembler_syntax.specs.PartSteps.{signed_by, signed_from, onto_signed, signed_parts, is_minus, at_place, around}
 use Rattle.assembler_syntax.specs.ExpressionSteps.{single_atom, segment_atom, atom_of, term_of, expression_of, is_constant, constant_of}
 use Rattle.assembler_syntax.specs.Spelling.{sign_token, with_commas}
 use Rattle.assembler_syntax.specs.Spellings.{WithCommas, SpellsAtom, leading_tokens, SpellsSigned, SpellsExpression, SpellsConstant}

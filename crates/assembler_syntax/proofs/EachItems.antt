@@ -21,7 +21,8 @@ use Rattle.assembler_syntax.specs.Spelling.{keyword}
 use Rattle.assembler_syntax.specs.Spellings.{Exactly, InTurn, SpellsConstant, SpellsItem, SpellsPiece, WithCommas}
 use Rattle.assembler_syntax.proofs.Around.{AllPass, EachPasses, around_none, around_one, commas_pass, exactly_passes, fails, is_plain, pass_too, turn_passes}
 use Rattle.assembler_syntax.proofs.EachTerms.{Begins, begins_value, constant_read, expression_begins, expression_read, led, plain_expression}
-use Rattle.assembler_syntax.proofs.EachLists.{Whole, commas_read, is_calm, is_enclosed, keeps_both, keeps_calm, keeps_enclosed, plain_is_calm, plain_is_enclosed}
+use Rattle.assembler_syntax.proofs.EachLists.{Whole, commas_read, is_calm, is_enclosed, keeps_both}
+use Rattle.assembler_syntax.proofs.EachLists.{keeps_calm, keeps_enclosed, plain_is_calm, plain_is_enclosed}
 
 -- ---- pieces
 single_value : (width : DataWidth) (t : Token) → begins_value t ≡ true → single_piece width t ≡ value_piece (t ∷ [])

@@ -1,5 +1,6 @@
 -- Each spelling of a line is read.
-use Rattle.std.proofs.Common.{◌≡◌, ◌∙◌, ℕ, Bool, true, false, not, if◌then◌else◌, List, [], ◌∷◌, ◌++◌, append_assoc, refl, sym, ap, subst, inl, inr, Option, Some, None, Result, Ok, Err}
+use Rattle.std.proofs.Common.{◌≡◌, ◌∙◌, ℕ, Bool, true, false, not, if◌then◌else◌, List, [], ◌∷◌, ◌++◌}
+use Rattle.std.proofs.Common.{append_assoc, refl, sym, ap, subst, inl, inr, Option, Some, None, Result, Ok, Err}
 use Rattle.std.proofs.lemmas.Bool.{and_parts}
 use Rattle.std.specs.List.{list_all}
 use Rattle.isa.specs.declared.form.Prefix.{Prefix as PrefixType}
@@ -27,10 +28,12 @@ use Rattle.assembler_syntax.specs.declared.statement.Item.{Item}
 use Rattle.assembler_syntax.specs.declared.statement.Statement.{Statement}
 use Rattle.assembler_syntax.specs.declared.statement.Statement.TheVariants as statements
 use Rattle.assembler_syntax.specs.declared.statement.Line.{Line}
-use Rattle.assembler_syntax.specs.StatementSteps.{segment_of, ends_of, org_of, data_of, equ_of, directive_of, instruction_of, onto_prefixes, prefixes_of, statement_after, prefixed_statement, is_equ, statement_of}
+use Rattle.assembler_syntax.specs.StatementSteps.{segment_of, ends_of, org_of, data_of, equ_of, directive_of, instruction_of}
+use Rattle.assembler_syntax.specs.StatementSteps.{onto_prefixes, prefixes_of, statement_after, prefixed_statement, is_equ, statement_of}
 use Rattle.assembler_syntax.specs.LineSteps.{with_label, line_of, read_line}
 use Rattle.assembler_syntax.specs.Spelling.{keyword, label_tokens, prefix_tokens, width_keyword}
-use Rattle.assembler_syntax.specs.Spellings.{Exactly, InTurn, SpellsConstant, SpellsItem, SpellsOperands, SpellsPrefix, SpellsPrefixes, SpellsStatement, WithCommas, SpellsLine}
+use Rattle.assembler_syntax.specs.Spellings.{Exactly, InTurn, SpellsConstant, SpellsItem, SpellsOperands}
+use Rattle.assembler_syntax.specs.Spellings.{SpellsPrefix, SpellsPrefixes, SpellsStatement, WithCommas, SpellsLine}
 use Rattle.assembler_syntax.specs.SyntaxLaws.{EachSpellingIsRead, EachTextIsReadAsItSays, Says}
 use Rattle.assembler_syntax.proofs.Around.{AllPass, EachPasses, both_pass, exactly_passes, fails, turn_passes}
 use Rattle.assembler_syntax.proofs.EachTerms.{constant_read, led}

@@ -1,5 +1,6 @@
 -- Each spelling of an operand is read.
-use Rattle.std.proofs.Common.{◌≡◌, ◌≢◌, ◌∙◌, Bool, true, false, List, [], ◌∷◌, ◌++◌, append_assoc, append-nil, flat_map, refl, sym, ap, inl, inr, Option, Some, None, Result, Ok, Err}
+use Rattle.std.proofs.Common.{◌≡◌, ◌≢◌, ◌∙◌, Bool, true, false, List, [], ◌∷◌, ◌++◌, append_assoc, append-nil}
+use Rattle.std.proofs.Common.{flat_map, refl, sym, ap, inl, inr, Option, Some, None, Result, Ok, Err}
 use Rattle.isa.specs.declared.form.Base.{Base}
 use Rattle.isa.specs.declared.form.Base.TheVariants as bases
 use Rattle.isa.specs.declared.register.SegmentRegister.{SegmentRegister}
@@ -24,12 +25,17 @@ use Rattle.assembler_syntax.specs.declared.operand.Operand.{Operand}
 use Rattle.assembler_syntax.specs.declared.operand.Operand.TheVariants as operands
 use Rattle.assembler_syntax.specs.PartSteps.{Signed, signed_part, signed_parts, onto_signed, parts, around, closed, is_colon, is_close_bracket}
 use Rattle.assembler_syntax.specs.ExpressionSteps.{term_of, expression_of}
-use Rattle.assembler_syntax.specs.OperandSteps.{base_with, with_register, terms_with, with_term, with_part, with_parts, empty_address, memory_of, value_of, brackets_of, far_of, far_target, operand_of, operands_of}
+use Rattle.assembler_syntax.specs.OperandSteps.{base_with, with_register, terms_with, with_term, with_part, with_parts, empty_address}
+use Rattle.assembler_syntax.specs.OperandSteps.{memory_of, value_of, brackets_of, far_of, far_target, operand_of, operands_of}
 use Rattle.assembler_syntax.specs.StatementSteps.{is_equ}
 use Rattle.assembler_syntax.specs.Spelling.{keyword, register, word, sign_token, segment_tokens, size_tokens}
-use Rattle.assembler_syntax.specs.Spellings.{AddressPart, a_register, a_term, AreOfBase, Exactly, InTurn, leading_tokens, part_registers, part_terms, some_terms, SpellsAtom, SpellsExpression, SpellsFirstPart, SpellsInner, SpellsMoreParts, SpellsOperand, SpellsOperands, SpellsPart, SpellsParts, WithCommas}
+use Rattle.assembler_syntax.specs.Spellings.{AddressPart, a_register, a_term, AreOfBase, Exactly, InTurn, leading_tokens, part_registers}
+use Rattle.assembler_syntax.specs.Spellings.{part_terms, some_terms, SpellsAtom, SpellsExpression, SpellsFirstPart, SpellsInner}
+use Rattle.assembler_syntax.specs.Spellings.{SpellsMoreParts, SpellsOperand, SpellsOperands, SpellsPart, SpellsParts, WithCommas}
 use Rattle.assembler_syntax.proofs.Around.{AllPass, EachPasses, around_one, commas_pass, exactly_passes, fails, is_plain, pass_too, turn_passes}
-use Rattle.assembler_syntax.proofs.EachTerms.{Begins, EachIsPart, IsPart, NoMinus, atom_is_part, atom_no_minus, begins_before, begins_some, begins_value, expression_begins, expression_read, led, of_atoms, parts_are, plain_expression, plain_first_term, plain_next_term, term_read}
+use Rattle.assembler_syntax.proofs.EachTerms.{Begins, EachIsPart, IsPart, NoMinus, atom_is_part, atom_no_minus, begins_before}
+use Rattle.assembler_syntax.proofs.EachTerms.{begins_some, begins_value, expression_begins, expression_read, led, of_atoms}
+use Rattle.assembler_syntax.proofs.EachTerms.{parts_are, plain_expression, plain_first_term, plain_next_term, term_read}
 use Rattle.assembler_syntax.proofs.EachLists.{Whole, commas_read, is_calm, keeps_calm, plain_is_calm}
 use Rattle.assembler_syntax.proofs.BackTerms.{after_signs}
 

@@ -1,5 +1,6 @@
 -- The one spelling that is defined for a line is one of its spellings.
-use Rattle.std.proofs.Common.{◌≡◌, ◌≢◌, ◌∙◌, Bool, true, false, List, [], ◌∷◌, ◌++◌, map, flat_map, append_assoc, append-nil, refl, sym, ap, subst, inl, Option, Some, None}
+use Rattle.std.proofs.Common.{◌≡◌, ◌≢◌, ◌∙◌, Bool, true, false, List, [], ◌∷◌, ◌++◌, map, flat_map}
+use Rattle.std.proofs.Common.{append_assoc, append-nil, refl, sym, ap, subst, inl, Option, Some, None}
 use Rattle.std.specs.List.{AllByRecursion}
 use Rattle.isa.specs.declared.form.Base.{Base}
 use Rattle.isa.specs.declared.form.Base.TheVariants as bases
@@ -27,8 +28,13 @@ use Rattle.assembler_syntax.specs.declared.statement.Statement.{Statement}
 use Rattle.assembler_syntax.specs.declared.statement.Statement.TheVariants as statements
 use Rattle.assembler_syntax.specs.declared.statement.Line.{Line}
 use Rattle.assembler_syntax.specs.SyntaxLaws.{EachLineIsRead}
-use Rattle.assembler_syntax.specs.Spelling.{atom_tokens, base_tokens, expression_tokens, first_tokens, inner_tokens, item_tokens, keyword, label_tokens, line_tokens, operand_tokens, piece_tokens, prefix_tokens, segment_tokens, sign_token, signed_tokens, size_tokens, statement_tokens, width_keyword, with_commas, word, IsConstant, IsExpression, IsInner, IsItem, IsOperand, IsPiece, IsStatement, SomeAre}
-use Rattle.assembler_syntax.specs.Spellings.{AddressPart, a_register, a_term, AreOfBase, leading_tokens, part_registers, part_terms, some_terms, SpellsAtom, SpellsConstant, SpellsExpression, SpellsInner, SpellsItem, SpellsLine, SpellsMoreParts, SpellsOperand, SpellsOperands, SpellsParts, SpellsPiece, SpellsPrefixes, SpellsSigned, SpellsStatement, WithCommas}
+use Rattle.assembler_syntax.specs.Spelling.{atom_tokens, base_tokens, expression_tokens, first_tokens, inner_tokens, item_tokens, keyword}
+use Rattle.assembler_syntax.specs.Spelling.{label_tokens, line_tokens, operand_tokens, piece_tokens, prefix_tokens, segment_tokens}
+use Rattle.assembler_syntax.specs.Spelling.{sign_token, signed_tokens, size_tokens, statement_tokens, width_keyword, with_commas, word}
+use Rattle.assembler_syntax.specs.Spelling.{IsConstant, IsExpression, IsInner, IsItem, IsOperand, IsPiece, IsStatement, SomeAre}
+use Rattle.assembler_syntax.specs.Spellings.{AddressPart, a_register, a_term, AreOfBase, leading_tokens, part_registers, part_terms, some_terms, SpellsAtom}
+use Rattle.assembler_syntax.specs.Spellings.{SpellsConstant, SpellsExpression, SpellsInner, SpellsItem, SpellsLine, SpellsMoreParts, SpellsOperand}
+use Rattle.assembler_syntax.specs.Spellings.{SpellsOperands, SpellsParts, SpellsPiece, SpellsPrefixes, SpellsSigned, SpellsStatement, WithCommas}
 use Rattle.assembler_syntax.proofs.EachLines.{spelling_read}
 use Rattle.assembler_syntax.proofs.Alike.{line_alike}
 

@@ -3,7 +3,8 @@ use Rattle.std.proofs.Common.{◌≡◌, ℕ, ◌+◌, suc, Bool, true, false, i
 use Rattle.assembler_lexeme.specs.declared.token.Token.{Token}
 use Rattle.assembler_lexeme.specs.declared.token.Token.TheVariants as kinds
 use Rattle.assembler_lexeme.specs.declared.token.Punctuator.TheVariants as punctuators
-use Rattle.assembler_syntax.specs.PartSteps.{signed_part, parts, parts_from, parts_left, parts_here, is_open_after, onto_part, part_size, tail_of, signed_from, signed_left, signed_size, onto_signed, is_minus, signed_parts, begins_with_minus}
+use Rattle.assembler_syntax.specs.PartSteps.{signed_part, parts, parts_from, parts_left, parts_here, is_open_after, onto_part, part_size, tail_of}
+use Rattle.assembler_syntax.specs.PartSteps.{signed_from, signed_left, signed_size, onto_signed, is_minus, signed_parts, begins_with_minus}
 
 one_more : (n : ℕ) → 1 + n ≡ suc n
 one_more n = omega arith

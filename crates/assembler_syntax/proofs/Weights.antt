@@ -1,5 +1,6 @@
 -- What is read of a line is no longer than the line.
-use Rattle.std.proofs.Common.{◌≡◌, ◌∙◌, ℕ, ◌+◌, ◌≤◌, suc, Bool, true, false, ◌&&◌, if◌then◌else◌, List, [], ◌∷◌, length, take, drop, Option, Some, None, refl, arith, Result, Ok, Err, length-append}
+use Rattle.std.proofs.Common.{◌≡◌, ◌∙◌, ℕ, ◌+◌, ◌≤◌, suc, Bool, true, false, ◌&&◌, if◌then◌else◌, List, [], ◌∷◌}
+use Rattle.std.proofs.Common.{length, take, drop, Option, Some, None, refl, arith, Result, Ok, Err, length-append}
 use Rattle.std.specs.Prelude.{position}
 use Rattle.std.specs.List.{list_all}
 use Rattle.std.proofs.lemmas.Bool.{and_from, and_parts}
@@ -39,14 +40,21 @@ use Rattle.assembler_lexeme.specs.declared.token.Punctuator.TheVariants as punct
 use Rattle.assembler_lexeme.specs.Lexemes.{is_character, lexemes}
 use Rattle.assembler_lexeme.specs.Faults.{◌>>=◌, wanted}
 use Rattle.assembler_lexeme.specs.Tokens.{tokens_of}
-use Rattle.assembler_syntax.specs.PartSteps.{Signed, parts, parts_from, parts_here, is_open_after, onto_part, sign_of, signed_by, signed_from, onto_signed, signed_parts, is_minus, at_place, around, closed, is_colon, is_open_bracket, is_close_bracket, is_open_parenthesis, is_close_parenthesis, is_dup}
+use Rattle.assembler_syntax.specs.PartSteps.{Signed, parts, parts_from, parts_here, is_open_after, onto_part, sign_of, signed_by}
+use Rattle.assembler_syntax.specs.PartSteps.{signed_from, onto_signed, signed_parts, is_minus, at_place, around, closed, is_colon}
+use Rattle.assembler_syntax.specs.PartSteps.{is_open_bracket, is_close_bracket, is_open_parenthesis, is_close_parenthesis, is_dup}
 use Rattle.assembler_syntax.specs.ExpressionSteps.{atom_of, term_of, expression_of, is_constant, constant_of}
-use Rattle.assembler_syntax.specs.OperandSteps.{base_with, with_register, terms_with, with_term, register_of, with_part_by, with_part, with_parts, empty_address, memory_of, value_of, after_segment, brackets_by, brackets_of, memory_in, single_label, far_label, far_target, far_by, far_of, short_of, single_operand, place_or_value, led_operand, operand_of, operands_of}
+use Rattle.assembler_syntax.specs.OperandSteps.{base_with, with_register, terms_with, with_term, register_of, with_part_by, with_part, with_parts}
+use Rattle.assembler_syntax.specs.OperandSteps.{empty_address, memory_of, value_of, after_segment, brackets_by, brackets_of, memory_in, single_label, far_label}
+use Rattle.assembler_syntax.specs.OperandSteps.{far_target, far_by, far_of, short_of, single_operand, place_or_value, led_operand, operand_of, operands_of}
 use Rattle.assembler_syntax.specs.ItemSteps.{value_piece, single_piece, piece_of, pieces_of, in_parentheses, repeated, item_by, item_of, items_of}
-use Rattle.assembler_syntax.specs.StatementSteps.{segment_by, is_at, segment_of, ends_of, org_of, data_of, equ_of, directive_of, instruction_of, onto_prefixes, segment_token, prefixes_of, is_directive, keyword_statement, word_statement, led_statement, statement_after, prefixed_statement, is_equ, statement_of}
+use Rattle.assembler_syntax.specs.StatementSteps.{segment_by, is_at, segment_of, ends_of, org_of, data_of, equ_of, directive_of}
+use Rattle.assembler_syntax.specs.StatementSteps.{instruction_of, onto_prefixes, segment_token, prefixes_of, is_directive, keyword_statement}
+use Rattle.assembler_syntax.specs.StatementSteps.{word_statement, led_statement, statement_after, prefixed_statement, is_equ, statement_of}
 use Rattle.assembler_syntax.specs.LineSteps.{with_label, labelled, line_of, read_line}
 use Rattle.assembler_lexeme.proofs.Weights.{is_le, from_le, total, sum_total, total_around, all_weight, all_pass, token_weight, weight, some_weight, tokens_le}
-use Rattle.assembler_syntax.specs.Weights.{is_expression_within, is_displacement_within, is_operand_within, is_piece_within, is_item_within, piece_weight, pieces_weight, item_weight, items_weight, IsWithin}
+use Rattle.assembler_syntax.specs.Weights.{is_expression_within, is_displacement_within, is_operand_within, is_piece_within}
+use Rattle.assembler_syntax.specs.Weights.{is_item_within, piece_weight, pieces_weight, item_weight, items_weight, IsWithin}
 use Rattle.assembler_syntax.proofs.Alike.{text_alike}
 use Rattle.assembler_syntax.specs.SyntaxLaws.{HoldsNoMore}
 

@@ -18,7 +18,8 @@ use Rattle.assembler_lexeme.specs.declared.token.Token.{Token}
 use Rattle.assembler_lexeme.specs.declared.token.Token.TheVariants.{One, Named, Word, Punctuator}
 use Rattle.assembler_lexeme.specs.declared.token.Punctuator.TheVariants.{OpenBracket}
 use Rattle.assembler_lexeme.specs.Faults.{◌>>=◌, all_of}
-use Rattle.assembler_syntax.specs.PartSteps.{Signed, parts, signed_parts, around, closed, is_colon, is_open_bracket, is_close_bracket}
+use Rattle.assembler_syntax.specs.PartSteps.{Signed, parts, signed_parts, around, closed}
+use Rattle.assembler_syntax.specs.PartSteps.{is_colon, is_open_bracket, is_close_bracket}
 use Rattle.assembler_syntax.specs.ExpressionSteps.{expression_of, term_of}
 pub use Rattle.assembler_syntax.specs.Operands.{base_with, empty_address, terms_with, with_register, with_term}
 

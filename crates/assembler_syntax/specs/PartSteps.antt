@@ -1,11 +1,14 @@
 -- The parts of a list of tokens in the code's own steps.
 -- For proofs alone: no public contract rests on it.
-use Rattle.std.specs.Prelude.{ℕ, ◌+◌, Bool, true, false, not, ◌&&◌, if◌then◌else◌, List, [], ◌∷◌, take, drop, position, Option, None, Some}
+use Rattle.std.specs.Prelude.{ℕ, ◌+◌, Bool, true, false, not, ◌&&◌, if◌then◌else◌}
+use Rattle.std.specs.Prelude.{List, [], ◌∷◌, take, drop, position, Option, None, Some}
 use Rattle.std.specs.Borrow.{Bor}
 use Rattle.assembler_lexeme.specs.declared.token.Token.{Token}
 use Rattle.assembler_lexeme.specs.declared.token.Token.TheVariants.{Punctuator}
-use Rattle.assembler_lexeme.specs.declared.token.Punctuator.TheVariants.{Comma, Plus, Minus, OpenBracket, OpenParenthesis, CloseParenthesis}
-pub use Rattle.assembler_syntax.specs.TokenParts.{Signed, closed, is_close_bracket, is_close_parenthesis, is_colon, is_dup, onto_part, onto_signed, signed_part}
+use Rattle.assembler_lexeme.specs.declared.token.Punctuator.TheVariants.{Comma, Plus, Minus, OpenBracket}
+use Rattle.assembler_lexeme.specs.declared.token.Punctuator.TheVariants.{OpenParenthesis, CloseParenthesis}
+pub use Rattle.assembler_syntax.specs.TokenParts.{Signed, closed, is_close_bracket, is_close_parenthesis}
+pub use Rattle.assembler_syntax.specs.TokenParts.{is_colon, is_dup, onto_part, onto_signed, signed_part}
 
 abbrev pub is_comma : Token → Bool
 is_comma (Punctuator Comma) = true

@@ -34,7 +34,9 @@ use Rattle.assembler_syntax.specs.declared.statement.Statement.TheVariants as st
 use Rattle.assembler_syntax.specs.declared.statement.Line.{Line}
 use Rattle.assembler_lexeme.specs.declared.token.Token.{Token}
 use Rattle.assembler_lexeme.specs.declared.token.Token.TheVariants.{One, Number, Named, Quoted, Word, Punctuator}
-use Rattle.assembler_lexeme.specs.declared.token.Punctuator.TheVariants.{Comma, Colon, Plus, Minus, OpenBracket, CloseBracket, OpenParenthesis, CloseParenthesis, Dollar}
+use Rattle.assembler_lexeme.specs.declared.token.Punctuator.TheVariants.{Comma, Colon, Plus, Minus, OpenBracket}
+use Rattle.assembler_lexeme.specs.declared.token.Punctuator.TheVariants.{CloseBracket, OpenParenthesis}
+use Rattle.assembler_lexeme.specs.declared.token.Punctuator.TheVariants.{CloseParenthesis, Dollar}
 use Rattle.assembler_syntax.specs.Expressions.{is_constant}
 
 abbrev pub keyword : Keyword → Token

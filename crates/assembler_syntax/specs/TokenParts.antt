@@ -1,6 +1,7 @@
 -- The parts of a list of tokens: between commas, between signs, and around a token.
 -- To be believed: the headline rests on it.
-use Rattle.std.specs.Prelude.{◌+◌, Bool, true, false, List, [], ◌∷◌, take, drop, position, Option, Some, Result, Ok, Err}
+use Rattle.std.specs.Prelude.{◌+◌, Bool, true, false, List, [], ◌∷◌, take}
+use Rattle.std.specs.Prelude.{drop, position, Option, Some, Result, Ok, Err}
 use Rattle.std.specs.Option.{option_map}
 use Rattle.dialect.specs.declared.meaning.Meaning.TheVariants.{Keyword}
 use Rattle.dialect.specs.declared.keyword.Keyword.TheVariants.{Dup}
@@ -8,7 +9,8 @@ use Rattle.assembler_lexeme.specs.declared.fault.SyntaxFault.{SyntaxFault}
 use Rattle.assembler_lexeme.specs.declared.fault.SyntaxFault.TheVariants.{BadLine}
 use Rattle.assembler_lexeme.specs.declared.token.Token.{Token}
 use Rattle.assembler_lexeme.specs.declared.token.Token.TheVariants.{Word, Punctuator}
-use Rattle.assembler_lexeme.specs.declared.token.Punctuator.TheVariants.{Comma, Colon, Plus, Minus, CloseBracket, OpenParenthesis, CloseParenthesis}
+use Rattle.assembler_lexeme.specs.declared.token.Punctuator.TheVariants.{Comma, Colon, Plus, Minus, CloseBracket}
+use Rattle.assembler_lexeme.specs.declared.token.Punctuator.TheVariants.{OpenParenthesis, CloseParenthesis}
 
 abbrev pub is_colon : Token → Bool
 is_colon (Punctuator Colon) = true

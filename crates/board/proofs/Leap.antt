@@ -1,6 +1,7 @@
 -- Clocks that may be leapt over: what a board is after them, and that nothing is seen of them.
 use Rattle.wiring.specs.EachWire.{is_requested}
-use Rattle.std.proofs.Common.{◌≡◌, ℕ, zero, suc, ◌+◌, ◌-◌, ◌<◌, ◌≤◌, inl, inr, Bool, false, if◌then◌else◌, List, [], ◌∷◌, ◌++◌, Some, refl, sym, ap, ◌∙◌, subst, arith}
+use Rattle.std.proofs.Common.{◌≡◌, ℕ, zero, suc, ◌+◌, ◌-◌, ◌<◌, ◌≤◌, inl, inr, Bool, false}
+use Rattle.std.proofs.Common.{if◌then◌else◌, List, [], ◌∷◌, ◌++◌, Some, refl, sym, ap, ◌∙◌, subst, arith}
 use Rattle.std.specs.Prelude.{◌&&◌, ◌==◌, cond, nat_eq}
 use Rattle.std.specs.List.{position_from}
 use Rattle.std.proofs.lemmas.Bool.Decides.{nat_tests}
@@ -34,7 +35,8 @@ use Rattle.board_plain.specs.declared.stop.Condition.TheVariants.{Free, At, Byte
 use Rattle.board_plain.specs.BoardLaws.{NoKeyComes, WiresHold}
 use Rattle.board.specs.UnseenClocks.{passed_by}
 use Rattle.board.specs.UneventfulClocks.{AreUneventful, StaysIdle, after_leap}
-use Rattle.board_plain.specs.Plain.{Plain, after_act, after_clock, after_clocks, byte_of, change_next, changes_in, chips_after_clock, clock_of, codes_at, is_free, next_act, speaker_level, state_of}
+use Rattle.board_plain.specs.Plain.{Plain, after_act, after_clock, after_clocks, byte_of, change_next, changes_in}
+use Rattle.board_plain.specs.Plain.{chips_after_clock, clock_of, codes_at, is_free, next_act, speaker_level, state_of}
 use Rattle.board_plain.specs.Stops.{holding, holds}
 use Rattle.board_plain.specs.Trail.{entry_at, event_of, trail_in, trail_next}
 use Rattle.board_plain.proofs.Quiet.{clock_alone, holds_later, none_comes, nothing_by}

@@ -17,7 +17,8 @@ use Rattle.board.specs.UneventfulClocks.{ComesAfter, AreUneventful, StaysIdle, a
 use Rattle.board.specs.OneTurn.{HaveSameWires}
 use Rattle.board.proofs.Alone.{alone_unseen, cpu_of_passed, keyboard_of_passed}
 use Rattle.board.proofs.KeyOrder.{have_later, no_key}
-use Rattle.board.proofs.Leap.{board_leaps, clock_of_leap, does_nothing, holding_stays, leap_by, level_stays, are_uneventful_for, no_changes, no_entries, out_0_stays, out_2_stays}
+use Rattle.board.proofs.Leap.{board_leaps, clock_of_leap, does_nothing, holding_stays, leap_by, level_stays}
+use Rattle.board.proofs.Leap.{are_uneventful_for, no_changes, no_entries, out_0_stays, out_2_stays}
 use Rattle.board.proofs.Uneventful.{quiet_clock}
 use Rattle.board.proofs.Works.{busy_of_leap, none_to_step}
 

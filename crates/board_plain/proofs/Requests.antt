@@ -15,7 +15,8 @@ use Rattle.execute_meaning.specs.declared.shadow.Shadow.TheVariants as shadows
 use Rattle.wiring.specs.Chips.{ChipsState}
 use Rattle.board_plain.specs.declared.act.Act.{Act}
 use Rattle.board_plain.specs.declared.act.Act.TheVariants.{Nothing, Request, SingleStep, Iteration, Instruction}
-use Rattle.board_plain.specs.BoardLaws.{IsRequested, IsTakenWithin, MayTakeRequest, NoRequestWithoutIf, RequestIsTaken, RequestStays, StayingRequestIsTaken, TakesRequest}
+use Rattle.board_plain.specs.BoardLaws.{IsRequested, IsTakenWithin, MayTakeRequest, NoRequestWithoutIf}
+use Rattle.board_plain.specs.BoardLaws.{RequestIsTaken, RequestStays, StayingRequestIsTaken, TakesRequest}
 use Rattle.board_plain.specs.Plain.{Plain, act_at, after_clocks, is_free, next_act}
 
 -- the cases of a boundary other than a request

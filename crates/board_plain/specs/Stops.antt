@@ -8,7 +8,8 @@ use Rattle.board_plain.specs.declared.stop.Condition.{Condition}
 use Rattle.board_plain.specs.declared.stop.Condition.TheVariants.{Free, At, Byte, Sound, Halted}
 use Rattle.board_plain.specs.declared.stop.Stop.{Stop}
 use Rattle.board_plain.specs.Board.{BoardState}
-use Rattle.board_plain.specs.Plain.{Plain, after_clocks, byte_of, changes_in, clock_of, is_free, speaker_level, state_of}
+use Rattle.board_plain.specs.Plain.{Plain, after_clocks, byte_of, changes_in}
+use Rattle.board_plain.specs.Plain.{clock_of, is_free, speaker_level, state_of}
 
 -- if a condition asks for a byte, its address is below 2^20
 abbrev pub HasAddress : Condition → Type 0

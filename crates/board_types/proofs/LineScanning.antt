@@ -1,5 +1,6 @@
 -- How lines stand at the front of a text.
-use Rattle.std.proofs.Common.{zero, ◌≡◌, ℕ, ◌+◌, ◌-◌, ◌<◌, ◌≤◌, List, [], ◌∷◌, length, take, drop, refl, sym, ap, arith, Bool, true, false, ◌==◌, ◌&&◌, if◌then◌else◌, suc, get_or}
+use Rattle.std.proofs.Common.{zero, ◌≡◌, ℕ, ◌+◌, ◌-◌, ◌<◌, ◌≤◌, List, [], ◌∷◌, length, take, drop, refl}
+use Rattle.std.proofs.Common.{sym, ap, arith, Bool, true, false, ◌==◌, ◌&&◌, if◌then◌else◌, suc, get_or}
 use Rattle.std.specs.Str.Lines.{strip_carriage_return}
 use Rattle.board_types.specs.TextLines.{onto_first, text_lines, size_before}
 

@@ -1,6 +1,7 @@
 -- Numbers as digits spell them, and bytes and words as hexadecimal digits.
 -- To be believed: the headline rests on it.
-use Rattle.std.specs.Prelude.{ℕ, ◌+◌, ◌*◌, ◌-◌, ◌/◌, ◌%◌, true, ◌&&◌, nat_le, nat_lt, if◌then◌else◌, List, [], ◌∷◌, ◌++◌, Option, None, Some}
+use Rattle.std.specs.Prelude.{ℕ, ◌+◌, ◌*◌, ◌-◌, ◌/◌, ◌%◌, true, ◌&&◌, nat_le, nat_lt}
+use Rattle.std.specs.Prelude.{if◌then◌else◌, List, [], ◌∷◌, ◌++◌, Option, None, Some}
 use Rattle.std.specs.Fmt.{digit_glyph}
 
 -- the value of a digit, or of a letter from A to F in either case as 10 to 15; 255 for any other byte

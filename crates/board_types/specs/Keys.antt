@@ -1,6 +1,7 @@
 -- Key codes with their clocks (IBM PC Technical Reference, "Keyboard Scan Codes").
 -- To be believed: the headline rests on it.
-use Rattle.std.specs.Prelude.{ℕ, ◌≤◌, ◌-◌, Bool, ◌&&◌, ◌||◌, if◌then◌else◌, nat_le, nat_lt, IsTrue, List, length, All, AllPairs, Option, None, Some, unwrap_or, slice_get}
+use Rattle.std.specs.Prelude.{ℕ, ◌≤◌, ◌-◌, Bool, ◌&&◌, ◌||◌, if◌then◌else◌, nat_le, nat_lt, IsTrue}
+use Rattle.std.specs.Prelude.{List, length, All, AllPairs, Option, None, Some, unwrap_or, slice_get}
 use Rattle.std.specs.Option.{option_map}
 use Rattle.board_types.specs.declared.keys.StampedKey.{StampedKey}
 use Rattle.board_types.specs.declared.keys.KeyFault.{KeyFault}

@@ -1,7 +1,8 @@
 -- Boards that get one more key stand at their clocks as if the first one had had it.
 use Rattle.std.proofs.Common.{◌≡◌, ℕ, suc, ◌+◌, ◌<◌, ◌≤◌, List, [], ◌∷◌, ◌++◌, length, take, drop, get_or, set, refl, sym, ap, ◌∙◌, subst, arith}
 use Rattle.std.specs.Prelude.{All, Contains}
-use Rattle.std.proofs.lemmas.List.{drop-set, drop-set-lt, drop_all, drop_at, get_or-take, length-append, length-drop, length-set, length-take, take-set, take-take, take_at}
+use Rattle.std.proofs.lemmas.List.{drop-set, drop-set-lt, drop_all, drop_at, get_or-take, length-append}
+use Rattle.std.proofs.lemmas.List.{length-drop, length-set, length-take, take-set, take-take, take_at}
 use Rattle.std.proofs.lemmas.List.Elements.{All-cons, All-contains, All-nil, All-same, All-weaker, Contains-get_or}
 use Rattle.board_types.specs.declared.keys.StampedKey.{StampedKey}
 use Rattle.board_plain.specs.Board.{BoardState}

@@ -1,5 +1,6 @@
 -- Words and commands read back from their lines.
-use Rattle.std.proofs.Common.{◌≡◌, ℕ, ◌+◌, ◌*◌, ◌-◌, ◌/◌, ◌%◌, ◌^◌, ◌<◌, ◌≤◌, List, [], ◌∷◌, ◌++◌, codes, length, refl, sym, ap, ◌∙◌, arith, Bool, true, false, not, ◌&&◌, if◌then◌else◌, nat_le, Option, None, Some}
+use Rattle.std.proofs.Common.{◌≡◌, ℕ, ◌+◌, ◌*◌, ◌-◌, ◌/◌, ◌%◌, ◌^◌, ◌<◌, ◌≤◌, List, [], ◌∷◌, ◌++◌, codes, length, refl}
+use Rattle.std.proofs.Common.{sym, ap, ◌∙◌, arith, Bool, true, false, not, ◌&&◌, if◌then◌else◌, nat_le, Option, None, Some}
 use Rattle.std.specs.Prelude.{position, option_map}
 use Rattle.std.specs.Fmt.{decimal, digit_glyph}
 use Rattle.std.specs.Str.{bytes_eq}
@@ -11,9 +12,11 @@ use Rattle.board_types.specs.Digits.{hex_byte_text, hex_word, spelled}
 use Rattle.board_types.specs.TextLines.{onto_first}
 use Rattle.debugger_meaning.specs.CommandWords.{words_from, words_of, is_space, hex_number, count_of}
 use Rattle.debugger_meaning.specs.Dump.{address_text}
-use Rattle.debugger_meaning.specs.Commands.{back_command, is_colon, break_command, break_round, break_of, byte_command, command_in, command_of, command_with, command_with_two, dump_command, plain_command}
+use Rattle.debugger_meaning.specs.Commands.{back_command, is_colon, break_command, break_round, break_of, byte_command}
+use Rattle.debugger_meaning.specs.Commands.{command_in, command_of, command_with, command_with_two, dump_command, plain_command}
 use Rattle.debugger_meaning.specs.declared.command.Command.{Command}
-use Rattle.debugger_meaning.specs.declared.command.Command.TheVariants.{Break, Byte, Sound, Halted, Go, Step, Regs, Screen, Dump, Trail, Back, BackStep, BackStop}
+use Rattle.debugger_meaning.specs.declared.command.Command.TheVariants.{Break, Byte, Sound, Halted, Go, Step, Regs}
+use Rattle.debugger_meaning.specs.declared.command.Command.TheVariants.{Screen, Dump, Trail, Back, BackStep, BackStop}
 use Rattle.debugger_meaning.specs.DebuggerLaws.{CommandsReadBack}
 use Rattle.debugger_meaning.proofs.Spelling.{byte_spelled, word_spelled, decimal_spelled, digit_spelled}
 

@@ -1,5 +1,6 @@
 -- A line is read as a command if and only if it says that command.
-use Rattle.std.proofs.Common.{◌≡◌, ◌∙◌, ℕ, suc, ◌+◌, ◌-◌, ◌*◌, ◌^◌, ◌<◌, ◌≤◌, Bool, true, false, not, ◌&&◌, nat_le, nat_lt, if◌then◌else◌, List, [], ◌∷◌, ◌++◌, codes, length, take, drop, length-append, refl, sym, ap, ap₂, subst, arith, Option, Some, None}
+use Rattle.std.proofs.Common.{◌≡◌, ◌∙◌, ℕ, suc, ◌+◌, ◌-◌, ◌*◌, ◌^◌, ◌<◌, ◌≤◌, Bool, true, false, not, ◌&&◌, nat_le, nat_lt, if◌then◌else◌, List}
+use Rattle.std.proofs.Common.{[], ◌∷◌, ◌++◌, codes, length, take, drop, length-append, refl, sym, ap, ap₂, subst, arith, Option, Some, None}
 use Rattle.std.specs.Prelude.{option_map, min}
 use Rattle.std.specs.Str.{bytes_eq}
 use Rattle.std.specs.List.{list_all, position_or_len}
@@ -9,11 +10,13 @@ use Rattle.std.proofs.lemmas.List.{take_at}
 use Rattle.std.proofs.lemmas.Slice.Eq.{bytes_eq-Decides}
 use Rattle.board_types.specs.Digits.{digit_of, spelled}
 use Rattle.debugger_meaning.specs.CommandWords.{words_of, hex_number, at_most_greatest, count_of}
-use Rattle.debugger_meaning.specs.Commands.{back_by, back_command, plain_command, is_colon, break_of, break_round, break_command, go_command, command_with, byte_of, byte_command, dump_of, dump_command, command_with_two, command_in, command_of}
+use Rattle.debugger_meaning.specs.Commands.{back_by, back_command, plain_command, is_colon, break_of, break_round, break_command, go_command}
+use Rattle.debugger_meaning.specs.Commands.{command_with, byte_of, byte_command, dump_of, dump_command, command_with_two, command_in, command_of}
 use Rattle.debugger_meaning.specs.Spellings.{IsShown, Says, SpellsCommand, SpellsCount, SpellsHex, SpellsPlace}
 use Rattle.debugger_meaning.specs.DebuggerLaws.{CommandsAreSaid}
 use Rattle.debugger_meaning.specs.declared.command.Command.{Command}
-use Rattle.debugger_meaning.specs.declared.command.Command.TheVariants.{Break, Byte, Sound, Halted, Go, Step, Regs, Screen, Dump, Trail, Back, BackStep, BackStop}
+use Rattle.debugger_meaning.specs.declared.command.Command.TheVariants.{Break, Byte, Sound, Halted, Go, Step, Regs}
+use Rattle.debugger_meaning.specs.declared.command.Command.TheVariants.{Screen, Dump, Trail, Back, BackStep, BackStop}
 use Rattle.debugger_meaning.proofs.Parting.{words_are}
 use Rattle.debugger_meaning.proofs.Reading.{back_counts, back_step_line, back_stop_line, sound_line, halted_line, step_line, regs_line, screen_line, trail_line}
 

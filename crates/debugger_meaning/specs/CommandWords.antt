@@ -1,6 +1,7 @@
 -- The words of a line, and the numbers that words spell.
 -- To be believed: the headline rests on it.
-use Rattle.std.specs.Prelude.{ℕ, ◌-◌, ◌^◌, min, Bool, false, ◌==◌, ◌&&◌, nat_le, not, if◌then◌else◌, List, [], ◌∷◌, length, Option, None, Some}
+use Rattle.std.specs.Prelude.{ℕ, ◌-◌, ◌^◌, min, Bool, false, ◌==◌, ◌&&◌, nat_le, not}
+use Rattle.std.specs.Prelude.{if◌then◌else◌, List, [], ◌∷◌, length, Option, None, Some}
 use Rattle.board_types.specs.TextLines.{onto_first}
 use Rattle.board_types.specs.Digits.{spelled}
 

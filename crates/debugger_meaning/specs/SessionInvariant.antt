@@ -7,7 +7,8 @@ use Rattle.board_plain.specs.Lasts.{NoneHeld}
 use Rattle.board_plain.specs.Stops.{HasAddress}
 use Rattle.board_plain.specs.Plain.{clock_of}
 use Rattle.debugger_meaning.specs.declared.fault.DebugFault.{DebugFault}
-use Rattle.debugger_meaning.specs.declared.fault.DebugFault.TheVariants.{BadScan, StampsFall, ClockLimit, BadCommand, TooManyStops, Memory, BeforeStart}
+use Rattle.debugger_meaning.specs.declared.fault.DebugFault.TheVariants.{BadScan, StampsFall, ClockLimit, BadCommand}
+use Rattle.debugger_meaning.specs.declared.fault.DebugFault.TheVariants.{TooManyStops, Memory, BeforeStart}
 use Rattle.debugger_meaning.specs.Stands.{SessionState, shown_of, StandsAfter, StandsAt, gone}
 
 -- each board that is kept afterwards was kept before, or is a copy of this one

@@ -1,5 +1,6 @@
 -- Prefixes at the front of bytes.
-use Rattle.std.proofs.Common.{◌≡◌, ℕ, zero, suc, ◌+◌, ◌-◌, ◌<◌, ◌≤◌, true, false, ◌==◌, List, [], ◌∷◌, ◌++◌, length, take, drop, map, Option, Some, None, get_or, refl, sym, ap, ◌∙◌, arith, cond, append_assoc}
+use Rattle.std.proofs.Common.{◌≡◌, ℕ, zero, suc, ◌+◌, ◌-◌, ◌<◌, ◌≤◌, true, false, ◌==◌, List, [], ◌∷◌, ◌++◌, length}
+use Rattle.std.proofs.Common.{take, drop, map, Option, Some, None, get_or, refl, sym, ap, ◌∙◌, arith, cond, append_assoc}
 use Rattle.std.proofs.lemmas.List.{append-nil, drop_more, get_or-take, length-take}
 use Rattle.std.proofs.lemmas.Bool.{eqb-true}
 use Rattle.isa.specs.declared.register.SegmentRegister.TheVariants.{Es, Cs, Ss, Ds}

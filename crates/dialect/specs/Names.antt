@@ -4,7 +4,8 @@ use Rattle.std.specs.Prelude.{ℕ, Bool, true, false, List, [], find}
 use Rattle.std.specs.Option.{option_map_or}
 use denote.Enum.Bare.{sameb}
 use Rattle.isa.specs.declared.operation.Operation.{Operation}
-use Rattle.isa.specs.declared.operation.Operation.TheVariants.{Arithmetic, Shift, Product, Unary, Jump, Looping, Strings, Adjust, Transfer, Control, Processor}
+use Rattle.isa.specs.declared.operation.Operation.TheVariants.{Arithmetic, Shift, Product, Unary, Jump, Looping}
+use Rattle.isa.specs.declared.operation.Operation.TheVariants.{Strings, Adjust, Transfer, Control, Processor}
 use Rattle.isa.specs.declared.operation.Control.TheVariants as control
 use Rattle.isa.specs.declared.register.WordRegister.{WordRegister}
 use Rattle.isa.specs.declared.form.Prefix.{Prefix}

@@ -7,16 +7,21 @@ use Rattle.std.specs.Option.{option_map}
 use Rattle.std.specs.Char.{to_ascii_lowercase}
 use Rattle.std.specs.Str.{bytes_eq}
 use Rattle.isa.specs.declared.operation.Operation.{Operation}
-use Rattle.isa.specs.declared.operation.Operation.TheVariants.{Arithmetic, Shift, Product, Unary, Jump, Looping, Strings, Adjust, Transfer, Control, Processor}
+use Rattle.isa.specs.declared.operation.Operation.TheVariants.{Arithmetic, Shift, Product, Unary, Jump, Looping}
+use Rattle.isa.specs.declared.operation.Operation.TheVariants.{Strings, Adjust, Transfer, Control, Processor}
 use Rattle.isa.specs.declared.operation.Arithmetic.TheVariants.{Add, Or, Adc, Sbb, And, Sub, Xor, Cmp, Test}
 use Rattle.isa.specs.declared.operation.Shift.TheVariants.{Rol, Ror, Rcl, Rcr, Shl, Shr, Sar}
 use Rattle.isa.specs.declared.operation.Product.TheVariants.{Mul, Imul, Div, Idiv}
 use Rattle.isa.specs.declared.operation.Unary.TheVariants.{Inc, Dec, Not, Neg}
-use Rattle.isa.specs.declared.operation.JumpCondition.TheVariants.{Overflow, NotOverflow, Below, NotBelow, Zero, NotZero, BelowOrZero, Above, Sign, NotSign, Parity, NotParity, Less, NotLess, LessOrZero, Greater}
+use Rattle.isa.specs.declared.operation.JumpCondition.TheVariants.{Overflow, NotOverflow, Below, NotBelow, Zero}
+use Rattle.isa.specs.declared.operation.JumpCondition.TheVariants.{NotZero, BelowOrZero, Above, Sign, NotSign, Parity}
+use Rattle.isa.specs.declared.operation.JumpCondition.TheVariants.{NotParity, Less, NotLess, LessOrZero, Greater}
 use Rattle.isa.specs.declared.operation.Looping.TheVariants.{Loopne, Loope, Loop, Jcxz}
-use Rattle.isa.specs.declared.operation.Strings.TheVariants.{Movsb, Movsw, Cmpsb, Cmpsw, Stosb, Stosw, Lodsb, Lodsw, Scasb, Scasw}
+use Rattle.isa.specs.declared.operation.Strings.TheVariants.{Movsb, Movsw, Cmpsb, Cmpsw, Stosb}
+use Rattle.isa.specs.declared.operation.Strings.TheVariants.{Stosw, Lodsb, Lodsw, Scasb, Scasw}
 use Rattle.isa.specs.declared.operation.Adjust.TheVariants.{Daa, Das, Aaa, Aas, Aam, Aad, Cbw, Cwd}
-use Rattle.isa.specs.declared.operation.Transfer.TheVariants.{Mov, Xchg, Lea, Les, Lds, Push, Pop, Pushf, Popf, Sahf, Lahf, Xlat, In, Out}
+use Rattle.isa.specs.declared.operation.Transfer.TheVariants.{Mov, Xchg, Lea, Les, Lds, Push, Pop}
+use Rattle.isa.specs.declared.operation.Transfer.TheVariants.{Pushf, Popf, Sahf, Lahf, Xlat, In, Out}
 use Rattle.isa.specs.declared.operation.Control.TheVariants.{Ret, Retf, Int3, Int, Into, Iret}
 use Rattle.isa.specs.declared.operation.Processor.TheVariants.{Hlt, Cmc, Clc, Stc, Cli, Sti, Cld, Std, Wait, Esc}
 use Rattle.isa.specs.declared.register.ByteRegister.TheVariants.{Al, Cl, Dl, Bl, Ah, Ch, Dh, Bh}

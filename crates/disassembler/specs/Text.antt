@@ -1,7 +1,8 @@
 -- The text of an instruction, in the assembler's dialect: prefix words in their order, the operation's first mnemonic,
 -- and the operands. Numbers are a `0`, two or four hexadecimal digits and `h` (this board's choice).
 -- To be believed: the headline rests on it.
-use Rattle.std.specs.Prelude.{ℕ, ◌+◌, ◌/◌, ◌%◌, ◌==◌, Bool, true, false, ◌&&◌, if◌then◌else◌, Option, Some, None, List, [], ◌∷◌, ◌++◌, codes}
+use Rattle.std.specs.Prelude.{ℕ, ◌+◌, ◌/◌, ◌%◌, ◌==◌, Bool, true, false, ◌&&◌}
+use Rattle.std.specs.Prelude.{if◌then◌else◌, Option, Some, None, List, [], ◌∷◌, ◌++◌, codes}
 use Rattle.std.specs.List.{flat_map}
 use Rattle.std.specs.Fmt.{digit_glyph}
 use Rattle.isa.specs.declared.operation.Operation.{Operation}
@@ -22,10 +23,12 @@ use Rattle.isa.specs.Encoding.{instr_length}
 use Rattle.dialect.specs.declared.keyword.Keyword.{Keyword}
 use Rattle.dialect.specs.declared.keyword.Keyword.TheVariants as keywords
 use Rattle.dialect.specs.declared.mnemonic.Mnemonic.TheVariants as mnemonics
-use Rattle.dialect.specs.Names.{keyword_name, mnemonic_name, operation_name, prefix_name, register_name, word_register_name}
+use Rattle.dialect.specs.Names.{keyword_name, mnemonic_name, operation_name}
+use Rattle.dialect.specs.Names.{prefix_name, register_name, word_register_name}
 use Rattle.disassembler.specs.declared.written.Memory.{Memory as MemoryType}
 use Rattle.disassembler.specs.declared.written.Written.{Written}
-use Rattle.disassembler.specs.declared.written.Written.TheVariants.{Nothing, Register, One, Byte, Word, Short, Far, Memory}
+use Rattle.disassembler.specs.declared.written.Written.TheVariants.{Nothing, Register, One, Byte}
+use Rattle.disassembler.specs.declared.written.Written.TheVariants.{Word, Short, Far, Memory}
 use Rattle.disassembler.specs.Written.{written_operand}
 
 -- two hexadecimal digits, in upper case

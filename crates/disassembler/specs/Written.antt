@@ -21,7 +21,8 @@ use Rattle.dialect.specs.declared.keyword.Keyword.{Keyword}
 use Rattle.dialect.specs.declared.keyword.Keyword.TheVariants as keywords
 use Rattle.dialect.specs.declared.register.Register.TheVariants as registers
 use Rattle.disassembler.specs.declared.written.Written.{Written}
-use Rattle.disassembler.specs.declared.written.Written.TheVariants.{Nothing, Register, One, Byte, Word, Short, Far, Memory}
+use Rattle.disassembler.specs.declared.written.Written.TheVariants.{Nothing, Register, One, Byte}
+use Rattle.disassembler.specs.declared.written.Written.TheVariants.{Word, Short, Far, Memory}
 
 -- a byte register by its number
 abbrev pub byte_register : ℕ → Written

@@ -36,12 +36,15 @@ use Rattle.execute_arith.specs.declared.numbers.Division.{Division}
 use Rattle.execute_arith.specs.Products as product
 use Rattle.execute_arith.specs.Products.{after_division, after_product}
 use Rattle.execute_strings.specs.StringMeaning.{after_movs, after_cmps, after_stos, after_lods, after_scas, after_element, after_iteration}
-use Rattle.execute_transfer.specs.TransferMeaning.{after_mov, after_xchg, after_lea, after_pointer_load, after_push_operand, after_pop_operand, after_popf, after_xlat, after_byte_input, after_word_input, after_in, after_out, after_transfer, is_ax, outputs_at, outputs_of, port_of}
+use Rattle.execute_transfer.specs.TransferMeaning.{after_mov, after_xchg, after_lea, after_pointer_load, after_push_operand}
+use Rattle.execute_transfer.specs.TransferMeaning.{after_pop_operand, after_popf, after_xlat, after_byte_input, after_word_input}
+use Rattle.execute_transfer.specs.TransferMeaning.{after_in, after_out, after_transfer, is_ax, outputs_at, outputs_of, port_of}
 use Rattle.execute_control.specs.ControlMeaning.{after_call, after_control, after_far_pop, after_interrupt_return, after_ip_pop, after_return}
 use Rattle.execute_meaning.specs.declared.repeating.Repeating.{Repeating}
 use Rattle.execute_meaning.specs.Boundaries.{after_enter}
 use Rattle.execute_meaning.specs.Cpu.{CpuState}
-use Rattle.execute_meaning.specs.Meaning.{StepResult, after_operation, after_whole, after_iterating, after_repeat, after_begun, after_fetch, after_found, after_step, after_again_of, after_again, size_from_last_prefix}
+use Rattle.execute_meaning.specs.Meaning.{StepResult, after_operation, after_whole, after_iterating, after_repeat, after_begun}
+use Rattle.execute_meaning.specs.Meaning.{after_fetch, after_found, after_step, after_again_of, after_again, size_from_last_prefix}
 use Rattle.events.specs.declared.access.Access.{Access}
 use Rattle.events.specs.EventLaws.{MakesFewAccesses}
 use Rattle.events.specs.Noting.{Noted, noting, unnoted}

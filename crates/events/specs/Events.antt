@@ -3,7 +3,8 @@
 -- as in the trail; those of the chips have the clock that is reached, as a key's stamp and the speaker's changes do.
 -- To be believed by callers of this crate: the headline does not rest on it.
 use Rattle.keyboard.specs.QueueParts.{has_room, sends}
-use Rattle.std.specs.Prelude.{ℕ, ◌+◌, Bool, ◌&&◌, if◌then◌else◌, List, [], ◌∷◌, ◌++◌, map, Option, None, Some, slice_get}
+use Rattle.std.specs.Prelude.{ℕ, ◌+◌, Bool, ◌&&◌, if◌then◌else◌, List, []}
+use Rattle.std.specs.Prelude.{◌∷◌, ◌++◌, map, Option, None, Some, slice_get}
 use Rattle.std.specs.Bool.{beq}
 use Rattle.std.specs.List.{flat_map}
 use Rattle.board_types.specs.Bits.{has_bit}
@@ -19,7 +20,8 @@ use Rattle.ppi8255.specs.Ppi.{lines_b}
 use Rattle.wiring.specs.Chips.{ChipsState}
 use Rattle.wiring.specs.Wires as wires
 use Rattle.wiring.specs.Wires.{after_arrivals}
-use Rattle.board_plain.specs.Plain.{Plain, after_act, after_clock, clock_of, codes_at, next_act, speaker_level, state_of}
+use Rattle.board_plain.specs.Plain.{Plain, after_act, after_clock, clock_of}
+use Rattle.board_plain.specs.Plain.{codes_at, next_act, speaker_level, state_of}
 use Rattle.board_plain.specs.Trail.{trail_next}
 use Rattle.events.specs.declared.event.Event.{Event}
 use Rattle.events.specs.declared.event.Event.TheVariants.{Began, Reached, Became, Keyed, Wired}

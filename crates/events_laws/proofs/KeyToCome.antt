@@ -12,7 +12,8 @@ use Rattle.wiring.specs.Chips as chips
 use Rattle.wiring.specs.Wires as wires
 use Rattle.wiring.specs.Wires.{after_arrivals, after_key_settling}
 use Rattle.board_plain.specs.declared.config.Config.{Config}
-use Rattle.board_plain.specs.Plain.{Plain, after_act, after_clock, after_clocks, change_next, changes_in, chips_after_clock, clock_of, codes_at, next_act, power_on, speaker_level}
+use Rattle.board_plain.specs.Plain.{Plain, after_act, after_clock, after_clocks, change_next, changes_in}
+use Rattle.board_plain.specs.Plain.{chips_after_clock, clock_of, codes_at, next_act, power_on, speaker_level}
 use Rattle.board_plain.specs.Trail.{trail_in, trail_next}
 use Rattle.board_plain.proofs.Clocks.{clock_of_act, clocks_go_by}
 use Rattle.wiring.proofs.Clocks.{clock_of_arrivals}

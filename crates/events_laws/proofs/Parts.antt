@@ -16,7 +16,8 @@ use Rattle.events.specs.declared.event.KeyEvent.{KeyEvent}
 use Rattle.events.specs.declared.event.KeyEvent.TheVariants.{Arrives, IsLatched, IsLost}
 use Rattle.events.specs.declared.event.Wire.{Wire}
 use Rattle.events.specs.Accesses.{accesses_next}
-use Rattle.events.specs.Events.{arrival_events, chips_reached, codes_next, events_in, events_next, latch_events, level_of, settling_events, state_events, unwired_next, wire_event, wire_events}
+use Rattle.events.specs.Events.{arrival_events, chips_reached, codes_next, events_in, events_next, latch_events}
+use Rattle.events.specs.Events.{level_of, settling_events, state_events, unwired_next, wire_event, wire_events}
 
 -- the parts of a clock
 

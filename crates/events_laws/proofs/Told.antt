@@ -1,6 +1,7 @@
 -- What happens, against the trail, the speaker's list and memory.
 use Rattle.wiring.specs.EachWire.{requested_type}
-use Rattle.std.proofs.Common.{◌≡◌, ◌≢◌, ℕ, zero, suc, ◌+◌, Bool, true, false, if◌then◌else◌, List, [], ◌∷◌, ◌++◌, map, Option, refl, sym, ap, ◌∙◌, append-nil, arith}
+use Rattle.std.proofs.Common.{◌≡◌, ◌≢◌, ℕ, zero, suc, ◌+◌, Bool, true, false, if◌then◌else◌, List}
+use Rattle.std.proofs.Common.{[], ◌∷◌, ◌++◌, map, Option, refl, sym, ap, ◌∙◌, append-nil, arith}
 use Rattle.std.specs.Prelude.{◌&&◌, nat_eq, fold}
 use Rattle.std.specs.Bool.{beq}
 use Rattle.std.specs.List.{flat_map}
@@ -25,7 +26,8 @@ use Rattle.wiring.specs.Wires.{after_acknowledge, after_arrival, after_arrivals,
 use Rattle.board_plain.specs.declared.act.Act.{Act}
 use Rattle.board_plain.specs.declared.act.Act.TheVariants.{Nothing, Request, SingleStep, Iteration, Instruction}
 use Rattle.board_plain.specs.declared.trail.TrailEntry.{TrailEntry}
-use Rattle.board_plain.specs.Plain.{Plain, after_act, after_clock, after_clocks, byte_of, change_next, chips_after_clock, clock_of, codes_at, next_act, speaker_level, state_of}
+use Rattle.board_plain.specs.Plain.{Plain, after_act, after_clock, after_clocks, byte_of, change_next}
+use Rattle.board_plain.specs.Plain.{chips_after_clock, clock_of, codes_at, next_act, speaker_level, state_of}
 use Rattle.board_plain.specs.Trail.{trail_next}
 use Rattle.events.specs.declared.access.Access.{Access}
 use Rattle.events.specs.declared.access.Access.TheVariants.{Write, In, Out}

@@ -6,7 +6,8 @@ use Rattle.std.proofs.lemmas.Bool.Decides.{nat_tests}
 use Rattle.execute_machine.specs.RegisterFile.{Registers}
 use Rattle.execute_machine.specs.Sums.{with_difference, with_sum}
 use Rattle.execute_arith.specs.ArithmeticMeaning.{adjusts_low, ah_of, al_of, with_unpacked, after_adjust}
-use Rattle.execute_arith.specs.ArithmeticLaws.{packed, AaaAdds, AadJoins, AadUndoesAam, AamParts, AasSubtracts, DaaAdds, DasSubtracts, HasDifference, HasSum, LeavesDigit}
+use Rattle.execute_arith.specs.ArithmeticLaws.{packed, AaaAdds, AadJoins, AadUndoesAam, AamParts, AasSubtracts}
+use Rattle.execute_arith.specs.ArithmeticLaws.{DaaAdds, DasSubtracts, HasDifference, HasSum, LeavesDigit}
 
 -- DAA and DAS on plain numbers: AL, AF and CF as the sum or the difference left them
 abbrev change : Bool → Bool → ℕ → ℕ

@@ -1,6 +1,7 @@
 -- IMUL and IDIV of signed numbers.
 use Rattle.execute_machine.specs.Flags.{differ}
-use Rattle.std.proofs.Common.{◌≡◌, ℕ, ◌*◌, ◌/◌, ◌%◌, ◌<◌, ◌≤◌, Bool, true, false, ◌==◌, nat_le, if◌then◌else◌, Option, Some, None, refl, sym, ap, ◌∙◌, subst, arith}
+use Rattle.std.proofs.Common.{◌≡◌, ℕ, ◌*◌, ◌/◌, ◌%◌, ◌<◌, ◌≤◌, Bool, true, false, ◌==◌, nat_le}
+use Rattle.std.proofs.Common.{if◌then◌else◌, Option, Some, None, refl, sym, ap, ◌∙◌, subst, arith}
 use Rattle.std.specs.Prelude.{ℤ, ◌*ℤ◌, nat_abs, is_none}
 use Rattle.std.proofs.Math.Nat.{pos_of_ne-zero}
 use Rattle.std.proofs.lemmas.Nat.{mul-le}
@@ -16,7 +17,8 @@ use Rattle.execute_machine.specs.Locations.{Machine}
 use Rattle.execute_arith.specs.declared.numbers.Division.{Division}
 use Rattle.execute_arith.specs.Numbers.{double_half, is_minus, magnitude, with_sign, signed_value, signed_product, signed_result, signed_division}
 use Rattle.execute_arith.specs.Products.{accumulator, dividend_of, after_division, after_operation, has_no_quotient, after_product, has_fault}
-use Rattle.execute_arith.specs.ProductLaws.{ImulMultiplies, IdivDivides, Divides, DividesSigned, SignedDivision, HoldsWords, signed, remainder_of, operand_of, operand_width}
+use Rattle.execute_arith.specs.ProductLaws.{ImulMultiplies, IdivDivides, Divides, DividesSigned, SignedDivision}
+use Rattle.execute_arith.specs.ProductLaws.{HoldsWords, signed, remainder_of, operand_of, operand_width}
 use Rattle.execute_arith.proofs.Unsigned.{product_reads, quotient_reads, remainder_reads, none_by_zero, none_that_fits, divided, enters_by}
 use Rattle.execute_arith.proofs.Signs.{number, abs_number, signs_multiply, signed_parts, signed_with, magnitude_fits, magnitudes_divide, signs_divide}
 

@@ -14,7 +14,8 @@ use Rattle.execute_machine.specs.Stack.{after_entry}
 use Rattle.execute_arith.specs.declared.numbers.Division.{Division}
 use Rattle.execute_arith.specs.declared.numbers.FullProduct.{FullProduct}
 use Rattle.execute_arith.specs.Numbers.{unsigned_product, unsigned_division}
-use Rattle.execute_arith.specs.Products.{accumulator, dividend_of, with_product, with_division, after_division, after_operation, has_no_quotient, after_product, has_fault}
+use Rattle.execute_arith.specs.Products.{accumulator, dividend_of, with_product, with_division, after_division}
+use Rattle.execute_arith.specs.Products.{after_operation, has_no_quotient, after_product, has_fault}
 use Rattle.execute_arith.specs.ProductLaws.{MulMultiplies, Divides, DivDivides, remainder_of, operand_of, operand_width}
 
 -- a product reads back from AX or DX:AX

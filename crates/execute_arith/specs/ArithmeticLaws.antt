@@ -2,7 +2,8 @@
 -- "Arithmetic Instructions").
 -- Laws: claims above the definitions, each proved as the contract of a function.
 use Rattle.isa.specs.declared.operation.Adjust.TheVariants.{Daa, Das, Aaa, Aas, Aam, Aad, Cbw, Cwd}
-use Rattle.std.specs.Prelude.{◌≡◌, ℕ, Bool, ◌+◌, ◌*◌, ◌/◌, ◌%◌, ◌-◌, ◌^◌, ◌<◌, not, if◌then◌else◌, nat_lt, nat_le, ℤ, pos, ◌-ℤ◌, ◌<ℤ◌, IsTrue, ◌↔◌}
+use Rattle.std.specs.Prelude.{◌≡◌, ℕ, Bool, ◌+◌, ◌*◌, ◌/◌, ◌%◌, ◌-◌, ◌^◌, ◌<◌, not}
+use Rattle.std.specs.Prelude.{if◌then◌else◌, nat_lt, nat_le, ℤ, pos, ◌-ℤ◌, ◌<ℤ◌, IsTrue, ◌↔◌}
 use Rattle.std.specs.Int.{from_bool}
 use Rattle.board_types.specs.Bits.{has_bit}
 use Rattle.isa.specs.declared.operation.Arithmetic.TheVariants.{Add, Adc, Sub, Sbb, Cmp}

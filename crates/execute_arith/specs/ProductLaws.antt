@@ -1,6 +1,7 @@
 -- The laws of multiplication and division.
 -- Laws: claims above the definitions, each proved as the contract of a function.
-use Rattle.std.specs.Prelude.{ℕ, ◌≡◌, ◌+◌, ◌*◌, ◌/◌, ◌<◌, ◌⊎◌, true, false, ℤ, pos, ◌+ℤ◌, ◌-ℤ◌, ◌*ℤ◌, nat_abs, int_lt, nat_le, if◌then◌else◌}
+use Rattle.std.specs.Prelude.{ℕ, ◌≡◌, ◌+◌, ◌*◌, ◌/◌, ◌<◌, ◌⊎◌, true, false, ℤ, pos}
+use Rattle.std.specs.Prelude.{◌+ℤ◌, ◌-ℤ◌, ◌*ℤ◌, nat_abs, int_lt, nat_le, if◌then◌else◌}
 use Rattle.isa.specs.declared.operation.Product.TheVariants.{Mul, Imul, Div, Idiv}
 use Rattle.isa.specs.declared.form.Instr.{Instr}
 use Rattle.isa.specs.Row.{first_of}

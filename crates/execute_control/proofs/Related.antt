@@ -12,7 +12,8 @@ use Rattle.execute_machine.specs.Flags.{popped_flags}
 use Rattle.execute_machine.specs.Locations.{Machine, machine, location_of}
 use Rattle.execute_machine.specs.Stack.{after_entry, after_pop, top_word}
 use Rattle.execute_machine.proofs.Related.{Alike, Same, same_by_entry, same_by_push, same_far_segment, same_operand, same_top, same_value}
-use Rattle.execute_control.specs.ControlMeaning.{after_call, after_control, after_far_pop, after_interrupt_return, after_ip_pop, after_return, control_operand, control_segment, is_relative, near_target, relative_target, with_cs_ip, with_ip}
+use Rattle.execute_control.specs.ControlMeaning.{after_call, after_control, after_far_pop, after_interrupt_return, after_ip_pop, after_return}
+use Rattle.execute_control.specs.ControlMeaning.{control_operand, control_segment, is_relative, near_target, relative_target, with_cs_ip, with_ip}
 
 unchanged : {S T : Type 0} (R : S → T → Type 0) (r : Registers) (s : S) (t : T) → R s t → Same R (machine r s) (machine r t)
 unchanged R r s t related = record { registers = refl; bus = related }

@@ -11,7 +11,8 @@ use Rattle.execute_machine.specs.Stack.{after_push, top_word, after_pop, after_e
 use Rattle.execute_control.specs.ControlMeaning.{after_control, after_call, after_return, after_far_pop, after_interrupt_return, after_ip_pop, control_operand}
 use Rattle.execute_control.specs.ControlLaws.{TakesPushes, KeepsStack, CallReturns, FarCallReturns, InterruptReturns}
 use Rattle.execute_control.proofs.FlagsWord.{popped_again}
-use Rattle.execute_control.proofs.StackWords.{next, below, back_up, TakesWord, takes_at, first_of_one, first_of_two, second_of_two, first_of_three, second_of_three, third_of_three}
+use Rattle.execute_control.proofs.StackWords.{next, below, back_up, TakesWord, takes_at, first_of_one, first_of_two}
+use Rattle.execute_control.proofs.StackWords.{second_of_two, first_of_three, second_of_three, third_of_three}
 
 -- a word on the stack that a subroutine found is there when it returns
 word_held : {S : Type 0} (bus : BusMeaning S) (p n : Machine S) (bytes k offset : ℕ)

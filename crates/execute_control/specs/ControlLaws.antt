@@ -4,7 +4,9 @@ use Rattle.std.specs.Prelude.{ℕ, ◌≡◌, ◌+◌, ◌-◌, ◌<◌, ◌==�
 use Rattle.board_types.specs.Address.{physical, offset_after}
 use Rattle.board_types.specs.Iterate.{iterate}
 use Rattle.isa.specs.declared.operation.JumpCondition.{JumpCondition}
-use Rattle.isa.specs.declared.operation.JumpCondition.TheVariants.{Overflow, NotOverflow, Below, NotBelow, Zero, NotZero, BelowOrZero, Above, Sign, NotSign, Parity, NotParity, Less, NotLess, LessOrZero, Greater}
+use Rattle.isa.specs.declared.operation.JumpCondition.TheVariants.{Overflow, NotOverflow, Below, NotBelow, Zero}
+use Rattle.isa.specs.declared.operation.JumpCondition.TheVariants.{NotZero, BelowOrZero, Above, Sign, NotSign, Parity}
+use Rattle.isa.specs.declared.operation.JumpCondition.TheVariants.{NotParity, Less, NotLess, LessOrZero, Greater}
 use Rattle.isa.specs.declared.operation.Looping.TheVariants.{Loop}
 use Rattle.isa.specs.declared.operation.Control.TheVariants.{Call, Ret, CallFar, Retf, Iret}
 use Rattle.isa.specs.declared.form.Instr.{Instr}

@@ -3,7 +3,8 @@
 use Rattle.std.specs.Prelude.{ℕ, ◌≡◌, ◌<◌}
 use Rattle.execute_machine.specs.Sums.{difference_of, sum_of}
 use Rattle.execute_machine.specs.declared.last_operation.LastKind.{LastKind}
-use Rattle.execute_machine.specs.declared.last_operation.LastKind.TheVariants.{Settled, Sum, Difference, Logic, Increment, Decrement}
+use Rattle.execute_machine.specs.declared.last_operation.LastKind.TheVariants.{Settled, Sum, Difference}
+use Rattle.execute_machine.specs.declared.last_operation.LastKind.TheVariants.{Logic, Increment, Decrement}
 use Rattle.execute_machine.specs.declared.last_operation.LastOperation.{LastOperation}
 use Rattle.execute_machine.specs.declared.width.Width.{Width}
 use Rattle.execute_machine.specs.Widths.{size_of}

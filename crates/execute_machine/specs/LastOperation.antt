@@ -6,7 +6,8 @@ use Rattle.execute_machine.specs.FlagState.{FlagState}
 use Rattle.execute_machine.specs.Flags.{flag_state, keeping}
 use Rattle.execute_machine.specs.Sums.{with_difference, with_logic, with_sum}
 use Rattle.execute_machine.specs.declared.last_operation.LastKind.{LastKind}
-use Rattle.execute_machine.specs.declared.last_operation.LastKind.TheVariants.{Settled, Sum, Difference, Logic, Increment, Decrement}
+use Rattle.execute_machine.specs.declared.last_operation.LastKind.TheVariants.{Settled, Sum, Difference}
+use Rattle.execute_machine.specs.declared.last_operation.LastKind.TheVariants.{Logic, Increment, Decrement}
 use Rattle.execute_machine.specs.declared.last_operation.LastOperation.{LastOperation}
 use Rattle.execute_machine.specs.declared.width.Width.{Width}
 

@@ -24,7 +24,9 @@ use Rattle.execute_meaning.specs.declared.shadow.Shadow.TheVariants.{Nothing}
 use Rattle.board_types.specs.declared.state.State.TheVariants.{Running}
 use Rattle.execute_meaning.specs.Boundaries.{after_enter, still_due}
 use Rattle.execute_meaning.specs.Cpu.{CpuState}
-use Rattle.execute_meaning.specs.Meaning.{StepResult, after_again, after_again_of, after_begun, after_fetch, after_found, after_iterating, after_operation, after_repeat, after_step, after_whole, is_taken, lacks_quotient, shadow_of, size_from_last_prefix, state_after, with_end, with_repeat}
+use Rattle.execute_meaning.specs.Meaning.{StepResult, after_again, after_again_of, after_begun, after_fetch, after_found}
+use Rattle.execute_meaning.specs.Meaning.{after_iterating, after_operation, after_repeat, after_step, after_whole, is_taken}
+use Rattle.execute_meaning.specs.Meaning.{lacks_quotient, shadow_of, size_from_last_prefix, state_after, with_end, with_repeat}
 use Rattle.execute_machine.proofs.Related.{Alike, Same, same_by_entry}
 use Rattle.execute_arith.proofs.Related.{same_by_arithmetic, same_by_product, same_by_shift, same_by_unary, same_fault}
 use Rattle.execute_strings.proofs.Related.{same_by_element, same_by_iteration}

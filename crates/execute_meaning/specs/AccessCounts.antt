@@ -5,10 +5,12 @@ use Rattle.std.specs.Prelude.{ℕ, ◌≡◌, ◌+◌, ◌*◌, ◌==◌, Bool, 
 use Rattle.board_types.specs.declared.choice.ClockTable.{ClockTable}
 use Rattle.bus.specs.Bus.{BusMeaning}
 use Rattle.isa.specs.declared.operation.Operation.{Operation}
-use Rattle.isa.specs.declared.operation.Operation.TheVariants.{Arithmetic, Shift, Product, Unary, Strings, Transfer, Control}
+use Rattle.isa.specs.declared.operation.Operation.TheVariants.{Arithmetic, Shift, Product, Unary}
+use Rattle.isa.specs.declared.operation.Operation.TheVariants.{Strings, Transfer, Control}
 use Rattle.isa.specs.declared.operation.Arithmetic.TheVariants.{Cmp, Test}
 use Rattle.isa.specs.declared.operation.Transfer.TheVariants.{Mov, Xchg, Les, Lds, Push, Pop, Pushf, Popf}
-use Rattle.isa.specs.declared.operation.Control.TheVariants.{Jmp, Call, Ret, JmpFar, CallFar, Retf, Int3, Int, Into, Iret}
+use Rattle.isa.specs.declared.operation.Control.TheVariants.{Jmp, Call, Ret, JmpFar, CallFar}
+use Rattle.isa.specs.declared.operation.Control.TheVariants.{Retf, Int3, Int, Into, Iret}
 use Rattle.isa.specs.declared.operation.Strings.TheVariants.{Movsb, Movsw, Cmpsw, Stosb, Stosw, Lodsw, Scasw}
 use Rattle.isa.specs.declared.row.Kind.{Kind}
 use Rattle.isa.specs.declared.row.Kind.TheVariants.{Rm8, At8}

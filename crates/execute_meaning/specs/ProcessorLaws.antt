@@ -4,7 +4,8 @@
 use Rattle.std.specs.Prelude.{ℕ, ◌≡◌, ◌≢◌, ◌<◌, ◌≤◌, ◌<ℤ◌, ◌≤ℤ◌, IsTrue, ◌↔◌}
 use Rattle.board_types.specs.declared.choice.ClockTable.{ClockTable}
 use Rattle.isa.specs.declared.operation.Arithmetic.TheVariants.{Cmp}
-use Rattle.isa.specs.declared.operation.JumpCondition.TheVariants.{Below, NotBelow, Zero, NotZero, BelowOrZero, Above, Less, NotLess, LessOrZero, Greater}
+use Rattle.isa.specs.declared.operation.JumpCondition.TheVariants.{Below, NotBelow, Zero, NotZero, BelowOrZero}
+use Rattle.isa.specs.declared.operation.JumpCondition.TheVariants.{Above, Less, NotLess, LessOrZero, Greater}
 use Rattle.isa.specs.declared.form.Instr.{Instr}
 use Rattle.isa.specs.Row.{first_of, second_of}
 use Rattle.decode.specs.declared.decoding.Decoding.{Decoding as Decoded}

@@ -13,7 +13,8 @@ use Rattle.execute_machine.specs.declared.width.Width.{Width}
 use Rattle.execute_machine.specs.declared.width.Width.TheVariants.{Byte, Word}
 use Rattle.execute_machine.specs.Locations.{machine}
 use Rattle.execute_machine.proofs.Related.{Alike, Same, both, same_by_put, same_operand, same_value}
-use Rattle.execute_strings.specs.StringMeaning.{accumulator, after_cmps, after_element, after_iteration, after_lods, after_movs, after_scas, after_stos, destination, source, with_next_destination, with_next_source}
+use Rattle.execute_strings.specs.StringMeaning.{accumulator, after_cmps, after_element, after_iteration, after_lods, after_movs}
+use Rattle.execute_strings.specs.StringMeaning.{after_scas, after_stos, destination, source, with_next_destination, with_next_source}
 
 same_by_movs : {S T : Type 0} (bus : BusMeaning S) (other : BusMeaning T) (R : S → T → Type 0)
     → Alike bus other R → (r : Registers) (s : S) (t : T) (width : Width) (i : Instr) → R s t

@@ -9,7 +9,9 @@ use Rattle.bus.specs.Bus.{BusMeaning}
 use Rattle.bus.specs.PortWriteBus.{after_port_writes}
 use Rattle.execute_machine.specs.Locations.{Machine}
 use Rattle.execute_machine.proofs.Kept.{Kept, kept_by_pop, kept_by_push, kept_by_put}
-use Rattle.execute_transfer.specs.TransferMeaning.{after_byte_input, after_in, after_lea, after_mov, after_out, after_pointer_load, after_pop_operand, after_popf, after_push_operand, after_transfer, after_word_input, after_xchg, after_xlat, is_ax, outputs_at, outputs_of, port_of}
+use Rattle.execute_transfer.specs.TransferMeaning.{after_byte_input, after_in, after_lea, after_mov, after_out, after_pointer_load}
+use Rattle.execute_transfer.specs.TransferMeaning.{after_pop_operand, after_popf, after_push_operand, after_transfer}
+use Rattle.execute_transfer.specs.TransferMeaning.{after_word_input, after_xchg, after_xlat, is_ax, outputs_at, outputs_of, port_of}
 
 kept_by_pointer_load : {S : Type 0} (bus : BusMeaning S) (P : S → Type 0)
     → Kept bus P → (m : Machine S) (segment : SegmentRegister) (i : Instr) → P m.bus → P (after_pointer_load bus m segment i).bus

@@ -19,7 +19,9 @@ use Rattle.execute_machine.specs.declared.location.OperandLocation.{OperandLocat
 use Rattle.execute_machine.specs.Locations.{machine, segment_for}
 use Rattle.execute_machine.specs.Stack.{after_pop, after_push}
 use Rattle.execute_machine.proofs.Related.{Alike, Same, both, same_by_push, same_by_put, same_far_segment, same_top, same_value}
-use Rattle.execute_transfer.specs.TransferMeaning.{after_byte_input, after_in, after_lea, after_mov, after_out, outputs_of, after_pointer_load, after_pop_operand, after_popf, after_push_operand, after_transfer, after_word_input, after_xchg, after_xlat, first_place, is_ax, is_sp, port_of, pushed_operand, second_place}
+use Rattle.execute_transfer.specs.TransferMeaning.{after_byte_input, after_in, after_lea, after_mov, after_out, outputs_of, after_pointer_load}
+use Rattle.execute_transfer.specs.TransferMeaning.{after_pop_operand, after_popf, after_push_operand, after_transfer, after_word_input}
+use Rattle.execute_transfer.specs.TransferMeaning.{after_xchg, after_xlat, first_place, is_ax, is_sp, port_of, pushed_operand, second_place}
 
 -- the ports that an IN reads: AX's high byte comes from the next port, which wraps
 abbrev pub inputs_at : ℕ → Bool → List ℕ

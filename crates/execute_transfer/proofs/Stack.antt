@@ -20,7 +20,8 @@ use Rattle.execute_machine.specs.Registers.{segment_register}
 use Rattle.execute_machine.specs.declared.location.OperandLocation.{OperandLocation}
 use Rattle.execute_machine.specs.declared.location.OperandLocation.TheVariants.{ByteAt, WordAt}
 use Rattle.isa.specs.Encoding.{sign_extended}
-use Rattle.execute_machine.specs.Locations.{Machine, base_offset, byte_place, location_of, machine, place_offset, segment_for, usual_segment, with_value_at, word_place}
+use Rattle.execute_machine.specs.Locations.{Machine, base_offset, byte_place, location_of, machine}
+use Rattle.execute_machine.specs.Locations.{place_offset, segment_for, usual_segment, with_value_at, word_place}
 use Rattle.execute_machine.specs.Memory.{TakesWord}
 use Rattle.execute_machine.specs.Stack.{after_pop, after_push, top_word}
 use Rattle.execute_machine.proofs.Memory.{word_reads_back}

@@ -4,7 +4,10 @@
 use Rattle.std.specs.Option.{option_map}
 use Rattle.std.specs.Prelude.{ℕ, Option, Some, None}
 use Rattle.isa.specs.declared.row.Kind.{Kind}
-use Rattle.isa.specs.declared.row.Kind.TheVariants.{Ten, Code8, Code16, CodeSegment, CodeSegmentNotCs, EscNumber, Reg8, Reg16, Segment as SegmentKind, SegmentNotCs as SegmentNotCsKind, Memory as MemoryKind, Imm8, Imm16, Signed8, Rel8, Rel16, At8, At16, Far as FarKind}
+use Rattle.isa.specs.declared.row.Kind.TheVariants.{Ten, Code8, Code16, CodeSegment, CodeSegmentNotCs, EscNumber}
+use Rattle.isa.specs.declared.row.Kind.TheVariants.{Reg8, Reg16, Segment as SegmentKind}
+use Rattle.isa.specs.declared.row.Kind.TheVariants.{SegmentNotCs as SegmentNotCsKind, Memory as MemoryKind, Imm8}
+use Rattle.isa.specs.declared.row.Kind.TheVariants.{Imm16, Signed8, Rel8, Rel16, At8, At16, Far as FarKind}
 use Rattle.isa.specs.declared.row.Row.{Row}
 use Rattle.isa.specs.declared.layout.CodePart.{CodePart}
 use Rattle.isa.specs.declared.layout.CodePart.TheVariants as code_parts

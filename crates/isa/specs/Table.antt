@@ -5,7 +5,8 @@
 -- To be believed: the headline rests on it.
 use Rattle.std.specs.Prelude.{ℕ, ◌+◌, ◌*◌, List, [], ◌∷◌, ◌++◌, Some, None}
 use Rattle.isa.specs.declared.operation.Operation.{Operation}
-use Rattle.isa.specs.declared.operation.Operation.TheVariants.{Arithmetic, Shift, Product, Unary, Jump, Looping, Strings, Adjust, Transfer, Control, Processor}
+use Rattle.isa.specs.declared.operation.Operation.TheVariants.{Arithmetic, Shift, Product, Unary, Jump, Looping}
+use Rattle.isa.specs.declared.operation.Operation.TheVariants.{Strings, Adjust, Transfer, Control, Processor}
 use Rattle.isa.specs.declared.operation.Arithmetic.{Arithmetic as ArithmeticType}
 use Rattle.isa.specs.declared.operation.Arithmetic.TheVariants.{Add, Or, Adc, Sbb, And, Sub, Xor, Cmp, Test}
 use Rattle.isa.specs.declared.operation.Shift.{Shift as ShiftType}
@@ -13,15 +14,23 @@ use Rattle.isa.specs.declared.operation.Shift.TheVariants.{Rol, Ror, Rcl, Rcr, S
 use Rattle.isa.specs.declared.operation.Product.TheVariants.{Mul, Imul, Div, Idiv}
 use Rattle.isa.specs.declared.operation.Unary.TheVariants.{Inc, Dec, Not, Neg}
 use Rattle.isa.specs.declared.operation.JumpCondition.{JumpCondition}
-use Rattle.isa.specs.declared.operation.JumpCondition.TheVariants.{Overflow, NotOverflow, Below, NotBelow, Zero, NotZero, BelowOrZero, Above, Sign, NotSign, Parity, NotParity, Less, NotLess, LessOrZero, Greater}
+use Rattle.isa.specs.declared.operation.JumpCondition.TheVariants.{Overflow, NotOverflow, Below, NotBelow, Zero}
+use Rattle.isa.specs.declared.operation.JumpCondition.TheVariants.{NotZero, BelowOrZero, Above, Sign, NotSign, Parity}
+use Rattle.isa.specs.declared.operation.JumpCondition.TheVariants.{NotParity, Less, NotLess, LessOrZero, Greater}
 use Rattle.isa.specs.declared.operation.Looping.TheVariants.{Loopne, Loope, Loop, Jcxz}
-use Rattle.isa.specs.declared.operation.Strings.TheVariants.{Movsb, Movsw, Cmpsb, Cmpsw, Stosb, Stosw, Lodsb, Lodsw, Scasb, Scasw}
+use Rattle.isa.specs.declared.operation.Strings.TheVariants.{Movsb, Movsw, Cmpsb, Cmpsw, Stosb}
+use Rattle.isa.specs.declared.operation.Strings.TheVariants.{Stosw, Lodsb, Lodsw, Scasb, Scasw}
 use Rattle.isa.specs.declared.operation.Adjust.TheVariants.{Daa, Das, Aaa, Aas, Aam, Aad, Cbw, Cwd}
-use Rattle.isa.specs.declared.operation.Transfer.TheVariants.{Mov, Xchg, Lea, Les, Lds, Push, Pop, Pushf, Popf, Sahf, Lahf, Xlat, In, Out}
-use Rattle.isa.specs.declared.operation.Control.TheVariants.{Jmp, Call, Ret, JmpFar, CallFar, Retf, Int3, Int, Into, Iret}
+use Rattle.isa.specs.declared.operation.Transfer.TheVariants.{Mov, Xchg, Lea, Les, Lds, Push, Pop}
+use Rattle.isa.specs.declared.operation.Transfer.TheVariants.{Pushf, Popf, Sahf, Lahf, Xlat, In, Out}
+use Rattle.isa.specs.declared.operation.Control.TheVariants.{Jmp, Call, Ret, JmpFar, CallFar}
+use Rattle.isa.specs.declared.operation.Control.TheVariants.{Retf, Int3, Int, Into, Iret}
 use Rattle.isa.specs.declared.operation.Processor.TheVariants.{Hlt, Cmc, Clc, Stc, Cli, Sti, Cld, Std, Wait, Esc}
 use Rattle.isa.specs.declared.row.Kind.{Kind}
-use Rattle.isa.specs.declared.row.Kind.TheVariants.{Nothing, Al, Ax, Cl, Dx, One, Ten, Code8, Code16, CodeSegment, CodeSegmentNotCs, EscNumber, Reg8, Reg16, Segment, SegmentNotCs, Rm8, Rm16, Memory, Imm8, Imm16, Signed8, Rel8, Rel16, At8, At16, Far}
+use Rattle.isa.specs.declared.row.Kind.TheVariants.{Nothing, Al, Ax, Cl, Dx, One, Ten, Code8, Code16}
+use Rattle.isa.specs.declared.row.Kind.TheVariants.{CodeSegment, CodeSegmentNotCs, EscNumber, Reg8}
+use Rattle.isa.specs.declared.row.Kind.TheVariants.{Reg16, Segment, SegmentNotCs, Rm8, Rm16, Memory}
+use Rattle.isa.specs.declared.row.Kind.TheVariants.{Imm8, Imm16, Signed8, Rel8, Rel16, At8, At16, Far}
 use Rattle.isa.specs.declared.row.Clocks.{Clocks}
 use Rattle.isa.specs.declared.row.Clocks.TheVariants.{Always, Place, Memory as InMemory, Counted, Taken, Repeated}
 use Rattle.isa.specs.declared.row.Row.{Row}

@@ -5,13 +5,15 @@ use Rattle.std.specs.Prelude.{ℕ, ◌+◌, ◌*◌, Bool, cond, ◌&&◌}
 use Rattle.board_types.specs.declared.choice.ClockTable.{ClockTable}
 use Rattle.board_types.specs.declared.choice.ClockTable.TheVariants.{C1, C2}
 use Rattle.isa.specs.declared.operation.Operation.{Operation}
-use Rattle.isa.specs.declared.operation.Operation.TheVariants.{Arithmetic, Shift, Product, Unary, Strings, Transfer, Control}
+use Rattle.isa.specs.declared.operation.Operation.TheVariants.{Arithmetic, Shift, Product, Unary}
+use Rattle.isa.specs.declared.operation.Operation.TheVariants.{Strings, Transfer, Control}
 use Rattle.isa.specs.declared.operation.Arithmetic.{Arithmetic as ArithmeticType}
 use Rattle.isa.specs.declared.operation.Arithmetic.TheVariants.{Cmp, Test}
 use Rattle.isa.specs.declared.operation.Transfer.{Transfer as TransferType}
 use Rattle.isa.specs.declared.operation.Transfer.TheVariants.{Mov, Xchg, Les, Lds, Push, Pop, Pushf, Popf}
 use Rattle.isa.specs.declared.operation.Control.{Control as ControlType}
-use Rattle.isa.specs.declared.operation.Control.TheVariants.{Jmp, Call, Ret, JmpFar, CallFar, Retf, Int3, Int, Into, Iret}
+use Rattle.isa.specs.declared.operation.Control.TheVariants.{Jmp, Call, Ret, JmpFar, CallFar}
+use Rattle.isa.specs.declared.operation.Control.TheVariants.{Retf, Int3, Int, Into, Iret}
 use Rattle.isa.specs.declared.operation.Strings.{Strings as StringsType}
 use Rattle.isa.specs.declared.operation.Strings.TheVariants.{Movsw, Cmpsw, Stosw, Lodsw, Scasw}
 use Rattle.isa.specs.declared.row.Kind.{Kind}

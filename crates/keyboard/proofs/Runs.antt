@@ -1,11 +1,13 @@
 -- Every run of arrivals and settlings accounts for its codes.
 use Rattle.keyboard.specs.QueueParts.{has_room, after_sending}
-use Rattle.std.proofs.Common.{◌≡◌, ℕ, zero, suc, Option, Some, ◌+◌, ◌-◌, ◌^◌, ◌<◌, ◌≤◌, min, if◌then◌else◌, true, false, None, List, [], ◌∷◌, ◌++◌, length, drop, slice_get, refl, sym, ap, ◌∙◌, arith, append_assoc, append-nil, length-append}
+use Rattle.std.proofs.Common.{◌≡◌, ℕ, zero, suc, Option, Some, ◌+◌, ◌-◌, ◌^◌, ◌<◌, ◌≤◌, min, if◌then◌else◌, true, false, None, List, []}
+use Rattle.std.proofs.Common.{◌∷◌, ◌++◌, length, drop, slice_get, refl, sym, ap, ◌∙◌, arith, append_assoc, append-nil, length-append}
 use Rattle.std.specs.Option.{option_to_list}
 use Rattle.std.proofs.Math.Seq.{take-nil}
 use Rattle.std.proofs.lemmas.Grind.{common_steps}
 use Rattle.keyboard.specs.Keyboard.{KeyboardState, after_arrival, after_settling}
-use Rattle.keyboard.specs.Runs.{Event, arrival, settling, after_event, after_events, codes_along, arriving_codes, accepted_codes, lost_codes, taken_codes, held_codes, ComesInTurn, SettlesOnce, IsMerge, merged_none, merged_left, merged_right, AccountsForCodes}
+use Rattle.keyboard.specs.Runs.{Event, arrival, settling, after_event, after_events, codes_along, arriving_codes, accepted_codes, lost_codes}
+use Rattle.keyboard.specs.Runs.{taken_codes, held_codes, ComesInTurn, SettlesOnce, IsMerge, merged_none, merged_left, merged_right, AccountsForCodes}
 
 -- the first item of a list, and then the others
 first_and_rest : (xs : List ℕ) → option_to_list (slice_get xs 0) ++ drop 1 xs ≡ xs

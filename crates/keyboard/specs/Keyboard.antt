@@ -3,7 +3,8 @@
 -- clears the latch, bit 6 lets the keyboard send). That sixteen codes can wait, and when one moves into the
 -- latch, are this board's choice.
 -- To be believed: the headline rests on it.
-use Rattle.std.specs.Prelude.{ℕ, ◌+◌, ◌-◌, ◌^◌, ◌&&◌, nat_lt, min, if◌then◌else◌, List, [], ◌∷◌, ◌++◌, length, drop, Option, None, slice_get, is_none}
+use Rattle.std.specs.Prelude.{ℕ, ◌+◌, ◌-◌, ◌^◌, ◌&&◌, nat_lt, min, if◌then◌else◌, List, []}
+use Rattle.std.specs.Prelude.{◌∷◌, ◌++◌, length, drop, Option, None, slice_get, is_none}
 use Rattle.board_types.specs.Bits.{has_bit}
 
 pub record KeyboardState : Type 0 where

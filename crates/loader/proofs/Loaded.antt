@@ -1,5 +1,6 @@
 -- What a text gives, by its records.
-use Rattle.std.proofs.Common.{◌≡◌, ◌∙◌, ℕ, ◌+◌, ◌&&◌, List, [], ◌∷◌, ◌++◌, map, not, refl, sym, ap, Bool, true, false, Option, None, Some, Result, Ok, Err, if◌then◌else◌}
+use Rattle.std.proofs.Common.{◌≡◌, ◌∙◌, ℕ, ◌+◌, ◌&&◌, List, [], ◌∷◌, ◌++◌, map, not, refl, sym, ap}
+use Rattle.std.proofs.Common.{Bool, true, false, Option, None, Some, Result, Ok, Err, if◌then◌else◌}
 use Rattle.std.specs.List.{AllByRecursion}
 use Rattle.std.specs.List.Sorted.{IsStrictlySortedBy}
 use Rattle.board_types.specs.Image.{image_byte}
@@ -14,7 +15,8 @@ use Rattle.loader.specs.Laws.{bytes_of, filled_lines, is_end, last_byte, later_o
 use Rattle.loader.specs.Lines.{without_spaces}
 use Rattle.board_types.specs.TextLines.{text_lines}
 use Rattle.loader.specs.Reading.{after_end, after_line, after_record, at_extension, image_after, image_of, in_line, is_blank, load_state}
-use Rattle.loader.specs.Records.{◌>>=◌, HexRecord, bytes_at, end_of_file, extension_at, start_at, are_loadable, is_loadable, placed_bytes, record_of, with_bytes}
+use Rattle.loader.specs.Records.{◌>>=◌, HexRecord, bytes_at, end_of_file, extension_at, start_at}
+use Rattle.loader.specs.Records.{are_loadable, is_loadable, placed_bytes, record_of, with_bytes}
 use Rattle.loader.proofs.LaterBytes.{later_bytes_win, sorted_with}
 
 abbrev pub given_ok : List (ℕ × ℕ) → Result (List (ℕ × ℕ)) HexFault

@@ -1,5 +1,6 @@
 -- The text that is written for an image gives it back.
-use Rattle.std.proofs.Common.{zero, suc, ◌≡◌, ◌∙◌, ℕ, ◌+◌, ◌*◌, ◌%◌, ◌/◌, ◌<◌, ◌≤◌, ◌==◌, ◌&&◌, List, [], ◌∷◌, ◌++◌, length, take, slice_index, sum, refl, subst, sym, ap, append_assoc, append-nil, inl, inr, arith, Bool, true, false, Option, None, Some, Ok, if◌then◌else◌}
+use Rattle.std.proofs.Common.{zero, suc, ◌≡◌, ◌∙◌, ℕ, ◌+◌, ◌*◌, ◌%◌, ◌/◌, ◌<◌, ◌≤◌, ◌==◌, ◌&&◌, List, [], ◌∷◌, ◌++◌, length, take, slice_index, sum}
+use Rattle.std.proofs.Common.{refl, subst, sym, ap, append_assoc, append-nil, inl, inr, arith, Bool, true, false, Option, None, Some, Ok, if◌then◌else◌}
 use Rattle.std.specs.List.{AllByRecursion, fold}
 use Rattle.std.specs.List.Sorted.{IsStrictlySortedBy}
 use Rattle.std.specs.Map.{keys_of, values_of}
@@ -20,7 +21,8 @@ use Rattle.loader.specs.Laws.{ReadsBack}
 use Rattle.loader.specs.Lines.{unless_last, without_spaces}
 use Rattle.board_types.specs.TextLines.{onto_first, text_lines}
 use Rattle.loader.specs.Reading.{after_line, after_record, image_after, image_of, load_state}
-use Rattle.loader.specs.Records.{◌>>=◌, HexRecord, address_in, are_loadable, extension_at, bytes_at, is_loadable, placed_bytes, record_in, record_of, record_of_type, with_bytes}
+use Rattle.loader.specs.Records.{◌>>=◌, HexRecord, address_in, are_loadable, extension_at, bytes_at}
+use Rattle.loader.specs.Records.{is_loadable, placed_bytes, record_in, record_of, record_of_type, with_bytes}
 use Rattle.loader.proofs.Runs.{row_lines_at, run_at}
 
 -- ---- lines

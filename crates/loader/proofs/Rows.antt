@@ -6,7 +6,8 @@ use Rattle.serde_json.proofs.OnLiterals.{serde_json_on_literals}
 use Rattle.board_types.specs.declared.choice.ClockTable.TheVariants.{C1, C2}
 use Rattle.board_types.specs.declared.choice.TimerKind.TheVariants.{I8253, I8254}
 use Rattle.loader.specs.declared.run_fault.RunFault.TheVariants.{NotJson, BadField, BadScan, StampsFall, BudgetTooLarge}
-use Rattle.loader.specs.RunFile.{run_of, run_of_text, value_of, has_only_fields, are_fields, is_field, is_field_of, text_of, timer_of, clocks_of, number_of, number_within, entry_of, entries_in, keys_of}
+use Rattle.loader.specs.RunFile.{run_of, run_of_text, value_of, has_only_fields, are_fields, is_field, is_field_of}
+use Rattle.loader.specs.RunFile.{text_of, timer_of, clocks_of, number_of, number_within, entry_of, entries_in, keys_of}
 
 -- what a row unfolds
 unfoldable on_texts : ⊤

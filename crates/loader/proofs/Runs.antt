@@ -1,5 +1,6 @@
 -- The bytes of an image from an address on, and their runs.
-use Rattle.std.proofs.Common.{zero, suc, ◌≡◌, ◌∙◌, ℕ, ◌+◌, ◌-◌, ◌%◌, ◌/◌, ◌<◌, ◌≤◌, ◌==◌, List, [], ◌∷◌, ◌++◌, length, refl, subst, sym, ap, ap₂, append_assoc, append-nil, inl, inr, arith, Bool, true, false, Option, None, Some, nat_lt, nat_le, if◌then◌else◌}
+use Rattle.std.proofs.Common.{zero, suc, ◌≡◌, ◌∙◌, ℕ, ◌+◌, ◌-◌, ◌%◌, ◌/◌, ◌<◌, ◌≤◌, ◌==◌, List, [], ◌∷◌, ◌++◌, length, refl, subst, sym, ap, ap₂}
+use Rattle.std.proofs.Common.{append_assoc, append-nil, inl, inr, arith, Bool, true, false, Option, None, Some, nat_lt, nat_le, if◌then◌else◌}
 use Rattle.std.specs.List.{AllByRecursion}
 use Rattle.std.specs.List.Sorted.{IsStrictlySortedBy}
 use Rattle.std.specs.Map.{keys_of}

@@ -1,7 +1,8 @@
 -- The one HEX text that is written for an image (Intel, Hexadecimal Object File Format Specification, revision A;
 -- which of the texts that give the image it is, is this board's choice).
 -- To be believed: the headline rests on it.
-use Rattle.std.specs.Prelude.{ℕ, ◌+◌, ◌-◌, ◌*◌, ◌/◌, ◌%◌, ◌==◌, Bool, false, nat_le, if◌then◌else◌, zero, suc, List, [], ◌∷◌, ◌++◌, codes, filter, length, sum, Option, None, Some}
+use Rattle.std.specs.Prelude.{ℕ, ◌+◌, ◌-◌, ◌*◌, ◌/◌, ◌%◌, ◌==◌, Bool, false, nat_le, if◌then◌else◌, zero}
+use Rattle.std.specs.Prelude.{suc, List, [], ◌∷◌, ◌++◌, codes, filter, length, sum, Option, None, Some}
 use Rattle.hex.specs.Hex.{encode_upper}
 
 -- the byte that makes the sum of these bytes 0 modulo 256

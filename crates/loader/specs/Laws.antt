@@ -1,6 +1,7 @@
 -- What holds of all HEX texts and images.
 -- Laws: claims above the definitions, each proved as the contract of a function.
-use Rattle.std.specs.Prelude.{◌≢◌, ℕ, ◌≡◌, ◌⊎◌, ◌<◌, ◌≤◌, ◌+◌, ◌/◌, ◌%◌, ◌↔◌, ◌++◌, Bool, true, false, not, filter, length, map, List, [], ◌∷◌, Ok, Option, None, Some, ◌==◌, if◌then◌else◌}
+use Rattle.std.specs.Prelude.{◌≢◌, ℕ, ◌≡◌, ◌⊎◌, ◌<◌, ◌≤◌, ◌+◌, ◌/◌, ◌%◌, ◌↔◌, ◌++◌, Bool, true, false, not}
+use Rattle.std.specs.Prelude.{filter, length, map, List, [], ◌∷◌, Ok, Option, None, Some, ◌==◌, if◌then◌else◌}
 use Rattle.std.specs.List.{AllByRecursion, flat_map}
 use Rattle.std.specs.List.Sorted.{IsStrictlySortedBy}
 use Rattle.std.specs.Map.{keys_of}
@@ -12,7 +13,8 @@ use Rattle.loader.specs.declared.hex_record.Extension.TheVariants.{Segment}
 use Rattle.loader.specs.Lines.{without_spaces}
 use Rattle.board_types.specs.TextLines.{text_lines}
 use Rattle.loader.specs.Reading.{image_of, is_blank}
-use Rattle.loader.specs.Records.{HexRecord, bytes_at, end_of_file, extension_at, start_at, are_loadable, placed_bytes, record_of, with_bytes}
+use Rattle.loader.specs.Records.{HexRecord, bytes_at, end_of_file, extension_at, start_at}
+use Rattle.loader.specs.Records.{are_loadable, placed_bytes, record_of, with_bytes}
 
 -- the HEX text of an image is read back as that image
 abbrev pub ReadsBack : List (ℕ × ℕ) → Type 0

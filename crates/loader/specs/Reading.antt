@@ -1,6 +1,7 @@
 -- What a HEX text says, line by line.
 -- To be believed: the headline rests on it.
-use Rattle.std.specs.Prelude.{ℕ, ◌+◌, ◌==◌, Bool, if◌then◌else◌, length, List, [], ◌∷◌, ◌≡◌, Option, None, Some, Result, Ok, Err}
+use Rattle.std.specs.Prelude.{ℕ, ◌+◌, ◌==◌, Bool, if◌then◌else◌, length, List}
+use Rattle.std.specs.Prelude.{[], ◌∷◌, ◌≡◌, Option, None, Some, Result, Ok, Err}
 use Rattle.loader.specs.declared.hex_fault.RecordFault.{RecordFault}
 use Rattle.loader.specs.declared.hex_fault.RecordFault.TheVariants.{AfterEnd, NotLoadable}
 use Rattle.loader.specs.declared.hex_fault.HexFault.{HexFault}
@@ -9,7 +10,8 @@ use Rattle.loader.specs.declared.hex_record.Extension.{Extension}
 use Rattle.loader.specs.declared.hex_record.Extension.TheVariants.{Segment}
 use Rattle.loader.specs.Lines.{without_spaces}
 use Rattle.board_types.specs.TextLines.{text_lines}
-use Rattle.loader.specs.Records.{HexRecord, bytes_at, end_of_file, extension_at, start_at, ◌>>=◌, are_loadable, placed_bytes, record_of, with_bytes}
+use Rattle.loader.specs.Records.{HexRecord, bytes_at, end_of_file, extension_at, start_at}
+use Rattle.loader.specs.Records.{◌>>=◌, are_loadable, placed_bytes, record_of, with_bytes}
 
 -- what is known after a line: what extends the offsets, or nothing after the end record; and the bytes so far
 pub record LoadState : Type 0 where

@@ -2,7 +2,8 @@
 -- To be believed: the headline rests on it.
 use Rattle.std.specs.Prelude.{ℕ, List, codes}
 use Rattle.loader.specs.declared.run_fault.RunFault.{RunFault}
-use Rattle.loader.specs.declared.run_fault.RunFault.TheVariants.{NotJson, BadField, BadScan, StampsFall, BudgetTooLarge, Memory}
+use Rattle.loader.specs.declared.run_fault.RunFault.TheVariants.{NotJson, BadField, BadScan}
+use Rattle.loader.specs.declared.run_fault.RunFault.TheVariants.{StampsFall, BudgetTooLarge, Memory}
 
 -- a fault's title: its number and its name
 abbrev pub run_fault_title : RunFault → ℕ × List ℕ

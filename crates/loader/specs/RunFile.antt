@@ -1,7 +1,8 @@
 -- A run file is a JSON object (RFC 8259) with the fields version, ram, sw1, sw2, budget and keys, and in version 2
 -- timer and clocks: all of them, and no others. Its rules are this board's choice.
 -- To be believed: the headline rests on it.
-use Rattle.std.specs.Prelude.{◌≡◌, ℕ, ◌^◌, Bool, true, ◌&&◌, false, ◌||◌, ◌==◌, if◌then◌else◌, nat_le, nat_lt, List, [], ◌∷◌, map, codes, Option, None, Some, option_and_then, Result, Ok, Err}
+use Rattle.std.specs.Prelude.{◌≡◌, ℕ, ◌^◌, Bool, true, ◌&&◌, false, ◌||◌, ◌==◌, if◌then◌else◌, nat_le, nat_lt}
+use Rattle.std.specs.Prelude.{List, [], ◌∷◌, map, codes, Option, None, Some, option_and_then, Result, Ok, Err}
 use Rattle.std.specs.Option.{option_map_or}
 use Rattle.std.specs.Str.{bytes_eq, is_utf8}
 use Rattle.serde_json.specs.Data.{Data, object, Items, no_items, item, Members, no_members, member}
@@ -14,7 +15,8 @@ use Rattle.board_types.specs.declared.choice.TimerKind.{TimerKind}
 use Rattle.board_types.specs.declared.choice.TimerKind.TheVariants.{I8253, I8254}
 use Rattle.board_types.specs.declared.keys.StampedKey.{StampedKey}
 use Rattle.loader.specs.declared.run_fault.RunFault.{RunFault}
-use Rattle.loader.specs.declared.run_fault.RunFault.TheVariants.{NotJson, BadField, BadScan, StampsFall, BudgetTooLarge, Memory}
+use Rattle.loader.specs.declared.run_fault.RunFault.TheVariants.{NotJson, BadField, BadScan}
+use Rattle.loader.specs.declared.run_fault.RunFault.TheVariants.{StampsFall, BudgetTooLarge, Memory}
 use Rattle.loader.specs.declared.run_file.RunFile.{RunFile}
 use Rattle.loader.specs.declared.run_file.KeyEntry.{KeyEntry}
 

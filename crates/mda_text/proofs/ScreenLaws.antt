@@ -1,9 +1,11 @@
 -- The laws of the screen, of text memory and of the beam.
-use Rattle.std.proofs.Common.{◌≡◌, ◌≢◌, ℕ, zero, suc, ◌+◌, ◌*◌, ◌/◌, ◌%◌, ◌^◌, ◌<◌, ◌≤◌, Bool, true, false, if◌then◌else◌, nat_le, List, length, slice_index, replicate, refl, sym, ap, ◌∙◌, arith, ◌==◌}
+use Rattle.std.proofs.Common.{◌≡◌, ◌≢◌, ℕ, zero, suc, ◌+◌, ◌*◌, ◌/◌, ◌%◌, ◌^◌, ◌<◌, ◌≤◌, Bool, true, false, if◌then◌else◌}
+use Rattle.std.proofs.Common.{nat_le, List, length, slice_index, replicate, refl, sym, ap, ◌∙◌, arith, ◌==◌}
 use Rattle.std.proofs.lemmas.Bool.Decides.{nat_tests}
 use Rattle.board_types.specs.Bits.{has_bit}
 use Rattle.std.proofs.lemmas.List.{get_or-set_same, get_or-set_other, length-set}
-use Rattle.mda_text.specs.Mda.{MdaState, text_size, power_on, text_byte, with_text_byte, byte_at, with_high, with_low, with_register, after_write, after_clocks, status}
+use Rattle.mda_text.specs.Mda.{MdaState, text_size, power_on, text_byte, with_text_byte, byte_at}
+use Rattle.mda_text.specs.Mda.{with_high, with_low, with_register, after_write, after_clocks, status}
 use Rattle.mda_text.specs.Screen.{character_of, character_at, cell}
 use Rattle.mda_text.specs.Marks.{after_mark}
 use Rattle.mda_text.specs.MdaLaws.{with_start, StartsAt, ShowsOnce, ShowsAlike, Scrolls, ChangesOneCell, IsMemory, IsBlank, TellsBeam}

@@ -1,5 +1,6 @@
 -- What a mark recalls of text memory shows which cells haven't changed.
-use Rattle.std.proofs.Common.{◌≡◌, ℕ, ◌+◌, ◌-◌, ◌*◌, ◌/◌, ◌%◌, ◌<◌, ◌≤◌, ◌==◌, Bool, true, false, not, ◌||◌, List, length, get_or, slice_index, take, drop, slice_set, refl, sym, ap, ◌∙◌, arith, eq-eqb, subst, inl, inr, ◌≢◌}
+use Rattle.std.proofs.Common.{◌≡◌, ℕ, ◌+◌, ◌-◌, ◌*◌, ◌/◌, ◌%◌, ◌<◌, ◌≤◌, ◌==◌, Bool, true, false, not, ◌||◌, List, length, get_or}
+use Rattle.std.proofs.Common.{slice_index, take, drop, slice_set, refl, sym, ap, ◌∙◌, arith, eq-eqb, subst, inl, inr, ◌≢◌}
 use mathlib.Core.Bool.{beq}
 use Rattle.std.proofs.lemmas.Bool.{cases_eq, true≢false}
 use Rattle.std.proofs.lemmas.Grind.{get_or-set_at}

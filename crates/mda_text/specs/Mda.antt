@@ -3,7 +3,8 @@
 -- R13-L)" and "Cursor Register (R14-H, R15-L)"; IBM PC Technical Reference, "IBM Monochrome Display and Parallel
 -- Printer Adapter": the ports 3B4h, 3B5h, 3B8h and 3BAh).
 -- To be believed: the headline rests on it.
-use Rattle.std.specs.Prelude.{ℕ, ◌+◌, ◌*◌, ◌/◌, ◌%◌, ◌==◌, Bool, false, if◌then◌else◌, nat_le, List, replicate, slice_index, slice_set}
+use Rattle.std.specs.Prelude.{ℕ, ◌+◌, ◌*◌, ◌/◌, ◌%◌, ◌==◌, Bool, false, if◌then◌else◌}
+use Rattle.std.specs.Prelude.{nat_le, List, replicate, slice_index, slice_set}
 use Rattle.board_types.specs.Bits.{has_bit}
 use Rattle.board_types.specs.Iterate.{iterate}
 use Rattle.board_types.specs.LineLevel.{from_bool}

@@ -1,9 +1,11 @@
 -- What holds of every text adapter, in the words of its user.
 -- Laws: claims above the definitions, each proved as the contract of a function.
-use Rattle.std.specs.Prelude.{◌≡◌, ◌≢◌, ◌↔◌, ℕ, ◌+◌, ◌-◌, ◌*◌, ◌/◌, ◌%◌, ◌^◌, ◌<◌, ◌≤◌, ◌⊎◌, if◌then◌else◌, nat_lt, List, [], ◌∷◌, length}
+use Rattle.std.specs.Prelude.{◌≡◌, ◌≢◌, ◌↔◌, ℕ, ◌+◌, ◌-◌, ◌*◌, ◌/◌, ◌%◌, ◌^◌, ◌<◌}
+use Rattle.std.specs.Prelude.{◌≤◌, ◌⊎◌, if◌then◌else◌, nat_lt, List, [], ◌∷◌, length}
 use Rattle.std.specs.List.{AllPairs, Contains}
 use Rattle.board_types.specs.Iterate.{iterate}
-use Rattle.mda_text.specs.Mda.{MdaState, power_on, text_byte, with_text_byte, byte_at, after_write, after_clocks, status}
+use Rattle.mda_text.specs.Mda.{MdaState, power_on, text_byte, with_text_byte}
+use Rattle.mda_text.specs.Mda.{byte_at, after_write, after_clocks, status}
 use Rattle.mda_text.specs.Screen.{word_at, cell}
 use Rattle.mda_text.specs.Marks.{after_mark, changed_cells}
 

@@ -2,7 +2,8 @@
 -- video enable (Motorola MC6845 data sheet, "Start Address Register"; IBM PC Technical Reference, "IBM Monochrome
 -- Display and Parallel Printer Adapter": code, then attribute).
 -- To be believed: the headline rests on it.
-use Rattle.std.specs.Prelude.{ℕ, ◌+◌, ◌*◌, ◌/◌, ◌%◌, ◌==◌, Bool, ◌&&◌, ◌||◌, not, if◌then◌else◌, nat_le, List, [], ◌∷◌, ◌++◌, map, bit_and}
+use Rattle.std.specs.Prelude.{ℕ, ◌+◌, ◌*◌, ◌/◌, ◌%◌, ◌==◌, Bool, ◌&&◌, ◌||◌, not}
+use Rattle.std.specs.Prelude.{if◌then◌else◌, nat_le, List, [], ◌∷◌, ◌++◌, map, bit_and}
 use Rattle.std.specs.List.{range_with_len, flat_map}
 use Rattle.mda_text.specs.Mda.{MdaState, text_byte, cell_count}
 

@@ -1,5 +1,6 @@
 -- The cells at power-on: what each region has without an image, and the image's bytes put there one after another.
-use Rattle.std.proofs.Common.{◌≡◌, ◌≢◌, ◌∙◌, ◌<◌, ◌≤◌, ◌==◌, ℕ, List, [], ◌∷◌, All, false, if◌then◌else◌, Option, None, Some, inl, inr, length, slice_index, slice_set, sym, ap, refl, unwrap_or, arith}
+use Rattle.std.proofs.Common.{◌≡◌, ◌≢◌, ◌∙◌, ◌<◌, ◌≤◌, ◌==◌, ℕ, List, [], ◌∷◌, All, false, if◌then◌else◌, Option}
+use Rattle.std.proofs.Common.{None, Some, inl, inr, length, slice_index, slice_set, sym, ap, refl, unwrap_or, arith}
 use Rattle.std.specs.Map.{keys_of}
 use Rattle.std.proofs.lemmas.Bool.{cases_lt}
 use Rattle.std.proofs.lemmas.Bool.Decides.{nat_tests}

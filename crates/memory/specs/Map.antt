@@ -1,7 +1,8 @@
 -- The memory map: one byte for each of 1,048,576 addresses. What stands at the text adapter's addresses belongs to the
 -- adapter, and isn't defined here.
 -- To be believed: the headline rests on it.
-use Rattle.std.specs.Prelude.{ℕ, ◌≡◌, ◌%◌, ◌<◌, ◌≤◌, ◌&&◌, Bool, true, false, if◌then◌else◌, nat_lt, List, map, length, slice_index, slice_set, unwrap_or, Option, IsSome}
+use Rattle.std.specs.Prelude.{ℕ, ◌≡◌, ◌%◌, ◌<◌, ◌≤◌, ◌&&◌, Bool, true, false, if◌then◌else◌, nat_lt}
+use Rattle.std.specs.Prelude.{List, map, length, slice_index, slice_set, unwrap_or, Option, IsSome}
 use Rattle.std.specs.List.{range_with_len}
 use Rattle.board_types.specs.Image.{image_byte}
 use Rattle.memory.specs.declared.region.Region.{Region}

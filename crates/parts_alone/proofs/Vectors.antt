@@ -1,7 +1,8 @@
 -- Two lines of a controller that was initialised for 8086 mode, the one with the lower priority rising first.
 use Rattle.std.proofs.Common.{◌≡◌, ℕ, ◌+◌, ◌*◌, ◌/◌, ◌<◌, [], ◌∷◌, false, refl, arith}
 use Rattle.board_types.specs.declared.line.Line.TheVariants.{High}
-use Rattle.pic8259.specs.Pic.{PicState, power_on, level_to_take, vector, after_taking, after_acknowledge, after_line, after_icw1, after_word, after_command, after_ocw2, after_end, highest_served, after_write}
+use Rattle.pic8259.specs.Pic.{PicState, power_on, level_to_take, vector, after_taking, after_acknowledge, after_line}
+use Rattle.pic8259.specs.Pic.{after_icw1, after_word, after_command, after_ocw2, after_end, highest_served, after_write}
 use Rattle.pic8259.specs.PicLaws.{after_words}
 use Rattle.pic8259.proofs.Order.{by_level}
 

@@ -1,5 +1,6 @@
 -- What is read of a source, and what is written.
-use Rattle.std.proofs.Common.{◌≡◌, ◌∙◌, ℕ, ◌-◌, ◌^◌, ◌<◌, ◌≤◌, List, length, take, ap, refl, subst, arith, length-take, true, false, Bool, Option, None, Some, IfSome, Ok}
+use Rattle.std.proofs.Common.{◌≡◌, ◌∙◌, ℕ, ◌-◌, ◌^◌, ◌<◌, ◌≤◌, List, length, take, ap, refl, subst}
+use Rattle.std.proofs.Common.{arith, length-take, true, false, Bool, Option, None, Some, IfSome, Ok}
 use Rattle.std.specs.Io.KnownBytes.{Appends}
 use Rattle.std.proofs.lemmas.List.{take_all}
 use Rattle.assembler.specs.Gives.{Gives}

@@ -1,5 +1,6 @@
 -- When a refusal is true: of the bytes that were read, and of the files.
-use Rattle.std.proofs.Common.{◌≡◌, ◌∙◌, ℕ, ◌<◌, Bool, true, false, List, length, take, ap, arith, subst, inr, length-take, Option, None, Some, Result, Ok, Err, IfErr, IfSome}
+use Rattle.std.proofs.Common.{◌≡◌, ◌∙◌, ℕ, ◌<◌, Bool, true, false, List, length, take, ap, arith, subst}
+use Rattle.std.proofs.Common.{inr, length-take, Option, None, Some, Result, Ok, Err, IfErr, IfSome}
 use Rattle.std.specs.Prelude.{IsErrAnd}
 use Rattle.assembler.specs.FirstFault.{IsFirst}
 use Rattle.assembler.specs.declared.fault.AsmFault.{AsmFault}

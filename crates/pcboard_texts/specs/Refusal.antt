@@ -1,6 +1,7 @@
 -- What the program prints if it gives no answer.
 -- To be believed: the headline rests on it.
-use Rattle.std.specs.Prelude.{ℕ, ◌≡◌, ◌⊎◌, ◌++◌, Bool, true, false, List, codes, Option, None, IfSome, Ok, Err, string_bytes}
+use Rattle.std.specs.Prelude.{ℕ, ◌≡◌, ◌⊎◌, ◌++◌, Bool, true, false, List, codes}
+use Rattle.std.specs.Prelude.{Option, None, IfSome, Ok, Err, string_bytes}
 use Rattle.std.specs.Io.KnownBytes.{Appends}
 use Rattle.assembler.specs.FirstFault.{IsFirst}
 use Rattle.assembler.specs.declared.fault.AsmFault.TheVariants as asm

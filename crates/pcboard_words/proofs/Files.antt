@@ -1,5 +1,6 @@
 -- The words name one task: its files and its flag are those that their matches hold.
-use Rattle.std.proofs.Common.{◌≡◌, ◌∙◌, ℕ, ◌==◌, Bool, true, false, if◌then◌else◌, List, [], ◌∷◌, get_or, codes, refl, sym, ap, subst, Option, None, Some, Ok, Err, Result, unwrap_or}
+use Rattle.std.proofs.Common.{◌≡◌, ◌∙◌, ℕ, ◌==◌, Bool, true, false, if◌then◌else◌, List, [], ◌∷◌, get_or}
+use Rattle.std.proofs.Common.{codes, refl, sym, ap, subst, Option, None, Some, Ok, Err, Result, unwrap_or}
 use Rattle.std.specs.Prelude.{◌⊎◌}
 use Rattle.clap.specs.Words.{Row, Text, first_of, matches_of}
 use Rattle.pcboard_words.specs.CommandLine.{Answers, HasText, HoldsBoardWords, IsTaskOf, is_given}

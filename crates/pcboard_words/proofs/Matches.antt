@@ -1,5 +1,6 @@
 -- What the matches of the program's command line hold.
-use Rattle.std.proofs.Common.{◌≡◌, ◌⊎◌, ◌||◌, ◌&&◌, not, sym, List, [], ◌∷◌, Bool, true, false, true≢false, Option, option_map, if◌then◌else◌, None, Some, IfSome, codes, refl, inl, inr}
+use Rattle.std.proofs.Common.{◌≡◌, ◌⊎◌, ◌||◌, ◌&&◌, not, sym, List, [], ◌∷◌, Bool, true, false, true≢false}
+use Rattle.std.proofs.Common.{Option, option_map, if◌then◌else◌, None, Some, IfSome, codes, refl, inl, inr}
 use Rattle.std.specs.Option.{option_map_or}
 use Rattle.std.specs.Prelude.{◌≢◌, Err}
 use Rattle.clap.specs.declared.parser.matches.Found.{Found}

@@ -1,5 +1,6 @@
 -- An argument that is in the matches of a walk has a value.
-use Rattle.std.proofs.Common.{◌≡◌, ◌∙◌, ◌⊎◌, ◌++◌, ◌&&◌, ap, inl, inr, ℕ, List, [], ◌∷◌, Bool, true, false, not, zero, suc, Option, Some, None, IfSome, is_some, option_and_then, if◌then◌else◌, fold, refl, sym, true≢false}
+use Rattle.std.proofs.Common.{◌≡◌, ◌∙◌, ◌⊎◌, ◌++◌, ◌&&◌, ap, inl, inr, ℕ, List, [], ◌∷◌, Bool, true, false, not, zero, suc}
+use Rattle.std.proofs.Common.{Option, Some, None, IfSome, is_some, option_and_then, if◌then◌else◌, fold, refl, sym, true≢false}
 use Rattle.std.specs.Prelude.{slice_get}
 use Rattle.std.specs.Option.{option_map_or}
 use Rattle.std.specs.List.{find}
@@ -11,7 +12,12 @@ use Rattle.clap.specs.declared.parser.matches.ValueSource.{ValueSource}
 use Rattle.clap.specs.declared.parser.matches.ValueSource.TheVariants.{CommandLine, DefaultValue}
 use Rattle.clap.specs.Facts.{explicit_source}
 use Rattle.clap.specs.Lexer.{long_of, short_of}
-use Rattle.clap.specs.Walk.{Held, Names, Outcome, Row, Rule, Step, Text, Waiting, Walk, action_of, after_flag, after_step, arg_by_id, arg_by_index, arg_by_long, arg_by_short, bundle_met, bundle_step, default_rows, done, first_of, has_long, has_row, has_short, idle, is_pending, long_met, long_or_other, more_values, next, nothing_held, option, option_word, plain, plain_word, positional, pushed, reacted, reading_by, refused, rows_after, settled, settled_rows, short_met, short_or_plain, subcommand, subcommand_met, subcommand_or_other, takes_several, takes_values, to_positional, trailing, used, used_as, used_by_id, value, waits, walk, walk_from, walked, walked_from, with_default, with_values, without, word_met}
+use Rattle.clap.specs.Walk.{Held, Names, Outcome, Row, Rule, Step, Text, Waiting, Walk, action_of, after_flag, after_step, arg_by_id, arg_by_index}
+use Rattle.clap.specs.Walk.{arg_by_long, arg_by_short, bundle_met, bundle_step, default_rows, done, first_of, has_long, has_row, has_short, idle}
+use Rattle.clap.specs.Walk.{is_pending, long_met, long_or_other, more_values, next, nothing_held, option, option_word, plain, plain_word}
+use Rattle.clap.specs.Walk.{positional, pushed, reacted, reading_by, refused, rows_after, settled, settled_rows, short_met, short_or_plain}
+use Rattle.clap.specs.Walk.{subcommand, subcommand_met, subcommand_or_other, takes_several, takes_values, to_positional, trailing, used, used_as}
+use Rattle.clap.specs.Walk.{used_by_id, value, waits, walk, walk_from, walked, walked_from, with_default, with_values, without, word_met}
 use Rattle.clap.specs.Takes.{is_given}
 
 abbrev pub HasValue : List Text → Type 0

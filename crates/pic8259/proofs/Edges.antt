@@ -1,5 +1,6 @@
 -- A level that was taken in edge mode doesn't ask until its line has fallen and risen.
-use Rattle.std.proofs.Common.{◌≡◌, ◌≢◌, ℕ, ◌%◌, ◌<◌, ◌==◌, Bool, true, false, not, ◌&&◌, ◌||◌, if◌then◌else◌, List, [], ◌∷◌, length, Option, None, Some, refl, sym, ap, ◌∙◌, inl, inr}
+use Rattle.std.proofs.Common.{◌≡◌, ◌≢◌, ℕ, ◌%◌, ◌<◌, ◌==◌, Bool, true, false, not, ◌&&◌, ◌||◌, if◌then◌else◌}
+use Rattle.std.proofs.Common.{List, [], ◌∷◌, length, Option, None, Some, refl, sym, ap, ◌∙◌, inl, inr}
 use Rattle.std.specs.Option.{option_map_or}
 use Rattle.std.proofs.Math.Bool.{and-false, and-true, or-true}
 use Rattle.std.proofs.lemmas.Bool.{and_parts, not-true, cases_lt, cases_eq, eq-eqb}
@@ -9,7 +10,8 @@ use Rattle.board_types.specs.declared.line.Line.TheVariants.{Low, High}
 use Rattle.pic8259.specs.declared.controller.Expected.{Expected}
 use Rattle.pic8259.specs.declared.controller.Expected.TheVariants.{Icw2, Icw3, Icw4, Operation}
 use Rattle.pic8259.specs.Levels.{no_levels, Levels, contains, with_level, without_level}
-use Rattle.pic8259.specs.Pic.{PicState, is_operating, asks, level_to_take, after_taking, after_acknowledge, after_read, after_line, after_icw1, after_word, after_end, after_lowering, highest_served, after_ocw2, after_ocw3, after_command, after_write}
+use Rattle.pic8259.specs.Pic.{PicState, is_operating, asks, level_to_take, after_taking, after_acknowledge, after_read, after_line, after_icw1}
+use Rattle.pic8259.specs.Pic.{after_word, after_end, after_lowering, highest_served, after_ocw2, after_ocw3, after_command, after_write}
 use Rattle.pic8259.specs.PicLaws.{Event, line_change, read, write, acknowledge, after_event, after_events}
 use Rattle.pic8259.specs.EdgeLaws.{keeps_line, all_keep_line, AsksOnceARise}
 use Rattle.pic8259.proofs.Order.{by_level}

@@ -1,5 +1,6 @@
 -- The order of priority is a turn of the levels, and holds each once, whatever happens.
-use Rattle.std.proofs.Common.{◌≡◌, ℕ, ◌%◌, ◌<◌, ◌==◌, Bool, true, false, not, ◌&&◌, if◌then◌else◌, List, [], ◌∷◌, ◌++◌, get_or, find, count_by, All, Option, None, Some, refl, sym, ap, ◌∙◌, arith, subst, lit<}
+use Rattle.std.proofs.Common.{◌≡◌, ℕ, ◌%◌, ◌<◌, ◌==◌, Bool, true, false, not, ◌&&◌, if◌then◌else◌, List, [], ◌∷◌, ◌++◌}
+use Rattle.std.proofs.Common.{get_or, find, count_by, All, Option, None, Some, refl, sym, ap, ◌∙◌, arith, subst, lit<}
 use Rattle.std.specs.Option.{option_map_or}
 use Rattle.std.proofs.lemmas.List.Elements.{All-head}
 use Rattle.board_types.specs.Bits.{has_bit}
@@ -8,8 +9,10 @@ use Rattle.board_types.specs.declared.line.Line.TheVariants.{Low, High}
 use Rattle.pic8259.specs.declared.controller.Expected.{Expected}
 use Rattle.pic8259.specs.declared.controller.Expected.TheVariants.{Icw2, Icw3, Icw4, Operation}
 use Rattle.pic8259.specs.Levels.{all_levels, with_lowest, order_with_lowest}
-use Rattle.pic8259.specs.Pic.{PicState, power_on, is_operating, is_ready, blocks, may_be_taken, level_to_take, after_taking, after_acknowledge, after_read, after_line, after_icw1, after_word, after_end, after_lowering, highest_served, after_ocw2, after_ocw3, after_command, after_write}
-use Rattle.pic8259.specs.PicLaws.{Event, line_change, read, write, acknowledge, after_event, after_events, HoldsEachLevelOnce, IsTurn, OrderIsWhole, RotationTurns}
+use Rattle.pic8259.specs.Pic.{PicState, power_on, is_operating, is_ready, blocks, may_be_taken, level_to_take, after_taking, after_acknowledge, after_read}
+use Rattle.pic8259.specs.Pic.{after_line, after_icw1, after_word, after_end, after_lowering, highest_served, after_ocw2, after_ocw3, after_command, after_write}
+use Rattle.pic8259.specs.PicLaws.{Event, line_change, read, write, acknowledge, after_event}
+use Rattle.pic8259.specs.PicLaws.{after_events, HoldsEachLevelOnce, IsTurn, OrderIsWhole, RotationTurns}
 use Rattle.pic8259.proofs.Order.{by_level, turned_to_lowest}
 use Rattle.pic8259.proofs.Places.{found_at, all_right}
 

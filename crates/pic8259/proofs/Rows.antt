@@ -3,7 +3,8 @@ use Rattle.std.proofs.Common.{◌≡◌, true, false, List, [], ◌∷◌, Some,
 use Rattle.std.specs.Prelude.{⊤}
 use Rattle.board_types.specs.declared.line.Line.TheVariants.{Low, High}
 use Rattle.pic8259.specs.Levels.{byte_of, with_lowest}
-use Rattle.pic8259.specs.Pic.{PicState, power_on, vector, byte_at, level_to_take, highest_served, after_taking, after_acknowledge, after_read, after_line, after_icw1, after_ocw2, after_ocw3, after_word, after_command, after_end, after_lowering, after_write}
+use Rattle.pic8259.specs.Pic.{PicState, power_on, vector, byte_at, level_to_take, highest_served, after_taking, after_acknowledge, after_read}
+use Rattle.pic8259.specs.Pic.{after_line, after_icw1, after_ocw2, after_ocw3, after_word, after_command, after_end, after_lowering, after_write}
 use Rattle.pic8259.specs.PicLaws.{Event, line_change, read, write, acknowledge, after_event}
 
 -- what a row unfolds

@@ -1,6 +1,7 @@
 -- What an acknowledge takes, what blocks it, and what a plain end of interrupt ends.
 use Rattle.pic8259.specs.AskingLevels.{is_pending}
-use Rattle.std.proofs.Common.{◌≡◌, ℕ, ◌+◌, ◌%◌, ◌<◌, ◌==◌, Bool, true, false, not, ◌&&◌, cond, if◌then◌else◌, List, [], ◌∷◌, ◌++◌, length, get_or, find, count_by, All, Option, MatchOption, None, Some, unwrap_or, refl, sym, ap, ◌∙◌, arith, inl, inr, append_assoc, subst}
+use Rattle.std.proofs.Common.{◌≡◌, ℕ, ◌+◌, ◌%◌, ◌<◌, ◌==◌, Bool, true, false, not, ◌&&◌, cond, if◌then◌else◌, List, [], ◌∷◌, ◌++◌, length, get_or, find}
+use Rattle.std.proofs.Common.{count_by, All, Option, MatchOption, None, Some, unwrap_or, refl, sym, ap, ◌∙◌, arith, inl, inr, append_assoc, subst}
 use Rattle.std.specs.Option.{option_map_or}
 use Rattle.std.specs.List.{list_any, before_first}
 use Rattle.std.proofs.lemmas.Bool.{cases_Bool, cases_lt, eq-eqb, and_parts, not-true}
@@ -10,9 +11,12 @@ use Rattle.std.proofs.lemmas.List.{get_or_past, get_or-set_same, get_or-set_othe
 use Rattle.std.proofs.lemmas.List.Elements.{All-cons, All-tail, All-same, All-weaker, All-from_get_or}
 use Rattle.board_types.specs.Bits.{has_bit}
 use Rattle.pic8259.specs.Levels.{Levels, contains, without_level, up_to}
-use Rattle.pic8259.specs.Pic.{PicState, is_operating, is_ready, asks, blocks, may_be_taken, level_to_take, after_taking, after_acknowledge, after_end, highest_served, power_on, after_ocw2, after_ocw3, after_icw1, after_command, after_write}
-use Rattle.pic8259.specs.PicLaws.{HoldsEachLevelOnce, IsFirstToTake, Takes, TakesNone, AcknowledgeTakesFirst, ServiceBlocks, SpecialMaskExcepts, Ends, EndsNone, EndsFirstInService, BeginsAnew, WaitsForSequence}
-use Rattle.pic8259.proofs.Places.{found_at, none_found, before_first_past, before_first_here, any_here, none_where_any_fails, none_counted, counted_here, count_at_place, all_right}
+use Rattle.pic8259.specs.Pic.{PicState, is_operating, is_ready, asks, blocks, may_be_taken, level_to_take, after_taking, after_acknowledge}
+use Rattle.pic8259.specs.Pic.{after_end, highest_served, power_on, after_ocw2, after_ocw3, after_icw1, after_command, after_write}
+use Rattle.pic8259.specs.PicLaws.{HoldsEachLevelOnce, IsFirstToTake, Takes, TakesNone, AcknowledgeTakesFirst, ServiceBlocks}
+use Rattle.pic8259.specs.PicLaws.{SpecialMaskExcepts, Ends, EndsNone, EndsFirstInService, BeginsAnew, WaitsForSequence}
+use Rattle.pic8259.proofs.Places.{found_at, none_found, before_first_past, before_first_here, any_here}
+use Rattle.pic8259.proofs.Places.{none_where_any_fails, none_counted, counted_here, count_at_place, all_right}
 
 -- a level that may not be taken is another than one that may
 other_level : (s : PicState) (level other : ℕ) → may_be_taken s level ≡ true → may_be_taken s other ≡ false → (other == level) ≡ false

@@ -1,6 +1,7 @@
 -- A walk along a list in search of its first element that passes a test.
 use Rattle.pic8259.specs.AskingLevels.{is_pending}
-use Rattle.std.proofs.Common.{◌≡◌, ℕ, ◌+◌, ◌%◌, ◌<◌, Bool, true, false, cond, All, List, [], ◌∷◌, map, length, take, drop, get_or, find, None, Some, refl, not, ◌&&◌, ◌||◌, sym, ◌∙◌, ap, inl, inr, arith}
+use Rattle.std.proofs.Common.{◌≡◌, ℕ, ◌+◌, ◌%◌, ◌<◌, Bool, true, false, cond, All, List, [], ◌∷◌, map, length, take}
+use Rattle.std.proofs.Common.{drop, get_or, find, None, Some, refl, not, ◌&&◌, ◌||◌, sym, ◌∙◌, ap, inl, inr, arith}
 use Rattle.std.specs.Option.{option_or}
 use Rattle.std.specs.List.{list_any}
 use Rattle.std.proofs.lemmas.Bool.{cases_lt}

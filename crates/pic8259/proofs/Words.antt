@@ -1,5 +1,6 @@
 -- What the words of a sequence, the mask, a poll and the taking of a level leave.
-use Rattle.std.proofs.Common.{◌≡◌, ℕ, ◌+◌, ◌*◌, ◌/◌, ◌%◌, ◌<◌, Bool, true, false, not, ◌&&◌, if◌then◌else◌, List, [], ◌∷◌, ◌++◌, Option, MatchOption, None, Some, refl, sym, ap, ◌∙◌}
+use Rattle.std.proofs.Common.{◌≡◌, ℕ, ◌+◌, ◌*◌, ◌/◌, ◌%◌, ◌<◌, Bool, true, false, not, ◌&&◌, if◌then◌else◌}
+use Rattle.std.proofs.Common.{List, [], ◌∷◌, ◌++◌, Option, MatchOption, None, Some, refl, sym, ap, ◌∙◌}
 use Rattle.std.specs.Option.{option_map_or}
 use Rattle.std.specs.List.{list_any}
 use Rattle.std.proofs.Math.Bool.{and-false}
@@ -9,7 +10,8 @@ use Rattle.pic8259.specs.declared.controller.Expected.{Expected}
 use Rattle.pic8259.specs.declared.controller.Expected.TheVariants.{Icw2, Icw3, Icw4, Operation}
 use Rattle.pic8259.specs.Levels.{no_levels, contains, with_level, byte_of, levels_of, up_to, with_lowest}
 use Rattle.pic8259.specs.Masks.{byte_of-levels_of}
-use Rattle.pic8259.specs.Pic.{PicState, is_operating, asks, blocks, level_to_take, after_taking, after_acknowledge, byte_at, after_read, after_icw1, after_ocw2, after_ocw3, after_word, after_command, after_write}
+use Rattle.pic8259.specs.Pic.{PicState, is_operating, asks, blocks, level_to_take, after_taking, after_acknowledge, byte_at}
+use Rattle.pic8259.specs.Pic.{after_read, after_icw1, after_ocw2, after_ocw3, after_word, after_command, after_write}
 use Rattle.pic8259.specs.PicLaws.{after_words, SequenceEnds, ServesTaken, HoldsMask, MaskHolds, Reads, PollTakes}
 use Rattle.pic8259.proofs.Masks.{contains_levels}
 use Rattle.pic8259.proofs.OrderWhole.{lowest_turned}

@@ -1,7 +1,8 @@
 -- The eight interrupt levels, IR0 to IR7: sets of them, and the list that gives their priority
 -- (Intel 8259A data sheet, "Interrupt Request Register (IRR) and In-Service Register (ISR)", "Priority Resolver").
 -- To be believed: the headline rests on it.
-use Rattle.std.specs.Prelude.{ℕ, ◌+◌, ◌%◌, ◌^◌, ◌==◌, Bool, true, false, if◌then◌else◌, List, [], ◌∷◌, ◌++◌, map, sum_by, slice_index_or, slice_set}
+use Rattle.std.specs.Prelude.{ℕ, ◌+◌, ◌%◌, ◌^◌, ◌==◌, Bool, true, false, if◌then◌else◌}
+use Rattle.std.specs.Prelude.{List, [], ◌∷◌, ◌++◌, map, sum_by, slice_index_or, slice_set}
 use Rattle.std.specs.List.{before_first, after_first}
 use Rattle.board_types.specs.Bits.{has_bit}
 

@@ -1,7 +1,8 @@
 -- The interrupt controller: what it remembers, and how each command and each acknowledge changes that.
 -- The headings named are those of the Intel 8259A data sheet.
 -- To be believed: the headline rests on it.
-use Rattle.std.specs.Prelude.{ℕ, ◌+◌, ◌*◌, ◌/◌, ◌%◌, Bool, true, false, not, ◌&&◌, ◌||◌, if◌then◌else◌, List, map, find, Option, None, unwrap_or, is_some}
+use Rattle.std.specs.Prelude.{ℕ, ◌+◌, ◌*◌, ◌/◌, ◌%◌, Bool, true, false, not, ◌&&◌, ◌||◌}
+use Rattle.std.specs.Prelude.{if◌then◌else◌, List, map, find, Option, None, unwrap_or, is_some}
 use Rattle.std.specs.Option.{option_map_or}
 use Rattle.std.specs.List.{list_any}
 use Rattle.board_types.specs.Bits.{has_bit}
@@ -9,7 +10,8 @@ use Rattle.board_types.specs.declared.line.Line.{Line}
 use Rattle.board_types.specs.declared.line.Line.TheVariants.{Low, High}
 use Rattle.pic8259.specs.declared.controller.Expected.{Expected}
 use Rattle.pic8259.specs.declared.controller.Expected.TheVariants.{Icw2, Icw3, Icw4, Operation}
-use Rattle.pic8259.specs.Levels.{all_levels, Levels, no_levels, contains, with_level, without_level, byte_of, levels_of, up_to, with_lowest}
+use Rattle.pic8259.specs.Levels.{all_levels, Levels, no_levels, contains, with_level}
+use Rattle.pic8259.specs.Levels.{without_level, byte_of, levels_of, up_to, with_lowest}
 
 pub record PicState : Type 0 where
   -- the levels, the highest priority first

@@ -1,10 +1,13 @@
 -- What holds of the controller whatever happens to it, in the words of the Intel 8259A data sheet.
 -- Laws: claims above the definitions, each proved as the contract of a function.
-use Rattle.std.specs.Prelude.{◌≡◌, ◌≢◌, ℕ, ◌+◌, ◌*◌, ◌/◌, ◌<◌, ◌==◌, Bool, true, false, ◌&&◌, if◌then◌else◌, length, List, [], ◌∷◌, ◌++◌, count_by, All, MatchOption, None, Some}
+use Rattle.std.specs.Prelude.{◌≡◌, ◌≢◌, ℕ, ◌+◌, ◌*◌, ◌/◌, ◌<◌, ◌==◌, Bool, true, false, ◌&&◌, if◌then◌else◌}
+use Rattle.std.specs.Prelude.{length, List, [], ◌∷◌, ◌++◌, count_by, All, MatchOption, None, Some}
 use Rattle.board_types.specs.Bits.{has_bit}
 use Rattle.board_types.specs.declared.line.Line.{Line}
 use Rattle.pic8259.specs.Levels.{no_levels, contains, order_with_lowest}
-use Rattle.pic8259.specs.Pic.{PicState, power_on, is_operating, is_ready, asks, blocks, may_be_taken, level_to_take, after_taking, after_acknowledge, vector, byte_at, after_read, after_line, after_write, after_end, after_lowering, highest_served}
+use Rattle.pic8259.specs.Pic.{PicState, power_on, is_operating, is_ready, asks, blocks, may_be_taken}
+use Rattle.pic8259.specs.Pic.{level_to_take, after_taking, after_acknowledge, vector, byte_at, after_read}
+use Rattle.pic8259.specs.Pic.{after_line, after_write, after_end, after_lowering, highest_served}
 
 -- what can happen to a controller: a line changes, it is read or written, or an acknowledge comes
 pub data Event : Type 0 where

@@ -1,5 +1,6 @@
 -- The closed forms are what the ticks make, one after another.
-use Rattle.std.proofs.Common.{◌≡◌, ◌≢◌, ℕ, zero, suc, ◌+◌, ◌-◌, ◌/◌, ◌%◌, ◌<◌, ◌≤◌, ◌⊎◌, Bool, true, false, if◌then◌else◌, ◌&&◌, ◌||◌, refl, sym, ap, ◌∙◌, subst, arith, inl, inr, nat_lt, Option, None, Some}
+use Rattle.std.proofs.Common.{◌≡◌, ◌≢◌, ℕ, zero, suc, ◌+◌, ◌-◌, ◌/◌, ◌%◌, ◌<◌, ◌≤◌, ◌⊎◌, Bool, true, false, if◌then◌else◌}
+use Rattle.std.proofs.Common.{◌&&◌, ◌||◌, refl, sym, ap, ◌∙◌, subst, arith, inl, inr, nat_lt, Option, None, Some}
 use Rattle.std.specs.Prelude.{◌==◌, is_none}
 use Rattle.std.proofs.lemmas.Bool.{cases_lt}
 use Rattle.std.proofs.lemmas.Nat.{mod_below}
@@ -12,13 +13,15 @@ use Rattle.pit8253.specs.declared.program.Mode.TheVariants.{TerminalCount, OneSh
 use Rattle.pit8253.specs.declared.program.Progress.{Progress}
 use Rattle.pit8253.specs.declared.program.Progress.TheVariants.{Awaited, Written, Loaded}
 use Rattle.pit8253.specs.Program.{modulus}
-use Rattle.pit8253.specs.Counter.{CounterState, is_loaded, after_load, loads_less, after_square_load, after_due_load, after_count, after_decrement, after_rate_count, after_square_count, after_strobe_count, after_rest, after_tick, after_ticks}
+use Rattle.pit8253.specs.Counter.{CounterState, is_loaded, after_load, loads_less, after_square_load, after_due_load, after_count}
+use Rattle.pit8253.specs.Counter.{after_decrement, after_rate_count, after_square_count, after_strobe_count, after_rest, after_tick, after_ticks}
 use Rattle.pit8253.specs.PitLaws.{size, ticks_left, Runs, after_fall, after_strobe_fall, after_rate_fall, half_left, after_half_fall}
 use Rattle.pit8253.specs.Ahead.{is_counting, after_rests, after_rate, half_ticks, after_turn, after_halves, after_square, after_counting, after_run}
 use Rattle.pit8253.proofs.Falls.{round_again, if_yes, if_no}
 use Rattle.pit8253.proofs.Counts.{differs, same, below, not_below, lengths}
 use Rattle.pit8253.proofs.Ticking.{tick_counts}
-use Rattle.pit8253.proofs.Waves.{counts_down, counts_to_strobe, counts_period, counts_periods, counts_half, half_some, reloads_at_one, SquareLoad, square_loads, square_load_of_one, a_count_of_1}
+use Rattle.pit8253.proofs.Waves.{counts_down, counts_to_strobe, counts_period, counts_periods, counts_half, half_some}
+use Rattle.pit8253.proofs.Waves.{reloads_at_one, SquareLoad, square_loads, square_load_of_one, a_count_of_1}
 
 -- counts within their radices
 pub record Sound (c : CounterState) : Type 0 where

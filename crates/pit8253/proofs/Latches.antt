@@ -9,7 +9,9 @@ use Rattle.pit8253.specs.declared.program.Access.{Access}
 use Rattle.pit8253.specs.declared.program.Access.TheVariants.{LowThenHigh}
 use Rattle.board_types.specs.LineLevel.{is_high, opposite}
 use Rattle.pit8253.specs.Program.{digits_of, count_minus}
-use Rattle.pit8253.specs.Counter.{CounterState, after_load, after_square_load, after_due_load, is_loaded, after_count, after_decrement, after_rate_count, half_step, after_square_count, after_strobe_count, after_rest, after_tick, after_ticks, reading, after_latch, reads_high, next_byte, after_read_by, after_read}
+use Rattle.pit8253.specs.Counter.{CounterState, after_load, after_square_load, after_due_load, is_loaded, after_count}
+use Rattle.pit8253.specs.Counter.{after_decrement, after_rate_count, half_step, after_square_count, after_strobe_count, after_rest}
+use Rattle.pit8253.specs.Counter.{after_tick, after_ticks, reading, after_latch, reads_high, next_byte, after_read_by, after_read}
 use Rattle.pit8253.specs.PitLaws.{LatchHolds, LatchHoldsBoth, LatchIsHeld, ReadsBoth, CountsInDecimal}
 use Rattle.pit8253.proofs.Falls.{keeping}
 

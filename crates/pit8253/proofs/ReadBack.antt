@@ -1,5 +1,6 @@
 -- What an 8254 shows when it is read back.
-use Rattle.std.proofs.Common.{◌≡◌, ◌≢◌, ℕ, ◌/◌, ◌%◌, Bool, true, false, not, if◌then◌else◌, ◌&&◌, ◌||◌, refl, sym, ap, ◌∙◌, subst, arith, Option, None, Some, unwrap_or}
+use Rattle.std.proofs.Common.{◌≡◌, ◌≢◌, ℕ, ◌/◌, ◌%◌, Bool, true, false, not, if◌then◌else◌, ◌&&◌}
+use Rattle.std.proofs.Common.{◌||◌, refl, sym, ap, ◌∙◌, subst, arith, Option, None, Some, unwrap_or}
 use Rattle.std.specs.Prelude.{◌==◌, is_none, is_some}
 use Rattle.board_types.specs.LineLevel.{is_high, opposite}
 use Rattle.board_types.specs.declared.choice.TimerKind.{TimerKind}
@@ -9,7 +10,10 @@ use Rattle.pit8253.specs.declared.program.Mode.{Mode}
 use Rattle.pit8253.specs.declared.program.Mode.TheVariants.{TerminalCount, OneShot, RateGenerator, SquareWave, SoftwareStrobe, HardwareStrobe}
 use Rattle.pit8253.specs.declared.program.Access.TheVariants.{LowThenHigh}
 use Rattle.pit8253.specs.Program.{mode_of, access_of, radix_of, digits_of, count_minus}
-use Rattle.pit8253.specs.Counter.{CounterState, is_8254, is_loaded, after_load, after_square_load, after_due_load, after_count, after_decrement, after_rate_count, half_step, after_square_count, after_strobe_count, after_rest, after_tick, after_ticks, reading, after_latch, after_program, after_control_word, next_byte, after_read_by, after_read, status_of, after_status_latch, after_read_back}
+use Rattle.pit8253.specs.Counter.{CounterState, is_8254, is_loaded, after_load, after_square_load, after_due_load, after_count}
+use Rattle.pit8253.specs.Counter.{after_decrement, after_rate_count, half_step, after_square_count, after_strobe_count}
+use Rattle.pit8253.specs.Counter.{after_rest, after_tick, after_ticks, reading, after_latch, after_program, after_control_word}
+use Rattle.pit8253.specs.Counter.{next_byte, after_read_by, after_read, status_of, after_status_latch, after_read_back}
 use Rattle.pit8253.specs.PitLaws.{ends_half}
 use Rattle.pit8253.specs.Laws8254.{ReadsBack, StatusComesFirst, ProgramEndsLatches, ReadBackIsHeld, ends_in, loads_next, NullTillLoaded, KnowsNoReadBack}
 use Rattle.pit8253.specs.Pit as pit

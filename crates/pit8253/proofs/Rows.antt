@@ -6,7 +6,8 @@ use Rattle.board_types.specs.declared.line.Line.{Line}
 use Rattle.board_types.specs.declared.line.Line.TheVariants.{Low, High}
 use Rattle.pit8253.specs.Pit as pit
 use Rattle.pit8253.specs.Pit.{PitState}
-use Rattle.pit8253.specs.Counter.{CounterState, after_control_word, after_gate, after_latch, after_status_latch, after_read_back, after_read, after_tick, after_write, next_byte, power_on}
+use Rattle.pit8253.specs.Counter.{CounterState, after_control_word, after_gate, after_latch, after_status_latch}
+use Rattle.pit8253.specs.Counter.{after_read_back, after_read, after_tick, after_write, next_byte, power_on}
 
 -- what happens to a counter
 data Event : Type 0 where

@@ -6,7 +6,8 @@ use Rattle.board_types.specs.declared.line.Line.{Line}
 use Rattle.board_types.specs.declared.line.Line.TheVariants.{Low, High}
 use Rattle.pit8253.specs.declared.program.Mode.TheVariants.{TerminalCount, OneShot, RateGenerator, SquareWave, SoftwareStrobe, HardwareStrobe}
 use Rattle.pit8253.specs.Program.{count_minus}
-use Rattle.pit8253.specs.Counter.{CounterState, after_load, after_square_load, after_due_load, is_loaded, after_count, after_decrement, after_rate_count, half_step, after_square_count, after_strobe_count, after_rest, after_tick}
+use Rattle.pit8253.specs.Counter.{CounterState, after_load, after_square_load, after_due_load, is_loaded, after_count, after_decrement}
+use Rattle.pit8253.specs.Counter.{after_rate_count, half_step, after_square_count, after_strobe_count, after_rest, after_tick}
 use Rattle.pit8253.specs.PitLaws.{Runs}
 use Rattle.pit8253.proofs.Counts.{differs}
 use Rattle.pit8253.proofs.Falls.{if_yes, if_no}

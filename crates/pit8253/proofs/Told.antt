@@ -5,7 +5,8 @@ use Rattle.board_types.specs.declared.line.Line.{Line}
 use Rattle.board_types.specs.declared.line.Line.TheVariants.{Low, High}
 use Rattle.pit8253.specs.declared.program.Radix.TheVariants.{Binary}
 use Rattle.pit8253.specs.Counter.{CounterState, after_load, after_square_load, after_tick, after_ticks, after_control_word, after_write, after_gate}
-use Rattle.pit8253.specs.PitLaws.{after_setup, after_trigger, ticks_of, CountsOutAsTold, ShootsAsTriggered, DividesAsTold, MakesSquaresAsTold, StrobesAsTold, StrobesAsTriggered}
+use Rattle.pit8253.specs.PitLaws.{after_setup, after_trigger, ticks_of, CountsOutAsTold, ShootsAsTriggered}
+use Rattle.pit8253.specs.PitLaws.{DividesAsTold, MakesSquaresAsTold, StrobesAsTold, StrobesAsTriggered}
 use Rattle.pit8253.proofs.Counts.{length_some}
 use Rattle.pit8253.proofs.Waves.{mode_0, mode_1, mode_2, mode_3, mode_4, mode_5}
 

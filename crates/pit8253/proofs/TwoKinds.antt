@@ -1,5 +1,6 @@
 -- Mode 3 of the 8254 beside that of the 8253: other counts, and the same wave.
-use Rattle.std.proofs.Common.{◌≡◌, ◌≢◌, ℕ, zero, suc, ◌+◌, ◌-◌, ◌*◌, ◌/◌, ◌%◌, ◌<◌, Bool, true, false, not, if◌then◌else◌, ◌&&◌, refl, sym, ap, ◌∙◌, subst, arith, inl, inr, nat_lt}
+use Rattle.std.proofs.Common.{◌≡◌, ◌≢◌, ℕ, zero, suc, ◌+◌, ◌-◌, ◌*◌, ◌/◌, ◌%◌, ◌<◌, Bool, true, false, not}
+use Rattle.std.proofs.Common.{if◌then◌else◌, ◌&&◌, refl, sym, ap, ◌∙◌, subst, arith, inl, inr, nat_lt}
 use Rattle.std.specs.Prelude.{◌==◌}
 use Rattle.board_types.proofs.Iterate.{iterate_zero, iterate_fixed}
 use Rattle.board_types.specs.LineLevel.{is_high}
@@ -10,7 +11,8 @@ use Rattle.board_types.specs.declared.line.Line.TheVariants.{Low, High}
 use Rattle.pit8253.specs.declared.program.Mode.{Mode}
 use Rattle.pit8253.specs.declared.program.Mode.TheVariants.{TerminalCount, OneShot, RateGenerator, SquareWave, SoftwareStrobe, HardwareStrobe}
 use Rattle.pit8253.specs.Program.{modulus}
-use Rattle.pit8253.specs.Counter.{CounterState, is_8254, loads_less, after_square_load, after_due_load, after_count, after_square_count, after_tick, after_ticks}
+use Rattle.pit8253.specs.Counter.{CounterState, is_8254, loads_less, after_square_load, after_due_load}
+use Rattle.pit8253.specs.Counter.{after_count, after_square_count, after_tick, after_ticks}
 use Rattle.pit8253.specs.PitLaws.{size, ticks_left, length_of, falls_left, half_left}
 use Rattle.pit8253.specs.Laws8254.{CountsEven, MakesTheSameWave}
 use Rattle.pit8253.specs.Ahead.{is_counting, after_counting, after_rests, after_rate}

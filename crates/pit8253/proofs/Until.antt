@@ -1,5 +1,6 @@
 -- How long OUT stays as it is.
-use Rattle.std.proofs.Common.{◌≡◌, ◌≢◌, ℕ, ◌+◌, ◌-◌, ◌/◌, ◌%◌, ◌<◌, ◌≤◌, Bool, true, false, if◌then◌else◌, ◌&&◌, ◌||◌, refl, sym, ap, ◌∙◌, subst, arith, inl, inr, nat_lt, Option, None, Some}
+use Rattle.std.proofs.Common.{◌≡◌, ◌≢◌, ℕ, ◌+◌, ◌-◌, ◌/◌, ◌%◌, ◌<◌, ◌≤◌, Bool, true, false, if◌then◌else◌, ◌&&◌}
+use Rattle.std.proofs.Common.{◌||◌, refl, sym, ap, ◌∙◌, subst, arith, inl, inr, nat_lt, Option, None, Some}
 use Rattle.std.specs.Prelude.{◌==◌}
 use Rattle.std.proofs.lemmas.Bool.{cases_lt}
 use Rattle.std.proofs.Math.Nat.{mod-eq_of_lt}
@@ -13,11 +14,13 @@ use Rattle.pit8253.specs.declared.program.Mode.TheVariants.{TerminalCount, OneSh
 use Rattle.pit8253.specs.Program.{modulus}
 use Rattle.pit8253.specs.Counter.{CounterState, after_load, after_square_load, after_due_load, after_rest, after_tick, after_ticks, out_of}
 use Rattle.pit8253.specs.PitLaws.{size, ticks_left, Runs, after_fall, after_strobe_fall, half_left}
-use Rattle.pit8253.specs.Ahead.{is_counting, half_ticks, after_turn, until_end, until_pulse, until_half, until_strobe, until_counting, until_rest, until_turn, a_tick_later, differ}
+use Rattle.pit8253.specs.Ahead.{is_counting, half_ticks, after_turn, until_end, until_pulse, until_half}
+use Rattle.pit8253.specs.Ahead.{until_strobe, until_counting, until_rest, until_turn, a_tick_later, differ}
 use Rattle.pit8253.proofs.Falls.{if_yes, if_no}
 use Rattle.pit8253.proofs.Counts.{differs, same, below, not_below, modulus_large, lengths}
 use Rattle.pit8253.proofs.Waves.{counts_period, square_load_of_one, a_count_of_1, mode_2, mode_3}
-use Rattle.pit8253.proofs.Ahead.{Sound, one_or_other, runs_of, runs_terminal, runs_one_shot, runs_rate, runs_square, runs_software, runs_hardware, HalfEnds, half_ends, enabled, Enabled, a_tick_first}
+use Rattle.pit8253.proofs.Ahead.{Sound, one_or_other, runs_of, runs_terminal, runs_one_shot, runs_rate, runs_square}
+use Rattle.pit8253.proofs.Ahead.{runs_software, runs_hardware, HalfEnds, half_ends, enabled, Enabled, a_tick_first}
 
 -- OUT first turns after `turn` ticks, or never
 abbrev pub Turns : CounterState → Option ℕ → Type 0

@@ -9,7 +9,9 @@ use Rattle.pit8253.specs.declared.program.Mode.TheVariants.{TerminalCount, OneSh
 use Rattle.pit8253.specs.declared.program.Progress.TheVariants.{Loaded}
 use Rattle.board_types.specs.LineLevel.{is_high, opposite}
 use Rattle.pit8253.specs.Program.{count_minus}
-use Rattle.pit8253.specs.Counter.{CounterState, after_load, after_square_load, after_due_load, is_loaded, after_count, after_decrement, after_rate_count, half_step, after_square_count, after_strobe_count, after_rest, after_tick, reading, after_full_count, is_awaited, rises, is_triggered, out_at_gate, after_gate}
+use Rattle.pit8253.specs.Counter.{CounterState, after_load, after_square_load, after_due_load, is_loaded, after_count}
+use Rattle.pit8253.specs.Counter.{after_decrement, after_rate_count, half_step, after_square_count, after_strobe_count, after_rest}
+use Rattle.pit8253.specs.Counter.{after_tick, reading, after_full_count, is_awaited, rises, is_triggered, out_at_gate, after_gate}
 use Rattle.pit8253.specs.PitLaws.{GateStops, GateSetsHigh, RiseReloads, GateStopsStrobe, FirstByteStops, ends_half, NewCountWaits, WaitsForLoad}
 use Rattle.pit8253.proofs.Falls.{keeping, if_no}
 use Rattle.pit8253.proofs.Counts.{differs}

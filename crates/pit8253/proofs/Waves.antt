@@ -1,5 +1,6 @@
 -- A counter any number of ticks on: its state in closed form, and the level of OUT after a load.
-use Rattle.std.proofs.Common.{◌≡◌, ◌≢◌, ℕ, zero, suc, ◌+◌, ◌-◌, ◌*◌, ◌/◌, ◌%◌, ◌<◌, ◌≤◌, Bool, true, false, if◌then◌else◌, not, ◌&&◌, refl, sym, ap, ◌∙◌, subst, arith, inl, inr, nat_lt}
+use Rattle.std.proofs.Common.{◌≡◌, ◌≢◌, ℕ, zero, suc, ◌+◌, ◌-◌, ◌*◌, ◌/◌, ◌%◌, ◌<◌, ◌≤◌, Bool, true, false}
+use Rattle.std.proofs.Common.{if◌then◌else◌, not, ◌&&◌, refl, sym, ap, ◌∙◌, subst, arith, inl, inr, nat_lt}
 use Rattle.std.specs.Prelude.{◌==◌}
 use Rattle.std.proofs.lemmas.Bool.{cases_lt}
 use Rattle.std.proofs.lemmas.Bool.Decides.{nat_tests}
@@ -11,11 +12,16 @@ use Rattle.board_types.specs.declared.line.Line.TheVariants.{Low, High}
 use Rattle.pit8253.specs.declared.program.Mode.TheVariants.{RateGenerator, SquareWave}
 use Rattle.pit8253.specs.declared.program.Radix.{Radix}
 use Rattle.pit8253.specs.Program.{modulus, count_minus}
-use Rattle.pit8253.specs.Counter.{CounterState, is_8254, after_load, loads_less, after_square_load, after_count, after_decrement, after_rate_count, half_step, after_square_count, after_strobe_count, after_tick, after_ticks}
-use Rattle.pit8253.specs.PitLaws.{length_of, size, ticks_left, Runs, count_after, after_fall, after_strobe_fall, after_rate_fall, falls_left, half_left, after_half_fall, TicksAdd, CountsDown, CountsToStrobe, CountsPeriod, CountsHalf, ReloadsAtOne, CountsPeriods, CountsHalves, CountsOut, ShootsOnce, Divides, MakesSquares, StaysHigh, StrobesOnce, StrobesOnTrigger}
+use Rattle.pit8253.specs.Counter.{CounterState, is_8254, after_load, loads_less, after_square_load, after_count, after_decrement}
+use Rattle.pit8253.specs.Counter.{after_rate_count, half_step, after_square_count, after_strobe_count, after_tick, after_ticks}
+use Rattle.pit8253.specs.PitLaws.{length_of, size, ticks_left, Runs, count_after, after_fall, after_strobe_fall, after_rate_fall, falls_left}
+use Rattle.pit8253.specs.PitLaws.{half_left, after_half_fall, TicksAdd, CountsDown, CountsToStrobe, CountsPeriod, CountsHalf, ReloadsAtOne}
+use Rattle.pit8253.specs.PitLaws.{CountsPeriods, CountsHalves, CountsOut, ShootsOnce, Divides, MakesSquares, StaysHigh, StrobesOnce, StrobesOnTrigger}
 use Rattle.pit8253.proofs.Falls.{by_steps, round_again, if_yes, if_no}
-use Rattle.pit8253.proofs.Counts.{differs, same, below, not_below, modulus_even, modulus_large, minus_within, minus_around, length_some, after_none, after_more, after_within, after_end, Lengths, lengths}
-use Rattle.pit8253.proofs.Ticking.{with_count, tick_terminal_count, tick_one_shot, tick_rate, tick_square, tick_software_strobe, tick_hardware_strobe, decrement, rate_falls, rate_reloads, ends_at, square_falls, square_turns, strobe_count}
+use Rattle.pit8253.proofs.Counts.{differs, same, below, not_below, modulus_even, modulus_large, minus_within, minus_around}
+use Rattle.pit8253.proofs.Counts.{length_some, after_none, after_more, after_within, after_end, Lengths, lengths}
+use Rattle.pit8253.proofs.Ticking.{with_count, tick_terminal_count, tick_one_shot, tick_rate, tick_square, tick_software_strobe}
+use Rattle.pit8253.proofs.Ticking.{tick_hardware_strobe, decrement, rate_falls, rate_reloads, ends_at, square_falls, square_turns, strobe_count}
 
 pub ticks_add : TicksAdd
 ticks_add k m c = sym (iterate_add after_tick k m c)

@@ -1,14 +1,17 @@
 -- A counter any number of ticks ahead, in closed form, and how long its output stays: time is cut at the next load or
 -- turn, whole periods go by remainder, and the rest is one fall.
 -- For proofs alone: no public contract rests on it.
-use Rattle.std.specs.Prelude.{ℕ, ◌+◌, ◌-◌, ◌/◌, ◌%◌, ◌==◌, nat_lt, Bool, true, false, ◌&&◌, ◌||◌, if◌then◌else◌, Option, None, Some, is_none}
+use Rattle.std.specs.Prelude.{ℕ, ◌+◌, ◌-◌, ◌/◌, ◌%◌, ◌==◌, nat_lt, Bool, true, false}
+use Rattle.std.specs.Prelude.{◌&&◌, ◌||◌, if◌then◌else◌, Option, None, Some, is_none}
 use Rattle.board_types.specs.LineLevel.{is_high, opposite}
 use Rattle.board_types.specs.declared.line.Line.{Line}
 use Rattle.board_types.specs.declared.line.Line.TheVariants.{Low, High}
 use Rattle.pit8253.specs.declared.program.Mode.{Mode}
-use Rattle.pit8253.specs.declared.program.Mode.TheVariants.{TerminalCount, OneShot, RateGenerator, SquareWave, SoftwareStrobe, HardwareStrobe}
+use Rattle.pit8253.specs.declared.program.Mode.TheVariants.{TerminalCount, OneShot, RateGenerator}
+use Rattle.pit8253.specs.declared.program.Mode.TheVariants.{SquareWave, SoftwareStrobe, HardwareStrobe}
 use Rattle.pit8253.specs.Counter.{CounterState, is_loaded, after_load, after_square_load, after_rest}
-use Rattle.pit8253.specs.PitLaws.{size, ticks_left, after_fall, after_strobe_fall, after_rate_fall, half_left, after_half_fall}
+use Rattle.pit8253.specs.PitLaws.{size, ticks_left, after_fall, after_strobe_fall}
+use Rattle.pit8253.specs.PitLaws.{after_rate_fall, half_left, after_half_fall}
 
 -- whether a tick that loads nothing counts
 abbrev pub is_counting : CounterState → Mode → Bool

@@ -1,16 +1,20 @@
 -- What the 8254 does differently from the 8253, over time (Intel 8254 data sheet, "Read-Back Command" with "Null Count
 -- Operation", and "Mode 3: Square Wave Mode").
 -- Laws: claims above the definitions, each proved as the contract of a function.
-use Rattle.std.specs.Prelude.{◌≡◌, ◌≢◌, ℕ, ◌-◌, ◌*◌, ◌+◌, ◌/◌, ◌%◌, ◌<◌, ◌≤◌, ◌==◌, true, false, not, if◌then◌else◌, ◌||◌, ◌&&◌, Bool, None, unwrap_or}
+use Rattle.std.specs.Prelude.{◌≡◌, ◌≢◌, ℕ, ◌-◌, ◌*◌, ◌+◌, ◌/◌, ◌%◌, ◌<◌, ◌≤◌, ◌==◌, true}
+use Rattle.std.specs.Prelude.{false, not, if◌then◌else◌, ◌||◌, ◌&&◌, Bool, None, unwrap_or}
 use Rattle.board_types.specs.declared.choice.TimerKind.TheVariants.{I8253, I8254}
 use Rattle.board_types.specs.LineLevel.{is_high}
 use Rattle.board_types.specs.declared.line.Line.{Line}
 use Rattle.board_types.specs.declared.line.Line.TheVariants.{High}
 use Rattle.pit8253.specs.declared.program.Mode.{Mode}
-use Rattle.pit8253.specs.declared.program.Mode.TheVariants.{TerminalCount, OneShot, RateGenerator, SquareWave, SoftwareStrobe, HardwareStrobe}
+use Rattle.pit8253.specs.declared.program.Mode.TheVariants.{TerminalCount, OneShot, RateGenerator}
+use Rattle.pit8253.specs.declared.program.Mode.TheVariants.{SquareWave, SoftwareStrobe, HardwareStrobe}
 use Rattle.pit8253.specs.declared.program.Access.TheVariants.{LowThenHigh}
 use Rattle.pit8253.specs.Program.{modulus, digits_of}
-use Rattle.pit8253.specs.Counter.{CounterState, is_loaded, after_square_load, after_tick, after_ticks, after_latch, after_control_word, after_full_count, next_byte, after_read, status_of, after_read_back}
+use Rattle.pit8253.specs.Counter.{CounterState, is_loaded, after_square_load, after_tick}
+use Rattle.pit8253.specs.Counter.{after_ticks, after_latch, after_control_word, after_full_count}
+use Rattle.pit8253.specs.Counter.{next_byte, after_read, status_of, after_read_back}
 use Rattle.pit8253.specs.PitLaws.{ends_half}
 use Rattle.pit8253.specs.Pit as pit
 use Rattle.pit8253.specs.Pit.{PitState}

@@ -1,16 +1,20 @@
 -- What the definition of a counter means over time, in the data sheet's terms: the count and the level of OUT any
 -- number of ticks later ("Mode Definition" and its timing diagrams), and what a latch shows.
 -- Laws: claims above the definitions, each proved as the contract of a function.
-use Rattle.std.specs.Prelude.{◌≡◌, ◌≢◌, ℕ, ◌+◌, ◌-◌, ◌*◌, ◌/◌, ◌%◌, ◌<◌, ◌==◌, false, nat_lt, if◌then◌else◌, ◌⊎◌, ◌||◌, ◌&&◌, Bool, None, Some}
+use Rattle.std.specs.Prelude.{◌≡◌, ◌≢◌, ℕ, ◌+◌, ◌-◌, ◌*◌, ◌/◌, ◌%◌, ◌<◌, ◌==◌, false}
+use Rattle.std.specs.Prelude.{nat_lt, if◌then◌else◌, ◌⊎◌, ◌||◌, ◌&&◌, Bool, None, Some}
 use Rattle.board_types.specs.LineLevel.{is_high, opposite}
 use Rattle.board_types.specs.declared.line.Line.TheVariants.{Low, High}
-use Rattle.pit8253.specs.declared.program.Mode.TheVariants.{TerminalCount, OneShot, RateGenerator, SquareWave, SoftwareStrobe, HardwareStrobe}
+use Rattle.pit8253.specs.declared.program.Mode.TheVariants.{TerminalCount, OneShot, RateGenerator}
+use Rattle.pit8253.specs.declared.program.Mode.TheVariants.{SquareWave, SoftwareStrobe, HardwareStrobe}
 use Rattle.pit8253.specs.declared.program.Access.TheVariants.{LowThenHigh}
 use Rattle.pit8253.specs.declared.program.Radix.{Radix}
 use Rattle.pit8253.specs.declared.program.Radix.TheVariants.{Binary, Decimal}
 use Rattle.pit8253.specs.declared.program.Progress.TheVariants.{Loaded}
 use Rattle.pit8253.specs.Program.{modulus, count_of, digits_of, count_minus}
-use Rattle.pit8253.specs.Counter.{CounterState, is_awaited, is_loaded, after_load, after_square_load, half_step, after_tick, after_ticks, reading, after_latch, after_control_word, after_full_count, after_write, next_byte, after_read, after_gate}
+use Rattle.pit8253.specs.Counter.{CounterState, is_awaited, is_loaded, after_load, after_square_load}
+use Rattle.pit8253.specs.Counter.{half_step, after_tick, after_ticks, reading, after_latch, after_control_word}
+use Rattle.pit8253.specs.Counter.{after_full_count, after_write, next_byte, after_read, after_gate}
 use Rattle.pit8253.specs.Pit as pit
 use Rattle.pit8253.specs.Pit.{PitState}
 

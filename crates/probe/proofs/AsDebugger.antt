@@ -1,5 +1,6 @@
 -- A probe whose stops are all conditions answers as the debugger does.
-use Rattle.std.proofs.Common.{◌≡◌, ℕ, ◌+◌, ◌-◌, ◌<◌, ◌≤◌, false, true, List, [], ◌∷◌, ◌++◌, length, map, Option, None, Some, Result, Ok, Err, refl, sym, ap, ◌∙◌, subst, arith}
+use Rattle.std.proofs.Common.{◌≡◌, ℕ, ◌+◌, ◌-◌, ◌<◌, ◌≤◌, false, true, List, [], ◌∷◌, ◌++◌, length, map}
+use Rattle.std.proofs.Common.{Option, None, Some, Result, Ok, Err, refl, sym, ap, ◌∙◌, subst, arith}
 use Rattle.std.specs.Prelude.{MatchResult}
 use Rattle.std.proofs.lemmas.List.{length-map, map-append}
 use Rattle.board_plain.specs.declared.stop.Condition.{Condition}
@@ -22,7 +23,8 @@ use Rattle.probe.specs.declared.stops.Stop.{Stop}
 use Rattle.probe.specs.declared.stops.Stop.TheVariants.{Standing}
 use Rattle.probe.specs.Inquiry.{inquiry_of}
 use Rattle.probe.specs.ProbeLaws.{AnswersAsDebugger, OnlyStand}
-use Rattle.probe.specs.Probe.{AddsStop, AnswersUnless, conditions_of, GoesBackToStop, GoesOn, ProbeState, RefusesBackToStop, RefusesGoing, RefusesStop, session_of}
+use Rattle.probe.specs.Probe.{AddsStop, AnswersUnless, conditions_of, GoesBackToStop, GoesOn}
+use Rattle.probe.specs.Probe.{ProbeState, RefusesBackToStop, RefusesGoing, RefusesStop, session_of}
 use Rattle.probe.specs.Requests.{request_by, request_in, request_of, request_with, stop_of, trial_of}
 use Rattle.probe.specs.InquirySession.{AnswersOr}
 use Rattle.probe.specs.ProbeStops.{IsEndOf, met_from, NoneMet}

@@ -1,6 +1,7 @@
 -- What some kinds list of a clock, by what is seen of it.
 use Rattle.keyboard.specs.QueueParts.{after_sending, sends}
-use Rattle.std.proofs.Common.{◌≡◌, ◌≢◌, ℕ, zero, suc, ◌+◌, ◌<◌, ◌≤◌, Bool, true, false, if◌then◌else◌, not, List, [], ◌∷◌, ◌++◌, drop, length, map, Option, None, Some, refl, sym, ap, ◌∙◌, subst, arith}
+use Rattle.std.proofs.Common.{◌≡◌, ◌≢◌, ℕ, zero, suc, ◌+◌, ◌<◌, ◌≤◌, Bool, true, false, if◌then◌else◌, not, List, []}
+use Rattle.std.proofs.Common.{◌∷◌, ◌++◌, drop, length, map, Option, None, Some, refl, sym, ap, ◌∙◌, subst, arith}
 use Rattle.std.specs.Prelude.{◌||◌, ◌&&◌, ◌==◌, IsTrue, nat_eq, fold, slice_get}
 use Rattle.std.specs.Bool.{beq}
 use Rattle.std.specs.List.{flat_map, list_any}
@@ -31,7 +32,8 @@ use Rattle.events.specs.declared.event.KeyEvent.TheVariants.{Arrives, IsLost, Is
 use Rattle.events.specs.declared.event.Wire.{Wire}
 use Rattle.events.specs.declared.event.Wire.TheVariants.{Out0, Out2, Ir0, Ir1, Int, Speaker}
 use Rattle.events.specs.Accesses.{accesses_next}
-use Rattle.events.specs.Events.{all_wires, arrival_events, chips_reached, codes_next, events_next, is_same_state, key_events, latch_events, level_of, settling_events, state_events, unwired_next, wire_event, wire_events}
+use Rattle.events.specs.Events.{all_wires, arrival_events, chips_reached, codes_next, events_next, is_same_state, key_events}
+use Rattle.events.specs.Events.{latch_events, level_of, settling_events, state_events, unwired_next, wire_event, wire_events}
 use Rattle.events.proofs.Queue.{gathered_in, next_chips, reached_queue}
 use Rattle.probe.specs.declared.event_lines.Asked.{Asked}
 use Rattle.probe.specs.declared.event_lines.Seen.{Seen}

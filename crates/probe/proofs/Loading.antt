@@ -7,7 +7,8 @@ use Rattle.board_types.specs.declared.line.Line.{Line}
 use Rattle.board_types.specs.declared.line.Line.TheVariants.{Low, High}
 use Rattle.pit8253.specs.declared.program.Mode.{Mode}
 use Rattle.pit8253.specs.declared.program.Mode.TheVariants.{TerminalCount, OneShot, RateGenerator, SquareWave, SoftwareStrobe, HardwareStrobe}
-use Rattle.pit8253.specs.Counter.{CounterState, after_count, after_decrement, after_due_load, after_load, after_rate_count, after_rest, after_square_count, after_square_load, after_strobe_count, after_tick, after_ticks, half_step, is_loaded}
+use Rattle.pit8253.specs.Counter.{CounterState, after_count, after_decrement, after_due_load, after_load, after_rate_count, after_rest}
+use Rattle.pit8253.specs.Counter.{after_square_count, after_square_load, after_strobe_count, after_tick, after_ticks, half_step, is_loaded}
 use Rattle.pit8253.specs.declared.image.CounterImage.{CounterImage}
 use Rattle.pit8253.specs.PitNumbers.{counter_of, flag_of}
 use Rattle.pit8253.specs.Program.{count_minus}

@@ -1,5 +1,6 @@
 -- Turns whose changes of wires are listed: those of the first clock are all.
-use Rattle.std.proofs.Common.{◌≡◌, ℕ, zero, suc, ◌+◌, ◌-◌, ◌<◌, ◌≤◌, Bool, true, false, if◌then◌else◌, List, [], ◌∷◌, ◌++◌, length, map, None, Some, refl, sym, ap, ◌∙◌, arith, append-nil}
+use Rattle.std.proofs.Common.{◌≡◌, ℕ, zero, suc, ◌+◌, ◌-◌, ◌<◌, ◌≤◌, Bool, true, false, if◌then◌else◌, List}
+use Rattle.std.proofs.Common.{[], ◌∷◌, ◌++◌, length, map, None, Some, refl, sym, ap, ◌∙◌, arith, append-nil}
 use Rattle.std.specs.Prelude.{codes}
 use Rattle.std.specs.Bool.{beq}
 use Rattle.std.specs.Fmt.{decimal}
@@ -22,7 +23,8 @@ use Rattle.events.specs.declared.event.Event.TheVariants.{Became, Began, Reached
 use Rattle.events.specs.declared.event.Wire.{Wire}
 use Rattle.events.specs.declared.event.Wire.TheVariants.{Out0, Out2, Ir0, Ir1, Int, Speaker}
 use Rattle.events.specs.declared.access.Access.{Access}
-use Rattle.events.specs.Events.{all_wires, arrival_events, chips_reached, code_latched, codes_next, events_in, events_next, is_same_state, key_events, latch_events, level_of, settling_events, state_events, unwired_next, wire_event, wire_events}
+use Rattle.events.specs.Events.{all_wires, arrival_events, chips_reached, code_latched, codes_next, events_in, events_next, is_same_state}
+use Rattle.events.specs.Events.{key_events, latch_events, level_of, settling_events, state_events, unwired_next, wire_event, wire_events}
 use Rattle.keyboard.specs.Keyboard as keys
 use Rattle.keyboard.specs.Keyboard.{KeyboardState}
 use Rattle.pic8259.specs.Levels.{contains}

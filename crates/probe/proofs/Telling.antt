@@ -1,6 +1,7 @@
 -- Clocks whose events are listed.
 use Rattle.keyboard.specs.QueueParts.{after_sending, count_after_loss, has_room, sends}
-use Rattle.std.proofs.Common.{◌≡◌, ◌≢◌, ℕ, zero, suc, ◌+◌, ◌-◌, ◌<◌, ◌≤◌, Bool, true, false, cond, if◌then◌else◌, not, List, [], ◌∷◌, ◌++◌, length, map, drop, take, get_or, Option, None, Some, refl, sym, ap, ◌∙◌, arith, append_assoc, append-nil}
+use Rattle.std.proofs.Common.{◌≡◌, ◌≢◌, ℕ, zero, suc, ◌+◌, ◌-◌, ◌<◌, ◌≤◌, Bool, true, false, cond, if◌then◌else◌, not, List, [], ◌∷◌, ◌++◌}
+use Rattle.std.proofs.Common.{length, map, drop, take, get_or, Option, None, Some, refl, sym, ap, ◌∙◌, arith, append_assoc, append-nil}
 use Rattle.std.specs.Prelude.{◌||◌, ◌==◌, IsTrue, OnOk, Result, Ok, Err, codes, fold, nat_eq, nat_lt, slice_get}
 use Rattle.std.specs.Bool.{beq}
 use Rattle.std.specs.Fmt.{decimal}
@@ -41,7 +42,8 @@ use Rattle.events.specs.declared.event.KeyEvent.TheVariants.{Arrives, IsLost, Is
 use Rattle.events.specs.declared.event.Wire.{Wire}
 use Rattle.events.specs.declared.event.Wire.TheVariants.{Out0, Out2, Ir0, Ir1, Int, Speaker}
 use Rattle.events.specs.Accesses.{accesses_next}
-use Rattle.events.specs.Events.{all_wires, arrival_events, chips_reached, code_latched, codes_next, events_in, events_next, key_events, latch_events, level_of, settling_events, state_events, unwired_next, wire_event, wire_events}
+use Rattle.events.specs.Events.{all_wires, arrival_events, chips_reached, code_latched, codes_next, events_in, events_next, key_events}
+use Rattle.events.specs.Events.{latch_events, level_of, settling_events, state_events, unwired_next, wire_event, wire_events}
 use Rattle.events.proofs.Queue.{arrived_keyboard, gathered_in, next_chips, reached_queue}
 use Rattle.probe.specs.declared.event_lines.Asked.{Asked}
 use Rattle.probe.specs.declared.event_lines.Seen.{Seen}
@@ -50,7 +52,8 @@ use Rattle.probe.specs.declared.kinds.Kind.TheVariants.{Starts, Entries, Writes,
 use Rattle.probe.specs.declared.signals.Levels.{Levels}
 use Rattle.probe.specs.Listed.{event_line, events_text, listed_lines, lists_begun, lists_keys, lists_wires}
 use Rattle.probe.specs.Signalled.{levels_of}
-use Rattle.probe.specs.ListedEvents.{arrivals_from, change_events, clock_lines, held_from, IsTold, key_lines, keys_seen, latched_from, levels_seen, lines_between, lines_seen, lists_beginning, seen_of, waits_among, waiting_seen}
+use Rattle.probe.specs.ListedEvents.{arrivals_from, change_events, clock_lines, held_from, IsTold, key_lines, keys_seen, latched_from}
+use Rattle.probe.specs.ListedEvents.{levels_seen, lines_between, lines_seen, lists_beginning, seen_of, waits_among, waiting_seen}
 use Rattle.probe.proofs.Listing.{listed_append, listed_none, listed_one, nothing_told, told_more}
 
 -- what began last

@@ -3,7 +3,8 @@
 use Rattle.std.specs.Prelude.{◌≡◌, if◌then◌else◌}
 use Rattle.board_types.specs.declared.line.Line.{Line}
 use Rattle.pit8253.specs.declared.program.Mode.{Mode}
-use Rattle.pit8253.specs.declared.program.Mode.TheVariants.{TerminalCount, OneShot, RateGenerator, SquareWave, SoftwareStrobe, HardwareStrobe}
+use Rattle.pit8253.specs.declared.program.Mode.TheVariants.{TerminalCount, OneShot, RateGenerator}
+use Rattle.pit8253.specs.declared.program.Mode.TheVariants.{SquareWave, SoftwareStrobe, HardwareStrobe}
 use Rattle.pit8253.specs.Counter.{CounterState, after_load, after_square_load, after_tick}
 use Rattle.probe.specs.CounterText.{loads_next}
 

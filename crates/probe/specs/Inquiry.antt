@@ -1,6 +1,7 @@
 -- The inquiries that a line can be.
 -- To be believed by callers of this crate: the headline does not rest on it.
-use Rattle.std.specs.Prelude.{ℕ, ◌/◌, ◌*◌, ◌%◌, ◌&&◌, nat_le, if◌then◌else◌, List, [], ◌∷◌, codes, position, Option, None, Some, is_some}
+use Rattle.std.specs.Prelude.{ℕ, ◌/◌, ◌*◌, ◌%◌, ◌&&◌, nat_le, if◌then◌else◌, List}
+use Rattle.std.specs.Prelude.{[], ◌∷◌, codes, position, Option, None, Some, is_some}
 use Rattle.std.specs.Str.{bytes_eq}
 use Rattle.debugger_meaning.specs.declared.command.Command.{Command}
 use Rattle.debugger_meaning.specs.declared.command.Command.TheVariants.{Break}

@@ -5,7 +5,8 @@ use Rattle.board_plain.specs.Board.{Ran}
 use Rattle.board_plain.specs.Plain.{clock_of}
 use Rattle.debugger_meaning.specs.declared.answer.Answer.{Answer}
 use Rattle.debugger_meaning.specs.declared.fault.DebugFault.{DebugFault}
-use Rattle.debugger_meaning.specs.declared.fault.DebugFault.TheVariants.{BadScan, StampsFall, ClockLimit, BadCommand, TooManyStops, Memory, BeforeStart}
+use Rattle.debugger_meaning.specs.declared.fault.DebugFault.TheVariants.{BadScan, StampsFall, ClockLimit, BadCommand}
+use Rattle.debugger_meaning.specs.declared.fault.DebugFault.TheVariants.{TooManyStops, Memory, BeforeStart}
 use Rattle.debugger_meaning.specs.Session.{IsText}
 use Rattle.debugger_meaning.specs.Stands.{SessionState, shown_of, StandsAt}
 

@@ -1,6 +1,7 @@
 -- What holds of the moments at which a key is tried.
 -- Laws: claims above the definitions, each proved as the contract of a function.
-use Rattle.std.specs.Prelude.{ℕ, ◌≡◌, ◌+◌, ◌<◌, ◌≤◌, ◌↔◌, Bool, ◌&&◌, nat_le, List, Contains, count_by, Option, None, Some}
+use Rattle.std.specs.Prelude.{ℕ, ◌≡◌, ◌+◌, ◌<◌, ◌≤◌, ◌↔◌, Bool, ◌&&◌, nat_le}
+use Rattle.std.specs.Prelude.{List, Contains, count_by, Option, None, Some}
 use Rattle.board_plain.specs.declared.stop.Stop.{Stop as End}
 use Rattle.board_plain.specs.Plain.{Plain, clock_of}
 use Rattle.debugger_meaning.specs.declared.answer.Answer.{Answer}

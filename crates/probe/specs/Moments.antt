@@ -1,6 +1,7 @@
 -- How a run ends with one more key, for each clock at which it could come.
 -- To be believed by callers of this crate: the headline does not rest on it.
-use Rattle.std.specs.Prelude.{ℕ, ◌≡◌, ◌≢◌, ◌+◌, ◌<◌, ◌≤◌, ◌^◌, ◌⊎◌, IsTrue, List, [], ◌∷◌, ◌++◌, codes, Option, None, Some, IfSome, Result, MatchResult}
+use Rattle.std.specs.Prelude.{ℕ, ◌≡◌, ◌≢◌, ◌+◌, ◌<◌, ◌≤◌, ◌^◌, ◌⊎◌, IsTrue, List, [], ◌∷◌}
+use Rattle.std.specs.Prelude.{◌++◌, codes, Option, None, Some, IfSome, Result, MatchResult}
 use Rattle.std.specs.Fmt.{decimal}
 use Rattle.std.specs.List.{flat_map}
 use Rattle.std.specs.Option.{option_map}
@@ -10,7 +11,8 @@ use Rattle.board_plain.specs.declared.stop.Stop.{Stop as End}
 use Rattle.board_plain.specs.Plain.{Plain, clock_of}
 use Rattle.debugger_meaning.specs.declared.answer.Answer.{Answer}
 use Rattle.debugger_meaning.specs.declared.fault.DebugFault.{DebugFault}
-use Rattle.debugger_meaning.specs.declared.fault.DebugFault.TheVariants.{BadScan, StampsFall, ClockLimit, BadCommand, TooManyStops, Memory, BeforeStart}
+use Rattle.debugger_meaning.specs.declared.fault.DebugFault.TheVariants.{BadScan, StampsFall, ClockLimit, BadCommand}
+use Rattle.debugger_meaning.specs.declared.fault.DebugFault.TheVariants.{TooManyStops, Memory, BeforeStart}
 use Rattle.debugger_meaning.specs.Session.{IsText}
 use Rattle.events_laws.specs.WithKey.{with_key}
 use Rattle.probe.specs.declared.moments.Ends.{Ends}

@@ -1,6 +1,7 @@
 -- What a line asks for that has to do with stops.
 -- To be believed by callers of this crate: the headline does not rest on it.
-use Rattle.std.specs.Prelude.{ℕ, ◌+◌, ◌≤◌, ◌^◌, Bool, true, false, ◌&&◌, nat_le, if◌then◌else◌, List, [], ◌∷◌, codes, Option, None, Some, option_map}
+use Rattle.std.specs.Prelude.{ℕ, ◌+◌, ◌≤◌, ◌^◌, Bool, true, false, ◌&&◌, nat_le, if◌then◌else◌}
+use Rattle.std.specs.Prelude.{List, [], ◌∷◌, codes, Option, None, Some, option_map}
 use Rattle.std.specs.Str.{bytes_eq}
 use Rattle.board_plain.specs.declared.stop.Condition.TheVariants as conditions
 use Rattle.debugger_meaning.specs.declared.command.Command.{Command}

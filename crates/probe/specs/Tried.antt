@@ -1,6 +1,7 @@
 -- A run with a key that is tried, and the ranges to which it is added.
 -- For proofs alone: no public contract rests on it.
-use Rattle.std.specs.Prelude.{ℕ, ◌≡◌, ◌+◌, ◌-◌, ◌<◌, ◌≤◌, ◌==◌, All, Bool, true, false, min, max, if◌then◌else◌, List, [], ◌∷◌, Option, None, Some}
+use Rattle.std.specs.Prelude.{ℕ, ◌≡◌, ◌+◌, ◌-◌, ◌<◌, ◌≤◌, ◌==◌, All, Bool, true, false}
+use Rattle.std.specs.Prelude.{min, max, if◌then◌else◌, List, [], ◌∷◌, Option, None, Some}
 use Rattle.board_plain.specs.declared.stop.Stop.{Stop as End}
 use Rattle.board_plain.specs.Plain.{Plain, after_clocks, clock_of}
 use Rattle.board_plain.specs.Stops.{run_length}

@@ -1,6 +1,7 @@
 -- A key that is typed in a session: which one is taken, and what the session is then.
 -- To be believed by callers of this crate: the headline does not rest on it.
-use Rattle.std.specs.Prelude.{ℕ, ◌≡◌, ◌+◌, ◌<◌, ◌≤◌, ◌^◌, IsTrue, List, ◌++◌, codes, Option, None, Some, Result, MatchResult}
+use Rattle.std.specs.Prelude.{ℕ, ◌≡◌, ◌+◌, ◌<◌, ◌≤◌, ◌^◌, IsTrue, List, ◌++◌}
+use Rattle.std.specs.Prelude.{codes, Option, None, Some, Result, MatchResult}
 use Rattle.std.specs.Fmt.{decimal}
 use Rattle.board_types.specs.Digits.{hex_byte_text}
 use Rattle.board_types.specs.Keys.{names_key}
@@ -8,7 +9,8 @@ use Rattle.board_types.specs.declared.keys.StampedKey.{StampedKey}
 use Rattle.board_plain.specs.Plain.{clock_of}
 use Rattle.debugger_meaning.specs.declared.answer.Answer.{Answer}
 use Rattle.debugger_meaning.specs.declared.fault.DebugFault.{DebugFault}
-use Rattle.debugger_meaning.specs.declared.fault.DebugFault.TheVariants.{BadScan, StampsFall, ClockLimit, BadCommand, TooManyStops, Memory, BeforeStart}
+use Rattle.debugger_meaning.specs.declared.fault.DebugFault.TheVariants.{BadScan, StampsFall, ClockLimit, BadCommand}
+use Rattle.debugger_meaning.specs.declared.fault.DebugFault.TheVariants.{TooManyStops, Memory, BeforeStart}
 use Rattle.debugger_meaning.specs.Session.{IsText}
 use Rattle.debugger_meaning.specs.Stands.{SessionState}
 use Rattle.events_laws.specs.WithKey.{with_key}

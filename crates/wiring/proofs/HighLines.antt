@@ -6,7 +6,8 @@ use Rattle.board_types.specs.Bits.{has_bit}
 use Rattle.pic8259.specs.declared.controller.Expected.{Expected}
 use Rattle.pic8259.specs.declared.controller.Expected.TheVariants.{Icw2, Icw3, Icw4, Operation}
 use Rattle.pic8259.specs.Levels.{Levels}
-use Rattle.pic8259.specs.Pic.{PicState, level_to_take, after_taking, after_acknowledge, after_read, after_icw1, after_ocw2, after_ocw3, after_word, after_command, after_write, after_end, after_lowering, highest_served, is_operating}
+use Rattle.pic8259.specs.Pic.{PicState, level_to_take, after_taking, after_acknowledge, after_read, after_icw1, after_ocw2, after_ocw3}
+use Rattle.pic8259.specs.Pic.{after_word, after_command, after_write, after_end, after_lowering, highest_served, is_operating}
 
 choose : (b : Bool) (high : Levels) (s t : PicState) → s.high ≡ high → t.high ≡ high → (if b then s else t).high ≡ high
 choose true high s t first second = first

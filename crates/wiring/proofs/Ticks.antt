@@ -8,7 +8,8 @@ use Rattle.board_types.specs.declared.line.Line.TheVariants.{Low, High}
 use Rattle.pit8253.specs.declared.program.Mode.{Mode}
 use Rattle.pit8253.specs.declared.program.Mode.TheVariants.{TerminalCount, OneShot, RateGenerator, SquareWave, SoftwareStrobe, HardwareStrobe}
 use Rattle.pit8253.specs.Counter as one
-use Rattle.pit8253.specs.Counter.{CounterState, is_loaded, is_awaited, is_triggered, after_due_load, after_count, after_rate_count, after_square_count, out_at_gate}
+use Rattle.pit8253.specs.Counter.{CounterState, is_loaded, is_awaited, is_triggered, after_due_load}
+use Rattle.pit8253.specs.Counter.{after_count, after_rate_count, after_square_count, out_at_gate}
 use Rattle.pit8253.specs.Pit as pit
 use Rattle.pit8253.specs.Pit.{PitState}
 use Rattle.ppi8255.specs.Ppi.{PpiState}

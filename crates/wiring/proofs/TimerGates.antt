@@ -9,7 +9,8 @@ use Rattle.pit8253.specs.declared.program.Access.{Access}
 use Rattle.pit8253.specs.declared.program.Access.TheVariants.{LowByte, HighByte, LowThenHigh}
 use Rattle.pit8253.specs.Program.{count_minus}
 use Rattle.pit8253.specs.Counter as one
-use Rattle.pit8253.specs.Counter.{CounterState, is_8254, is_loaded, after_count, after_rate_count, half_step, after_square_count, after_due_load, after_latch, after_status_latch, after_byte_of_two, after_write_by, after_read_by}
+use Rattle.pit8253.specs.Counter.{CounterState, is_8254, is_loaded, after_count, after_rate_count, half_step, after_square_count}
+use Rattle.pit8253.specs.Counter.{after_due_load, after_latch, after_status_latch, after_byte_of_two, after_write_by, after_read_by}
 use Rattle.pit8253.specs.Pit as pit
 use Rattle.pit8253.specs.Pit.{PitState, counter, with_counter}
 

@@ -9,7 +9,9 @@ use Rattle.pit8253.specs.declared.program.Mode.TheVariants.{TerminalCount, OneSh
 use Rattle.pit8253.specs.declared.program.Access.{Access}
 use Rattle.pit8253.specs.declared.program.Access.TheVariants.{LowByte, HighByte, LowThenHigh}
 use Rattle.pit8253.specs.Program.{count_minus}
-use Rattle.pit8253.specs.Counter.{CounterState, is_8254, is_loaded, after_due_load, after_status_latch, after_read_back, after_count, after_rate_count, half_step, after_square_count, after_tick, after_latch, after_control_word, after_byte_of_two, after_write_by, after_write, after_read_by, after_read, after_gate}
+use Rattle.pit8253.specs.Counter.{CounterState, is_8254, is_loaded, after_due_load, after_status_latch, after_read_back, after_count}
+use Rattle.pit8253.specs.Counter.{after_rate_count, half_step, after_square_count, after_tick, after_latch, after_control_word}
+use Rattle.pit8253.specs.Counter.{after_byte_of_two, after_write_by, after_write, after_read_by, after_read, after_gate}
 
 -- the counter with nothing latched, the low byte next
 abbrev pub unread : CounterState → CounterState

@@ -14,7 +14,8 @@ use Rattle.mda_text.proofs.ScreenLaws.{is_memory}
 use Rattle.wiring.specs.declared.port.Port.{Port}
 use Rattle.wiring.specs.declared.port.Port.TheVariants.{Controller, Timer, Parallel, Adapter, Nothing}
 use Rattle.wiring.specs.Chips.{ChipsState}
-use Rattle.wiring.specs.Ports.{byte_at, with_byte, is_writable, port_at, after_port_read, after_port_write, after_input, after_output, chips_bus}
+use Rattle.wiring.specs.Ports.{byte_at, with_byte, is_writable, port_at, after_port_read}
+use Rattle.wiring.specs.Ports.{after_port_write, after_input, after_output, chips_bus}
 use Rattle.wiring.specs.Wires.{after_settling}
 
 -- a write doesn't change which addresses take bytes

@@ -1,6 +1,7 @@
 -- What holds of memory and of the wires whatever the chips' states are.
 -- Laws: claims above the definitions, each proved as the contract of a function.
-use Rattle.std.specs.Prelude.{◌≡◌, ℕ, ◌+◌, ◌-◌, ◌/◌, ◌<◌, ◌≤◌, ◌&&◌, ◌||◌, not, true, false, if◌then◌else◌, List, length, None, is_some, ◌≢◌}
+use Rattle.std.specs.Prelude.{◌≡◌, ℕ, ◌+◌, ◌-◌, ◌/◌, ◌<◌, ◌≤◌, ◌&&◌, ◌||◌, not, true}
+use Rattle.std.specs.Prelude.{false, if◌then◌else◌, List, length, None, is_some, ◌≢◌}
 use Rattle.board_types.specs.Bits.{has_bit}
 use Rattle.board_types.specs.LineLevel.{is_high}
 use Rattle.board_types.specs.declared.choice.TimerKind.{TimerKind}
@@ -13,7 +14,8 @@ use Rattle.pit8253.specs.Pit as pit
 use Rattle.ppi8255.specs.Ppi.{lines_b}
 use Rattle.wiring.specs.Chips.{ChipsState, power_on}
 use Rattle.wiring.specs.Ports.{after_input, after_output, with_byte, byte_at, is_writable}
-use Rattle.wiring.specs.Wires.{after_settling, after_clock, after_clocks, after_arrival, after_arrivals, after_key_settling, after_acknowledge}
+use Rattle.wiring.specs.Wires.{after_settling, after_clock, after_clocks, after_arrival}
+use Rattle.wiring.specs.Wires.{after_arrivals, after_key_settling, after_acknowledge}
 use Rattle.wiring.specs.EachWire.{port_b_line}
 use Rattle.wiring.specs.Speaker.{is_speaker_high, is_speaker_high_after}
 

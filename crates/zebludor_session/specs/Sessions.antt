@@ -1,6 +1,7 @@
 -- How sessions begin and answer lines for a caller in C.
 -- To be believed by callers of this crate: the headline does not rest on it.
-use Rattle.std.specs.Prelude.{ℕ, ◌≡◌, ◌⊎◌, Bool, List, [], ◌++◌, length, drop, if◌then◌else◌, nat_lt, Option, None, Some, unwrap_or, Result, Ok, Err, MatchOption}
+use Rattle.std.specs.Prelude.{ℕ, ◌≡◌, ◌⊎◌, Bool, List, [], ◌++◌, length, drop, if◌then◌else◌}
+use Rattle.std.specs.Prelude.{nat_lt, Option, None, Some, unwrap_or, Result, Ok, Err, MatchOption}
 use Rattle.board_plain.specs.Board.{BoardState}
 use Rattle.debugger_meaning.specs.declared.answer.Answer.{Answer}
 use Rattle.debugger_meaning.specs.declared.fault.DebugFault.{DebugFault}

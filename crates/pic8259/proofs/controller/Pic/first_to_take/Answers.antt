@@ -5,7 +5,8 @@ use Rattle.std.specs.List.{list_any}
 use Rattle.pic8259.specs.Pic.{blocks, may_be_taken}
 use Rattle.pic8259.proofs.Walk.{none_more, found_next, may_be_taken_at, blocked_more}
 use Rattle.pic8259.proofs.controller.Pic.first_to_take.Goals as goal
-use Rattle.pic8259.proofs.controller.Pic.first_to_take.Goals.{else-not-is_blocked-via-then-not-is_blocked+else-is_pending, else-not-is_blocked-via-else-not-is_blocked}
+use Rattle.pic8259.proofs.controller.Pic.first_to_take.Goals.{else-not-is_blocked-via-then-not-is_blocked+else-is_pending}
+use Rattle.pic8259.proofs.controller.Pic.first_to_take.Goals.{else-not-is_blocked-via-else-not-is_blocked}
 
 pub returns-then-is_pending-clause-level : goal.returns-then-is_pending-clause-level
 returns-then-is_pending-clause-level c =
