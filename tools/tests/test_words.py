@@ -5,10 +5,9 @@ import collections
 import functools
 import pathlib
 import re
-import subprocess
 import unittest
 
-from tests.support import TOP, ToolCase
+from tests.support import TOP
 from toolbox.crates import Crates
 
 CRATES = pathlib.Path(TOP, 'crates')
@@ -31,8 +30,7 @@ KEPT = """act, alone, begun, block, clock, countdown, course, deed, delay, event
 mark, noted, pass, quiet to c, room, round, row, settled, silent, slot, steady, still, sync, tick, turn, unseen
 watched"""
 OPENING = re.compile(r'(?:The same|Such|Those)\b')
-WIDTHS = {'specs': 120, 'proofs': 160}  # characters of a line
-MOST = {'specs': 300, 'proofs': 4150}  # how many lines are longer
+WIDTHS = {'specs': 120, 'proofs': 160}  # the most characters of a line
 NAME = re.compile(r"(?<![\w'])[A-Za-z_][\w']*")
 NOT_CODE = {  # comments and strings
     '.rt': re.compile(r"""//[^\n]*|b?"(?:\\.|[^"\\])*"|b?'(?:\\[^\n']+|[^'\\\n])'""", re.S),
@@ -143,58 +141,17 @@ class Comments(unittest.TestCase):
 
 
 class Lines(unittest.TestCase):
-    """How long lines of definitions and of proofs are."""
+    """How long lines of definitions and of proofs are: rt fmt leaves a line as it was broken."""
 
-    def test_no_more_are_long_than_there_were(self) -> None:
+    def test_none_is_too_long(self) -> None:
         for folder, width in WIDTHS.items():
-            found = sum(long_lines(path, width) for path in CRATES.glob(f'*/{folder}/**/*.antt'))
-            self.assertLessEqual(found, MOST[folder], folder)
-
-
-def long_lines(path: pathlib.Path, width: int) -> int:
-    """How many lines of a file are longer."""
-    with open(path, encoding='utf-8') as file:
-        return sum(len(line.rstrip('\n')) > width for line in file)
-
-
-class Draw(ToolCase):
-    """dev/draw, which draws functions for a reader."""
-
-    def places(self, *more: str) -> list[str]:
-        return self.tool('dev/draw', '--places', *more)[0].splitlines()
-
-    def test_a_seed_draws_the_same_functions_again(self) -> None:
-        drawn = self.places('--seed', 'abc')
-        self.assertEqual(drawn[0], '20 functions, drawn by abc')
-        self.assertEqual(len(set(drawn[1:])), 20)
-        self.assertEqual(self.places('--seed', 'abc'), drawn)
-        self.assertNotEqual(self.places('--seed', 'abd')[1:], drawn[1:])
-        self.assertEqual(self.places('--seed', 'abc', '--count', '3')[1:], drawn[1:4])
-
-    def test_each_stands_where_it_is_said_to(self) -> None:
-        for place in self.places('--seed', 'abc', '--count', '300')[1:]:
-            path, number, name = place.split(':')
-            lines = pathlib.Path(TOP, path).read_text(encoding='utf-8').splitlines()[int(number) - 1 :]
-            head = next(line for line in lines if not line.lstrip().startswith(('///', '//', '#[')))
-            self.assertRegex(head, rf'\bfn {name.strip()}\b', place)
-
-    def test_a_function_is_shown_with_its_comment_and_body(self) -> None:
-        drawn = self.tool('dev/draw', '--seed', 'abc')[0]
-        self.assertEqual(len(re.findall(r'^# crates/.*\.rt:\d+: \w+$', drawn, re.M)), 20)
-        for text in re.split(r'^# .*\n\n', drawn, flags=re.M)[1:]:
-            self.assertEqual(text.count('{'), text.count('}'), text)
-            self.assertRegex(text, r'(?m)^ *(pub(\(crate\))? )?(const |unsafe |extern "C" )*fn \w+')
-
-    def test_the_last_commit_decides(self) -> None:
-        ran = subprocess.run(['git', '-C', TOP, 'rev-parse', 'HEAD'], capture_output=True, text=True, check=False)
-        if ran.returncode:
-            self.assertIn('give an id with --seed', self.tool('dev/draw', status=2)[1])
-        else:
-            self.assertEqual(self.places()[0], f'20 functions, drawn by {ran.stdout.strip()}')
-
-    def test_wrong_numbers(self) -> None:
-        for count in ('0', 'x', '-1', '1.5'):
-            self.assertIn("isn't a number of functions", self.tool('dev/draw', f'--count={count}', status=2)[1])
+            found = [
+                f'{path.relative_to(TOP)}:{number}'
+                for path in sorted(CRATES.glob(f'*/{folder}/**/*.antt'))
+                for number, line in enumerate(path.read_text(encoding='utf-8').split('\n'), 1)
+                if len(line) > width
+            ]
+            self.assertEqual(found[:20], [], f'more than {width} characters')
 
 
 if __name__ == '__main__':

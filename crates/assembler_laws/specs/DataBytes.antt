@@ -68,8 +68,8 @@ pub record StandsAfter (names : Names) (width : DataWidth) (items : List Item) (
 -- A data line stands in a segment, has as many bytes as its items, and has each piece at the place that is counted for
 -- it. So the i-th number of DW x, y and z is two times i bytes on, the i-th character of DB 'AB' i bytes, and the i-th
 -- copy of n DUP (x) i times the width of x.
-pub record PlacesData (names : Names) (image : List (ℕ × ℕ)) (row : LocatedLine) (width : DataWidth) (items : List Item) : Type
-    0 where
+pub record PlacesData (names : Names) (image : List (ℕ × ℕ)) (row : LocatedLine) (width : DataWidth)
+    (items : List Item) : Type 0 where
   pub location : Location
   pub has_place : row.location ≡ Some location
   pub counts : (item : Item) → Contains items item → HasCount names item
