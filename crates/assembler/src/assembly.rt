@@ -15,8 +15,8 @@ use std::alloc::Global;
 /// How many bytes a source may have at most.
 const SOURCE_LIMIT: usize = 1_048_576;
 
-/// The listing of the source, or the source's first fault. Want of memory is answered only if an allocation was really
-/// refused.
+/// Assembles a source in two passes: gives its listing, which has its image, or its first fault. Want of memory is
+/// answered only if an allocation was really refused.
 pub fn assemble(alloc: Global, source: &[u8]) -> Result<Listing, AsmFault>
     ensures source { IfOk result (λ listing. listing.source ≡ source.now) }
     ensures gives { IfOk result (λ listing. Gives source.now listing.image) }

@@ -27,7 +27,8 @@ const EQU_LEAST: i64 = -2_147_483_648;
 /// The greatest number that EQU takes.
 const EQU_GREATEST: i64 = 4_294_967_295;
 
-/// What the lines before a line leave to it.
+/// What the lines before a line leave to it, while the first pass goes through a source: where the next byte goes, and
+/// the names defined so far.
 #[derive(Drop)]
 pub(crate) struct Before {
     /// Where the next byte goes, if a segment is open.
@@ -35,8 +36,8 @@ pub(crate) struct Before {
     pub(crate) symbols: Symbols,
 }
 
-/// The fault of a line in the light of the lines before it, if it has one: of several the one with the least number.
-/// `form` is what the table gives the line's instruction.
+/// The fault that the first pass finds in a line in the light of those before it: of several the one with the least
+/// number; `None` if the line is taken. `form` is what the table gives the line's instruction.
 #[tactic(auto, unfolding(crate::specs::LocatedLines::early_fault))]
 pub(crate) fn early_fault(state: &Before, line: &Line, form: Option<Form>) -> Option<SourceFault>
     requires small { AreSmall state.now.symbols.entries }
@@ -63,14 +64,15 @@ pub(crate) fn early_fault(state: &Before, line: &Line, form: Option<Form>) -> Op
     None
 }
 
-/// Whether the statement is a SEGMENT within an open segment.
+/// Whether the statement is a SEGMENT while another one is open, which makes its line a bad one.
 fn opens_within(location: Option<Location>, statement: &Statement) -> bool
     ensures { result ≡ opens_within location statement.now }
 {
     location.is_some() && matches!(statement, Statement::Segment(_, _))
 }
 
-/// Whether a constant of the statement is out of its range.
+/// Whether a constant of SEGMENT, ORG, EQU or DUP is out of its range, which makes the line a bad one; one that isn't
+/// known is judged apart.
 fn has_wrong_constant(symbols: &Symbols, statement: &Statement) -> bool
     requires small { AreSmall symbols.now.entries }
     requires short { are_terms_within term_limit statement.now ≡ true }
@@ -84,7 +86,8 @@ fn has_wrong_constant(symbols: &Symbols, statement: &Statement) -> bool
     }
 }
 
-/// Whether a constant of the statement isn't one by the names that are known.
+/// Whether what SEGMENT, ORG, EQU or DUP takes isn't a constant by the names of earlier lines, for which the line is
+/// refused: the first pass needs its value at once.
 fn has_unknown_constant(symbols: &Symbols, statement: &Statement) -> bool
     requires small { AreSmall symbols.now.entries }
     requires short { are_terms_within term_limit statement.now ≡ true }
@@ -99,14 +102,15 @@ fn has_unknown_constant(symbols: &Symbols, statement: &Statement) -> bool
     }
 }
 
-/// Whether the statement is an instruction that no row of the table takes.
+/// Whether the statement is an instruction that no row of the encoding table takes, or with too many prefixes, for
+/// which its line is refused.
 fn lacks_form(statement: &Statement, form: Option<Form>) -> bool
     ensures { result ≡ lacks_form statement.now form }
 {
     matches!(statement, Statement::Instruction(_)) && form.is_none()
 }
 
-/// The name that SEGMENT or EQU defines.
+/// The name that a SEGMENT or EQU defines; `None` for any other statement.
 fn statement_name(statement: &Statement) -> Option<Name>
     ensures { result ≡ statement_name statement.now }
 {
@@ -120,7 +124,7 @@ fn statement_name(statement: &Statement) -> Option<Name>
     }
 }
 
-/// Whether the line defines a name that an earlier line has defined, or one name twice.
+/// Whether the line defines a name that an earlier line has defined, or one name twice, for which it is refused.
 fn defines_again(symbols: &Symbols, line: &Line) -> bool
     ensures { result ≡ defines_again symbols.now.entries line.now }
 {
@@ -128,7 +132,7 @@ fn defines_again(symbols: &Symbols, line: &Line) -> bool
     is_taken(symbols, line.label) || is_taken(symbols, name) || is_same(line.label, name)
 }
 
-/// Whether an earlier line defines the name.
+/// Whether there is a name and an earlier line defines it, so that this line may not.
 fn is_taken(symbols: &Symbols, name: Option<Name>) -> bool
     ensures { result ≡ option_map_or (is_defined symbols.now.entries) name false }
 {
@@ -138,6 +142,7 @@ fn is_taken(symbols: &Symbols, name: Option<Name>) -> bool
     }
 }
 
+/// Whether a line's label and the name of its SEGMENT or EQU are one name, which the line would thus define twice.
 fn is_same(label: Option<Name>, name: Option<Name>) -> bool
     ensures { result ≡ is_same label name }
 {
@@ -147,14 +152,15 @@ fn is_same(label: Option<Name>, name: Option<Name>) -> bool
     }
 }
 
-/// Whether the line needs an open segment, as every label does, and there is none.
+/// Whether the line needs an open segment, as a label, an instruction and data do, and there is none, for which it is
+/// refused.
 fn stands_outside(location: Option<Location>, line: &Line) -> bool
     ensures { result ≡ stands_outside location line.now }
 {
     location.is_none() && (line.label.is_some() || wants_segment(&line.statement))
 }
 
-/// Whether the statement needs an open segment.
+/// Whether the statement needs an open segment: it places bytes, or is ENDS or ORG.
 fn wants_segment(statement: &Statement) -> bool
     ensures { result ≡ wants_segment statement.now }
 {
@@ -164,7 +170,8 @@ fn wants_segment(statement: &Statement) -> bool
     )
 }
 
-/// How many bytes the line places. `form` is what the table gives the line's instruction.
+/// How many bytes the line places, by which the first pass moves the location on. `form` is what the table gives the
+/// line's instruction.
 pub(crate) fn size_of(symbols: &Symbols, statement: &Statement, form: Option<Form>) -> u64
     requires small { AreSmall symbols.now.entries }
     requires short { are_terms_within term_limit statement.now ≡ true }
@@ -181,7 +188,8 @@ pub(crate) fn size_of(symbols: &Symbols, statement: &Statement, form: Option<For
     }
 }
 
-/// The form that the table gives the statement, if it is an instruction.
+/// The form that the encoding table gives the statement in the first pass; `None` if it is no instruction, or one that
+/// no row takes.
 pub(crate) fn statement_form(symbols: &Symbols, statement: &Statement) -> Option<Form>
     requires small { AreSmall symbols.now.entries }
     requires short { are_terms_within term_limit statement.now ≡ true }
@@ -194,7 +202,7 @@ pub(crate) fn statement_form(symbols: &Symbols, statement: &Statement) -> Option
     }
 }
 
-/// A constant as a word, if the expression is one.
+/// A constant as the paragraph of a SEGMENT or the offset of an ORG; `None` if the expression is no constant.
 fn word_of(symbols: &Symbols, expression: &Expression) -> Option<u16>
     requires small { AreSmall symbols.now.entries }
     requires short { IsShort expression.now }
@@ -207,7 +215,7 @@ fn word_of(symbols: &Symbols, expression: &Expression) -> Option<u16>
     }
 }
 
-/// Where the next byte goes after the statement, which places `size` bytes.
+/// Where the next byte goes after the statement, which places `size` bytes; `None` if no segment is open then.
 pub(crate) fn location_after(state: &Before, statement: &Statement, size: u64) -> Option<Location>
     requires small { AreSmall state.now.symbols.entries }
     requires short { are_terms_within term_limit statement.now ≡ true }

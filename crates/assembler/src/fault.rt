@@ -35,7 +35,8 @@ pub enum SourceFault {
 }
 
 impl SourceFault {
-    /// The fault's number.
+    /// The fault's number, from 2 to 12, which is printed with its name and by which programs tell one fault from
+    /// another. Of a line's faults in one pass the least is given.
     pub fn number(self) -> u8
         ensures { result ≡ source_fault_number self }
     {
@@ -54,7 +55,7 @@ impl SourceFault {
         }
     }
 
-    /// The fault's name.
+    /// The name of why a line is refused, as it is printed beside the fault's number.
     pub fn name(self) -> &'static str
         ensures { result.now ≡ source_fault_name self }
     {
@@ -73,7 +74,7 @@ impl SourceFault {
         }
     }
 
-    /// A fault that a line has by itself, as one of the source.
+    /// The fault of a line that can't be read, as the first pass gives it, from what the line's reader says.
     pub(crate) fn of_line(fault: SyntaxFault) -> SourceFault
         ensures { result ≡ fault_of_line fault }
     {
@@ -100,13 +101,15 @@ pub enum AsmFault {
 impl From<AllocError> for AsmFault {
     ghost from_gives = { λ _ fault. fault ≡ Memory };
 
+    /// Lets `?` answer a refused allocation while a source is assembled as want of memory.
     fn from(_error: AllocError) -> AsmFault {
         AsmFault::Memory
     }
 }
 
 impl AsmFault {
-    /// The fault's number.
+    /// The number of why a source is refused, from 1 to 13, which is printed with its name and by which programs tell
+    /// one fault from another.
     pub fn number(self) -> u8
         ensures { result ≡ fault_number self }
     {
@@ -117,7 +120,7 @@ impl AsmFault {
         }
     }
 
-    /// The fault's name.
+    /// The name of why a source is refused, as it is printed beside the fault's number.
     pub fn name(self) -> &'static str
         ensures { result.now ≡ fault_name self }
     {
@@ -128,7 +131,7 @@ impl AsmFault {
         }
     }
 
-    /// The fault's line, counted from 1, if it has one.
+    /// The fault's line in the source, counted from 1, for its report; `None` if it belongs to no line.
     pub fn line(self) -> Option<u32>
         ensures { result ≡ fault_line self }
     {
@@ -139,7 +142,7 @@ impl AsmFault {
     }
 }
 
-/// Why a line isn't taken.
+/// Why the first pass stops at a line: a fault of the line, or want of memory.
 #[derive(Clone, Copy, Drop)]
 pub(crate) enum LineStop {
     Fault(SourceFault),

@@ -6,7 +6,7 @@ use assembler_syntax::statement::{DataWidth, Instruction, Item};
 use isa::form::Form;
 use std::boxed::Box;
 
-/// What a line places.
+/// What a line places, as the first pass leaves it to the second one.
 #[derive(Drop)]
 pub(crate) enum Content {
     Data(DataWidth, Sequence<Item>),
@@ -14,7 +14,8 @@ pub(crate) enum Content {
     Code(Form, Instruction),
 }
 
-/// A line that has no fault by itself or by the lines before it.
+/// A line without a fault by itself or by the lines before it, as the first pass saves it for the second one and the
+/// listing.
 #[derive(Drop)]
 pub(crate) struct KeptLine {
     /// Where its text begins in the source.

@@ -25,7 +25,7 @@ use std::marker::Model;
 /// How many of a line's bytes the listing shows at most.
 const SHOWN: u64 = 8;
 
-/// An assembled source.
+/// An assembled source: its image, and what its listing and the list of its names are made from.
 #[derive(Drop)]
 pub struct Listing {
     pub(crate) reading: Reading,
@@ -50,22 +50,22 @@ impl Model for Listing {
 }
 
 impl Listing {
-    /// The image that the source gives.
+    /// The image that the source gives, for running it or writing it as a HEX text.
     pub fn image(&self) -> &Image
         ensures { result.now ≡ self.now.image }
     {
         &self.image
     }
 
-    /// The image that the source gives, without the listing.
+    /// The image that the source gives, if nobody wants the listing any more; its memory is given back.
     pub fn into_image(self) -> Image
         ensures { result ≡ self.image }
     {
         self.image
     }
 
-    /// The listing's line `i`, from 0 on: where the line's bytes stand, the first eight of them, a `+` if there are
-    /// more, and the source's line. `None` past the last line.
+    /// Returns the listing's line `i`, from 0 on, for printing: where the line's bytes stand, the first eight of them,
+    /// a `+` if there are more, and the source's line. `None` past the last line.
     pub fn line(&self, alloc: Global, i: usize) -> Result<Option<String>, AsmFault>
         ensures line { (located_lines : List LocatedLine) → AreLocatedLines [] (text_lines self.now.source) located_lines
             → IfOk result (λ text. option_map string_bytes text
@@ -79,8 +79,9 @@ impl Listing {
         Ok(Some(text))
     }
 
-    /// The `i`-th name that the source defines, from 0 on, in upper case, with its value, which for a label is its
-    /// offset. Names come in the order of their lines, and a line's label comes first. `None` past the last name.
+    /// Returns the `i`-th name that the source defines, from 0 on, in upper case, with its value, a label's offset or a
+    /// constant, for programs that show a source's names. They come in the order of their lines, a line's label first.
+    /// `None` past the last.
     pub fn symbol(&self, i: usize) -> Option<(&str, i64)>
         ensures { option_map (λ found. (found.0.now, found.1)) result ≡ symbol_at self.now.names i }
     {
@@ -89,7 +90,8 @@ impl Listing {
     }
 }
 
-/// The listing's line of a row.
+/// The listing's line for a line of the source: where its bytes stand and the first of them, or spaces if it has none,
+/// and the source's text.
 fn line_text(
     alloc: Global,
     source: &[u8],
@@ -110,7 +112,8 @@ fn line_text(
     Ok(text)
 }
 
-/// What the listing shows in place of bytes, if a row has none.
+/// The 28 spaces that the listing shows for a line without bytes, as wide as a place and eight bytes, so that the texts
+/// stand below each other.
 fn no_place_text(alloc: Global) -> Result<String, AllocError>
     ensures { IfOk result (λ text. string_bytes text ≡ spaces 28) }
 {
@@ -119,7 +122,8 @@ fn no_place_text(alloc: Global) -> Result<String, AllocError>
     Ok(text)
 }
 
-/// Where a row's bytes stand, and the first eight of them.
+/// The 28 characters before a line's text in the listing: where its bytes stand, the first eight of them, and a `+` if
+/// there are more.
 #[tactic(auto, unfolding(crate::specs::Shown::shown_place))]
 fn place_text(
     alloc: Global,
@@ -142,7 +146,8 @@ fn place_text(
     Ok(text)
 }
 
-/// Adds the first `count` bytes from the location on, as digits.
+/// Appends to a listing's line, in hexadecimal, the `count` bytes of the image from `location` on; a byte that the
+/// image lacks is shown as 00.
 #[tactic(auto, using(crate::proofs::ListingShown::digits_more))]
 fn push_bytes(
     alloc: Global,
@@ -162,6 +167,7 @@ fn push_bytes(
     Ok(())
 }
 
+/// Adds spaces to a listing's line, so that all texts of the source stand below each other.
 fn push_spaces(text: &mut String, count: u64) -> Result<(), AllocError>
     ensures { OnOk result (string_bytes text.new ≡ string_bytes text.old ++ spaces count) }
 {
@@ -171,7 +177,7 @@ fn push_spaces(text: &mut String, count: u64) -> Result<(), AllocError>
     Ok(())
 }
 
-/// A name without the zeros that fill it up.
+/// The text of one of a source's names, without the zeros that fill it up.
 fn name_text(name: &Name) -> &str
     requires { IsAscii (letters_of name.now) }
     ensures { result.now ≡ letters_of name.now }
@@ -180,7 +186,7 @@ fn name_text(name: &Name) -> &str
     ascii_text(letters.split_at(name_length(letters)).0)
 }
 
-/// How many letters stand before the zeros that fill a name up.
+/// How many letters a name has: those before the zeros that fill it up.
 fn name_length(letters: &[u8]) -> usize
     ensures { result ≡ prefix_len (λ letter. nat_lt 0 letter) letters.now }
 {
@@ -194,7 +200,7 @@ fn name_length(letters: &[u8]) -> usize
     length
 }
 
-/// ASCII characters as a text.
+/// ASCII characters as a text, for the listing: a line of the source, or a name.
 fn ascii_text(characters: &[u8]) -> &str
     requires { IsAscii characters.now }
     ensures { result.now ≡ characters.now }

@@ -29,7 +29,8 @@ use std::alloc::{AllocError, Global};
 /// How many offsets a segment has.
 const SEGMENT_SIZE: u64 = 65_536;
 
-/// The image that a source's lines make, or the fault of the first line that can't be placed.
+/// Makes the second pass over a source that the first one has read: puts the bytes of its lines into an image, or gives
+/// the fault of the first line that can't be placed.
 pub(crate) fn place_all(alloc: Global, reading: &Reading) -> Result<Image, AsmFault>
     requires reads { Reads reading.now.source.items reading.now.symbols.entries reading.now.located_lines.items }
     ensures gives { IfOk result (Gives reading.now.source.items) }
@@ -44,7 +45,8 @@ pub(crate) fn place_all(alloc: Global, reading: &Reading) -> Result<Image, AsmFa
     Ok(image)
 }
 
-/// Places the bytes of the line with this number, if it can be placed.
+/// Puts the bytes of the line with this number, counted from 1, into the image, or gives its fault: of the names and
+/// numbers in it, or of where its bytes would go.
 fn place_line(
     alloc: Global,
     image: &mut Image,
@@ -67,8 +69,8 @@ fn place_line(
     Ok(put_line(alloc, image, symbols, located)?)
 }
 
-/// The fault of a line in the light of all names and of the bytes placed so far, if it has one: of several the one with
-/// the least number.
+/// The fault that the second pass finds in a line, in the light of all names and of the bytes placed so far: of several
+/// the one with the least number. `None` if the line can be placed.
 #[tactic(auto, unfolding(crate::specs::Placement::late_fault))]
 fn late_fault(image: &Image, symbols: &Symbols, located: &KeptLine) -> Option<SourceFault>
     requires small { AreSmall symbols.now.entries }
@@ -84,7 +86,8 @@ fn late_fault(image: &Image, symbols: &Symbols, located: &KeptLine) -> Option<So
     placing_fault(image, location, located.size, located.has_label)
 }
 
-/// The fault in the names and numbers of what stands at the location.
+/// The fault in the names and numbers of an instruction or data line that stands at the location and has `size` bytes;
+/// `None` if each name is defined and each number fits its field.
 fn content_fault(
     symbols: &Symbols,
     location: Location,
@@ -107,6 +110,8 @@ fn content_fault(
     }
 }
 
+/// The fault in the numbers of a data line that stands at the location: a name that isn't defined comes before a number
+/// that doesn't fit the width. `None` if there is neither.
 fn data_fault(
     symbols: &Symbols,
     location: Location,
@@ -128,7 +133,8 @@ fn data_fault(
     }
 }
 
-/// The numbers in the fields of an instruction that stands at the location, or its fault.
+/// The numbers in the fields of an instruction that stands at the location and has `size` bytes, from which its bytes
+/// are made; or its fault, a name that isn't defined or a number out of its field's range.
 fn code_values(
     symbols: &Symbols,
     location: Location,
@@ -156,7 +162,8 @@ fn code_values(
     }
 }
 
-/// The fault of placing `size` bytes from the location on.
+/// The fault of where a line's bytes would go, `size` of them from the location on: past the segment's end, onto a byte
+/// that is there already, or where the board can't be loaded. `None` if they can be placed.
 fn placing_fault(
     image: &Image,
     location: Location,
@@ -179,7 +186,8 @@ fn placing_fault(
     }
 }
 
-/// Whether a byte or the label lies past offset FFFFh.
+/// Whether one of a line's bytes, or its label, would lie past offset FFFFh of its segment, for which the line is
+/// refused.
 fn is_past_end(location: Location, size: u64, has_label: bool) -> bool
     requires ends { location.offset + size ≤ 2 ^ 40 }
     ensures { result ≡ is_past_end location size has_label }
@@ -188,7 +196,8 @@ fn is_past_end(location: Location, size: u64, has_label: bool) -> bool
         || (has_label && location.offset >= SEGMENT_SIZE)
 }
 
-/// Whether the image has a byte already where one of `size` bytes from the location on would go.
+/// Whether an earlier line has placed a byte where one of this line's bytes would go, `size` of them from the location
+/// on; for this the line is refused.
 fn overlaps(image: &Image, location: Location, size: u64) -> bool
     requires within { 0 < size → location.offset + size ≤ 65536 }
     ensures { result ≡ list_any (has_byte image.now) (addresses_from location 0 size) }
@@ -201,6 +210,8 @@ fn overlaps(image: &Image, location: Location, size: u64) -> bool
     false
 }
 
+/// Whether the board can be loaded at each address of a line's bytes, `size` of them from the location on; if not, the
+/// line is refused.
 fn can_load(location: Location, size: u64) -> bool
     requires within { 0 < size → location.offset + size ≤ 65536 }
     ensures { result ≡ list_all is_loadable (addresses_from location 0 size) }
@@ -213,7 +224,8 @@ fn can_load(location: Location, size: u64) -> bool
     true
 }
 
-/// The address of the byte that is `n` bytes after the location, within its segment.
+/// The address of the byte that is `n` bytes after the location, within its segment: where the second pass puts a
+/// line's bytes, and the listing finds them.
 pub(crate) fn address_at(location: Location, n: u64) -> u32
     requires within { location.offset + n < 65536 }
     ensures { result ≡ address_after location n }
@@ -221,7 +233,8 @@ pub(crate) fn address_at(location: Location, n: u64) -> u32
     physical(location.segment, (location.offset + n) as u16)
 }
 
-/// Puts the bytes of a line that has no fault into the image.
+/// Puts the bytes of a line, which the second pass has found without a fault, into the image; none if the line has no
+/// bytes. Fails only for want of memory.
 fn put_line(
     alloc: Global,
     image: &mut Image,
@@ -246,7 +259,8 @@ fn put_line(
     put_bytes(image, location, bytes.as_slice())
 }
 
-/// The bytes of what stands at the location, which has no fault.
+/// The bytes of an instruction or data line without a fault that stands at the location and has `size` bytes, for the
+/// image.
 fn content_bytes(
     alloc: Global,
     symbols: &Symbols,
@@ -273,6 +287,7 @@ fn content_bytes(
     }
 }
 
+/// Puts a line's bytes into the image, from the location on. Fails only for want of memory.
 fn put_bytes(image: &mut Image, location: Location, bytes: &[u8]) -> Result<(), AllocError>
     requires image { IsImage image.old }
     requires within { 0 < length bytes.now → location.offset + length bytes.now ≤ 65536 }

@@ -28,7 +28,7 @@ use isa::form::Form;
 use std::alloc::{AllocError, Global};
 use std::boxed::Box;
 
-/// What the first pass keeps of a source: a copy of it, its rows and its names.
+/// What the first pass leaves of a source to the second one and to the listing: a copy of it, its lines and its names.
 #[derive(Drop)]
 pub(crate) struct Reading {
     pub(crate) source: Vec<u8>,
@@ -36,7 +36,8 @@ pub(crate) struct Reading {
     pub(crate) symbols: Symbols,
 }
 
-/// Reads all lines of the source.
+/// Makes the first pass over a source: reads each line, finds where it stands and how many bytes it has, and defines
+/// its names. Gives what the second pass needs, or the first fault.
 pub(crate) fn read_source(alloc: Global, source: &[u8]) -> Result<Reading, AsmFault>
     requires within { length source.now ≤ source_limit }
     ensures source { IfOk result (λ reading. reading.source.items ≡ source.now) }
@@ -66,7 +67,8 @@ pub(crate) fn read_source(alloc: Global, source: &[u8]) -> Result<Reading, AsmFa
     })
 }
 
-/// Reads the line with this number, whose text begins at `start` in the source, and keeps its row.
+/// Takes the line with this number, whose text begins at `start` in the source, into the first pass: reads it and adds
+/// it to those read so far, or gives its fault with the number.
 fn add_text(
     alloc: Global,
     state: &mut Before,
@@ -88,13 +90,15 @@ fn add_text(
     }
 }
 
+/// Adds a line to those that the first pass has read. Fails only for want of memory.
 fn push_located(located_lines: &mut Vec<KeptLine>, located: KeptLine) -> Result<(), AllocError>
     ensures { OnOk result (located_lines.new.items ≡ located_lines.old.items ++ located ∷ []) }
 {
     Ok(located_lines.push(located)?)
 }
 
-/// The row of a line, whose names are added and after which the location moves on, or why it isn't taken.
+/// Reads a line in the light of those before it, defines its names, and moves the location on past its bytes; or gives
+/// the fault for which the first pass refuses it.
 fn read_located_line(
     alloc: Global,
     state: &mut Before,
@@ -122,8 +126,8 @@ fn read_located_line(
     }
 }
 
-/// Adds the names of a line that has no fault, moves the location on, and gives the row to keep. The line's text begins
-/// at `start` in the source and has `length` bytes.
+/// Defines the names of a line in which the first pass has found no fault, moves the location on, and gives what is
+/// saved of the line for the second pass. Its text begins at `start` in the source and has `length` bytes.
 fn add_line(
     alloc: Global,
     state: &mut Before,
@@ -162,7 +166,8 @@ fn add_line(
     })
 }
 
-/// The name that a label defines, for the place of the next byte.
+/// What a line's label defines: its name, for the place of the byte that follows it. `None` if the line has no label or
+/// no segment is open.
 fn label_definition(location: Option<Location>, label: Option<Name>) -> Option<(Name, Symbol)>
     ensures { definition_names result ≡ label_definition location label }
 {
@@ -172,7 +177,7 @@ fn label_definition(location: Option<Location>, label: Option<Name>) -> Option<(
     }
 }
 
-/// The name that SEGMENT or EQU defines, for its constant.
+/// What SEGMENT or EQU defines: its name, for its constant. `None` for any other statement.
 fn statement_definition(symbols: &Symbols, statement: &Statement) -> Option<(Name, Symbol)>
     requires small { AreSmall symbols.now.entries }
     requires short { are_terms_within term_limit statement.now ≡ true }
@@ -187,7 +192,8 @@ fn statement_definition(symbols: &Symbols, statement: &Statement) -> Option<(Nam
     }
 }
 
-/// Adds a name that isn't defined yet, if there is one.
+/// Adds what a line defines, if anything, to the names of the source; the name is new, since a line that defines one
+/// again is refused before. Fails only for want of memory.
 fn define(symbols: &mut Symbols, definition: Option<(Name, Symbol)>) -> Result<(), AllocError>
     requires { IsNewDefinition symbols.old.entries definition }
     ensures { OnOk result (symbols.new.entries ≡ symbols.old.entries ++ definition_names definition) }
@@ -199,7 +205,8 @@ fn define(symbols: &mut Symbols, definition: Option<(Name, Symbol)>) -> Result<(
     Ok(())
 }
 
-/// What the second pass needs of a statement.
+/// What the second pass needs of a statement to make its bytes: a data line's items, or an instruction with its form.
+/// `None` if the statement places none.
 fn kept(
     alloc: Global,
     statement: Statement,

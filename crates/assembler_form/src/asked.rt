@@ -19,7 +19,8 @@ pub struct Asked {
 }
 
 impl Asked {
-    /// What a line with a mnemonic and these operands asks.
+    /// What a line with a mnemonic and these operands asks of the encoding table: the mnemonic's operation, the
+    /// operands in the table's order, and the size of memory taken from the other operand if none is written.
     #[tactic(auto, unfolding(crate::specs::Asked::asked))]
     pub fn of(mnemonic: Mnemonic, first: KnownOperand, second: KnownOperand) -> Asked
         ensures { result ≡ asked mnemonic first second }
@@ -34,6 +35,8 @@ impl Asked {
         }
     }
 
+    /// What a line asks whose operands are in the table's order: each in memory gets its size from the other or from
+    /// the operation, if none is written.
     fn in_order(operation: Operation, first: KnownOperand, second: KnownOperand) -> Asked
         ensures { result ≡ asked_in_order operation first second }
     {
@@ -45,7 +48,8 @@ impl Asked {
     }
 }
 
-/// The operation that a mnemonic means: JMP and CALL leave the segment if their first operand is far.
+/// The operation by which the encoding table is searched for a mnemonic: the near one, or for JMP and CALL with a far
+/// first operand the one that leaves the segment.
 fn operation_meant(mnemonic: Mnemonic, first: KnownOperand) -> Operation
     ensures { result ≡ operation_meant mnemonic first }
 {
@@ -55,7 +59,8 @@ fn operation_meant(mnemonic: Mnemonic, first: KnownOperand) -> Operation
     }
 }
 
-/// The operand that is meant: those of NOP are AX, and aren't written.
+/// An operand as the encoding table has it: the table's NOP is XCHG AX, AX, so for an operand that NOP doesn't have AX
+/// is asked. Any other mnemonic keeps its operands, while one written after NOP is dropped, so that no row takes it.
 fn operand_meant(mnemonic: Mnemonic, operand: KnownOperand) -> KnownOperand
     ensures { result ≡ operand_meant mnemonic operand }
 {
@@ -68,7 +73,8 @@ fn operand_meant(mnemonic: Mnemonic, operand: KnownOperand) -> KnownOperand
     }
 }
 
-/// Whether the table has the operands in the other order.
+/// Whether the operands are swapped before the encoding table is searched, since it has TEST and XCHG in one order
+/// only: TEST's and XCHG's memory first, and XCHG's AX first.
 fn is_exchanged(operation: Operation, first: KnownOperand, second: KnownOperand) -> bool
     ensures { result ≡ is_exchanged operation first second }
 {
@@ -81,6 +87,7 @@ fn is_exchanged(operation: Operation, first: KnownOperand, second: KnownOperand)
     }
 }
 
+/// Whether the operands are a word register and AX: so written, XCHG is asked of the table with AX first.
 fn is_register_and_ax(first: KnownOperand, second: KnownOperand) -> bool
     ensures { result ≡ is_register_and_ax first second }
 {
@@ -93,7 +100,8 @@ fn is_register_and_ax(first: KnownOperand, second: KnownOperand) -> bool
     )
 }
 
-/// The size that memory gets from the register beside it, or from its operation.
+/// The size of an operand in memory without a size word: a word for PUSH, POP, JMP and CALL, else that of the register
+/// beside it. `None` if there is none, or for a shift, whose CL says nothing of the size: then no row takes it.
 fn size_beside(operation: Operation, other: KnownOperand) -> Option<Size>
     ensures { result ≡ size_beside operation other }
 {
@@ -106,7 +114,8 @@ fn size_beside(operation: Operation, other: KnownOperand) -> Option<Size>
 }
 
 impl KnownMemory {
-    /// This place in memory with the size, if no size word was written for it.
+    /// A place in memory with this size, if no size word was written for it; for memory that takes its size from the
+    /// other operand.
     fn with_size(self, size: Option<Size>) -> KnownMemory
         ensures { result ≡ with_size self size }
     {
@@ -116,6 +125,7 @@ impl KnownMemory {
         }
     }
 
+    /// Whether FAR was written for the place: it holds an offset and a segment.
     pub(crate) fn is_far(self) -> bool
         ensures { result ≡ is_far_size self.size }
     {
@@ -124,7 +134,7 @@ impl KnownMemory {
 }
 
 impl KnownOperand {
-    /// Whether the operand is a far target, or memory that holds one.
+    /// Whether the operand is a far target, or memory that holds one: with it JMP and CALL leave the segment.
     fn is_far(self) -> bool
         ensures { result ≡ is_far self }
     {
@@ -135,12 +145,14 @@ impl KnownOperand {
         }
     }
 
+    /// Whether the operand is in memory, which TEST and XCHG take first in the table.
     fn is_memory(self) -> bool
         ensures { result ≡ is_memory self }
     {
         matches!(self, KnownOperand::Memory(_))
     }
 
+    /// The size of a register, which memory beside it takes over; `None` for an operand that is no register.
     fn register_size(self) -> Option<Size>
         ensures { result ≡ register_size self }
     {
@@ -151,7 +163,8 @@ impl KnownOperand {
         }
     }
 
-    /// The operand with its size, which is that of the other operand if it is memory without a size word.
+    /// The operand as the table is asked for it: memory without a size word gets its size from the operand beside it,
+    /// `other`, or from the operation; any other stays as it is.
     fn sized(self, operation: Operation, other: KnownOperand) -> KnownOperand
         ensures { result ≡ sized operation self other }
     {

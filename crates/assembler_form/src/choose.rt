@@ -12,7 +12,8 @@ use isa::form::Form;
 use isa::row::Row;
 use isa::table::table;
 
-/// The form of the table's first row that takes a mnemonic with these operands. `None` if no row does.
+/// Chooses the form of an instruction for the assembler's first pass: the encoding table's first row that takes the
+/// mnemonic with these operands, and what the operands put into its bytes. `None` if no row takes them.
 pub fn choose(mnemonic: Mnemonic, first: KnownOperand, second: KnownOperand) -> Option<Form>
     ensures chosen { IfSome result (IsChosen (asked mnemonic first second)) }
     ensures form { IfSome result IsForm }
@@ -23,6 +24,8 @@ pub fn choose(mnemonic: Mnemonic, first: KnownOperand, second: KnownOperand) -> 
     Some(asked.form_with(row))
 }
 
+/// The first of the rows that takes what a line asks; the encoding table's order thus decides which of several
+/// encodings the assembler uses. `None` if none takes it.
 fn first_that_fits(rows: &[Row], asked: &Asked) -> Option<Row>
     ensures first { IfSome result (IsFirst rows.now asked.now) }
     ensures none { IfNone result (NoneTakes rows.now asked.now) }

@@ -18,9 +18,9 @@ pub struct Numbers {
     pub segment: i64,
 }
 
-/// The numbers in the fields of the form's bytes, if the next instruction stands at the offset `next`. `None` if one is
-/// out of its field's range: -128 to 255 for a byte, -32,768 to 65,535 for a word, and -128 to 127 for a target in a
-/// byte. A target in a word wraps at 65,536.
+/// The numbers in the fields of an instruction's bytes, for the assembler's second pass, if the next instruction stands
+/// at the offset `next`. `None` if one is out of range: -128 to 255 for a byte, -32,768 to 65,535 for a word, and -128
+/// to 127 for the distance of a short jump. A near target's distance wraps at 65,536.
 #[tactic(auto, unfolding(crate::specs::Fields::values_of))]
 pub fn values_of(form: &Form, next: i64, numbers: &Numbers) -> Option<Values>
     ensures value { result ≡ values_of form.now next numbers.now }
@@ -34,7 +34,9 @@ pub fn values_of(form: &Form, next: i64, numbers: &Numbers) -> Option<Values>
     })
 }
 
-/// The kind of the operand in the row's own field.
+/// The kind of the operand that has a field of its own in the row's bytes, beside the displacement: an immediate
+/// number, a target or an address. By it the number in the field is worked out; if no operand has one, a kind without a
+/// number.
 fn field_kind(row: Row) -> Kind
     ensures { result ≡ field_kind row }
 {
@@ -51,6 +53,8 @@ fn field_kind(row: Row) -> Kind
     }
 }
 
+/// The number in a displacement's field of this size, 0 if there is none; `None` if the displacement is out of its
+/// range.
 fn displacement_in(field: Field, displacement: i64) -> Option<u16>
     ensures { result ≡ displacement_in field displacement }
 {
@@ -61,6 +65,8 @@ fn displacement_in(field: Field, displacement: i64) -> Option<u16>
     }
 }
 
+/// The number in the field of an operand of this kind: an immediate number, an offset, or a target's distance from
+/// `next`, the offset of the next instruction. 0 if the kind has no field; `None` if the number is out of its range.
 fn number_in(kind: Kind, next: i64, numbers: &Numbers) -> Option<u16>
     ensures { result ≡ number_in kind next numbers.now }
 {
@@ -75,6 +81,7 @@ fn number_in(kind: Kind, next: i64, numbers: &Numbers) -> Option<u16>
     }
 }
 
+/// The segment in the field of a far target, 0 for any other kind of operand; `None` if it is no word.
 fn segment_in(kind: Kind, segment: i64) -> Option<u16>
     ensures { result ≡ segment_in kind segment }
 {
@@ -84,7 +91,8 @@ fn segment_in(kind: Kind, segment: i64) -> Option<u16>
     }
 }
 
-/// A number from -128 to 255 as a byte.
+/// The byte that an immediate field has for a number, which the assembler takes signed or unsigned, from -128 to 255:
+/// the number modulo 256; `None` for any other.
 fn byte_of(number: i64) -> Option<u16>
     ensures { result ≡ byte_of number }
 {
@@ -95,7 +103,8 @@ fn byte_of(number: i64) -> Option<u16>
     }
 }
 
-/// A number from -128 to 127 as a byte.
+/// A number that the processor extends by its sign, as it stands in its field of a byte: from -128 to 127, modulo 256;
+/// `None` for any other. For displacements, signed immediate bytes and the distances of short jumps.
 fn signed_byte_of(number: i64) -> Option<u16>
     ensures { result ≡ signed_byte_of number }
 {
@@ -106,7 +115,8 @@ fn signed_byte_of(number: i64) -> Option<u16>
     }
 }
 
-/// A number from -32,768 to 65,535 as a word.
+/// A number as it stands in a field of a word: from -32,768 to 65,535, so signed or unsigned, modulo 65,536; `None` for
+/// any other.
 fn word_of(number: i64) -> Option<u16>
     ensures { result ≡ word_of number }
 {
@@ -117,7 +127,8 @@ fn word_of(number: i64) -> Option<u16>
     }
 }
 
-/// The difference of the two numbers modulo 65,536.
+/// The distance of a near target from the next instruction, `number` less `other`, modulo 65,536: the processor's IP
+/// wraps, so each target can be reached.
 fn difference_modulo_word(number: i64, other: i64) -> u16
     ensures { result ≡ modulo 65536 (number -ℤ other) }
 {

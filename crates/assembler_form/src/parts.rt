@@ -10,7 +10,8 @@ use isa::form::{Base, Form, Place};
 use isa::row::{Kind, Row};
 
 impl Asked {
-    /// The form of a row with its operands.
+    /// The form of what a line asks in the row that was chosen for it: the row, and what the operands put into its
+    /// opcode, reg, and mod and r/m.
     #[tactic(auto, unfolding(crate::specs::OperandBytes::form_with))]
     pub(crate) fn form_with(&self, row: Row) -> Form
         ensures { result ≡ form_with row self.now }
@@ -27,7 +28,8 @@ impl Asked {
     }
 }
 
-/// A base without a displacement; BP alone must have one, and gets a byte.
+/// What mod and r/m say of a base without a displacement. BP alone gets a displacement of a byte, since its bits
+/// without one mean a bare offset.
 fn place_without(base: Base) -> Place
     ensures { result ≡ place_without base }
 {
@@ -37,6 +39,8 @@ fn place_without(base: Base) -> Place
     }
 }
 
+/// What mod and r/m say of a base with a displacement, in the shortest form: none for a constant 0, a byte for one from
+/// -128 to 127, else a word, as for a number that isn't known yet.
 fn place_with(base: Base, displacement: Number) -> Place
     ensures { result ≡ place_with base displacement }
 {
@@ -48,7 +52,7 @@ fn place_with(base: Base, displacement: Number) -> Place
 }
 
 impl KnownOperand {
-    /// The number of a register; any other operand has 0.
+    /// A register's number, as it stands in three bits of an instruction; any other operand has 0.
     fn register_number(self) -> u8
         ensures value { result ≡ register_number self }
         ensures bound { result < 8 }
@@ -61,7 +65,8 @@ impl KnownOperand {
         }
     }
 
-    /// The number of an ESC; any other operand has 0.
+    /// The number from 0 to 63 that ESC hands to a coprocessor; any other operand has 0. Its bits go into the opcode
+    /// and reg.
     fn escape_number(self) -> u8
         ensures value { result ≡ escape_number self }
         ensures bound { result < 64 }
@@ -74,7 +79,8 @@ impl KnownOperand {
         }
     }
 
-    /// What mod and r/m name for the operand.
+    /// What mod and r/m name for an operand that stands there: a base with or without a displacement, a bare offset, or
+    /// a register.
     fn place_named(self) -> Place
         ensures { result ≡ place_of self }
     {
@@ -93,7 +99,8 @@ impl KnownOperand {
         }
     }
 
-    /// What an operand of this kind puts into the opcode.
+    /// What an operand puts into the register bits of the opcode, if the row has it as this kind: a register's number,
+    /// or the upper three bits of ESC's number; else 0.
     fn code(self, kind: Kind) -> u8
         ensures value { result ≡ in_opcode kind self }
         ensures bound { result < 8 }
@@ -107,7 +114,8 @@ impl KnownOperand {
         }
     }
 
-    /// What an operand of this kind puts into reg.
+    /// What an operand puts into the reg bits after the opcode, if the row has it as this kind: a register's number, or
+    /// the lower three bits of ESC's number; else 0.
     fn reg(self, kind: Kind) -> u8
         ensures value { result ≡ in_reg kind self }
         ensures bound { result < 8 }
@@ -119,7 +127,7 @@ impl KnownOperand {
         }
     }
 
-    /// What mod and r/m name for an operand of this kind.
+    /// What mod and r/m name for an operand, if the row has it as this kind; `Absent` if the kind doesn't stand there.
     fn place(self, kind: Kind) -> Place
         ensures { result ≡ in_place kind self }
     {

@@ -12,7 +12,8 @@ use isa::register::{ByteRegister, SegmentRegister, WordRegister};
 use isa::row::{Kind, Row};
 
 impl Asked {
-    /// Whether the row takes what is asked.
+    /// Whether the row encodes what the line asks: it has the operation, and each operand is of the kind that the row
+    /// has there. By it the first row that fits is chosen.
     #[tactic(auto, using(crate::proofs::Alike::alike))]
     pub(crate) fn is_taken_by(&self, row: Row) -> bool
         ensures { IsTrue result ↔ Takes row self.now }
@@ -23,6 +24,7 @@ impl Asked {
     }
 }
 
+/// Whether the two are one operation: that of a row, and that which a line asks.
 fn is_same(one: Operation, other: Operation) -> bool
     ensures { IsTrue result ↔ (one ≡ other) }
 {
@@ -43,12 +45,14 @@ fn is_same(one: Operation, other: Operation) -> bool
 }
 
 impl KnownMemory {
+    /// Whether the place in memory is a byte, by its size word or the operand beside it.
     fn has_byte(self) -> bool
         ensures { result ≡ is_byte_size self.size }
     {
         matches!(self.size, Some(Size::Byte))
     }
 
+    /// Whether the place in memory is a word, by its size word or the operand beside it.
     fn has_word(self) -> bool
         ensures { result ≡ is_word_size self.size }
     {
@@ -56,7 +60,8 @@ impl KnownMemory {
     }
 }
 
-/// Whether a number is from `least` to `greatest`.
+/// Whether a number is from `least` to `greatest`, as one must be for a displacement or immediate number of a byte, or
+/// for ESC.
 pub(crate) fn is_within(number: i64, least: i64, greatest: i64) -> bool
     ensures { result ≡ is_within least greatest number }
 {
@@ -64,7 +69,8 @@ pub(crate) fn is_within(number: i64, least: i64, greatest: i64) -> bool
 }
 
 impl KnownOperand {
-    /// Whether the operand is of this kind, in a row of the operation.
+    /// Whether the operand is of the kind that a row has in its place, in a row of this operation; by it a row is
+    /// chosen.
     fn is_of(self, kind: Kind, operation: Operation) -> bool
         ensures { result ≡ is_of operation kind self }
     {
@@ -107,18 +113,21 @@ impl KnownOperand {
         }
     }
 
+    /// Whether the operand is a register of 8 bits, as AL or CH.
     fn is_byte_register(self) -> bool
         ensures { result ≡ is_byte_register self }
     {
         matches!(self, KnownOperand::Register(Register::Byte(_)))
     }
 
+    /// Whether the operand is a register of 16 bits, as AX or SI, but no segment register.
     fn is_word_register(self) -> bool
         ensures { result ≡ is_word_register self }
     {
         matches!(self, KnownOperand::Register(Register::Word(_)))
     }
 
+    /// Whether the operand is DS, ES or SS: the rows of POP and MOV that load a segment register don't take CS.
     fn is_segment_not_cs(self) -> bool
         ensures { result ≡ is_segment_not_cs self }
     {
@@ -129,12 +138,16 @@ impl KnownOperand {
         }
     }
 
+    /// Whether the operand is an immediate number or a target, known or not yet; whether it fits its field is judged by
+    /// the second pass.
     fn is_number(self) -> bool
         ensures { result ≡ is_number self }
     {
         matches!(self, KnownOperand::One | KnownOperand::Number(_))
     }
 
+    /// Whether the operand is a constant from `least` to `greatest`: only then rows with a signed immediate byte or
+    /// ESC's number take it. A number that isn't known yet is none.
     fn is_constant_within(self, least: i64, greatest: i64) -> bool
         ensures { result ≡ is_constant_within least greatest self }
     {
@@ -145,6 +158,7 @@ impl KnownOperand {
         }
     }
 
+    /// Whether the operand is a byte in memory.
     fn is_byte_memory(self) -> bool
         ensures { result ≡ is_byte_memory self }
     {
@@ -154,6 +168,7 @@ impl KnownOperand {
         }
     }
 
+    /// Whether the operand is a word in memory.
     fn is_word_memory(self) -> bool
         ensures { result ≡ is_word_memory self }
     {
@@ -163,6 +178,7 @@ impl KnownOperand {
         }
     }
 
+    /// Whether the operand is memory that holds a far address: an offset and a segment, for JMP and CALL.
     fn is_far_memory(self) -> bool
         ensures { result ≡ is_far_memory self }
     {
@@ -172,7 +188,8 @@ impl KnownOperand {
         }
     }
 
-    /// Whether the operand is memory at an offset alone.
+    /// Whether the operand is memory at an offset alone, without a register in brackets: so the short rows of MOV with
+    /// AL or AX want it.
     fn is_direct(self) -> bool
         ensures { result ≡ is_direct self }
     {
@@ -182,7 +199,8 @@ impl KnownOperand {
         }
     }
 
-    /// Whether the operand is memory that holds what the operation takes from it: an offset and a segment, or a word.
+    /// Whether the operand is memory that holds what the operation takes from it: a far address for JMP and CALL, a
+    /// word for LEA, LDS and LES.
     fn is_pointer(self, operation: Operation) -> bool
         ensures { result ≡ is_pointer operation self }
     {
@@ -192,7 +210,7 @@ impl KnownOperand {
         }
     }
 
-    /// Whether the operand is a short jump's target: for JMP one after SHORT, for other jumps a number.
+    /// Whether the operand is a short jump's target: for JMP one after SHORT, for conditional jumps and loops a number.
     fn is_near(self, operation: Operation) -> bool
         ensures { result ≡ is_near operation self }
     {

@@ -6,8 +6,9 @@ ghost use Rattle.assembler_laws.specs.SameMeaning.{FormsMeanWhatIsAsked, TextsMe
 ghost use Rattle.assembler_laws.specs.TextsBack.{TextsDecodeTheSame};
 ghost use Rattle.assembler_laws.specs.TextsTaken.{TextsTakeAForm};
 
-/// The text of each instruction of the table is read as a line: the instruction's prefixes in their order, a mnemonic
-/// of its operation, and what is written for its operands.
+/// The assembler reads the text that the disassembler writes for each instruction of the encoding table: its prefixes
+/// in their order, a mnemonic of its operation, and what is written for its operands. The proof that such texts decode
+/// to the same instructions rests on it.
 pub fn texts_are_read()
     ensures { TextsAreRead }
 {
@@ -19,38 +20,40 @@ pub fn texts_are_read()
 }
 
 /// The form that is chosen for what a line asks has the operation that is asked. With the numbers that the operands
-/// name, its operands are by value those that are asked, in whichever parts of its bytes they are.
+/// name, its operands are by value those asked, in whichever parts of its bytes they are. The proof that disassembled
+/// texts mean the same rests on it.
 pub fn forms_mean_what_is_asked()
     ensures { FormsMeanWhatIsAsked }
 {}
 
 /// The numbers of the form that is chosen for what a line asks are in range if those are that go into a byte: an
-/// immediate byte, and the distance to a short jump's target.
+/// immediate byte, and a short jump's distance. The proof that disassembled texts get their numbers rests on it.
 pub fn numbers_fit()
     ensures { NumbersFit }
 {}
 
-/// Whatever names are known, some row of the table takes what the text of an instruction of the table asks.
+/// Some row of the encoding table takes what the disassembler's text of an instruction asks, whatever names are known:
+/// the assembler doesn't refuse it as `BadForm`.
 pub fn texts_take_a_form()
     ensures { TextsTakeAForm }
 {}
 
-/// Whichever form the text of an instruction of the table takes at its offset, and whatever names are known, its
-/// numbers are in range there, if a short jump's target doesn't wrap.
+/// Whichever form the disassembler's text of an instruction takes at its offset, and whatever names are known, its
+/// numbers are in range there: the assembler doesn't refuse it as `OutOfRange`, if a short jump's target doesn't wrap.
 pub fn texts_get_numbers()
     ensures { TextsGetNumbers }
 {}
 
-/// The text of an instruction of the table, given to the assembler at its offset, takes a form that means the same with
-/// the numbers that it has there, whatever names are known: the same operation, the same prefixes in their order, and
-/// the same operands by value. XCHG of AX and another register may have the two in the other order.
+/// The disassembler's text of an instruction, given to the assembler at its offset, takes a form that means the same
+/// with the numbers that it has there, whatever names are known: operation, prefixes in their order, and operands by
+/// value. XCHG of AX and another register may have the two in the other order.
 pub fn texts_mean_the_same()
     ensures { TextsMeanTheSame }
 {}
 
-/// In any memory that holds the image of an accepted source: if a line says what the text of an instruction of the
-/// table says at the line's offset, an instruction is decoded there that means the same, with as many bytes as the line
-/// has.
+/// A disassembled text that is assembled and decoded again means the same: in any memory that holds an accepted
+/// source's image, if a line says at its offset what an instruction's text says there, an instruction is decoded there
+/// that means the same, with as many bytes as the line has.
 pub fn texts_decode_the_same()
     ensures { TextsDecodeTheSame }
 {

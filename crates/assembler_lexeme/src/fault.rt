@@ -26,6 +26,7 @@ pub enum SyntaxError {
 impl From<AllocError> for SyntaxError {
     ghost from_gives = { λ _ e. e ≡ Memory };
 
+    /// Lets `?` answer a refused allocation while a line is read as want of memory.
     fn from(_error: AllocError) -> SyntaxError {
         SyntaxError::Memory
     }

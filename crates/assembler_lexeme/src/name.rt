@@ -8,7 +8,8 @@ pub struct Name {
     pub letters: [u8; 31],
 }
 
-/// The word as a name.
+/// Makes a name of a word that isn't one of the dialect's, of at most 31 characters: in upper case, so that names that
+/// differ only in case are equal, and filled up with zeros.
 pub(crate) fn name_of(word: &[u8]) -> Name
     requires { length word.now ≤ 31 }
     ensures { result ≡ name_of word.now }

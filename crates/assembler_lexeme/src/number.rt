@@ -4,7 +4,8 @@ ghost use Rattle.assembler_lexeme.specs.Numbers.{number_of, number_to};
 
 use board_types::digits::digit_of;
 
-/// The number that these digits to a base of 2 to 16 spell, if it has at most 32 bits.
+/// The number that the digits spell to a base of 2, 10 or 16, without the letter that tells the base. `None` if one is
+/// no digit to that base, or the number has more than 32 bits.
 #[tactic(auto, unfolding(crate::specs::Numbers::number_to))]
 fn number_to(base: u8, digits: &[u8]) -> Option<u32>
     requires low { 0 < base }
@@ -26,7 +27,8 @@ fn number_to(base: u8, digits: &[u8]) -> Option<u32>
     Some(number)
 }
 
-/// The number that the word spells: hexadecimal with an H at its end, binary with a B, else decimal.
+/// The number that a word of a source spells: hexadecimal with an H at its end, binary with a B, else decimal. `None`
+/// if it spells no number of at most 32 bits, so that the word is no token.
 #[tactic(auto, unfolding(crate::specs::Numbers::number_of))]
 pub(crate) fn number_of(word: &[u8]) -> Option<u32>
     ensures { result ≡ number_of word.now }

@@ -19,7 +19,7 @@ impl<T> Model for Sequence<T> {
 }
 
 impl<T> Sequence<T> {
-    /// An empty list.
+    /// An empty list, to which parts of a statement are added as they are read; takes no memory.
     pub fn new(alloc: Global) -> Sequence<T>
         ensures { result ≡ [] }
     {
@@ -28,7 +28,8 @@ impl<T> Sequence<T> {
         }
     }
 
-    /// A list with copies of these items.
+    /// A list with copies of the items, as the line's reader makes of the characters of a quoted text. Fails if there
+    /// is no memory.
     pub fn from_slice(alloc: Global, items: &[T]) -> Result<Sequence<T>, AllocError>
     where
         T: Copy,
@@ -39,21 +40,22 @@ impl<T> Sequence<T> {
         })
     }
 
-    /// Whether the list has no item.
+    /// Whether the list has no item, as that of a statement without prefixes.
     pub fn is_empty(&self) -> bool
         ensures { result ≡ (length self.now == 0) }
     {
         self.items.is_empty()
     }
 
-    /// The items of the list, in order.
+    /// The items of the list, in order, for finding the statement's form, size and bytes.
     pub fn as_slice(&self) -> &[T]
         ensures { result.now ≡ self.now }
     {
         self.items.as_slice()
     }
 
-    /// Puts an item after the others.
+    /// Puts an item after the others, as the line's reader does with each part that it has read. Fails if there is no
+    /// memory.
     pub fn push(&mut self, item: T) -> Result<(), AllocError>
     where
         T: Drop,

@@ -14,7 +14,7 @@ use dialect::meaning::{Meaning, meaning_of};
 use std::alloc::Global;
 use std::marker::Model;
 
-/// A mark.
+/// A character of a source that is a token by itself.
 #[derive(Clone, Copy)]
 pub enum Punctuator {
     Comma,
@@ -43,7 +43,7 @@ impl<'a> Model for Characters<'a> {
 }
 
 impl<'a> Characters<'a> {
-    /// The characters of the text, without its quotes.
+    /// The characters of a quoted text without its quotes, for the reader of DB lines to copy.
     pub fn as_slice(&self) -> &'a [u8]
         ensures { result.now ≡ self.now }
     {
@@ -66,7 +66,8 @@ pub enum Token<'a> {
     Punctuator(Punctuator),
 }
 
-/// The tokens of a line; `BadLine` if one of its lexemes is no token.
+/// Splits a line of a source into its tokens, from which its label and statement are read. `BadLine` if a lexeme is no
+/// token, `Memory` if there is no room for the list.
 #[tactic(auto, unfolding(crate::specs::Tokens::tokens_of))]
 pub fn read_tokens<'a>(alloc: Global, text: &'a [u8]) -> Result<Sequence<Token<'a>>, SyntaxError>
     ensures { Gives result (tokens_of (lexemes text.now)) }
@@ -83,6 +84,8 @@ pub fn read_tokens<'a>(alloc: Global, text: &'a [u8]) -> Result<Sequence<Token<'
     Ok(tokens)
 }
 
+/// The token that a lexeme, a piece of a line's text, spells; the first character decides of what kind. `None` if it
+/// spells none, which makes the line a bad one.
 #[tactic(auto, unfolding(crate::specs::Tokens::token_of))]
 fn token_of(lexeme: &[u8]) -> Option<Token<'_>>
     ensures { result ≡ token_of lexeme.now }
@@ -98,6 +101,8 @@ fn token_of(lexeme: &[u8]) -> Option<Token<'_>>
     }
 }
 
+/// The token of a lexeme that begins with a letter: a word of the dialect (mnemonic, register, keyword), or else the
+/// name of a label, constant or segment. `None` if it has more than 31 characters.
 #[tactic(auto, unfolding(crate::specs::Tokens::word_token))]
 fn word_token(word: &[u8]) -> Option<Token<'_>>
     ensures { result ≡ word_token word.now }
@@ -111,6 +116,8 @@ fn word_token(word: &[u8]) -> Option<Token<'_>>
     }
 }
 
+/// The token of a lexeme that begins with a digit. `1` has one of its own, since only so written is it the count of a
+/// shift by one. `None` if the digits spell no number of 32 bits.
 #[tactic(auto, unfolding(crate::specs::Tokens::number_token))]
 fn number_token(word: &[u8]) -> Option<Token<'_>>
     ensures { result ≡ number_token word.now }
@@ -122,6 +129,7 @@ fn number_token(word: &[u8]) -> Option<Token<'_>>
     }
 }
 
+/// Whether the lexeme is to be read as a quoted text, which begins with `'`.
 fn begins_with_quote(lexeme: &[u8]) -> bool
     ensures { result ≡ begins_with (λ b. b == 39) lexeme.now }
 {
@@ -131,6 +139,8 @@ fn begins_with_quote(lexeme: &[u8]) -> bool
     }
 }
 
+/// The token of a lexeme that begins with a quote. `None` if the closing quote is missing, or nothing stands between
+/// the quotes.
 #[tactic(auto, unfolding(crate::specs::Tokens::quoted_token))]
 fn quoted_token(lexeme: &[u8]) -> Option<Token<'_>>
     ensures { result ≡ quoted_token lexeme.now }
@@ -141,6 +151,8 @@ fn quoted_token(lexeme: &[u8]) -> Option<Token<'_>>
     }
 }
 
+/// The token of the characters between two quotes: a single one is a number, its ASCII code; more are a text, which
+/// only DB takes.
 fn text_token(text: &[u8]) -> Token<'_>
     ensures { result ≡ text_token text.now }
 {
@@ -150,6 +162,8 @@ fn text_token(text: &[u8]) -> Token<'_>
     }
 }
 
+/// The token of a lexeme that is no word, number or quoted text: a punctuator such as `,` or `[`. `None` for any other
+/// character.
 fn punctuator_token(lexeme: &[u8]) -> Option<Token<'_>>
     ensures { result ≡ punctuator_token lexeme.now }
 {
@@ -159,6 +173,7 @@ fn punctuator_token(lexeme: &[u8]) -> Option<Token<'_>>
     }
 }
 
+/// The punctuator that a character of a source is; `None` if the dialect doesn't use the character so.
 fn punctuator_of(byte: u8) -> Option<Punctuator>
     ensures { result ≡ punctuator_of byte }
 {

@@ -17,8 +17,8 @@ use isa::form::{Form, Prefix, Values};
 use isa::register::SegmentRegister;
 use std::alloc::{AllocError, Global};
 
-/// The bytes of an instruction with these numbers in its fields: its prefixes, the override of its operand, and what
-/// the table gives its form.
+/// The bytes of an instruction, which the second pass puts into the image: its prefixes, the override of its operand in
+/// memory, and the form's bytes with these numbers in their fields.
 pub fn instruction_bytes(
     alloc: Global,
     form: &Form,
@@ -34,6 +34,8 @@ pub fn instruction_bytes(
     Ok(bytes)
 }
 
+/// The bytes of an instruction's prefixes: those written before its mnemonic, in their order, and last the override
+/// written in its operand in memory.
 fn prefix_bytes(alloc: Global, instruction: &Instruction) -> Result<Vec<u8>, AllocError>
     ensures { IfOk result (λ bytes. bytes.items ≡ map prefix_byte (prefixes_of instruction.now)) }
 {
@@ -45,6 +47,8 @@ fn prefix_bytes(alloc: Global, instruction: &Instruction) -> Result<Vec<u8>, All
     Ok(bytes)
 }
 
+/// Adds the byte of the segment override that is written in an operand in memory, if there is one, to an instruction's
+/// prefixes.
 fn push_override(bytes: &mut Vec<u8>, segment: Option<SegmentRegister>) -> Result<(), AllocError>
     ensures { OnOk result (bytes.new.items ≡ bytes.old.items ++ map prefix_byte (override_prefix segment)) }
 {
@@ -54,7 +58,8 @@ fn push_override(bytes: &mut Vec<u8>, segment: Option<SegmentRegister>) -> Resul
     Ok(())
 }
 
-/// The bytes of the items of a data line.
+/// The bytes that a data line at the offset `here` places, with what DUP repeats, for the second pass to put into the
+/// image.
 #[tactic(auto, unfolding(crate::specs::Data::data_bytes))]
 pub fn data_bytes(
     alloc: Global,
@@ -76,6 +81,7 @@ pub fn data_bytes(
     Ok(bytes)
 }
 
+/// Adds the bytes of an item of a data line, as many times as its count before DUP says.
 #[tactic(auto, using(crate::proofs::LeavesBytes::repeated_more))]
 fn push_repeated(bytes: &mut Vec<u8>, once: &[u8], times: u64) -> Result<(), AllocError>
     ensures { OnOk result (bytes.new.items ≡ bytes.old.items ++ repeated times once.now) }
@@ -86,6 +92,8 @@ fn push_repeated(bytes: &mut Vec<u8>, once: &[u8], times: u64) -> Result<(), All
     Ok(())
 }
 
+/// The bytes of an item of a data line at the offset `here`, placed once: numbers low byte first, and texts character
+/// by character. A number without a value leaves none; such a line is refused before.
 fn pieces_bytes(
     alloc: Global,
     symbols: &Symbols,
@@ -112,7 +120,8 @@ fn pieces_bytes(
     Ok(bytes)
 }
 
-/// Adds a number of this width, its low byte first.
+/// Adds a number of a data line to its bytes: 1, 2 or 4 of them, low byte first, a negative number as its two's
+/// complement.
 fn push_number(bytes: &mut Vec<u8>, number: i64, width: DataWidth) -> Result<(), AllocError>
     ensures { OnOk result (bytes.new.items ≡ bytes.old.items ++ number_bytes width number) }
 {

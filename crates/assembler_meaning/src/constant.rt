@@ -11,7 +11,9 @@ use crate::value::value_of;
 use assembler_form::operand::Number;
 use assembler_syntax::expression::{Atom, Expression};
 
-/// The value of a constant: an expression without `$` and SEG, whose names are constants. `None` if it isn't one.
+/// The value of an expression that is a constant by the names known: without `$` and SEG, and all its names those of
+/// constants. `None` if it isn't one. The first pass needs it for EQU, ORG, SEGMENT and DUP, and for choosing an
+/// instruction's form.
 #[tactic(auto, unfolding(crate::specs::Values::constant_of))]
 pub fn constant_of(symbols: &Symbols, expression: &Expression) -> Option<i64>
     requires small { AreSmall symbols.now.entries }
@@ -25,6 +27,7 @@ pub fn constant_of(symbols: &Symbols, expression: &Expression) -> Option<i64>
     }
 }
 
+/// Whether an expression is a constant by the names known, so that its value depends on no label.
 fn is_constant(symbols: &Symbols, expression: &Expression) -> bool
     ensures { result ≡ list_all (λ (term : Term). is_constant_atom symbols.now.entries term.atom) expression.now }
 {
@@ -40,6 +43,7 @@ fn is_constant(symbols: &Symbols, expression: &Expression) -> bool
     true
 }
 
+/// Whether what a term names leaves its expression a constant: a number or a constant's name, not a label, `$` or SEG.
 fn is_constant_atom(symbols: &Symbols, atom: Atom) -> bool
     ensures { result ≡ is_constant_atom symbols.now.entries atom }
 {
@@ -50,7 +54,8 @@ fn is_constant_atom(symbols: &Symbols, atom: Atom) -> bool
     }
 }
 
-/// A number as the encoding table is asked for it: a constant's value, or none that is known yet.
+/// What the first pass knows of a number in an operand when it chooses the instruction's form: a constant's value, or
+/// that it comes later, with the labels.
 pub fn known_number(symbols: &Symbols, expression: &Expression) -> Number
     requires small { AreSmall symbols.now.entries }
     requires short { IsShort expression.now }
@@ -62,7 +67,8 @@ pub fn known_number(symbols: &Symbols, expression: &Expression) -> Number
     }
 }
 
-/// Whether the expression is a constant, and isn't from `least` to `greatest`.
+/// Whether the expression is a constant out of its bounds, `least` to `greatest`, as one of EQU, ORG, SEGMENT or DUP
+/// may be: then its line is a bad one. False also if it isn't known as a constant, which is judged apart.
 pub fn is_out_of_bounds(
     symbols: &Symbols,
     expression: &Expression,

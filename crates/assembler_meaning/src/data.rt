@@ -10,10 +10,10 @@ use crate::symbol::Symbols;
 use crate::value::value_of;
 use assembler_syntax::statement::{DataWidth, Item, Piece};
 
-/// The greatest count before DUP; the least is 1.
+/// The greatest count that DUP takes; the least is 1.
 const COUNT_LIMIT: i64 = 65_535;
 
-/// How many bytes a number of this width has.
+/// How many bytes a number in DB, DW or DD takes: 1, 2 or 4.
 pub fn width_size(width: DataWidth) -> u64
     ensures { result ≡ width_size width }
 {
@@ -24,7 +24,8 @@ pub fn width_size(width: DataWidth) -> u64
     }
 }
 
-/// Whether a count before DUP is known and isn't 1 to 65,535.
+/// Whether some count before DUP is a constant that isn't from 1 to 65,535: then the data line is a bad one. A count
+/// that isn't known as a constant is judged apart.
 pub fn has_wrong_count(symbols: &Symbols, items: &[Item]) -> bool
     requires small { AreSmall symbols.now.entries }
     requires short { list_all (is_item_within term_limit) items.now ≡ true }
@@ -40,7 +41,8 @@ pub fn has_wrong_count(symbols: &Symbols, items: &[Item]) -> bool
     false
 }
 
-/// Whether a count before DUP isn't a constant by the names that are known.
+/// Whether some count before DUP isn't a constant by the names of earlier lines: then the data line is refused, since
+/// the first pass must know how many bytes it places.
 pub fn has_unknown_count(symbols: &Symbols, items: &[Item]) -> bool
     requires small { AreSmall symbols.now.entries }
     requires short { list_all (is_item_within term_limit) items.now ≡ true }
@@ -56,7 +58,8 @@ pub fn has_unknown_count(symbols: &Symbols, items: &[Item]) -> bool
     false
 }
 
-/// How many times the pieces of an item are there: once, or as often as its count says.
+/// How many times an item of a data line is placed: once, or as often as its count before DUP says. 0 if that is no
+/// constant, or negative; the first pass refuses such a line.
 pub fn item_count(symbols: &Symbols, item: &Item) -> u64
     requires small { AreSmall symbols.now.entries }
     requires short { is_item_within term_limit item.now ≡ true }
@@ -71,7 +74,7 @@ pub fn item_count(symbols: &Symbols, item: &Item) -> u64
     }
 }
 
-/// What an item places once: its piece, or the pieces that DUP repeats.
+/// What an item of a data line places once: its piece, or the pieces that DUP repeats.
 pub fn item_pieces(item: &Item) -> &[Piece]
     ensures { result.now ≡ pieces_of item.now }
 {
@@ -81,7 +84,7 @@ pub fn item_pieces(item: &Item) -> &[Piece]
     }
 }
 
-/// How many bytes the items have, with their repeats.
+/// How many bytes a data line places, with its repeats: by this the first pass moves the location on.
 pub fn data_size(symbols: &Symbols, width: DataWidth, items: &[Item]) -> u64
     requires small { AreSmall symbols.now.entries }
     requires short { list_all (is_item_within term_limit) items.now ≡ true }
@@ -97,6 +100,7 @@ pub fn data_size(symbols: &Symbols, width: DataWidth, items: &[Item]) -> u64
     size
 }
 
+/// How many bytes the pieces of an item have, placed once.
 fn pieces_size(width: DataWidth, pieces: &[Piece]) -> u64
     requires light { pieces_weight pieces.now ≤ term_limit }
     ensures value { result ≡ pieces_size width pieces.now }
@@ -109,6 +113,7 @@ fn pieces_size(width: DataWidth, pieces: &[Piece]) -> u64
     size
 }
 
+/// How many bytes a piece of a data line has: a number as many as its width, a text one for each character.
 fn piece_size(width: DataWidth, piece: &Piece) -> u64
     ensures value { result ≡ piece_size width piece.now }
     ensures bound { result ≤ 4 * piece_weight piece.now }
@@ -119,7 +124,8 @@ fn piece_size(width: DataWidth, piece: &Piece) -> u64
     }
 }
 
-/// Whether each name in the items is defined.
+/// Whether each number of a data line at the offset `here` has a value, for the second pass: no name in it is
+/// undefined, and SEG names labels only.
 #[tactic(auto, unfolding(crate::specs::Data::are_items_known))]
 pub fn are_items_known(symbols: &Symbols, here: u64, items: &[Item]) -> bool
     requires small { AreSmall symbols.now.entries }
@@ -135,6 +141,7 @@ pub fn are_items_known(symbols: &Symbols, here: u64, items: &[Item]) -> bool
     true
 }
 
+/// Whether each number among the pieces of a data line's item has a value, in a line at the offset `here`.
 fn are_pieces_known(symbols: &Symbols, here: u64, pieces: &[Piece]) -> bool
     requires small { AreSmall symbols.now.entries }
     requires here { here ≤ 2 ^ 40 }
@@ -151,7 +158,8 @@ fn are_pieces_known(symbols: &Symbols, here: u64, pieces: &[Piece]) -> bool
     true
 }
 
-/// Whether each number in the items fits the width, as far as it is known.
+/// Whether each number of a data line at the offset `here` fits DB, DW or DD, for the second pass; one without a value
+/// is passed over.
 #[tactic(auto, unfolding(crate::specs::Data::do_items_fit))]
 pub fn do_items_fit(symbols: &Symbols, here: u64, width: DataWidth, items: &[Item]) -> bool
     requires small { AreSmall symbols.now.entries }
@@ -167,6 +175,8 @@ pub fn do_items_fit(symbols: &Symbols, here: u64, width: DataWidth, items: &[Ite
     true
 }
 
+/// Whether each number among the pieces of a data line's item fits its width, in a line at the offset `here`; one
+/// without a value is passed over.
 fn do_pieces_fit(symbols: &Symbols, here: u64, width: DataWidth, pieces: &[Piece]) -> bool
     requires small { AreSmall symbols.now.entries }
     requires here { here ≤ 2 ^ 40 }
@@ -184,7 +194,7 @@ fn do_pieces_fit(symbols: &Symbols, here: u64, width: DataWidth, pieces: &[Piece
     true
 }
 
-/// Whether a number fits the width, as a signed or an unsigned number.
+/// Whether a number can be placed by DB, DW or DD: it fits the width as a signed or as an unsigned number.
 fn fits_width(width: DataWidth, number: i64) -> bool
     ensures { result ≡ fits_width width number }
 {

@@ -20,7 +20,8 @@ use isa::register::SegmentRegister;
 /// The greatest number of prefixes that an instruction may have, with the override of its operand.
 const PREFIX_LIMIT: usize = 7;
 
-/// The form of an instruction, if a row of the table takes it and it hasn't too many prefixes.
+/// The form that an instruction gets in the first pass. `None`, for which its line is refused, if no row of the
+/// encoding table takes it, or it has more than two operands or more than seven prefixes.
 #[tactic(auto, unfolding(crate::specs::Instructions::instruction_asked))]
 pub fn form_of(symbols: &Symbols, instruction: &Instruction) -> Option<Form>
     requires small { AreSmall symbols.now.entries }
@@ -43,7 +44,8 @@ pub fn form_of(symbols: &Symbols, instruction: &Instruction) -> Option<Form>
     choose(instruction.mnemonic, first, second)
 }
 
-/// How many prefixes the instruction has, with the override of its operand.
+/// How many prefixes the instruction has, with the override written in its operand: each is a byte of its size, and at
+/// most seven are allowed.
 #[tactic(auto, unfolding(crate::specs::Instructions::prefixes_of))]
 pub fn prefix_count(instruction: &Instruction) -> usize
     ensures { result ≡ length (prefixes_of instruction.now) }
@@ -55,7 +57,8 @@ pub fn prefix_count(instruction: &Instruction) -> usize
     }
 }
 
-/// The segment register before a colon in the instruction's operand in memory. No row has two operands in memory.
+/// The segment register before a colon in the instruction's operand in memory, which gives an override prefix; `None`
+/// if there is none. No row has two operands in memory.
 pub fn override_of(instruction: &Instruction) -> Option<SegmentRegister>
     ensures { result ≡ override_of instruction.now.operands }
 {
@@ -73,7 +76,8 @@ pub fn override_of(instruction: &Instruction) -> Option<SegmentRegister>
     None
 }
 
-/// What the first pass knows of an operand: of its numbers only those that are constants.
+/// What the first pass knows of an operand when it chooses the instruction's form: of its numbers only those that are
+/// constants.
 fn known_operand(symbols: &Symbols, operand: &Operand) -> KnownOperand
     requires small { AreSmall symbols.now.entries }
     requires short { is_operand_within term_limit operand.now ≡ true }
@@ -89,6 +93,8 @@ fn known_operand(symbols: &Symbols, operand: &Operand) -> KnownOperand
     }
 }
 
+/// What the first pass knows of an operand in memory: its size and base as written, and its displacement as far as
+/// `known_number` knows it; 0 for an operand without a displacement.
 fn known_memory(symbols: &Symbols, address: &Address) -> KnownMemory
     requires small { AreSmall symbols.now.entries }
     requires short { is_displacement_within term_limit address.now.displacement ≡ true }
@@ -105,7 +111,7 @@ fn known_memory(symbols: &Symbols, address: &Address) -> KnownMemory
     }
 }
 
-/// How many bytes the instruction has, with its prefixes.
+/// How many bytes the instruction has, with its prefixes: by this the first pass moves the location on.
 pub fn instruction_size(form: Form, instruction: &Instruction) -> u64
     requires few { length (prefixes_of instruction.now) ≤ 7 }
     ensures value { result ≡ instruction_size form instruction.now }
@@ -114,8 +120,8 @@ pub fn instruction_size(form: Form, instruction: &Instruction) -> u64
     prefix_count(instruction) as u64 + u64::from(form.length())
 }
 
-/// The numbers that the instruction's operands name, in a line that stands at the offset `here`. `None` if a name in
-/// them isn't defined, or is no label though one is wanted.
+/// The numbers that an instruction's operands name, in a line at the offset `here`, for the second pass to put into its
+/// fields. `None` if a name in them isn't defined, or is no label though one is wanted.
 #[tactic(auto, unfolding(crate::specs::Instructions::numbers_of))]
 pub fn numbers_of(symbols: &Symbols, here: u64, instruction: &Instruction) -> Option<Numbers>
     requires small { AreSmall symbols.now.entries }
@@ -134,7 +140,8 @@ pub fn numbers_of(symbols: &Symbols, here: u64, instruction: &Instruction) -> Op
     Some(numbers)
 }
 
-/// The numbers, and those of one more operand. No row has two operands that name the same number.
+/// Adds the numbers of one more operand to those that an instruction's operands name, in a line at the offset `here`.
+/// `None` if a name in it isn't defined. No row has two operands that name the same number.
 fn numbers_with(
     symbols: &Symbols,
     here: u64,
@@ -176,6 +183,8 @@ fn numbers_with(
     }
 }
 
+/// The value of an address's displacement, 0 if it has none; `None` if it names a symbol that isn't defined. `here` is
+/// what `$` stands for.
 fn displacement_of(symbols: &Symbols, here: u64, address: &Address) -> Option<i64>
     requires small { AreSmall symbols.now.entries }
     requires here { here ≤ 2 ^ 40 }

@@ -13,7 +13,8 @@ pub struct SourceSeed {
 }
 
 impl SourceSeed {
-    /// The seed of a source.
+    /// The seed from which the names of this source are hashed, made of all its bytes, so that nobody can write a
+    /// source of names that are known to collide.
     pub fn of(source: &[u8]) -> SourceSeed
         ensures { result.source ≡ write initial source.now }
     {
@@ -28,6 +29,8 @@ impl BuildHasher for SourceSeed {
 
     ghost build_hasher = { λ seed. seed.source };
 
+    /// A hasher for one of a source's names, which goes on from the hash of the whole source; the map of names asks for
+    /// it.
     fn build_hasher(&self) -> DefaultHasher {
         self.source
     }

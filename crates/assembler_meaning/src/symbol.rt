@@ -25,7 +25,7 @@ pub enum Symbol {
 }
 
 impl Symbol {
-    /// The value of a name: a constant's number, or a label's offset.
+    /// The value that a name has in an expression: a constant's number, or a label's offset.
     pub fn value(self) -> i64
         requires { IsSmall self }
         ensures { result ≡ symbol_value self }
@@ -37,24 +37,24 @@ impl Symbol {
     }
 }
 
-/// The names that are defined, in order, with what they stand for.
+/// The names that a source's lines have defined so far, in order, with what they stand for.
 pub type Symbols = IndexMap<Name, Symbol, SourceSeed>;
 
-/// What the name stands for, if it is defined.
+/// What a name in a source stands for; `None` if no line read so far defines it.
 pub fn meaning(symbols: &Symbols, name: Name) -> Option<Symbol>
     ensures { result ≡ meaning symbols.now.entries name }
 {
     symbols.get(&name).copied()
 }
 
-/// Whether an earlier line has defined the name.
+/// Whether an earlier line has defined the name, so that no later one may.
 pub fn is_defined(symbols: &Symbols, name: Name) -> bool
     ensures { result ≡ is_defined symbols.now.entries name }
 {
     meaning(symbols, name).is_some()
 }
 
-/// The place of the name, if it is a label.
+/// The place of a label, for SEG and for far targets; `None` if the name isn't defined or is a constant.
 pub fn label(symbols: &Symbols, name: Name) -> Option<Location>
     ensures { result ≡ label_of symbols.now.entries name }
 {
@@ -64,7 +64,8 @@ pub fn label(symbols: &Symbols, name: Name) -> Option<Location>
     }
 }
 
-/// Whether the name is a constant.
+/// Whether the name stands for a constant, by EQU or SEGMENT, so that an expression with it may be one too. A label
+/// doesn't.
 pub fn is_constant_name(symbols: &Symbols, name: Name) -> bool
     ensures { result ≡ is_constant_symbol (meaning symbols.now.entries name) }
 {

@@ -5,8 +5,8 @@ ghost use Rattle.assembler_meaning.specs.Values.{AreSmall, IsShort, IsSmallNumbe
 use crate::symbol::{Symbols, label, meaning};
 use assembler_syntax::expression::{Atom, Expression, Term};
 
-/// The value of an expression in a line that stands at the offset `here`. `None` if it has a name that no line defines,
-/// or if SEG names no label.
+/// The value of an expression in a line that stands at the offset `here`, which `$` means: a whole number, of which
+/// nothing is cut. `None` if it has a name that no line defines, or if SEG names no label.
 #[tactic(auto, unfolding(crate::specs::Values::value_of))]
 pub fn value_of(symbols: &Symbols, here: u64, expression: &Expression) -> Option<i64>
     requires small { AreSmall symbols.now.entries }
@@ -22,6 +22,8 @@ pub fn value_of(symbols: &Symbols, here: u64, expression: &Expression) -> Option
     Some(sum)
 }
 
+/// The value of a term of an expression, with its sign; `here` is what `$` stands for. `None` if a name in it isn't
+/// defined, or SEG names no label.
 fn term_value(symbols: &Symbols, here: u64, term: Term) -> Option<i64>
     requires small { AreSmall symbols.now.entries }
     requires here { here ≤ 2 ^ 40 }
@@ -36,6 +38,8 @@ fn term_value(symbols: &Symbols, here: u64, term: Term) -> Option<i64>
     }
 }
 
+/// The value of what a term names, without its sign: a number, a constant, a label's offset, `$`, which is `here`, or a
+/// label's paragraph. `None` if the name isn't defined, or SEG names no label.
 fn atom_value(symbols: &Symbols, here: u64, atom: Atom) -> Option<i64>
     requires small { AreSmall symbols.now.entries }
     requires here { here ≤ 2 ^ 40 }

@@ -5,7 +5,7 @@ use assembler_lexeme::name::Name;
 use std::alloc::{AllocError, Global};
 use std::marker::Model;
 
-/// What a term names, without its sign.
+/// What a term names, without its sign: a number, a name, `$`, or the paragraph of a label's segment.
 #[derive(Clone, Copy)]
 pub enum Atom {
     /// A number, or the code of a quoted character.
@@ -42,7 +42,7 @@ impl Model for Expression {
 }
 
 impl Expression {
-    /// An expression of one term.
+    /// An expression of one term, the first; further ones are pushed onto it as they are read. Takes no memory.
     pub fn new(alloc: Global, first: Term) -> Expression
         ensures { result ≡ first ∷ [] }
     {
@@ -52,7 +52,7 @@ impl Expression {
         }
     }
 
-    /// Puts a term after the others.
+    /// Puts a further term after the others, as the line's reader does. Fails if there is no memory.
     pub fn push(&mut self, term: Term) -> Result<(), AllocError>
         ensures { OnOk result (self.new ≡ self.old ++ term ∷ []) }
     {
@@ -60,7 +60,7 @@ impl Expression {
         Ok(())
     }
 
-    /// The first term, and the others in order.
+    /// The first term, and the others in order, for those who work out the expression's value; there is always a first.
     pub fn terms(&self) -> (Term, &[Term])
         ensures { self.now ≡ result.0 ∷ result.1.now }
     {

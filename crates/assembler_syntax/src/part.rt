@@ -9,54 +9,63 @@ use dialect::keyword::Keyword;
 use dialect::meaning::Meaning;
 use std::marker::Model;
 
+/// Whether the token is a comma, which parts operands, items and pieces.
 pub(crate) fn is_comma(token: &Token) -> bool
     ensures { result ≡ is_comma token.now }
 {
     matches!(token, Token::Punctuator(Punctuator::Comma))
 }
 
+/// Whether the token is a colon, as after an override's register or between a far target's segment and offset.
 pub(crate) fn is_colon(token: &Token) -> bool
     ensures { result ≡ is_colon token.now }
 {
     matches!(token, Token::Punctuator(Punctuator::Colon))
 }
 
+/// Whether the token is `[`, with which an operand in memory begins.
 pub(crate) fn is_open_bracket(token: &Token) -> bool
     ensures { result ≡ is_open_bracket token.now }
 {
     matches!(token, Token::Punctuator(Punctuator::OpenBracket))
 }
 
+/// Whether the token is `]`, with which an operand in memory must end.
 fn is_close_bracket(token: &Token) -> bool
     ensures { result ≡ is_close_bracket token.now }
 {
     matches!(token, Token::Punctuator(Punctuator::CloseBracket))
 }
 
+/// Whether the token is `(`, which must follow DUP.
 pub(crate) fn is_open_parenthesis(token: &Token) -> bool
     ensures { result ≡ is_open_parenthesis token.now }
 {
     matches!(token, Token::Punctuator(Punctuator::OpenParenthesis))
 }
 
+/// Whether the token is `)`, with which what DUP repeats must end.
 fn is_close_parenthesis(token: &Token) -> bool
     ensures { result ≡ is_close_parenthesis token.now }
 {
     matches!(token, Token::Punctuator(Punctuator::CloseParenthesis))
 }
 
+/// Whether the token is DUP, by which a repeated item of a data line is recognized.
 fn is_dup(token: &Token) -> bool
     ensures { result ≡ is_dup token.now }
 {
     matches!(token, Token::Word(Meaning::Keyword(Keyword::Dup)))
 }
 
+/// Whether the token is a minus, which makes the next term negative.
 fn is_minus(token: &Token) -> bool
     ensures { result ≡ is_minus token.now }
 {
     matches!(token, Token::Punctuator(Punctuator::Minus))
 }
 
+/// Whether the token is a plus or minus, which parts the terms of an expression, or what stands in brackets.
 fn is_sign(token: &Token) -> bool
     ensures { result ≡ is_sign token.now }
 {
@@ -66,7 +75,8 @@ fn is_sign(token: &Token) -> bool
     )
 }
 
-/// Whether parentheses are open after the token.
+/// Whether parentheses are open after the token, if `is_open` says whether they were before it: a comma within them,
+/// after DUP, parts no items. They don't nest.
 fn is_open_after(is_open: bool, token: &Token) -> bool
     ensures { result ≡ is_open_after is_open token.now }
 {
@@ -77,7 +87,7 @@ fn is_open_after(is_open: bool, token: &Token) -> bool
     }
 }
 
-/// The first of the tokens, and the others.
+/// The first of a statement's tokens, which tells what statement it is, and the others. `None` if there are none.
 pub(crate) fn split<'a, 'b>(tokens: &'a [Token<'b>]) -> Option<(&'a Token<'b>, &'a [Token<'b>])>
     ensures some { IfSome result (λ p. tokens.now ≡ p.0.now ∷ p.1.now) }
     ensures none { IfNone result (tokens.now ≡ []) }
@@ -85,35 +95,35 @@ pub(crate) fn split<'a, 'b>(tokens: &'a [Token<'b>]) -> Option<(&'a Token<'b>, &
     tokens.split_first()
 }
 
-/// The place of the first colon.
+/// The place of the first colon, between the segment and offset of a far target; `None` if there is none.
 pub(crate) fn colon_place(tokens: &[Token]) -> Option<usize>
     ensures { result ≡ position is_colon tokens.now }
 {
     tokens.iter().position(|token| is_colon(token))
 }
 
-/// The place of the first DUP.
+/// The place of the first DUP, between an item's count and what is repeated; `None` if the item isn't repeated.
 pub(crate) fn dup_place(tokens: &[Token]) -> Option<usize>
     ensures { result ≡ position is_dup tokens.now }
 {
     tokens.iter().position(|token| is_dup(token))
 }
 
-/// The place of the first closing bracket.
+/// The place of the first `]`, at which an operand in memory must end; `None` if there is none.
 pub(crate) fn close_bracket_place(tokens: &[Token]) -> Option<usize>
     ensures { result ≡ position is_close_bracket tokens.now }
 {
     tokens.iter().position(|token| is_close_bracket(token))
 }
 
-/// The place of the first closing parenthesis.
+/// The place of the first `)`, at which what DUP repeats must end; `None` if there is none.
 pub(crate) fn close_parenthesis_place(tokens: &[Token]) -> Option<usize>
     ensures { result ≡ position is_close_parenthesis tokens.now }
 {
     tokens.iter().position(|token| is_close_parenthesis(token))
 }
 
-/// The tokens before the one at this place, and those after it. `None` without a place.
+/// The tokens before the one at this place, a colon or DUP that parts them, and those after it. `None` without a place.
 pub(crate) fn around<'a, 'b>(
     tokens: &'a [Token<'b>],
     place: Option<usize>,
@@ -125,7 +135,8 @@ pub(crate) fn around<'a, 'b>(
     Some((&tokens[..place], &tokens[place + 1..]))
 }
 
-/// The tokens before the one at this place, if that is the last one.
+/// The tokens before the closing bracket or parenthesis at this place. `None` if there is none, or more tokens follow
+/// it.
 pub(crate) fn before_last<'a, 'b>(
     tokens: &'a [Token<'b>],
     place: Option<usize>,
@@ -139,7 +150,8 @@ pub(crate) fn before_last<'a, 'b>(
     }
 }
 
-/// The tokens after the first one, if there is one.
+/// What is left of a list of tokens after the comma or sign at its front. `None` if there is neither, so that no
+/// further part comes; after the last comma it is an empty part.
 fn tail_of<'a, 'b>(tokens: &'a [Token<'b>]) -> Option<&'a [Token<'b>]>
     ensures { tail_view result ≡ tail_of tokens.now }
 {
@@ -166,12 +178,15 @@ impl<'a, 'b> Model for Parts<'a, 'b> {
 }
 
 impl<'a, 'b> Parts<'a, 'b> {
+    /// The parts of these tokens between commas, which are operands, items or pieces; always one or more, though a part
+    /// may be empty.
     pub(crate) fn of(tokens: &'a [Token<'b>]) -> Parts<'a, 'b>
         ensures { result ≡ parts tokens.now }
     {
         Parts { rest: Some(tokens) }
     }
 
+    /// Takes the next part between commas; `None` after the last one.
     pub(crate) fn next(&mut self) -> Option<&'a [Token<'b>]>
         ensures some { IfSome result (λ part. self.old ≡ part.now ∷ self.new) }
         ensures none { IfNone result (self.old ≡ []) }
@@ -182,7 +197,8 @@ impl<'a, 'b> Parts<'a, 'b> {
     }
 }
 
-/// The first part, and what follows its comma, if there is one.
+/// Splits tokens at the first comma that parts operands, items or pieces: those before it, and those after it. `None`
+/// in place of these if there is no such comma.
 #[tactic(auto, using(crate::proofs::Parting::first_part))]
 fn first_part<'a, 'b>(tokens: &'a [Token<'b>]) -> (&'a [Token<'b>], Option<&'a [Token<'b>]>)
     ensures { parts tokens.now ≡ result.0.now ∷ parts_left (tail_view result.1) }
@@ -191,7 +207,8 @@ fn first_part<'a, 'b>(tokens: &'a [Token<'b>]) -> (&'a [Token<'b>], Option<&'a [
     (part, tail_of(rest))
 }
 
-/// How many tokens stand before the first comma outside parentheses.
+/// How many tokens stand before the first comma outside parentheses; all of them if there is none. For splitting tokens
+/// into operands, items or pieces.
 fn part_size(tokens: &[Token]) -> usize
     ensures size { result ≡ part_size false tokens.now }
     ensures within { result ≤ length tokens.now }
@@ -228,6 +245,8 @@ impl<'a, 'b> Model for SignedParts<'a, 'b> {
 }
 
 impl<'a, 'b> SignedParts<'a, 'b> {
+    /// The parts of these tokens between signs, which are the terms of an expression or what stands in brackets; always
+    /// one or more. A minus before the first is its sign; a plus there leaves an empty part before it.
     #[tactic(auto, using(crate::proofs::Parting::some_signed))]
     pub(crate) fn of(tokens: &'a [Token<'b>]) -> SignedParts<'a, 'b>
         ensures parts { result ≡ signed_parts tokens.now }
@@ -245,6 +264,7 @@ impl<'a, 'b> SignedParts<'a, 'b> {
         }
     }
 
+    /// Takes the next part between signs, and whether the sign before it is a minus; `None` after the last part.
     pub(crate) fn next(&mut self) -> Option<(bool, &'a [Token<'b>])>
         ensures some { IfSome result (λ part. self.old ≡ signed_part part.0 part.1.now ∷ self.new) }
         ensures none { IfNone result (self.old ≡ []) }
@@ -257,6 +277,7 @@ impl<'a, 'b> SignedParts<'a, 'b> {
     }
 }
 
+/// Whether the part after the sign at the front is negative: the sign is a minus.
 fn begins_with_minus(tokens: &[Token]) -> bool
     ensures { result ≡ begins_with_minus tokens.now }
 {
@@ -266,7 +287,8 @@ fn begins_with_minus(tokens: &[Token]) -> bool
     }
 }
 
-/// The tokens before the first sign, and those from the sign on.
+/// Splits tokens before the first plus or minus: a term, and what follows it, with the sign. A sign at the front leaves
+/// the term empty.
 #[tactic(auto, using(crate::proofs::Parting::first_signed))]
 fn first_signed<'a, 'b>(tokens: &'a [Token<'b>]) -> (&'a [Token<'b>], &'a [Token<'b>])
     ensures { (is_negative : Bool) → signed_from is_negative tokens.now
@@ -275,7 +297,7 @@ fn first_signed<'a, 'b>(tokens: &'a [Token<'b>]) -> (&'a [Token<'b>], &'a [Token
     tokens.split_at(signed_size(tokens))
 }
 
-/// How many tokens stand before the first sign.
+/// How many tokens stand before the first plus or minus, all of them if there is none: those of a term.
 fn signed_size(tokens: &[Token]) -> usize
     ensures size { result ≡ signed_size tokens.now }
     ensures within { result ≤ length tokens.now }

@@ -19,8 +19,8 @@ use assembler_lexeme::token::{Punctuator, Token, read_tokens};
 use statement::read_statement;
 use std::alloc::Global;
 
-/// What a line of a source says by itself, or why it is no line of the dialect. A fault of its characters comes before
-/// a fault of its words, and that before a fault of its grammar.
+/// Reads a line of a source by itself, for the assembler's first pass: its label and statement, or why it is no line of
+/// the dialect. A fault of its characters comes before one of its words, and that before one of its grammar.
 #[tactic(auto, using(crate::proofs::Alike::text_alike), unfolding(crate::specs::LineSteps::read_line))]
 pub fn read_line(alloc: Global, text: &[u8]) -> Result<Line, SyntaxError>
     ensures { Gives result (read_line text.now) }
@@ -32,12 +32,15 @@ pub fn read_line(alloc: Global, text: &[u8]) -> Result<Line, SyntaxError>
     labelled_line(alloc, tokens.as_slice())
 }
 
+/// Whether a line has only characters of the dialect, printable ASCII and tabs; judged before the line is split into
+/// tokens.
 fn are_characters(text: &[u8]) -> bool
     ensures { result ≡ list_all is_character text.now }
 {
     text.iter().all(|byte| is_character(*byte))
 }
 
+/// Reads the tokens of a line: a label, if the first two tokens are one, and the statement after it.
 #[tactic(auto, unfolding(crate::specs::LineSteps::line_of))]
 fn labelled_line(alloc: Global, tokens: &[Token]) -> Result<Line, SyntaxError>
     ensures { Gives result (line_of tokens.now) }
@@ -48,6 +51,8 @@ fn labelled_line(alloc: Global, tokens: &[Token]) -> Result<Line, SyntaxError>
     }
 }
 
+/// Reads a line of two tokens or more, `tokens`, which are `first`, `second` and `rest`: with a label if the two are a
+/// name and a colon, else all of it as a statement.
 fn labelled(
     alloc: Global,
     first: &Token,
@@ -68,6 +73,7 @@ fn labelled(
     }
 }
 
+/// Reads the tokens after a line's label as its statement, and puts the two together.
 fn line_with(alloc: Global, label: Option<Name>, tokens: &[Token]) -> Result<Line, SyntaxError>
     ensures { Gives result (with_label label tokens.now) }
 {

@@ -17,7 +17,7 @@ pub(crate) struct Arrived {
     pub(crate) next: Option<Clock>,
 }
 
-/// What is known after `count` of `keys` have arrived.
+/// What an engine keeps of its keys once the first `count` of them have arrived: that number and the next stamp.
 pub(crate) fn so_far(keys: &[StampedKey], count: usize) -> Arrived
     requires { IsInOrder keys.now }
     ensures { (clock : ℕ) → Awaits count (clock + 1) keys.now → HaveArrived result (clock + 1) keys.now }
@@ -28,7 +28,8 @@ pub(crate) fn so_far(keys: &[StampedKey], count: usize) -> Arrived
     }
 }
 
-/// Lets the keys that are stamped `clock` arrive, after the first `next`. Answers how many have arrived then.
+/// Lets the keys that are stamped `clock` reach the keyboard, `next` keys having arrived before. Answers how many have
+/// arrived then.
 pub(crate) fn arrive_at(
     chips: &mut CachedChips,
     keys: &[StampedKey],
@@ -51,7 +52,8 @@ pub(crate) fn arrive_at(
     keys.len()
 }
 
-/// Lets the keys that are stamped `clock` arrive, if there are any; one comparison is enough if there are none.
+/// Lets the keys that are stamped `clock` reach the keyboard, if there are any; mostly there are none, which one
+/// comparison tells.
 #[inline(always)]
 fn let_arrive(chips: &mut CachedChips, keys: &[StampedKey], arrived: &mut Arrived, clock: u64)
     requires some { 1 ≤ clock }
@@ -67,7 +69,8 @@ fn let_arrive(chips: &mut CachedChips, keys: &[StampedKey], arrived: &mut Arrive
     arrive(chips, keys, arrived, clock);
 }
 
-/// Lets the keys that are stamped `clock` arrive, if there are any, and finds the next stamp.
+/// Lets the keys that are stamped `clock` reach the keyboard, if there are any, and finds the next stamp: the rare case
+/// of `let_arrive`, kept out of line.
 #[inline(never)]
 fn arrive(chips: &mut CachedChips, keys: &[StampedKey], arrived: &mut Arrived, clock: u64)
     requires in_order { IsInOrder keys.now }
@@ -80,7 +83,8 @@ fn arrive(chips: &mut CachedChips, keys: &[StampedKey], arrived: &mut Arrived, c
     *arrived = so_far(keys, count);
 }
 
-/// The chips' part of a clock, and the keys that arrive in it.
+/// Makes the chips' part of one clock, after the processor's: brings them there, lets the keys that are stamped with it
+/// arrive, and settles keyboard and wires.
 #[inline(never)]
 #[tactic(auto, unfolding(board_plain::specs::Plain::chips_after_clock))]
 pub(crate) fn pass_clock(chips: &mut CachedChips, keys: &[StampedKey], arrived: &mut Arrived)
@@ -97,7 +101,7 @@ pub(crate) fn pass_clock(chips: &mut CachedChips, keys: &[StampedKey], arrived: 
     chips.settle();
 }
 
-/// Whether the next stamp, if there is one, is later than `clock`.
+/// Whether the next key, if there is one, comes later than `clock`, so that no key stops clocks from passing in one go.
 #[inline(always)]
 pub(crate) fn comes_after(clock: u64, stamp: Option<Clock>) -> bool
     ensures { IsTrue result → ComesAfter clock stamp }
@@ -108,7 +112,7 @@ pub(crate) fn comes_after(clock: u64, stamp: Option<Clock>) -> bool
     }
 }
 
-/// The stamp of the next key after the first `next`; `None` if all have arrived.
+/// The stamp of the next key, if the first `next` have arrived; `None` if all have.
 fn next_stamp(keys: &[StampedKey], next: usize) -> Option<Clock>
     requires { IsInOrder keys.now }
     ensures { (clock : ℕ) → Awaits next (clock + 1) keys.now → IsNextStamp clock keys.now result }
@@ -119,7 +123,8 @@ fn next_stamp(keys: &[StampedKey], next: usize) -> Option<Clock>
     }
 }
 
-/// How many keys are stamped before `clock`: at most `count`, as all others are known to come at it or later.
+/// How many keys are stamped before `clock`, to find the keys of a clock or the place for a typed one. All from number
+/// `count` on are known not to be, so it looks backwards from there.
 pub(crate) fn count_before(keys: &[StampedKey], count: usize, clock: u64) -> usize
     requires in_order { IsInOrder keys.now }
     requires within { count ≤ length keys.now }

@@ -111,7 +111,8 @@ impl Board {
         })
     }
 
-    /// A copy at the same clock, with its lists, in memory of its own. Refused as `Memory` if there is none.
+    /// A copy at the same clock, with its list of changes and its trail, in memory of its own, for the debugger and the
+    /// probe to try a run or to come back to. Refused as `Memory` if there is none.
     pub fn copy(&self) -> Result<Board, BoardFault>
         ensures plain { IfOk result (λ board. board.plain ≡ self.now.plain) }
         ensures changes { IfOk result (λ board. board.changes ≡ self.now.changes) }
@@ -132,7 +133,8 @@ impl Board {
         })
     }
 
-    /// This board with its list of changes in the memory of another allocator: `changes` has the same ones.
+    /// Moves the list of changes of the speaker's level to another allocator, so that its room may be limited:
+    /// `changes` is the new list, with the same ones. All else stays.
     pub fn with_changes<A: Allocator>(self, changes: Vec<SpeakerChange, A>) -> Board<A>
         requires { changes.items ≡ self.changes }
         ensures plain { result.plain ≡ self.plain }
@@ -231,8 +233,8 @@ impl<A: Allocator> Board<A> {
     }
 
     /// Runs the board for `count` processor clocks, and answers the last clock from the start to the end, both
-    /// included, at which one of `stops` holds, with the least number of those that do; `None` if none holds at any.
-    /// Refused as `run` is, without an answer.
+    /// included, at which one of `stops` holds, with the least number of those that do, for the debugger to go back to;
+    /// `None` if none holds at any. Refused as `run` is, without an answer.
     pub fn run_last(
         &mut self,
         count: u64,
@@ -270,8 +272,8 @@ impl<A: Allocator> Board<A> {
         Ok(latest(last, self.holding(stops, &ip_range), self.clock()))
     }
 
-    /// Makes room for `n` more changes of the speaker's level. Refused as `Memory`, with nothing changed, if the list
-    /// can't grow; never if it has the room.
+    /// Makes room for `n` more changes of the speaker's level, so that a run with no more of them can't be refused for
+    /// want of memory. Refused as `Memory`, with nothing changed, if the list can't grow; never if it has the room.
     pub fn reserve_speaker(&mut self, n: usize) -> Result<(), BoardFault>
         ensures ok { OnOk result (n ≤ self.new.room) }
         ensures plain { self.new.plain ≡ self.old.plain }
@@ -287,7 +289,8 @@ impl<A: Allocator> Board<A> {
         Ok(())
     }
 
-    /// The least number of a stop that holds; `ip_range` is where IP has to be for that.
+    /// The least number of a stop that holds at the present clock, at which a run ends; `None` if none does. `ip_range`
+    /// is where IP has to be for that, so that most looks are one comparison.
     #[inline(always)]
     fn holding(&self, stops: &Stops, ip_range: &IpRange) -> Option<usize>
         requires address { All HasAddress stops.now.items }
@@ -297,7 +300,7 @@ impl<A: Allocator> Board<A> {
         self.engine.holding_within(stops.as_slice(), ip_range)
     }
 
-    /// Whether a run of `count` clocks would go past the last clock.
+    /// Whether a run of `count` clocks would go past the last clock, 2^40, and is refused as `ClockLimit`.
     #[tactic(auto, unfolding(board_plain::specs::Plain::clock_of))]
     fn is_past_limit(&self, count: u64) -> bool
         ensures trail { length self.now.trail ≤ 32 }
@@ -306,9 +309,9 @@ impl<A: Allocator> Board<A> {
         Clock::LAST - self.engine.chips.clock().get() < count
     }
 
-    /// A turn between two looks for a stop. If it may be `whole`, it is an act with all its clocks, or steps of the
-    /// run's loop, of which only the last may lead to an IP within `ip_range`; otherwise an act's first clock. Or it is a
-    /// leap up to `end`, during which no condition changes before the last clock.
+    /// A turn between two looks for a stop. If no stop can hold in the midst of a step (`whole`), it may be an act with
+    /// all its clocks or many steps of the run's loop; otherwise an act has its first clock only. A leap goes up to
+    /// `end` either way, since no condition changes before its last clock.
     #[inline(always)]
     fn turn_between(&mut self, end: u64, whole: bool, ip_range: &IpRange) -> Result<(), BoardFault>
         requires before_end { clock_of self.old.plain < end }
@@ -323,7 +326,8 @@ impl<A: Allocator> Board<A> {
         self.clock_turn(end)
     }
 
-    /// A turn between two looks for stops that all wait for a free processor, so an act may have all its clocks.
+    /// A turn between two looks for stops that all wait for a free processor, so that an act may have all its clocks,
+    /// and steps of the run's loop may follow each other until one leads to an IP within `ip_range`.
     #[inline(always)]
     fn whole_turn(&mut self, end: u64, ip_range: &IpRange) -> Result<(), BoardFault>
         requires before_end { clock_of self.old.plain < end }
@@ -338,7 +342,8 @@ impl<A: Allocator> Board<A> {
         self.turn(end, end)
     }
 
-    /// A turn between two looks for a stop, in which an act has only its first clock.
+    /// A turn between two looks for stops that may hold in the midst of a step, so an act has its first clock only; a
+    /// leap still goes up to `end`.
     #[inline(always)]
     fn clock_turn(&mut self, end: u64) -> Result<(), BoardFault>
         requires before_end { clock_of self.old.plain < end }
@@ -354,8 +359,8 @@ impl<A: Allocator> Board<A> {
         self.turn(next, end)
     }
 
-    /// A turn, beside the steps of the run's loop: if the processor does nothing and nothing is seen, time leaps, at
-    /// most to the clock `end`; otherwise the processor acts, and those other clocks of its step pass that end by
+    /// Makes what the run's loop leaves over, one turn: if the processor does nothing and nothing is seen, time leaps,
+    /// at most to the clock `end`; otherwise the processor acts, and those other clocks of its step pass that end by
     /// `within`. Kept out of the run's loop.
     #[inline(never)]
     fn turn(&mut self, within: u64, end: u64) -> Result<(), BoardFault>
@@ -372,9 +377,9 @@ impl<A: Allocator> Board<A> {
         Ok(())
     }
 
-    /// A turn at this case of a boundary; the accesses of its first clock are noted. Answers what begins. Unless it may
-    /// leap over edges of the timer, wires change in its first clock alone. `L` is only a tag: each caller has a copy
-    /// of its own, small enough for LLVM to inline.
+    /// A turn at this case of a boundary, for runs and for `run_turn`. Answers what begins; the accesses of its first
+    /// clock are noted. Unless `over_edges`, wires change in its first clock alone. `L` is only a tag: each caller has
+    /// a copy of its own, small enough for LLVM to inline.
     #[inline(always)]
     pub(crate) fn turn_by<L, N: Notes>(
         &mut self,
@@ -408,7 +413,8 @@ impl<A: Allocator> Board<A> {
         }
     }
 
-    /// A turn in which the processor does nothing: a leap of time, or, if this clock has work, an act.
+    /// A turn in which the processor does nothing: a leap of time, or, if this clock has work, as an edge or a key, an
+    /// act that does nothing. Answers what begins, which is nothing.
     #[inline(always)]
     fn pass<N: Notes>(
         &mut self,
@@ -436,7 +442,8 @@ impl<A: Allocator> Board<A> {
         self.act(&Act::Nothing, notes, over_edges, within)
     }
 
-    /// A leap of time as a turn. Answers whether there was one; if not, this clock has work.
+    /// Makes a turn of a leap of time, up to `end` at most, while the processor does nothing. Answers whether there was
+    /// one; if not, nothing has changed, and this clock has work.
     #[inline(always)]
     fn leap(&mut self, over_edges: bool, end: u64) -> bool
         requires idle { acts.Nothing ≡ next_act self.old.plain }
@@ -454,8 +461,9 @@ impl<A: Allocator> Board<A> {
         true
     }
 
-    /// An act, as a turn: the processor does `next` in this clock, and those other clocks of its step pass that end by
-    /// `within`. The list of changes grows before anything else changes. Answers what begins.
+    /// Makes a turn of an act: the processor does `next` in this clock, and those other clocks of its step pass that
+    /// end by `within`. A change of the speaker's level is listed first, so that want of memory leaves the board as it
+    /// was. Answers what begins.
     #[inline(always)]
     fn act<N: Notes>(
         &mut self,
@@ -484,7 +492,8 @@ impl<A: Allocator> Board<A> {
         Ok(begun)
     }
 
-    /// Makes the act of `act`, after its change of the speaker's level is listed.
+    /// Does the act of `act`, after its change of the speaker's level is listed, and counts it as a turn; it can't
+    /// fail.
     #[inline(always)]
     fn make<N: Notes>(&mut self, next: &Act, notes: &mut N, over_edges: bool, within: u64)
         requires next { next.now ≡ next_act self.old.plain }
@@ -504,7 +513,8 @@ impl<A: Allocator> Board<A> {
         self.turns += 1;
     }
 
-    /// Makes steps of the run's loop, while nothing comes. Answers whether there were any.
+    /// Makes steps of the run's loop while it is known that nothing comes, up to `end` or an IP that is watched, and
+    /// counts each as a turn. Answers whether there were any; if not, nothing has changed, and a turn is needed.
     #[inline(always)]
     fn quiet_steps<W: Watch>(&mut self, end: u64, watch: &W) -> bool
         requires before_end { clock_of self.old.plain < end }
@@ -521,7 +531,8 @@ impl<A: Allocator> Board<A> {
         true
     }
 
-    /// Lists the change of the speaker's level at the next clock, if there is one; it is `high` then.
+    /// Lists the change of the speaker's level at the next clock, at which it is `high`; nothing if it is so now.
+    /// Refused as `Memory`, with nothing changed, if the list can't grow.
     #[inline(always)]
     fn list_change(&mut self, high: bool) -> Result<(), BoardFault>
         requires within { clock_of self.old.plain < 2 ^ 40 }
@@ -540,7 +551,8 @@ impl<A: Allocator> Board<A> {
         self.add_change(high)
     }
 
-    /// Adds a change of the speaker's level at the next clock.
+    /// Adds a change of the speaker's level at the next clock to the list: the rare case of `list_change`, kept out of
+    /// line. Refused as `Memory`, with nothing changed, if the list can't grow.
     #[inline(never)]
     fn add_change(&mut self, high: bool) -> Result<(), BoardFault>
         requires { clock_of self.old.plain < 2 ^ 40 }
@@ -564,7 +576,7 @@ impl<A: Allocator> Board<A> {
         }
     }
 
-    /// The board's clock.
+    /// The clock at which the board stands, counted from power-on.
     #[tactic(auto, unfolding(board_plain::specs::Plain::clock_of))]
     pub fn clock(&self) -> Clock
         ensures { result ≡ clock_of self.now.plain }
@@ -572,7 +584,7 @@ impl<A: Allocator> Board<A> {
         self.engine.chips.clock()
     }
 
-    /// The processor's registers.
+    /// The processor's registers and flags at the board's clock, for reports and viewers.
     #[tactic(auto, unfolding(board_plain::specs::Plain::registers_of))]
     pub fn regs(&self) -> Regs
         ensures { result ≡ registers_of self.now.plain }
@@ -580,7 +592,7 @@ impl<A: Allocator> Board<A> {
         self.engine.cpu.regs()
     }
 
-    /// The byte at the physical address `addr`, below 100000h.
+    /// The byte at the physical address `addr`, below 100000h, for viewers; reading it changes nothing.
     #[tactic(auto, unfolding(board_plain::specs::Plain::byte_of))]
     pub fn byte(&self, addr: u32) -> u8
         requires { addr < 2 ^ 20 }
@@ -589,7 +601,7 @@ impl<A: Allocator> Board<A> {
         self.engine.chips.byte(addr)
     }
 
-    /// Whether the processor runs, is halted or is jammed.
+    /// Whether the processor runs, is halted or is jammed, for reports and viewers.
     #[tactic(auto, unfolding(board_plain::specs::Plain::state_of))]
     pub fn state(&self) -> State
         ensures { result ≡ state_of self.now.plain }
@@ -597,7 +609,7 @@ impl<A: Allocator> Board<A> {
         self.engine.cpu.state()
     }
 
-    /// Whether a condition holds.
+    /// Whether a stop's condition holds at the board's clock, for callers that look turn by turn.
     pub fn holds(&self, condition: Condition) -> bool
         requires { HasAddress condition }
         ensures { result ≡ holds condition self.now.plain }
@@ -605,7 +617,7 @@ impl<A: Allocator> Board<A> {
         self.engine.holds(&condition)
     }
 
-    /// How many key codes were lost because the keyboard's queue was full.
+    /// How many key codes were lost since power-on because the keyboard's queue was full, for reports.
     #[tactic(auto, unfolding(board_plain::specs::Plain::lost_codes))]
     pub fn lost(&self) -> u64
         ensures { result ≡ lost_codes self.now.plain }
@@ -613,28 +625,31 @@ impl<A: Allocator> Board<A> {
         self.engine.chips.lost()
     }
 
-    /// How many turns the board has made since power-on, at most one a clock: an act with the leap over the other
-    /// clocks of its step is one, and so is each other leap of time and each step of the run's loop.
+    /// How many turns the board has made since power-on, at most one a clock, by which the debugger measures how long a
+    /// run takes: an act with the leap over the other clocks of its step is one, and so is each other leap of time and
+    /// each step of the run's loop.
     pub fn turns(&self) -> u64
         ensures { result ≡ self.now.turns }
     {
         self.turns
     }
 
-    /// How often an instruction was decoded since power-on.
+    /// How often an instruction was decoded since the board was made, to judge how well the cache serves; no contract
+    /// speaks of it.
     pub fn decodes(&self) -> u64 {
         self.engine.chips.decodes()
     }
 
-    /// The changes of the speaker's level since power-on, when it is low.
+    /// The changes of the speaker's level since power-on, when it is low, in order: for reports, and for a host that
+    /// makes sound from them.
     pub fn speaker_changes(&self) -> &[SpeakerChange]
         ensures { result.now ≡ self.now.changes }
     {
         self.changes.as_slice()
     }
 
-    /// The entry at `i` of the last 32 of the trail, from the oldest at 0 on: an instruction that began, or an
-    /// interrupt that was entered, at a free boundary.
+    /// Entry `i` of the trail, the oldest being 0, for a user to see what led here: an instruction that began, or an
+    /// interrupt that was entered. Up to the last 32 are there; `None` beyond them.
     pub fn trail(&self, i: usize) -> Option<TrailEntry>
         ensures entry { result ≡ slice_get self.now.trail i }
         ensures length { length self.now.trail ≤ 32 }
@@ -642,7 +657,8 @@ impl<A: Allocator> Board<A> {
         self.trail.get(i)
     }
 
-    /// The screen's 25 rows of 80 characters, each ended by a line feed.
+    /// The screen's 25 rows of 80 characters, each ended by a line feed, for reports and the debugger. Refused as
+    /// `Memory` if there is none for them.
     #[tactic(auto, unfolding(board_plain::specs::Plain::screen_of))]
     pub fn screen(&self) -> Result<String, BoardFault>
         ensures ok { IfOk result (λ text. string_bytes text ≡ screen_of self.now.plain) }
@@ -652,7 +668,8 @@ impl<A: Allocator> Board<A> {
     }
 }
 
-/// Whether the other clocks of a step pass no stop: all stops wait for a free processor (`whole`), and none holds here.
+/// Whether a turn of `run_last` may pass all clocks of a step: all stops wait for a free processor (`whole`), and none
+/// holds here, so none holds before the step's end.
 fn stops_nowhere(whole: bool, here: Option<usize>) -> bool
     ensures { IsTrue result → IsTrue whole × (here ≡ None) }
 {
@@ -662,8 +679,8 @@ fn stops_nowhere(whole: bool, here: Option<usize>) -> bool
     }
 }
 
-/// What a search has found last if the stop number `here` holds up to the clock before `clock`; `last` is what it found
-/// before.
+/// What `run_last` has found last after a turn to `clock`: if the stop number `here` held before the turn, it held up
+/// to the clock before `clock`; else `last`, what was found before.
 fn later(last: Option<(Clock, usize)>, here: Option<usize>, clock: Clock) -> Option<(Clock, usize)>
     requires { 1 ≤ clock }
     ensures { result ≡ found_before last here clock }
@@ -674,7 +691,8 @@ fn later(last: Option<(Clock, usize)>, here: Option<usize>, clock: Clock) -> Opt
     }
 }
 
-/// What a search has found last if the stop number `here` holds at `clock`; `last` is what it found before.
+/// What `run_last` answers at its end, at `clock`: the stop number `here` if one holds there, else `last`, what was
+/// found before.
 fn latest(last: Option<(Clock, usize)>, here: Option<usize>, clock: Clock) -> Option<(Clock, usize)>
     ensures { result ≡ found_at last here clock }
 {

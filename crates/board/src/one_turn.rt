@@ -31,7 +31,8 @@ pub struct Begun {
 }
 
 impl Engine {
-    /// What begins by this act, as the trail has it, but without an instruction's bytes.
+    /// What begins by this act, an instruction or the entry of an interrupt, as a turn answers it: as the trail has it,
+    /// but without an instruction's bytes. `None` if nothing does.
     #[inline(always)]
     pub(crate) fn begins(&self, next: &Act) -> Option<Begun>
         requires exact { IsExact self.now.cpu self.now.chips next.now }
@@ -47,7 +48,8 @@ impl Engine {
         }
     }
 
-    /// The instruction that begins, unless no row fits the bytes at CS:IP.
+    /// The instruction that begins at CS:IP, for `begins`; `None` if no row of the encoding table fits the bytes there
+    /// and the processor jams.
     #[inline(always)]
     fn starts(&self, decoded: &Decoded) -> Option<Begun>
         requires exact { IsExact self.now.cpu self.now.chips (Instruction decoded.now) }
@@ -62,7 +64,8 @@ impl Engine {
         }
     }
 
-    /// What begins in this clock at CS:IP: an instruction, or the entry of an interrupt of this type.
+    /// What begins at the present clock at CS:IP, for `begins`: the entry of an interrupt of the type `entered`, or an
+    /// instruction if that is `None`.
     #[inline(always)]
     #[tactic(auto, unfolding(board_plain::specs::Plain::clock_of))]
     fn begun(&self, entered: Option<u8>) -> Begun
@@ -83,11 +86,9 @@ impl Engine {
 }
 
 impl<A: Allocator> Board<A> {
-    /// Makes one turn of a run that ends at the clock `end`: an act, with the leap over those other clocks of its step
-    /// that end by `within`, or a leap. Answers what begins in it, and notes its accesses. All that happens in a turn
-    /// happens in its first clock, except that a turn that may leap over edges of the timer (`over_edges`) may change
-    /// wires at other clocks. Only a leap leads past `within`, and nothing happens in its first clock either. Refused
-    /// as `Memory` if `run` would be, with nothing changed.
+    /// Makes one turn of a run to the clock `end`, for a probe that looks after each: an act, with those other clocks
+    /// of its step that end by `within`, or a leap. Answers what begins. All happens in its first clock; only wires may
+    /// change later, and only if `over_edges`. Refused as `Memory` as `run` is, with nothing changed.
     pub fn run_turn<N: Notes>(
         &mut self,
         within: Clock,

@@ -13,7 +13,8 @@ use board_types::clock::Clock;
 use board_types::keys::StampedKey;
 use cached_chips::cached::CachedChips;
 
-/// The clock `end`, or the last one before the stamp if that is earlier.
+/// The clock up to which a leap may go that ends by `end`: the last one before the next key's stamp, if that is
+/// earlier.
 pub(crate) fn before_stamp(stamp: Option<Clock>, end: u64) -> u64
     ensures { result ≡ last_before stamp end }
 {
@@ -23,7 +24,8 @@ pub(crate) fn before_stamp(stamp: Option<Clock>, end: u64) -> u64
     }
 }
 
-/// A clock up to which nothing comes to a processor that is busy for `busy` clocks, as far as that is known.
+/// The clock up to which it is known that nothing comes to the processor, no request and no key, so that the run's loop
+/// may make steps; 0 while it is busy for `busy` clocks.
 #[inline(always)]
 pub(crate) fn board_quiet_to(busy: u16, chips: &CachedChips, arrived: &Arrived) -> u64
     ensures { IsBoardQuietAhead result busy chips.now arrived.now.next }
@@ -38,8 +40,9 @@ pub(crate) fn board_quiet_to(busy: u16, chips: &CachedChips, arrived: &Arrived) 
     }
 }
 
-/// The chips' part of a step of `busy` clocks that may lead past the bound, up to `end`, over edges of the timer, too;
-/// sets `quiet_to` to what is known then. Answers how many clocks of the step are left.
+/// Makes the chips' part of the last step of a run by slots, of `busy` clocks, which leads past the run's bound: up to
+/// `end`, over edges of the timer, too. Sets `quiet_to` to what is known then. Answers how many clocks of the step are
+/// left.
 #[inline(never)]
 pub(crate) fn pass_beyond(
     chips: &mut CachedChips,
@@ -63,8 +66,8 @@ pub(crate) fn pass_beyond(
     left
 }
 
-/// The chips' part of a step of `busy` clocks: all of them if they end by `end` and are known to be unseen, else the
-/// first one. Then it looks ahead for how long the chips stay quiet. Answers how many clocks are left.
+/// Makes the chips' part of a step of `busy` clocks: all of them if they end by `end` and are known to be unseen, else
+/// the first one. Then it looks ahead for how long the chips stay quiet. Answers how many clocks are left.
 #[inline(always)]
 pub(crate) fn pass_over(
     chips: &mut CachedChips,
@@ -96,8 +99,8 @@ pub(crate) fn pass_over(
     busy.saturating_sub(1)
 }
 
-/// Whether it is known that nothing is seen of the chips up to the clock `to`: they are quiet, or, if edges of the
-/// timer may be leapt over, they go on alone.
+/// Whether it is known that nothing is seen of the chips up to the clock `to`, so that these clocks may pass in one go:
+/// they are quiet, or, if edges of the timer may be leapt over, they go on alone.
 #[inline(always)]
 pub(crate) fn goes_unseen(chips: &CachedChips, to: u64, over_edges: bool) -> bool
     requires { chips.now.clock < to }

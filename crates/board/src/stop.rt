@@ -6,7 +6,8 @@ ghost use Rattle.board.specs.IpRange.{AllWithin};
 use crate::watch::Watch;
 use board_plain::stop::Condition;
 
-/// Whether this condition holds only while the processor is free.
+/// Whether this condition of a stop can hold only while the processor is free, with no clock of a step left to come,
+/// so that a run needn't check it between the clocks of a step.
 fn awaits_free(condition: Condition) -> bool
     ensures { result ≡ awaits_free condition }
 {
@@ -16,7 +17,8 @@ fn awaits_free(condition: Condition) -> bool
     }
 }
 
-/// Whether each of these conditions holds only while the processor is free.
+/// Whether each of these stops holds only while the processor is free, so that a run needn't look for them between the
+/// clocks of a step.
 pub(crate) fn all_await_free(conditions: &[Condition]) -> bool
     ensures { IsTrue result → AllAwaitFree conditions.now }
 {
@@ -42,7 +44,8 @@ impl IpRange {
         highest: u16::MAX,
     };
 
-    /// The IPs at which one of these conditions may hold.
+    /// The IPs at which one of these stops may hold, so that a run looks for them there only; all IPs unless each waits
+    /// for a CS:IP.
     pub(crate) fn of(conditions: &[Condition]) -> IpRange
         ensures { AllWithin result conditions.now }
     {
@@ -66,13 +69,14 @@ impl Watch for IpRange {
 
     ghost unwatched = { is_unwatched };
 
-    /// Whether one of the conditions may hold at this IP.
+    /// Whether one of the stops may hold at this IP, to which a step has led.
     #[inline(always)]
     fn has(&self, ip: u16) -> bool {
         self.lowest <= ip && ip <= self.highest
     }
 
-    /// Whether none of the conditions can hold at any of `size` IPs from `start` on.
+    /// Whether none of the stops can hold at any of `size` IPs from `start` on, so that a block there is run without
+    /// looks between its steps.
     #[inline(always)]
     fn spares(&self, start: u16, size: u16) -> bool {
         self.highest < start || u32::from(start) + u32::from(size) <= u32::from(self.lowest)

@@ -12,8 +12,8 @@ use std::alloc::{Allocator, Global};
 use std::mem;
 
 impl<A: Allocator> Board<A> {
-    /// The board's keys with one more, placed after all that aren't stamped later. Refused as `Memory` if there is none
-    /// for them.
+    /// The board's keys with one more, a typed one, placed after all that aren't stamped later, for `take_keys`; the
+    /// board stays as it is. Refused as `Memory` if there is none for them, or if no key sends the code.
     pub fn keys_with(&self, alloc: Global, key: StampedKey) -> Result<Keys, BoardFault>
         ensures keys { IfOk result (λ keys. keys ≡ inserted self.now.plain.keys key) }
         ensures fault { IfErr result (λ fault. fault ≡ BoardFault.Memory) }
@@ -27,7 +27,8 @@ impl<A: Allocator> Board<A> {
         Ok(keys)
     }
 
-    /// Takes these keys in place of its own: those that are stamped later than its clock are still to come.
+    /// Takes these keys in place of its own, for a session in which a key is typed: those that are stamped later than
+    /// the board's clock are still to come, and all others count as arrived.
     pub fn take_keys(&mut self, keys: Keys)
         ensures { self.new ≡ record self.old { plain = record self.old.plain { keys = keys } } }
     {
@@ -36,7 +37,8 @@ impl<A: Allocator> Board<A> {
 }
 
 impl Engine {
-    /// Takes these keys in place of its own, and forgets what was known of the next one.
+    /// Takes these keys in place of the engine's, counts how many have arrived by now, and forgets what was known of
+    /// the next one.
     fn take_keys(&mut self, keys: Keys)
         ensures { self.new ≡ record self.old { keys = keys } }
     {
@@ -48,7 +50,7 @@ impl Engine {
     }
 }
 
-/// Adds a key.
+/// Adds a key to a list, with a board's fault if that fails, for `keys_with`.
 fn push(keys: &mut Keys, key: StampedKey) -> Result<(), BoardFault>
     ensures ok { OnOk result (keys.new ≡ keys.old ++ key ∷ []) }
     ensures fault { IfErr result (λ fault. fault ≡ BoardFault.Memory) }
@@ -59,7 +61,7 @@ fn push(keys: &mut Keys, key: StampedKey) -> Result<(), BoardFault>
     }
 }
 
-/// Adds keys in their order.
+/// Adds keys to a list in their order, for `keys_with`.
 fn push_all(keys: &mut Keys, more: &[StampedKey]) -> Result<(), BoardFault>
     ensures ok { OnOk result (keys.new ≡ keys.old ++ more.now) }
     ensures fault { IfErr result (λ fault. fault ≡ BoardFault.Memory) }

@@ -29,7 +29,7 @@ pub struct BoardBench {
 }
 
 impl BoardBench {
-    /// Parts without a board.
+    /// Parts without a board, with which a `board` case begins.
     pub fn new(alloc: Global) -> Self {
         BoardBench {
             parts: Parts::new(alloc),
@@ -39,6 +39,8 @@ impl BoardBench {
         }
     }
 
+    /// Makes the board of the parts, for the step `ram KB taken`, or sees it refused with the fault of `ram KB FAULT
+    /// NAME`.
     fn build(&mut self, mut words: Words) -> Option<bool> {
         match self.parts.board(words.size()?) {
             Ok(board) => {
@@ -49,13 +51,15 @@ impl BoardBench {
         }
     }
 
+    /// Replaces the board by a copy, for the step `copy`, so that the steps after it judge the copy. `None` if there is
+    /// no board or no memory for it.
     fn go_on_with_a_copy(&mut self) -> Option<bool> {
         let copy = copy_of(&self.board)?;
         put(&mut self.board, copy);
         Some(true)
     }
 
-    /// Keeps a copy of the board as it stands.
+    /// Keeps a copy of the board as it stands, for the step `keep`, so that `again` can go on from there.
     fn keep(&mut self) -> Option<bool> {
         let copy = copy_of(&self.board)?;
         put(&mut self.kept, copy);
@@ -64,6 +68,7 @@ impl BoardBench {
 }
 
 impl Bench for BoardBench {
+    /// Makes a step of a `board` case: on the parts until there is a board, then on that.
     fn make(&mut self, verb: &str, words: Words) -> Option<bool> {
         if self.board.is_none() {
             return match verb {
@@ -81,7 +86,8 @@ impl Bench for BoardBench {
     }
 }
 
-/// Replaces the board by a copy of the one that was kept, and runs it.
+/// Replaces the board by a copy of the one that `keep` kept, and runs it, for the step `again`; its turns are counted
+/// from there by the next `work`.
 fn run_again(
     kept: &Option<Board>,
     board: &mut Option<Board>,
@@ -94,8 +100,8 @@ fn run_again(
     change(board, "run", words)
 }
 
-/// Whether the turns since those that were judged last are at least the steps and at most three times the work plus
-/// three.
+/// Whether the board's turns since those that were judged last are at least the steps and at most three times the work
+/// plus three, as the step `work` demands of a run.
 fn took_turns(board: &Board, judged: &mut u64, mut words: Words) -> Option<bool> {
     let (steps, work) = (words.count()?, words.count()?);
     let turns = board.turns();
@@ -104,7 +110,7 @@ fn took_turns(board: &Board, judged: &mut u64, mut words: Words) -> Option<bool>
     Some(steps <= grown && grown <= work.saturating_mul(3).saturating_add(3))
 }
 
-/// Makes a step that compares runs of copies of a board, or a step on the board itself.
+/// Makes a step that compares runs of copies of a board, or one on the board itself.
 fn go_on(alloc: Global, board: &mut Board, verb: &str, mut words: Words) -> Option<bool> {
     match verb {
         "cut" => comes_out_cut(alloc, board, words.count()?),
@@ -115,16 +121,18 @@ fn go_on(alloc: Global, board: &mut Board, verb: &str, mut words: Words) -> Opti
     }
 }
 
+/// A copy of the board, if there is one and memory for the copy.
 fn copy_of(board: &Option<Board>) -> Option<Board> {
     board.as_ref()?.copy().ok()
 }
 
-/// Replaces a board by another.
+/// Replaces a board by another, and drops the old one, here in one place that is quick to prove.
 fn put(place: &mut Option<Board>, board: Board) {
     drop(place.replace(board));
 }
 
-/// Makes a step that changes a board, or one that only looks at it.
+/// Makes a step that changes a board (`run`, `refused`, `until`, `last`), or one that only looks at it; also for a
+/// board whose list of changes is in a heap of its own.
 pub fn change<A: Allocator>(board: &mut Board<A>, verb: &str, mut words: Words) -> Option<bool> {
     match verb {
         "run" => Some(board.run(words.count()?).is_ok()),
@@ -135,7 +143,8 @@ pub fn change<A: Allocator>(board: &mut Board<A>, verb: &str, mut words: Words) 
     }
 }
 
-/// Makes a step that only looks at a board.
+/// Whether a board shows what a case's step says of its clock, state, registers, memory, keys or speaker; the board
+/// stays.
 fn tells<A: Allocator>(board: &Board<A>, verb: &str, mut words: Words) -> Option<bool> {
     match verb {
         "clock" => Some(board.clock() == words.clock()?),
@@ -150,7 +159,7 @@ fn tells<A: Allocator>(board: &Board<A>, verb: &str, mut words: Words) -> Option
     }
 }
 
-/// Makes a step that looks at the trail or the screen.
+/// Whether a board's trail or screen is as a case's step says; the board stays.
 fn lists<A: Allocator>(board: &Board<A>, verb: &str, mut words: Words) -> Option<bool> {
     match verb {
         "trail" => Some(has_entries(board, words.index()?)),
@@ -160,6 +169,7 @@ fn lists<A: Allocator>(board: &Board<A>, verb: &str, mut words: Words) -> Option
     }
 }
 
+/// Whether the screen's text is as the steps `blank`, `screen` or `alone` say; `None` for any other verb.
 fn shows(screen: &str, verb: &str, mut words: Words) -> Option<bool> {
     match verb {
         "blank" => Some(screen.trim().is_empty()),
@@ -169,12 +179,14 @@ fn shows(screen: &str, verb: &str, mut words: Words) -> Option<bool> {
     }
 }
 
-/// Whether this many decodings are at least the first of the words and at most the second.
+/// Whether this many decodings are at least the first of the words and at most the second, as the step `decodes` says,
+/// which limits how often instructions are decoded anew.
 fn were_decoded(decodes: u64, mut words: Words) -> Option<bool> {
     Some(words.count()? <= decodes && decodes <= words.count()?)
 }
 
-/// Whether the words are an address and the bytes that stand in memory from it on.
+/// Whether the board's memory has the bytes that `bytes` lists after an address, from that address on; `None` if a
+/// word can't be read or the addresses run out before a byte differs.
 fn stand_at<A: Allocator>(board: &Board<A>, mut words: Words) -> Option<bool> {
     let mut addr = words.address()?;
     for word in words.0.split_whitespace() {
@@ -189,11 +201,12 @@ fn stand_at<A: Allocator>(board: &Board<A>, mut words: Words) -> Option<bool> {
     Some(true)
 }
 
-/// Whether the words are the fault's number and name.
+/// Whether the words of a step are this fault's number and name, for a refused run, memory size or reserve.
 pub fn is_fault(fault: BoardFault, mut words: Words) -> Option<bool> {
     Some(words.count()? == u64::from(fault.number()) && words.word()? == fault.name())
 }
 
+/// The name of the processor's state in the step `state`.
 fn state_name(state: State) -> &'static str {
     match state {
         State::Running => "running",
@@ -207,6 +220,7 @@ const NAMES: [&str; 14] = [
     "AX", "BX", "CX", "DX", "SP", "BP", "SI", "DI", "CS", "DS", "ES", "SS", "IP", "FL",
 ];
 
+/// The registers' words in the order of `NAMES`, for the step `regs` to compare.
 fn words_of(regs: Regs) -> [u16; 14] {
     [
         regs.ax,
@@ -226,7 +240,8 @@ fn words_of(regs: Regs) -> [u16; 14] {
     ]
 }
 
-/// Whether the words name all registers that aren't 0, in the order of `NAMES`, each with what it holds.
+/// Whether the words of the step `regs` name all registers that aren't 0, in the order of `NAMES`, each with what it
+/// holds.
 fn hold(regs: Regs, words: Words) -> Option<bool> {
     let mut wanted = words.0.split_whitespace();
     let values = words_of(regs);
@@ -238,13 +253,14 @@ fn hold(regs: Regs, words: Words) -> Option<bool> {
     Some(wanted.next().is_none())
 }
 
-/// Whether the word is the register's name and what it holds.
+/// Whether a word `NAME=WORD` of the step `regs` is the register's name and what it holds; `None` if it can't be read.
 fn is_named(word: &str, name: &str, value: u16) -> Option<bool> {
     let (register, digits) = word.split_once('=')?;
     Some(register == name && u16::from_str_radix(digits, 16).ok()? == value)
 }
 
-/// Whether the words are these changes, each a clock and a level.
+/// Whether the words of the step `changes` are all these changes of the speaker's level, each a clock and a level, as
+/// `72H`.
 fn are_listed(changes: &[SpeakerChange], words: Words) -> Option<bool> {
     let mut wanted = words.0.split_whitespace();
     for change in changes {

@@ -16,7 +16,7 @@ pub struct ChipsBench {
 }
 
 impl ChipsBench {
-    /// Parts without chips.
+    /// Parts without chips, with which a `chips` case begins.
     pub fn new(alloc: Global) -> Self {
         ChipsBench {
             parts: Parts::new(alloc),
@@ -24,6 +24,7 @@ impl ChipsBench {
         }
     }
 
+    /// Makes the chips of the parts, for the step `ram KB taken`, or sees them refused with the fault's number.
     fn build(&mut self, mut words: Words) -> Option<bool> {
         match self.parts.chips(words.size()?) {
             Ok(chips) => {
@@ -34,12 +35,14 @@ impl ChipsBench {
         }
     }
 
+    /// Puts newly made chips into the bench, in place of any before.
     fn put(&mut self, chips: Chips) {
         drop(self.chips.replace(chips));
     }
 }
 
 impl Bench for ChipsBench {
+    /// Makes a step of a `chips` case: on the parts until the chips are made, then on these.
     fn make(&mut self, verb: &str, words: Words) -> Option<bool> {
         match &mut self.chips {
             Some(chips) => act(chips, verb, words),
@@ -49,7 +52,8 @@ impl Bench for ChipsBench {
     }
 }
 
-/// Makes a step that changes the chips.
+/// Makes a step that changes the chips, such as a port access or the passing of clocks, or one that only looks at them.
+/// Returns whether what is read is what the case says.
 fn act(chips: &mut Chips, verb: &str, mut words: Words) -> Option<bool> {
     match verb {
         "in" => return Some(chips.in8(words.port()?) == words.byte()?),
@@ -65,14 +69,15 @@ fn act(chips: &mut Chips, verb: &str, mut words: Words) -> Option<bool> {
     Some(true)
 }
 
-/// Replaces the chips by a copy.
+/// Replaces the chips by a copy, for the step `copy` of `chips` and `timer` cases; `None` if there is no memory for it.
 pub fn go_on_with_a_copy(chips: &mut Chips) -> Option<bool> {
     let copy = chips.copy().ok()?;
     drop(mem::replace(chips, copy));
     Some(true)
 }
 
-/// Makes a step that only looks at the chips.
+/// Whether the chips show what a case's step says of memory, keys, the interrupt request, the speaker or the screen;
+/// they stay.
 fn tells(chips: &Chips, verb: &str, mut words: Words) -> Option<bool> {
     match verb {
         "read" => has_byte(chips, words),
@@ -88,6 +93,7 @@ fn tells(chips: &Chips, verb: &str, mut words: Words) -> Option<bool> {
     }
 }
 
+/// Brings the chips to a clock, for the step `sync`; `None` if that is past. Returns whether they stand there then.
 fn sync(chips: &mut Chips, mut words: Words) -> Option<bool> {
     let to = words.clock()?;
     if to.get() < chips.clock().get() {
@@ -97,6 +103,8 @@ fn sync(chips: &mut Chips, mut words: Words) -> Option<bool> {
     Some(chips.clock() == to)
 }
 
+/// Whether memory has this byte at an address, for the step `read`, as the bus reads it and as instructions are
+/// decoded.
 fn has_byte(chips: &Chips, mut words: Words) -> Option<bool> {
     let addr = words.address()?;
     let wanted = words.byte()?;

@@ -5,7 +5,7 @@ use board::board::Board;
 use std::alloc::Allocator;
 
 /// Whether a run, to its end, answers this clock and the condition of this number as the last that held, or none if the
-/// number is 0. The words are the count of clocks, the clock, the number, and the conditions.
+/// number is 0, for the step `last`. The words are the count of clocks, the clock, the number, and the conditions.
 pub fn lasts_so<A: Allocator>(board: &mut Board<A>, mut words: Words) -> Option<bool> {
     let count = words.count()?;
     let clock = words.clock()?;

@@ -75,11 +75,13 @@ use std::alloc::Global;
 use std::io;
 use timer::TimerBench;
 
+/// Judges the cases on standard input, each by itself.
 fn main(rt: HostRuntime) -> io::Result<()> {
     judge_cases(&rt, judge)
 }
 
-/// Makes a case's steps. Fails with the first that doesn't come out.
+/// Judges a case: makes its steps on what the name before the colon stands for. Fails with the first that doesn't come
+/// out.
 fn judge(alloc: Global, case: &str) -> Result<()> {
     let (name, steps) = case.split_once(':').context("no colon")?;
     match name {
@@ -93,6 +95,7 @@ fn judge(alloc: Global, case: &str) -> Result<()> {
     }
 }
 
+/// Makes the steps of a `timer` case beside a timer of this kind. Fails with the first that doesn't come out.
 fn follow_timers(alloc: Global, kind: TimerKind, steps: &str) -> Result<()> {
     let bench = TimerBench::new(alloc, kind).context("no memory")?;
     follow(bench, steps)

@@ -25,7 +25,7 @@ pub struct Parts {
 }
 
 impl Parts {
-    /// An empty image, no key codes, all switches 0, an 8253 and table C1.
+    /// The parts with which each case begins: an empty image, no key codes, all switches 0, an 8253 and table C1.
     pub fn new(alloc: Global) -> Self {
         Parts {
             alloc,
@@ -38,7 +38,7 @@ impl Parts {
         }
     }
 
-    /// Chips that are made of these parts.
+    /// Chips with `ram_kb` KB that are made of these parts, for a `chips` case; refused as their memory is.
     pub fn chips(&self, ram_kb: u16) -> Result<Chips, MemoryFault> {
         Chips::new(
             self.alloc,
@@ -50,7 +50,7 @@ impl Parts {
         )
     }
 
-    /// A board that is made of these parts.
+    /// A board with `ram_kb` KB that is made of these parts, at power-on, for `board` and `heap` cases.
     pub fn board(&self, ram_kb: u16) -> Result<Board, BoardFault>
         ensures { IfOk result (λ board. board.changes ≡ []) }
     {
@@ -64,7 +64,7 @@ impl Parts {
         Board::new(self.alloc, &self.image, config, self.keys.copy()?)
     }
 
-    /// Makes a step that changes the parts.
+    /// Makes a step that changes the parts, before the chips or the board are made of them; `None` for any other step.
     pub fn set(&mut self, verb: &str, mut words: Words) -> Option<bool> {
         match verb {
             "put" => self.put(words),
@@ -86,7 +86,7 @@ impl Parts {
         }
     }
 
-    /// Puts bytes into the image, from an address on.
+    /// Puts bytes into the image, from an address on, for the step `put`; `None` if an address isn't loadable.
     fn put(&mut self, mut words: Words) -> Option<bool> {
         let mut addr = words.address()?;
         for word in words.0.split_whitespace() {
@@ -100,7 +100,7 @@ impl Parts {
         Some(true)
     }
 
-    /// Adds key codes with one stamp.
+    /// Adds key codes with one stamp, for the step `keys`; `None` if a word can't be read or the list refuses a code.
     fn push(&mut self, mut words: Words) -> Option<bool> {
         let stamp = words.clock()?;
         for word in words.0.split_whitespace() {

@@ -7,8 +7,8 @@ use board::board::Board;
 use board_plain::stop::{Condition, Stops};
 use std::alloc::Allocator;
 
-/// Whether a run up to a stop ends at this clock, by the stop of this number, or at none if the number is 0. The words
-/// are the count of clocks, the clock, the number, and the conditions.
+/// Whether a run up to a stop ends at this clock, by the stop of this number, or at none if the number is 0, for the
+/// step `until`. The words are the count of clocks, the clock, the number, and the conditions.
 pub fn stops_so<A: Allocator>(board: &mut Board<A>, mut words: Words) -> Option<bool> {
     let count = words.count()?;
     let clock = words.clock()?;
@@ -21,7 +21,8 @@ pub fn stops_so<A: Allocator>(board: &mut Board<A>, mut words: Words) -> Option<
     Some(told && board.clock() == clock)
 }
 
-/// The conditions that the words name, at most sixteen.
+/// The conditions of stops that the words of a step name, at most sixteen; `None` if one can't be read or there are
+/// more than fit.
 pub fn read_stops(mut words: Words) -> Option<Stops>
     ensures { IfSome result (λ stops. All HasAddress stops.items) }
 {
@@ -39,6 +40,8 @@ pub fn read_stops(mut words: Words) -> Option<Stops>
     Some(stops)
 }
 
+/// The condition of a stop that begins with this word of a step, read with the words after it; `None` if it can't be
+/// read.
 fn read_condition(word: &str, words: &mut Words) -> Option<Condition>
     ensures { IfSome result HasAddress }
 {

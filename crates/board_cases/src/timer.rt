@@ -26,7 +26,8 @@ pub struct TimerBench {
 }
 
 impl TimerBench {
-    /// Both at power-on, with port B of the 8255A as an output. `None` if there is no memory.
+    /// The chips' timer and the one that is ticked by itself, both of this kind at power-on, with port B of the 8255A
+    /// as an output, for a `timer` case. `None` if there is no memory.
     pub fn new(alloc: Global, kind: TimerKind) -> Option<Self> {
         let image = Image::new(alloc);
         let mut chips = Chips::new(alloc, &image, 16, 0, 0, kind).ok()?;
@@ -37,7 +38,7 @@ impl TimerBench {
         })
     }
 
-    /// Writes to a port of both timers.
+    /// Writes a byte to a port of both timers, for the step `out`; `None` if the port isn't the timer's.
     fn write(&mut self, mut words: Words) -> Option<bool> {
         let (port, value) = (timer_port(&mut words)?, words.byte()?);
         self.chips.out8(0x40 + u16::from(port), value);
@@ -45,13 +46,13 @@ impl TimerBench {
         Some(true)
     }
 
-    /// Whether both timers give the same byte at a port.
+    /// Whether both timers give the same byte at a port, for the step `in`.
     fn read(&mut self, mut words: Words) -> Option<bool> {
         let port = timer_port(&mut words)?;
         Some(self.chips.in8(0x40 + u16::from(port)) == self.pit.read(port))
     }
 
-    /// Sets gate 2 of both timers, by bit 0 of port B.
+    /// Sets gate 2 of both timers, that of the board by bit 0 of port B, for the step `gate`.
     fn set_gate(&mut self, mut words: Words) -> Option<bool> {
         let high = words.high()?;
         self.chips.out8(0x61, u8::from(high));
@@ -61,7 +62,8 @@ impl TimerBench {
         Some(true)
     }
 
-    /// Passes clocks, every fourth of which has a tick. Answers whether OUT2 agrees after them.
+    /// Passes clocks for both timers, the other one tick by tick (every fourth clock), for the step `pass`. Returns
+    /// whether OUT2 agrees after them.
     fn pass(&mut self, mut words: Words) -> Option<bool> {
         let from = self.chips.clock().get();
         let to = Clock::new(from.checked_add(words.count()?)?)?;
@@ -73,7 +75,7 @@ impl TimerBench {
         Some(out_2 == self.pit.out(2).is_high())
     }
 
-    /// Whether the chips foresee the next edge of an output.
+    /// Whether the chips foresee the next edge of OUT0 or OUT2, or none, as single ticks find it, for the step `edge`.
     fn foresees(&self, mut words: Words) -> Option<bool> {
         let n = words.byte()?;
         if n != 0 && n != 2 {
@@ -85,6 +87,7 @@ impl TimerBench {
 }
 
 impl Bench for TimerBench {
+    /// Makes a step of a `timer` case on both timers, and returns whether they agree after it; `None` for no such step.
     fn make(&mut self, verb: &str, words: Words) -> Option<bool> {
         match verb {
             "out" => self.write(words),
@@ -98,7 +101,7 @@ impl Bench for TimerBench {
     }
 }
 
-/// The number of a port of the timer, from 0, if it is one.
+/// The number, from 0, of the timer's port that a step's next word gives (40h to 43h); `None` if it isn't the timer's.
 fn timer_port(words: &mut Words) -> Option<u8>
     ensures { IfSome result (λ port. port < 4) }
 {
@@ -106,7 +109,8 @@ fn timer_port(words: &mut Words) -> Option<u8>
     (0x40 <= port && port < 0x44).then_some((port % 4) as u8)
 }
 
-/// The clock at whose tick an output turns first after `from`, found by making the ticks.
+/// The clock at whose tick an output turns first after `from`, found by making the ticks on a copy, to be compared with
+/// what the chips foresee. `None` if it doesn't turn.
 fn edge_by_ticks(pit: &Pit, n: u8, from: Clock) -> Option<u64>
     requires { n < 3 }
 {

@@ -20,7 +20,7 @@ const TONE: [u8; 19] = [
 /// The clocks at which twenty keys each are struck. Nothing takes their codes, so some are lost.
 const STRUCK: [u64; 2] = [80, 200];
 
-/// The board of the sessions at power-on.
+/// The board of the session cases at power-on: it plays a tone and halts, and keys are struck in the meantime.
 pub fn tone_board(alloc: Global) -> Result<Board> {
     let keys = struck(alloc)?;
     let image = tone_image(alloc)?;
@@ -34,6 +34,7 @@ pub fn tone_board(alloc: Global) -> Result<Board> {
     Ok(Board::new(alloc, &image, config, keys)?)
 }
 
+/// The image of the board that plays a tone: its program at F000:0 and a jump to it at the reset vector.
 fn tone_image(alloc: Global) -> Result<Image> {
     let mut image = Image::new(alloc);
     put(&mut image, 0xF_FFF0, &JUMP)?;
@@ -41,6 +42,7 @@ fn tone_image(alloc: Global) -> Result<Image> {
     Ok(image)
 }
 
+/// Puts bytes into the image from an address on, up to the first that isn't loadable.
 fn put(image: &mut Image, start: u32, bytes: &[u8]) -> Result<()> {
     let mut addr = start;
     for byte in bytes {
@@ -53,6 +55,7 @@ fn put(image: &mut Image, start: u32, bytes: &[u8]) -> Result<()> {
     Ok(())
 }
 
+/// The key codes of the board that plays a tone, twenty at each of two clocks, more than its keyboard holds.
 fn struck(alloc: Global) -> Result<Keys> {
     let mut keys = Keys::new(alloc);
     for clock in STRUCK {

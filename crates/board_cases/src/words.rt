@@ -10,7 +10,7 @@ use board_types::clock::Clock;
 pub struct Words<'a>(pub &'a str);
 
 impl<'a> Words<'a> {
-    /// The next word.
+    /// Reads the next word of a step, and leaves those after it to be read; `None` if there is none.
     pub fn word(&mut self) -> Option<&'a str> {
         let text = self.0.trim();
         if text.is_empty() {
@@ -21,17 +21,17 @@ impl<'a> Words<'a> {
         Some(word)
     }
 
-    /// A port, in hexadecimal.
+    /// Reads the next word as a port, or CS or IP, in hexadecimal.
     pub fn port(&mut self) -> Option<u16> {
         u16::from_str_radix(self.word()?, 16).ok()
     }
 
-    /// A byte, in hexadecimal.
+    /// Reads the next word as a byte, in hexadecimal.
     pub fn byte(&mut self) -> Option<u8> {
         u8::from_str_radix(self.word()?, 16).ok()
     }
 
-    /// A physical address, in hexadecimal.
+    /// Reads the next word as a physical address, in hexadecimal; `None` if it isn't below 100000h.
     pub fn address(&mut self) -> Option<u32>
         ensures { IfSome result (λ addr. addr < 2 ^ 20) }
     {
@@ -39,27 +39,27 @@ impl<'a> Words<'a> {
         (addr < ADDRESS_COUNT).then_some(addr)
     }
 
-    /// A count, in decimal.
+    /// Reads the next word as a count, of clocks or keys for example, in decimal.
     pub fn count(&mut self) -> Option<u64> {
         self.word()?.parse::<u64>().ok()
     }
 
-    /// A size in KB, in decimal.
+    /// Reads the next word as a size of RAM in KB, in decimal.
     pub fn size(&mut self) -> Option<u16> {
         u16::try_from(self.count()?).ok()
     }
 
-    /// An index or a number of bytes, in decimal.
+    /// Reads the next word as an index or a number of bytes, in decimal.
     pub fn index(&mut self) -> Option<usize> {
         self.word()?.parse::<usize>().ok()
     }
 
-    /// A clock, in decimal.
+    /// Reads the next word as a clock, in decimal; `None` if there is no such clock.
     pub fn clock(&mut self) -> Option<Clock> {
         Clock::new(self.count()?)
     }
 
-    /// Whether a level is high.
+    /// Reads the next word as a level: whether it is high (`H`) and not low (`L`).
     pub fn high(&mut self) -> Option<bool> {
         match self.word()? {
             "H" => Some(true),
@@ -68,7 +68,7 @@ impl<'a> Words<'a> {
         }
     }
 
-    /// A timer, by its number.
+    /// Reads the next word as a timer, by its number, for the step that chooses the board's timer.
     pub fn timer(&mut self) -> Option<TimerKind> {
         match self.word()? {
             "8253" => Some(TimerKind::I8253),
@@ -77,7 +77,7 @@ impl<'a> Words<'a> {
         }
     }
 
-    /// A table of clocks, by its name.
+    /// Reads the next word as a table of clocks, by its name, for the step that chooses the board's table.
     pub fn clocks(&mut self) -> Option<ClockTable> {
         match self.word()? {
             "C1" => Some(ClockTable::C1),
@@ -87,7 +87,7 @@ impl<'a> Words<'a> {
     }
 
     /// Whether the screen's text has 25 lines of 80 characters, and the line of this number, from 0, is the quoted text
-    /// and spaces.
+    /// and spaces, as the step `screen` says.
     pub fn are_shown(&mut self, screen: &str) -> Option<bool> {
         let number = usize::try_from(self.count()?).ok()?;
         let wanted = self.0.trim().strip_prefix('\'')?.strip_suffix('\'')?;
@@ -95,7 +95,7 @@ impl<'a> Words<'a> {
         Some(screen.len() == 2025 && line.len() == 80 && line.trim_end() == wanted)
     }
 
-    /// Whether the screen has the quoted text in the line of this number and no other text.
+    /// Whether the screen has the quoted text in the line of this number and no other text, as the step `alone` says.
     pub fn are_alone(&mut self, screen: &str) -> Option<bool> {
         let mut words = *self;
         let _number = words.word()?;

@@ -10,6 +10,8 @@ use board_types::regs::Regs;
 use board_types::state::State;
 use std::alloc::{AllocError, Global};
 
+/// The first of the two lines of registers: AX to DX, SP, BP, SI and DI in hexadecimal. Fails only if there is no
+/// memory for it.
 #[tactic(auto, unfolding(crate::specs::Text::general_line))]
 fn general_line(alloc: Global, regs: &Regs) -> Result<String, AllocError>
     ensures { IfOk result (λ text. string_bytes text ≡ general_line regs.now) }
@@ -25,6 +27,8 @@ fn general_line(alloc: Global, regs: &Regs) -> Result<String, AllocError>
     format!(in alloc; "AX={ax} BX={bx} CX={cx} DX={dx} SP={sp} BP={bp} SI={si} DI={di}\n")
 }
 
+/// The second of the two lines of registers: segment registers, IP and the flags word in hexadecimal. Fails only if
+/// there is no memory for it.
 #[tactic(auto, unfolding(crate::specs::Text::segment_line))]
 fn segment_line(alloc: Global, regs: &Regs) -> Result<String, AllocError>
     ensures { IfOk result (λ text. string_bytes text ≡ segment_line regs.now) }
@@ -38,7 +42,8 @@ fn segment_line(alloc: Global, regs: &Regs) -> Result<String, AllocError>
     format!(in alloc; "CS={cs} DS={ds} ES={es} SS={ss} IP={ip} FL={fl}\n")
 }
 
-/// The two lines of the registers.
+/// The two lines of the registers, in a board's report and as the debugger's answer. Fails only if there is no memory
+/// for them.
 #[tactic(auto, unfolding(crate::specs::Text::register_lines))]
 pub fn register_lines(alloc: Global, regs: &Regs) -> Result<String, AllocError>
     ensures { IfOk result (λ text. string_bytes text ≡ register_lines regs.now) }
@@ -49,7 +54,7 @@ pub fn register_lines(alloc: Global, regs: &Regs) -> Result<String, AllocError>
     Ok(text)
 }
 
-/// The line of a clock.
+/// The line with which a board's report begins, its clock in decimal. Fails only if there is no memory for it.
 #[tactic(auto, unfolding(crate::specs::Text::clock_line))]
 pub fn clock_line(alloc: Global, clock: u64) -> Result<String, AllocError>
     ensures { IfOk result (λ text. string_bytes text ≡ clock_line clock) }
@@ -57,7 +62,7 @@ pub fn clock_line(alloc: Global, clock: u64) -> Result<String, AllocError>
     format!(in alloc; "clock {clock}\n")
 }
 
-/// A state's name.
+/// A state's name, as reports and the probe print it.
 pub fn state_name(state: State) -> &'static str
     ensures { result.now ≡ state_name state }
 {
@@ -68,7 +73,8 @@ pub fn state_name(state: State) -> &'static str
     }
 }
 
-/// The lines of the processor's state, of the lost key codes, and of how many changes follow.
+/// The lines in a board's report of the processor's state, of the lost key codes, and of how many changes of the
+/// speaker's level follow. Fails only if there is no memory for them.
 #[tactic(auto, unfolding(crate::specs::Text::state_lines))]
 pub fn state_lines(
     alloc: Global,
@@ -82,6 +88,8 @@ pub fn state_lines(
     format!(in alloc; "state {name}\nlost {lost}\nsound {changes}\n")
 }
 
+/// The line in a board's report of one change of the speaker's level: its clock, and 1 for high or 0 for low. Fails
+/// only if there is no memory for it.
 #[tactic(auto, unfolding(crate::specs::Text::change_line))]
 fn change_line(alloc: Global, change: SpeakerChange) -> Result<String, AllocError>
     ensures { IfOk result (λ text. string_bytes text ≡ change_line change) }
@@ -91,7 +99,8 @@ fn change_line(alloc: Global, change: SpeakerChange) -> Result<String, AllocErro
     format!(in alloc; "{clock} {level}\n")
 }
 
-/// The lines of changes of the speaker's level, added to a text.
+/// Adds to the text of a board's report a line for each change of the speaker's level, in order. Fails only if there is
+/// no memory for them.
 pub fn push_changes(
     alloc: Global,
     text: &mut String,

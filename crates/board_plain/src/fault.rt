@@ -18,7 +18,7 @@ pub enum BoardFault {
 }
 
 impl BoardFault {
-    /// The fault's number.
+    /// The number by which the user and a calling program are told the fault.
     pub fn number(self) -> u8
         ensures { result ≡ board_fault_number self }
     {
@@ -29,7 +29,7 @@ impl BoardFault {
         }
     }
 
-    /// The fault's name, as it is printed.
+    /// The fault's name, as it is printed after its number when a command or run is refused.
     pub fn name(self) -> &'static str
         ensures { result.now ≡ board_fault_name self }
     {
@@ -44,6 +44,7 @@ impl BoardFault {
 impl From<AllocError> for BoardFault {
     ghost from_gives = { λ _ fault. fault ≡ Memory };
 
+    /// Makes a refused allocation the fault `Memory`, so that `?` passes it on.
     fn from(_error: AllocError) -> BoardFault {
         BoardFault::Memory
     }

@@ -16,7 +16,7 @@ pub struct TrailEntry {
     pub event: TrailEvent,
 }
 
-/// What began at a free boundary.
+/// What began at a clock at which the processor was free.
 #[derive(Drop)]
 pub enum TrailEvent {
     /// An instruction, with the bytes that stood at its CS:IP then.

@@ -7,8 +7,8 @@ use board::board::Board;
 use board_lines::lines::{clock_line, push_changes, register_lines, state_lines};
 use std::alloc::{AllocError, Global};
 
-/// The report of a board as text: clock, registers, state, the speaker's changes, and the screen. Fails only if there
-/// is no memory for it.
+/// The report of a board as text, which `pcboard` prints at a run's end: clock, registers, state, the speaker's
+/// changes, and the screen. Fails only if there is no memory for it.
 #[tactic(auto, unfolding(board_lines::specs::Text::report_text))]
 pub fn report_text(alloc: Global, board: &Board) -> Result<String, AllocError>
     ensures { IfOk result (λ text. string_bytes text ≡ report_text board.now.plain board.now.changes) }

@@ -17,7 +17,8 @@ pub const TEXT_SIZE: u32 = 4096;
 /// Where the ROM begins; it ends with the last address.
 pub const ROM_START: u32 = 0xF0000;
 
-/// The physical address, below 100000h, of an offset in a segment. It wraps at 2^20.
+/// The physical address of an offset in a segment, as the 8086 forms it: 16 times the segment plus the offset, modulo
+/// 2^20.
 pub fn physical(segment: u16, offset: u16) -> u32
     ensures value { result ≡ physical segment offset }
     ensures bound { result < 2 ^ 20 }

@@ -26,7 +26,7 @@ impl Clock {
     /// The last clock that a board can reach.
     pub const LAST: u64 = 1 << 40;
 
-    /// The clock `clocks`, or `None` if it lies past 2^40.
+    /// The clock that is `clocks` clocks after power-on; `None` if that lies past 2^40, which no board can reach.
     pub fn new(clocks: u64) -> Option<Clock>
         ensures { SomeIff result (clocks ≤ 2 ^ 40) clocks }
     {
@@ -37,7 +37,8 @@ impl Clock {
         }
     }
 
-    /// The clock that lies `clocks` clocks after this one, not past 2^40.
+    /// The clock that lies `clocks` clocks after this one, as at the end of a step; the caller knows that it isn't past
+    /// 2^40.
     #[inline(always)]
     pub fn after(self, clocks: u16) -> Clock
         requires { self + clocks ≤ 2 ^ 40 }

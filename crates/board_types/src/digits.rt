@@ -4,7 +4,8 @@ ghost use Rattle.board_types.specs.Digits.{digit_of, hex_byte_text, hex_word};
 
 use std::fmt;
 
-/// The value of a digit, or of a letter from A to F in either case as a digit, 10 to 15; 255 of any other byte.
+/// The value of a digit in a source or a debugger's command: 0 to 9, or 10 to 15 for a letter from A to F in either
+/// case; 255 for any other byte, which is no digit in any base.
 pub fn digit_of(byte: u8) -> u8
     ensures { result ≡ digit_of byte }
 {
@@ -16,13 +17,14 @@ pub fn digit_of(byte: u8) -> u8
     }
 }
 
-/// A byte that is shown as two hexadecimal digits, in upper case.
+/// A byte that texts for the user show as two hexadecimal digits, in upper case.
 #[derive(Clone, Copy)]
 pub struct HexByte(pub u8);
 
 impl fmt::Display for HexByte {
     ghost output = { λ b. Some (hex_byte_text b.0) };
 
+    /// Writes the byte as two hexadecimal digits, as texts for the user show it.
     #[tactic(auto, using(std::proofs::lemmas::Fmt::hex_byte))]
     fn fmt<W: fmt::Write>(&self, f: &mut fmt::Formatter<W>) -> fmt::Result {
         let byte = self.0;
@@ -30,13 +32,14 @@ impl fmt::Display for HexByte {
     }
 }
 
-/// A word that is shown as four hexadecimal digits, in upper case.
+/// A word that texts for the user show as four hexadecimal digits, in upper case.
 #[derive(Clone, Copy)]
 pub struct HexWord(pub u16);
 
 impl fmt::Display for HexWord {
     ghost output = { λ w. Some (hex_word w.0) };
 
+    /// Writes the word as four hexadecimal digits, high byte first, as texts for the user show it.
     #[tactic(auto, using(std::proofs::lemmas::Fmt::hex_byte))]
     fn fmt<W: fmt::Write>(&self, f: &mut fmt::Formatter<W>) -> fmt::Result {
         let high = (self.0 / 256) as u8;

@@ -28,7 +28,8 @@ impl Model for Image {
     ghost invariant = { λ a. IsImage a.bytes.entries };
 }
 
-/// Whether a program's bytes may go to the physical address `addr`: below A0000h, or from F0000h to FFFFFh.
+/// Whether a program's bytes may go to the physical address `addr`, in RAM (below A0000h) or in the ROM (F0000h to
+/// FFFFFh): assembler and loader ask before they place a byte.
 pub fn is_loadable(addr: u32) -> bool
     ensures { IsTrue result ↔ IsLoadable addr }
 {
@@ -36,7 +37,7 @@ pub fn is_loadable(addr: u32) -> bool
 }
 
 impl Image {
-    /// An image with no byte.
+    /// An empty image, into which the assembler or the loader then puts a program's bytes.
     pub fn new(alloc: Global) -> Self
         ensures { result ≡ [] }
     {
@@ -45,7 +46,7 @@ impl Image {
         }
     }
 
-    /// The byte at the physical address `addr`, if the image has one there.
+    /// The byte that the program places at the physical address `addr`; `None` if it places none there.
     pub fn get(&self, addr: u32) -> Option<u8>
         ensures byte { result ≡ image_byte self.now addr }
         ensures is_image { IsImage self.now }
@@ -53,7 +54,7 @@ impl Image {
         self.bytes.get(&addr).copied()
     }
 
-    /// The addresses that have a byte, rising, each with its byte.
+    /// The addresses that have a byte, rising, each with its byte: what a board's memory is loaded with at power-on.
     pub fn iter(&self) -> Iter<'_, u32, u8>
         ensures entries { result ≡ self.now }
         ensures found { All (λ e. image_byte self.now e.0 ≡ Some e.1) self.now }

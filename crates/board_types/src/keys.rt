@@ -27,7 +27,7 @@ pub enum KeyFault {
 }
 
 impl KeyFault {
-    /// The fault's number.
+    /// The number by which the user and a calling program are told the fault.
     pub fn number(self) -> u8
         ensures { result ≡ key_fault_number self }
     {
@@ -39,7 +39,8 @@ impl KeyFault {
     }
 }
 
-/// Whether some key of the keyboard sends `code`, on its way down (01h to 53h) or up (81h to D3h).
+/// Whether some key of the keyboard sends `code`, on its way down (01h to 53h) or up (81h to D3h): other codes from a
+/// run file or a command are refused.
 pub fn is_scan_code(code: u8) -> bool
     ensures { result ≡ names_key code }
 {
@@ -66,7 +67,7 @@ impl Model for Keys {
 }
 
 impl Keys {
-    /// A list with no key codes.
+    /// A list with no key codes, to which a run's are added.
     pub fn new(alloc: Global) -> Self
         ensures { result ≡ [] }
     {
@@ -89,7 +90,7 @@ impl Keys {
         self.keys.is_empty()
     }
 
-    /// The key codes, the first to arrive first.
+    /// The key codes, the first to arrive first, for a board that lets them arrive.
     pub fn as_slice(&self) -> &[StampedKey]
         ensures keys { result.now ≡ self.now }
         ensures in_order { IsInOrder result.now }
@@ -118,7 +119,8 @@ impl Keys {
         }
     }
 
-    /// A copy of the key codes, in memory of its own. Fails only if there is no memory for it.
+    /// A copy of the key codes for a copied board or one more run, in memory of its own. Fails only if there is no
+    /// memory for it.
     pub fn copy(&self) -> Result<Keys, AllocError>
         ensures { IfOk result (λ keys. keys ≡ self.now) }
     {
@@ -127,6 +129,7 @@ impl Keys {
         })
     }
 
+    /// The clock of the last key, 0 if there is none: `push` refuses a key that is earlier.
     fn last_stamp(&self) -> u64
         ensures { result ≡ last_stamp self.now }
     {

@@ -10,7 +10,7 @@ pub enum Line {
 }
 
 impl Line {
-    /// The level of a wire that is high if `high` holds.
+    /// The level of a wire that is high if `high` holds, to drive it by a bit or a condition.
     pub fn from_bool(high: bool) -> Line
         ensures { result ≡ from_bool high }
     {
@@ -27,7 +27,7 @@ impl Line {
         }
     }
 
-    /// The other level.
+    /// The other level, for a counter's OUT that turns over.
     pub fn opposite(self) -> Line
         ensures { result ≡ opposite self }
     {

@@ -26,7 +26,8 @@ pub struct Flags {
 }
 
 impl Flags {
-    /// The flags word as it is pushed or shown: bits 15 to 12 and 1 are set, 5 and 3 clear.
+    /// The flags word as PUSHF or an interrupt pushes it, and as reports show it: bits 15 to 12 and 1 are set, 5 and 3
+    /// clear.
     pub fn word(self) -> u16
         ensures { result ≡ flags_word self }
     {
@@ -43,6 +44,7 @@ impl Flags {
     }
 }
 
+/// What a flag adds to the flags word: `value`, the worth of its bit, if it is set, else 0.
 fn flag_bit(flag: bool, value: u16) -> u16
     ensures value { result ≡ flag_bit flag value }
     ensures bound { result ≤ value }

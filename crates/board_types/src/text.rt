@@ -3,8 +3,9 @@ ghost use Rattle.std.specs.Prelude.{ℕ, ◌≡◌, ◌<◌, ◌≤◌, List, []
 ghost use Rattle.std.specs.Str.Lines.{strip_carriage_return};
 ghost use Rattle.board_types.specs.TextLines.{size_before, text_lines};
 
-/// The first line of the text, without what ends it, and what follows it; `None` if the text is at its end. A line
-/// feed, with a carriage return just before it or without one, ends a line, and so does the text's end.
+/// The first line of the text, without what ends it, and the text after it; `None` if the text is at its end. A line
+/// feed, with or without a carriage return just before it, ends a line, and so does the text's end. The assembler and
+/// the loader of HEX files read their texts by it.
 #[tactic(auto, using(crate::proofs::LineScanning::line_last, crate::proofs::LineScanning::line_ended))]
 pub fn next_line(text: &[u8]) -> Option<(&[u8], &[u8])>
     ensures some { IfSome result (λ p. text_lines text.now ≡ p.0.now ∷ text_lines p.1.now) }
@@ -23,7 +24,8 @@ pub fn next_line(text: &[u8]) -> Option<(&[u8], &[u8])>
     }
 }
 
-/// How many bytes of the text come before the first `delimiter`; all of them if it has none.
+/// How many bytes of the text come before the first `delimiter`; all of them if it has none. `next_line` ends a line by
+/// it, and the debugger a word of a command.
 pub fn length_before(delimiter: u8, text: &[u8]) -> usize
     ensures size { result ≡ size_before delimiter text.now }
     ensures within { result ≤ length text.now }
@@ -40,7 +42,7 @@ pub fn length_before(delimiter: u8, text: &[u8]) -> usize
     length
 }
 
-/// The line without a carriage return at its end.
+/// The line without a carriage return at its end, so that texts with CR LF are read as those with LF alone.
 fn without_return(line: &[u8]) -> &[u8]
     ensures { result.now ≡ strip_carriage_return line.now }
 {

@@ -12,12 +12,12 @@ pub trait Timed {
     // the level that the part gives out
     ghost output: { Self → Line };
 
-    /// Lets `ticks` ticks pass.
+    /// Lets `ticks` ticks pass in one go, as one after the other would, so that a part may lag until it is looked at.
     fn advance(&mut self, ticks: u64)
         ensures { self.new ≡ after self.old ticks };
 
     /// After how many ticks, from 1 on, the output first differs from what it is now, as long as nothing else happens;
-    /// `None` if it never does.
+    /// `None` if it never does. Up to then the board may leave the part alone.
     fn until_change(&self) -> Option<u64>
         ensures { IsUntilTurn after output self.now result };
 

@@ -18,26 +18,28 @@ pub trait Bus {
 
     ghost meaning: { BusMeaning State };
 
-    /// The byte at the physical address `addr`, below 100000h. Reading it changes nothing.
+    /// The byte at the physical address `addr`, below 100000h, which an instruction reads there. Reading it changes
+    /// nothing.
     fn read8(&self, addr: u32) -> u8
         requires { addr < 2 ^ 20 }
         ensures { result ≡ meaning.byte_at (state self.now) addr };
 
-    /// Writes `value` at the physical address `addr`, below 100000h.
+    /// Writes `value` at the physical address `addr`, below 100000h; without memory that takes it, the write is lost.
     fn write8(&mut self, addr: u32, value: u8)
         requires { addr < 2 ^ 20 }
         ensures { state self.new ≡ meaning.after_write (state self.old) addr value };
 
-    /// The byte that `port` gives.
+    /// The byte that `port` gives. IN reads it, which may change a chip's state.
     fn in8(&mut self, port: u16) -> u8
         ensures value { result ≡ meaning.input (state self.old) port }
         ensures state { state self.new ≡ meaning.after_input (state self.old) port };
 
-    /// Writes `value` to `port`.
+    /// Writes `value` to `port`, for OUT.
     fn out8(&mut self, port: u16, value: u8)
         ensures { state self.new ≡ meaning.after_output (state self.old) port value };
 
-    /// The word at a segment and an offset. A bus that reaches both bytes at once has a body of its own.
+    /// The word at a segment and an offset, for a word operand or POP; the high byte's offset wraps in the segment. A
+    /// bus that reaches both bytes at once has a body of its own.
     #[tactic(auto, unfolding(crate::specs::Bus::word_at))]
     fn read_word(&self, segment: u16, offset: u16) -> u16
         ensures { result ≡ word_at meaning (state self.now) segment offset }
@@ -47,8 +49,8 @@ pub trait Bus {
         u16::from(low) + 256 * u16::from(high)
     }
 
-    /// Writes a word at a segment and an offset, low byte first. A bus that reaches both bytes at once has a body of
-    /// its own.
+    /// Writes a word at a segment and an offset, low byte first, for a word operand or PUSH; the high byte's offset
+    /// wraps in the segment. A bus that reaches both bytes at once has a body of its own.
     #[tactic(auto, unfolding(crate::specs::Bus::with_word_at))]
     fn write_word(&mut self, segment: u16, offset: u16, word: u16)
         ensures { state self.new ≡ with_word_at meaning (state self.old) segment offset word }

@@ -11,7 +11,7 @@ pub struct Case {
 }
 
 impl Case {
-    /// Before the first line.
+    /// A case of which no line has been read, with which `judge_from` begins; it is filled line by line.
     pub fn new(alloc: Global) -> Case {
         Case {
             text: String::new(alloc),
@@ -19,8 +19,9 @@ impl Case {
         }
     }
 
-    /// Adds the line of this number, unless it is a blank one or a remark between cases. Answers whether the case is whole
-    /// then.
+    /// Adds a line of input, joined to the one before if that ended with `\`. Returns whether the case is whole and can
+    /// be judged: not after a line that ends with `\`, nor after a blank line or a remark (`#`) between cases, which
+    /// adds nothing.
     pub fn add_line(&mut self, number: usize, line: &str) -> Result<bool, AllocError> {
         let mut line = line;
         if self.text.is_empty() {

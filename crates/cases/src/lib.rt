@@ -37,14 +37,14 @@ pub enum Judged {
 impl From<()> for Judged {
     ghost from_gives = { λ _ judged. judged ≡ Case };
 
+    /// Counts each line as a case if the judge answers `()`, as most programs of cases do, which have no settings.
     fn from(_: ()) -> Judged {
         Judged::Case
     }
 }
 
-/// Judges the cases on standard input. `judge` fails with what differs, or with why the line can't be read; the line is
-/// then a case that differs.
-///
+/// Judges the cases on standard input, as the whole `main` of a program of cases, and prints those that differ and how
+/// many. `judge` fails with what differs, or with why the line can't be read; the line is then a case that differs.
 /// Fails if standard input can't be read, standard output can't be written, or there is no memory.
 pub fn judge_cases<R, A, J>(rt: &R, judge: J) -> io::Result<()>
 where
@@ -58,7 +58,8 @@ where
     judge_from(alloc, cases, &mut io::writer(rt), judge)
 }
 
-/// Judges the cases that `cases` reads, and prints to `out`.
+/// Judges the cases that `cases` reads, and prints to `out` the first 20 that differ, and the tally: `judge_cases`
+/// without the host's streams, so that tests can give their own.
 fn judge_from<B, W, A, J>(alloc: Global, cases: B, out: &mut W, mut judge: J) -> io::Result<()>
 where
     B: BufRead + Drop,

@@ -14,7 +14,7 @@ pub struct Tally {
 }
 
 impl Tally {
-    /// The tally before the first line.
+    /// The tally before the first line: no case, and none that differs.
     pub fn new() -> Tally
         ensures cases { result.cases ≡ 0 }
         ensures differing { result.differing ≡ 0 }
@@ -25,8 +25,9 @@ impl Tally {
         }
     }
 
-    /// The tally after one more line. However many lines there are, it has no case only if none of them was one, and
-    /// none that differs only if none of them did.
+    /// The tally after one more line, with the judge's answer to it, for the last line that a program of cases prints.
+    /// However many lines there are, it has no case only if none of them was one, and none that differs only if none
+    /// did.
     pub fn with(self, answer: &Result<Judged>) -> Tally
         ensures cases { result.cases ≡ 0 ↔ (self.cases ≡ 0 × answer.now ≡ Ok Setting) }
         ensures differing { result.differing ≡ 0 ↔ (self.differing ≡ 0 × IsOk answer.now) }

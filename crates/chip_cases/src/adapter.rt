@@ -11,24 +11,27 @@ use std::str::SplitWhitespace;
 /// How many bytes text memory has.
 const TEXT_SIZE: u16 = 4096;
 
+/// The operands of a case's command to the text adapter, which are read one after another.
 #[derive(Drop)]
 struct Operands<'a>(SplitWhitespace<'a>);
 
 impl<'a> Operands<'a> {
-    /// The next word, a hexadecimal number.
+    /// Reads the command's next operand, a hexadecimal number; `None` if there is none, or it is no number.
     fn number(&mut self) -> Option<u64> {
         u64::from_str_radix(self.0.next()?, 16).ok()
     }
 
+    /// Reads the command's next operand, a hexadecimal word such as a port; `None` if there is none.
     fn word(&mut self) -> Option<u16> {
         u16::try_from(self.number()?).ok()
     }
 
+    /// Reads the command's next operand, a hexadecimal byte; `None` if there is none.
     fn byte(&mut self) -> Option<u8> {
         u8::try_from(self.number()?).ok()
     }
 
-    /// An offset of text memory.
+    /// Reads the command's next operand, an offset of the adapter's text memory, below 4,096; `None` if there is none.
     fn offset(&mut self) -> Option<u16>
         ensures { IfSome result (λ offset. offset < 4096) }
     {
@@ -37,14 +40,16 @@ impl<'a> Operands<'a> {
     }
 }
 
-/// Makes a command. Fails if it doesn't come out as it says, or can't be read.
+/// Carries out an `mda` case, one command to the text adapter that goes on from case to case. Fails, with the command,
+/// if it doesn't come out as it says or can't be read.
 pub fn obey(mda: &mut Mda, alloc: Global, command: &str) -> Result<()> {
     let command = command.trim_start();
     ensure!(comes_out(mda, alloc, command) == Some(true), "{command}");
     Ok(())
 }
 
-/// Makes the command. Answers whether it came out as it says; `None` if it can't be read, or there is no memory.
+/// Carries out a case's command on the text adapter. Returns whether it came out as it says; `None` if it can't be
+/// read, or there is no memory.
 fn comes_out(mda: &mut Mda, alloc: Global, command: &str) -> Option<bool> {
     let mut words = Operands(command.split_whitespace());
     match words.0.next()? {
@@ -60,13 +65,14 @@ fn comes_out(mda: &mut Mda, alloc: Global, command: &str) -> Option<bool> {
     }
 }
 
-/// Replaces an adapter by another.
+/// Replaces the text adapter by another, for the commands `new` and `copy`; `None` if there was no memory for that.
 fn put(place: &mut Mda, made: Result<Mda, AllocError>) -> Option<bool> {
     drop(mem::replace(place, made.ok()?));
     Some(true)
 }
 
-/// Makes a command of at most three operands.
+/// Carries out `out`, `clocks` or `mark`, the commands of few operands that change the text adapter, or else one that
+/// only looks at it.
 fn access(mda: &mut Mda, verb: &str, mut words: Operands) -> Option<bool> {
     match verb {
         "out" => mda.write_port(words.word()?, words.byte()?),
@@ -77,7 +83,8 @@ fn access(mda: &mut Mda, verb: &str, mut words: Operands) -> Option<bool> {
     Some(true)
 }
 
-/// Makes a command that only looks at the adapter.
+/// Whether the text adapter shows what a case's command says: `in`, `peek`, `all` or `cell`, which leave it as it is.
+/// `None` for any other command.
 fn tells(mda: &Mda, verb: &str, mut words: Operands) -> Option<bool> {
     Some(match verb {
         "in" => mda.read_port(words.word()?) == words.byte()?,
@@ -88,7 +95,7 @@ fn tells(mda: &Mda, verb: &str, mut words: Operands) -> Option<bool> {
     })
 }
 
-/// Writes bytes one by one, from an offset of text memory on.
+/// Carries out `poke`: writes bytes to text memory, from an offset on; `None` if they go beyond its end.
 fn poke(mda: &mut Mda, mut words: Operands) -> Option<bool> {
     let mut offset = words.offset()?;
     for word in words.0 {
@@ -101,12 +108,15 @@ fn poke(mda: &mut Mda, mut words: Operands) -> Option<bool> {
     Some(true)
 }
 
+/// Whether the screen shows this character at a row and column, for the command `cell`; `None` if the screen has no
+/// such cell.
 fn shows(mda: &Mda, row: u8, column: u8, character: u8) -> Option<bool> {
     (row < ROWS && column < COLUMNS).then_some(())?;
     Some(mda.cell(row, column) == character)
 }
 
-/// Whether the cells that have changed since a mark are those that the words name, by row and column.
+/// Whether the cells that have changed since a mark are those that the words of the command `changed` name, by row and
+/// column, in order and no more.
 fn names(mda: &Mda, mut words: Operands) -> Option<bool> {
     for cell in mda.changed_since(words.number()?) {
         if (words.byte()?, words.byte()?) != cell {
@@ -116,7 +126,8 @@ fn names(mda: &Mda, mut words: Operands) -> Option<bool> {
     Some(words.0.next().is_none())
 }
 
-/// Whether a line of the screen's text is the one after the command's second word, and blanks up to its end.
+/// Whether a line of the screen, as in the command `line ROW TEXT`, is that text, followed by blanks up to 80
+/// characters.
 fn has_line(mda: &Mda, command: &str) -> Option<bool> {
     let (_, rest) = command.split_once(' ')?;
     let (number, wanted) = rest.split_once(' ')?;

@@ -6,15 +6,19 @@ use pic8259::controller::Pic;
 use pit8253::pit::Pit;
 use ppi8255::ppi::{Inputs, Ppi};
 
+/// The value or place of a case's step as a byte for a chip; `None` if it isn't one, so that the step is refused.
 fn byte(value: u64) -> Option<u8> {
     u8::try_from(value).ok()
 }
 
+/// The level of a line that a step's value stands for: high for 1, else low.
 fn level(value: u64) -> Line {
     Line::from_bool(value == 1)
 }
 
 impl Bench for Pit {
+    /// Makes a step's access to the timer: its port or counter is `place`, `value` what is written, the gate's level or
+    /// the number of ticks. Returns what is read, if anything is, else `value`; `None` for no such access.
     fn access(&mut self, verb: Verb, place: u64, value: u64) -> Option<u64> {
         let n = byte(place)?;
         if n >= 4 {
@@ -42,6 +46,8 @@ impl Bench for Pit {
 }
 
 impl Bench for Pic {
+    /// Makes a step's access to the interrupt controller: `place` is A0 or a request line, `value` what is written or a
+    /// level. Returns what is read, if anything is, else `value`; `None` for no such access.
     fn access(&mut self, verb: Verb, place: u64, value: u64) -> Option<u64> {
         let n = byte(place)?;
         match verb {
@@ -64,7 +70,7 @@ pub struct Port {
 }
 
 impl Port {
-    /// A port after reset with all switches 0, no key in the latch and counter 2 low.
+    /// A port after reset with all switches 0, no key in the latch and counter 2 low, with which a `ppi` case begins.
     pub fn new() -> Self {
         Port {
             ppi: Ppi::new(0, 0),
@@ -77,6 +83,8 @@ impl Port {
 }
 
 impl Bench for Port {
+    /// Makes a step's access to the parallel port or to what is at its pins: switches, the keyboard's latch, counter
+    /// 2's output. Returns what is read, if anything is, else `value`; `None` for no such access.
     fn access(&mut self, verb: Verb, place: u64, value: u64) -> Option<u64> {
         let n = byte(place)?;
         match verb {

@@ -68,12 +68,14 @@ use std::alloc::Global;
 use std::io;
 use words::{KeyCodes, Words};
 
+/// Judges the cases on standard input; `mda` cases share one text adapter, which goes on from case to case.
 fn main(rt: HostRuntime) -> io::Result<()> {
     let mut mda = Mda::new(rt.alloc())?;
     judge_cases(&rt, |alloc, case| judge(&mut mda, alloc, case))
 }
 
-/// Makes a case's steps. Fails with the first step that differs or can't be read.
+/// Judges a case: makes its steps on a new chip, or a new counterpart, of the kind that the case begins with. Fails
+/// with the first step that differs or can't be read.
 fn judge(mda: &mut Mda, alloc: Global, case: &str) -> Result<()> {
     let (name, steps) = case.split_once(':').context("no colon")?;
     match name {

@@ -17,7 +17,7 @@ pub struct Keyboards {
 }
 
 impl Keyboards {
-    /// Two keyboards with no codes.
+    /// Two keyboards at power-on, with no codes, with which a `keyboard` case begins.
     pub fn new(alloc: Global) -> Result<Self, AllocError> {
         Ok(Keyboards {
             keyboard: Keyboard::new(alloc)?,
@@ -27,6 +27,8 @@ impl Keyboards {
 }
 
 impl Bench for Keyboards {
+    /// Makes a step's access to the keyboard: a code that arrives, port B's lines, the latch, a copy. Returns what is
+    /// seen, if anything is, else `value`; `None` for no such access.
     fn access(&mut self, verb: Verb, _place: u64, value: u64) -> Option<u64> {
         match verb {
             Verb::Arrive => self.keyboard.arrive(u8::try_from(value).ok()?),
@@ -51,6 +53,7 @@ impl Bench for Keyboards {
     }
 }
 
+/// The number by which a step compares a byte that may be missing, as an empty latch's: `NONE` if it is.
 fn number_or_none(byte: Option<u8>) -> u64 {
     match byte {
         Some(byte) => u64::from(byte),
@@ -67,7 +70,7 @@ pub struct Memories {
 }
 
 impl Memories {
-    /// An empty image, without a memory.
+    /// An empty image, without a memory, with which a `memory` case begins.
     pub fn new(alloc: Global) -> Self {
         Memories {
             alloc,
@@ -76,7 +79,8 @@ impl Memories {
         }
     }
 
-    /// Makes a memory of `ram_kb` KB. Answers the fault's number, or 0.
+    /// Makes a memory of `ram_kb` KB with the image so far, for the step `ram`. Returns the number of the fault with
+    /// which it is refused, or 0 if it is made.
     fn make(&mut self, ram_kb: u16) -> u64 {
         match Memory::new(self.alloc, ram_kb, &self.image) {
             Ok(memory) => {
@@ -89,6 +93,8 @@ impl Memories {
 }
 
 impl Bench for Memories {
+    /// Makes a step's access to the image (`put`, `get`), makes the memory (`ram`), or else accesses that. Returns what
+    /// is read, if anything is, else `value`; `None` for no such access.
     fn access(&mut self, verb: Verb, place: u64, value: u64) -> Option<u64> {
         let addr = u32::try_from(place).ok()?;
         match verb {
@@ -103,6 +109,8 @@ impl Bench for Memories {
     }
 }
 
+/// Makes a step's access to the memory that was made: writes or reads a byte, or goes on with a copy. `None` for no
+/// such access, or an address of text memory, which isn't the memory's own.
 fn access_memory(memory: &mut Memory, verb: Verb, addr: u32, value: u64) -> Option<u64> {
     if addr >= ADDRESS_COUNT || is_text_address(addr) {
         return None;

@@ -101,14 +101,15 @@ static NAMES: [(&str, u64); 15] = [
     ("overflow", 8),
 ];
 
-/// The verb of this name, the radix of its place and that of its values (0 if it has none).
+/// The verb of this name in a step, the radix of its place and that of its values (0 if it has none); `None` if no verb
+/// has the name.
 pub fn verb_of(name: &str) -> Option<(Verb, u32, u32)> {
     let (_, verb, place, value) = VERBS.iter().find(|form| form.0 == name)?;
     Some((*verb, *place, *value))
 }
 
-/// The number that a word stands for: a name's, or digits, followed by `L`, which adds nothing, or by `H`, which adds
-/// 100h.
+/// The number that a word of a step stands for: a name's, such as `H` or `none`, or digits of this radix (10 or 16),
+/// followed by `L`, which adds nothing, or by `H`, which adds 100h, as a byte's value and a level together.
 pub fn number(word: &str, radix: u32) -> Option<u64> {
     if let Some((_, value)) = NAMES.iter().find(|name| name.0 == word) {
         return Some(*value);

@@ -17,7 +17,7 @@ pub struct KeyCodes {
 }
 
 impl KeyCodes {
-    /// No key codes, at clock 0.
+    /// No key codes, at clock 0, with which a `keys` case begins.
     pub fn new(alloc: Global) -> Self {
         KeyCodes {
             keys: Keys::new(alloc),
@@ -25,7 +25,8 @@ impl KeyCodes {
         }
     }
 
-    /// Adds a code. Answers the fault's number, or 0.
+    /// Adds a code, stamped with the clock that the last `at` gave, to the list of stamped key codes, for the step
+    /// `push`. Returns the fault's number, or 0 if it is taken; `None` if there is no such clock.
     fn push(&mut self, code: u64) -> Option<u64> {
         let stamp = Clock::new(self.stamp)?;
         match self.keys.push(stamp, u8::try_from(code).ok()?) {
@@ -36,6 +37,8 @@ impl KeyCodes {
 }
 
 impl Bench for KeyCodes {
+    /// Makes a step's access to the list of stamped key codes: the next stamp, a code, a copy, the count, or the code
+    /// at a place. Returns what is read, if anything is, else `value`; `None` for no such access.
     fn access(&mut self, verb: Verb, place: u64, value: u64) -> Option<u64> {
         match verb {
             Verb::At => self.stamp = value,
@@ -61,7 +64,7 @@ pub struct Words {
 }
 
 impl Words {
-    /// Segment 0 and no flag set.
+    /// Segment 0 and no flag set, with which a `words` case begins.
     pub fn new() -> Self {
         Words {
             segment: 0,
@@ -69,6 +72,8 @@ impl Words {
         }
     }
 
+    /// Sets the flag that the step `set` names, by its number in the steps' `NAMES` (0 is carry, 8 and above overflow),
+    /// so that a case can judge the flags' word.
     fn set(&mut self, flag: u64) {
         match flag {
             0 => self.flags.carry = true,
@@ -85,6 +90,8 @@ impl Words {
 }
 
 impl Bench for Words {
+    /// Makes a step's judgement of an address, a key code, a flags word or a clock, or sets what later ones rest on.
+    /// Returns what is found, if anything is, else `value`; `None` for no such step.
     fn access(&mut self, verb: Verb, place: u64, value: u64) -> Option<u64> {
         let addr = u32::try_from(place).ok();
         match verb {

@@ -23,7 +23,8 @@ pub(crate) const FAR: u64 = 1 << 22;
 /// A board with more changes of the speaker's level isn't kept, since each copy lists them all anew.
 const MOST_CHANGES: usize = 1 << 20;
 
-/// Copies of a board, in the order of their clocks, listed in memory of the allocator `A`.
+/// At most eight copies of a session's board, in the order of their clocks, from which it goes back without running
+/// from its start. They are listed in memory of the allocator `A`.
 #[derive(Drop)]
 pub(crate) struct Checkpoints<A: Allocator> {
     kept: Vec<Board, A>,
@@ -41,7 +42,7 @@ impl<A: Allocator> Model for Checkpoints<A> {
 }
 
 impl<A: Allocator> Checkpoints<A> {
-    /// No copies yet.
+    /// Makes an empty list, for a session that begins.
     pub(crate) fn new(alloc: A) -> Checkpoints<A>
         ensures { result ≡ [] }
     {
@@ -57,7 +58,8 @@ impl<A: Allocator> Checkpoints<A> {
         self.kept.len()
     }
 
-    /// The latest copy at or before a clock.
+    /// The latest copy at or before a clock, from which a way back to the clock starts; `None` if there is no such
+    /// copy.
     pub(crate) fn latest(&self, clock: u64) -> Option<&Board>
         ensures { IfSome result (λ board. Contains self.now board.now × (clock_of board.now.plain ≤ clock)) }
     {
@@ -68,8 +70,9 @@ impl<A: Allocator> Checkpoints<A> {
         Some(&self.kept[place - 1])
     }
 
-    /// Keeps a copy of the board if the latest one is far away in turns, the speaker's changes aren't too many, and
-    /// there is memory for it; `first` is the clock of the board with which the session began.
+    /// Keeps a copy of the board, as it runs, to go back from, if the latest one is far away in turns, the speaker's
+    /// changes aren't too many, and there is memory for it; `first` is the clock of the session's first board. Of nine
+    /// copies the one that would be missed least goes.
     pub(crate) fn keep(&mut self, first: Clock, board: &Board)
         ensures { AreKept self.old board.now self.new }
     {
@@ -91,8 +94,8 @@ impl<A: Allocator> Checkpoints<A> {
         }
     }
 
-    /// Gives the key to the copies that stand before its stamp. The others go, and so do those for whose keys there is
-    /// no memory.
+    /// Gives a typed key to the copies that stand before its stamp, since ways back must find it there. The others are
+    /// dropped, as they ran without it, and so are those for whose keys there is no memory.
     pub(crate) fn take_key(&mut self, alloc: Global, key: &StampedKey)
         ensures { HaveKey key.now self.old self.new }
     {
@@ -100,7 +103,7 @@ impl<A: Allocator> Checkpoints<A> {
     }
 }
 
-/// A copy of a board, with its lists.
+/// Copies a board with its lists, to be kept or to run a way back from. Refused as `Memory` if there is none.
 pub(crate) fn copy_of(board: &Board) -> Result<Board, DebugFault>
     ensures same { IfOk result (λ copy. shown_of copy ≡ shown_of board.now) }
     ensures few { length board.now.trail ≤ 32 }
@@ -112,8 +115,8 @@ pub(crate) fn copy_of(board: &Board) -> Result<Board, DebugFault>
     }
 }
 
-/// Gives the key to the boards that stand before its stamp. The others go, and so do those for whose keys there is no
-/// memory.
+/// Gives a typed key to the boards that stand before its stamp, and drops the others, and those for whose keys there is
+/// no memory.
 fn give_key<A: Allocator>(boards: &mut Vec<Board, A>, alloc: Global, key: &StampedKey)
     ensures have { HaveKey key.now boards.old.items boards.new.items }
     ensures fewer { length boards.new.items ≤ length boards.old.items }
@@ -128,7 +131,8 @@ fn give_key<A: Allocator>(boards: &mut Vec<Board, A>, alloc: Global, key: &Stamp
     }
 }
 
-/// Gives the key to a board, if it stands before its stamp and there is memory for its keys. Answers whether it did.
+/// Gives a typed key to a kept copy, if that stands before its stamp and there is memory for its keys. Returns whether
+/// it did; else the copy has to go.
 #[tactic(auto, unfolding(events_laws::specs::WithKey::with_key))]
 fn takes_key(board: &mut Board, alloc: Global, key: &StampedKey) -> bool
     ensures early { IsTrue result → clock_of board.old.plain < key.now.stamp }
@@ -146,7 +150,8 @@ fn takes_key(board: &mut Board, alloc: Global, key: &StampedKey) -> bool
     }
 }
 
-/// How many of the boards stand at or before a clock; they are in the order of their clocks.
+/// Returns how many of the kept copies stand at or before a clock: the index at which a copy of that clock is inserted.
+/// They are in the order of their clocks.
 fn place_after(kept: &[Board], clock: u64) -> usize
     ensures within { result ≤ length kept.now }
     ensures before { All (λ board. clock_of board.plain ≤ clock) (take result kept.now) }
@@ -159,8 +164,8 @@ fn place_after(kept: &[Board], clock: u64) -> usize
     kept.len()
 }
 
-/// Whether a copy of a board is worth its memory: its list of changes isn't too long, and the copy before its place, if
-/// there is one, is far away in turns.
+/// Whether a copy of a board is worth its memory, at the index `place` of the list: its list of the speaker's changes
+/// isn't too long, and the copy before, if there is one, is far away in turns.
 fn is_worth_keeping(kept: &[Board], place: usize, board: &Board) -> bool
     requires { place ≤ length kept.now }
 {
@@ -173,9 +178,9 @@ fn is_worth_keeping(kept: &[Board], place: usize, board: &Board) -> bool
     FAR <= board.turns().saturating_sub(kept[place - 1].turns())
 }
 
-/// The index of the copy that would be missed least: the last one if it stands after the present clock, since no way
-/// back leads there. Otherwise, the last one aside, it is the one whose neighbours are closest together, compared with
-/// how long ago the earlier of them was; the first one's neighbour is the session's first clock.
+/// Returns the index of the copy to drop when there are too many: the last one if it stands after the present clock,
+/// since no way back leads there; else, the last one aside, the one whose neighbours are closest together, compared
+/// with how long ago the earlier of them was. The first one's neighbour is the session's first clock.
 fn thinnest(kept: &[Board], first: u64, now: u64) -> usize
     requires { 1 ≤ length kept.now }
     ensures { result < length kept.now }

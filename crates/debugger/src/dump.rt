@@ -11,7 +11,7 @@ use std::alloc::{AllocError, Global};
 /// How many bytes a line shows.
 const LINE_SIZE: u32 = 16;
 
-/// The `count` bytes from `first` on, sixteen a line.
+/// Returns what the command `dump` shows: the `count` bytes of memory from `first` on, sixteen a line.
 #[tactic(auto, unfolding(debugger_meaning::specs::Dump::dump_text))]
 pub(crate) fn dump_text(
     alloc: Global,
@@ -31,7 +31,7 @@ pub(crate) fn dump_text(
     Ok(text)
 }
 
-/// A line: an address, and the `size` bytes from it on.
+/// Adds a line of a dump: an address, a colon and the `size` bytes from it on.
 #[tactic(auto, unfolding(debugger_meaning::specs::Dump::dump_line))]
 fn push_line(
     alloc: Global,
@@ -48,7 +48,7 @@ fn push_line(
     text.push_str("\n")
 }
 
-/// The `size` bytes from `first` on, a blank before each.
+/// Adds the bytes of a dump's line, the `size` bytes from `first` on, a blank before each.
 fn push_bytes(
     alloc: Global,
     text: &mut String,

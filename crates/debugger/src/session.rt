@@ -37,19 +37,24 @@ use std::alloc::{Allocator, Global};
 use std::marker::Model;
 use std::mem;
 
-/// A run is made in pieces of this many clocks; after each, a copy of the board may be kept.
+/// A run by `go` is made in pieces of this many clocks; after each, a copy of the board may be kept to go back from.
 const PIECE: u64 = 1 << 26;
 
-/// A free processor is looked for first in this many clocks before the present one: no instruction takes half as many.
+/// `back step` looks for a free processor first in this many clocks before the present one: no instruction takes half
+/// as many.
 const NEAR: u64 = 1024;
 
-/// A board that runs and stops by commands, and goes back. Copies of it are listed in memory of the allocator `A`.
+/// A debugger's session: a board that runs, stops and goes back by commands. Copies of it, to go back from, are listed
+/// in memory of the allocator `A`.
 #[derive(Drop)]
 pub struct Session<A: Allocator = Global> {
-    /// The board with which the session began.
+    /// The board with which the session began, before which no way back leads.
     pub(crate) first: Board,
+    /// The board as it stands.
     pub(crate) board: Board,
+    /// Copies of the board at earlier clocks, from which ways back run on.
     pub(crate) checkpoints: Checkpoints<A>,
+    /// The conditions at which `go` stops, and to which `back stop` goes back.
     stops: Stops,
 }
 
@@ -65,8 +70,8 @@ impl<A: Allocator> Model for Session<A> {
 }
 
 impl Session {
-    /// A session with this board, as it stands, and without stops. Refused as `Memory` if there is none; the board is
-    /// dropped then.
+    /// Begins a debugger's session with this board, as it stands, and without stops. Refused as `Memory` if there is
+    /// none for a copy of the board, which is dropped then.
     pub fn new(alloc: Global, board: Board) -> Result<Session, DebugFault>
         ensures session { IfOk result (λ session. session ≡ session_about board) }
         ensures stands { IfOk result Stands }
@@ -77,8 +82,8 @@ impl Session {
 }
 
 impl<A: Allocator> Session<A> {
-    /// A session as `new` makes it, except that copies of the board are listed in memory of this allocator. If that has
-    /// none, the session gives the same answers, but goes back more slowly.
+    /// Begins a session as `new` does, but lists copies of the board in memory of this allocator, so that a caller may
+    /// bound it. If it has none, the session gives the same answers, but goes back more slowly.
     pub fn with_checkpoints_in(alloc: A, board: Board) -> Result<Session<A>, DebugFault>
         ensures session { IfOk result (λ session. session ≡ session_about board) }
         ensures stands { IfOk result Stands }
@@ -98,14 +103,14 @@ impl<A: Allocator> Session<A> {
         }
     }
 
-    /// How many copies of the board are kept to go back from.
+    /// Returns how many copies of the board are kept to go back from, for test cases that count them.
     pub fn checkpoints(&self) -> usize
         ensures { result ≤ 8 }
     {
         self.checkpoints.len()
     }
 
-    /// The board as it stands.
+    /// The board as it stands, for inquiries, which read what the commands don't show.
     pub fn board(&self) -> &Board
         ensures board { result.now ≡ self.now.board }
         ensures few { length self.now.board.trail ≤ 32 }
@@ -114,11 +119,10 @@ impl<A: Allocator> Session<A> {
         &self.board
     }
 
-    /// Does what the line commands, and answers. Refused are a line that is no command, as `BadCommand`; a seventeenth
-    /// stop, as `TooManyStops`; a run past clock 2^40, or a step at it, as `ClockLimit`; a way back to a clock before
-    /// the session's first one, or that isn't found, as `BeforeStart`; and what finds no memory, as `Memory`. A refusal
-    /// changes nothing, except that a run that found no memory stands at the clock that the refusal names; it has
-    /// passed no stop. After each command the board is the session's first one some clocks later.
+    /// Answers a typed line, or refuses it: `BadCommand` (no command), `TooManyStops` (a seventeenth stop),
+    /// `ClockLimit` (a run past clock 2^40, a step at it), `BeforeStart` (a way back before the first clock, or not
+    /// found), `Memory`. A refusal changes nothing, but a run short of memory stands at the clock that it names, with
+    /// no stop passed.
     pub fn command(&mut self, alloc: Global, line: &str) -> Result<Answer, DebugFault>
         ensures answers { AnswersLine (command_of line.now) self.old result self.new }
         ensures stands { Stands self.new }
@@ -132,10 +136,9 @@ impl<A: Allocator> Session<A> {
         answer
     }
 
-    /// Makes one turn of the board's run to the clock `end`, whatever the stops are. Answers what begins in it, and
-    /// notes its accesses. A step has at most its clocks up to `within`, past which only a leap leads; `over_edges`
-    /// lets a leap pass over edges of the timer. After some turns a copy of the board may be kept. Refused as `Memory`,
-    /// with nothing changed, if the speaker's level changes and there is no memory to list that.
+    /// Makes one turn of the board's run to the clock `end`, whatever the stops are, for inquiries and searches that
+    /// look at each turn. Returns what began in it, and notes its accesses. A step takes clocks up to `within` only;
+    /// `over_edges` lets a leap pass edges of the timer's OUT. Refused as `Memory`, with nothing changed.
     pub fn run_turn<N: Notes>(
         &mut self,
         within: Clock,
@@ -174,7 +177,7 @@ impl<A: Allocator> Session<A> {
         self.board.clock()
     }
 
-    /// The clock of the session's first board.
+    /// The clock of the session's first board, at which searches back end.
     pub fn first_clock(&self) -> Clock
         ensures clock { result ≡ clock_of self.now.first.plain }
         ensures earlier { clock_of self.now.first.plain ≤ clock_of self.now.board.plain }
@@ -182,6 +185,7 @@ impl<A: Allocator> Session<A> {
         self.first.clock()
     }
 
+    /// Does what a command says, once its line has been read, and returns the answer or the refusal.
     fn answer(&mut self, alloc: Global, command: Command) -> Result<Answer, DebugFault>
         requires { IsWithin (Some command) }
         ensures { Answers command self.old result self.new }
@@ -203,7 +207,8 @@ impl<A: Allocator> Session<A> {
         }
     }
 
-    /// Adds a stop, and answers its number. Refused as `TooManyStops` if there are sixteen.
+    /// Adds a stop, for `break`, `byte`, `sound` and `halted`, and answers its number. Refused as `TooManyStops` if
+    /// there are sixteen.
     pub fn add(&mut self, condition: Condition) -> Result<Answer, DebugFault>
         requires { HasAddress condition }
         ensures { AnswersStop condition self.old result self.new }
@@ -214,9 +219,9 @@ impl<A: Allocator> Session<A> {
         }
     }
 
-    /// Runs for `count` clocks, or up to the first clock after the start at which a stop holds. Refused as
-    /// `ClockLimit`, with nothing changed, if it would go past clock 2^40, and as `Memory`, at a clock with no stop
-    /// passed, if there is none.
+    /// Runs for `count` clocks, or up to the first clock after the start at which a stop holds, for the command `go`.
+    /// Refused as `ClockLimit`, with nothing changed, if it would go past clock 2^40, and as `Memory`, with the clock
+    /// reached and no stop passed, if there is none.
     pub fn go(&mut self, count: u64) -> Result<Answer, DebugFault>
         ensures { MatchResult result (Goes count self.old self.new) (RefusesGo count self.old self.new) }
     {
@@ -236,8 +241,8 @@ impl<A: Allocator> Session<A> {
         }
     }
 
-    /// Runs for `count` clocks, or up to the first clock after the start at which a stop holds; then a copy of the
-    /// board may be kept.
+    /// Makes a piece of a `go`: runs for `count` clocks, or up to the first clock after the start at which a stop
+    /// holds; `None` if none did. Then a copy of the board may be kept to go back from.
     fn go_piece(&mut self, count: u64) -> Result<Stopped, DebugFault>
         ensures runs { MatchResult result (Runs self.old.stops count self.old.board self.new.board)
             (RefusesRun self.old.stops count self.old.board self.new.board) }
@@ -249,7 +254,8 @@ impl<A: Allocator> Session<A> {
         Ok(stopped)
     }
 
-    /// Runs up to the next clock at which the processor is free, or to the last clock.
+    /// Runs up to the next clock at which the processor is free, or to clock 2^40, for the command `step`. Refused as
+    /// `ClockLimit` at clock 2^40, and as `Memory` if there is none.
     fn step(&mut self) -> Result<Answer, DebugFault>
         ensures { MatchResult result (Steps self.old self.new) (RefusesStep self.old self.new) }
     {
@@ -264,8 +270,8 @@ impl<A: Allocator> Session<A> {
         Ok(Answer::Clock(self.board.clock()))
     }
 
-    /// Goes back by `count` clocks. Refused as `BeforeStart` if the session began less than that ago, and as `Memory`
-    /// if there is none; nothing changes then.
+    /// Goes back by `count` clocks, for the command `back`. Refused as `BeforeStart` if the session began less than
+    /// that ago, and as `Memory` if there is none; nothing changes then.
     pub fn back(&mut self, count: u64) -> Result<Answer, DebugFault>
         requires { 1 ≤ count }
         ensures { MatchResult result (GoesBack count self.old self.new) (RefusesBack count self.old self.new) }
@@ -279,7 +285,8 @@ impl<A: Allocator> Session<A> {
         Ok(Answer::Clock(self.clock()))
     }
 
-    /// Goes back to the last earlier clock at which the processor was free, which mostly lies shortly before.
+    /// Goes back to the last earlier clock at which the processor was free, for the command `back step`. Refused as
+    /// `BeforeStart` if there is none since the session began, and as `Memory`; nothing changes then.
     fn back_step(&mut self) -> Result<Answer, DebugFault>
         ensures { MatchResult result (GoesBackTo (Free ∷ []) tell_clock self.old self.new) (RefusesBackTo (Free ∷ []) self.old self.new) }
     {
@@ -290,8 +297,9 @@ impl<A: Allocator> Session<A> {
         Ok(Answer::Clock(found.0))
     }
 
-    /// Goes back to the last earlier clock at which a stop held, and answers the least number of those that held.
-    /// Refused as `BeforeStart` if none held, and as `Memory` if there is none; nothing changes then.
+    /// Goes back to the last earlier clock at which a stop held, for the command `back stop`, and answers the least
+    /// number of those that held. Refused as `BeforeStart` if none held, and as `Memory` if there is none; nothing
+    /// changes then.
     pub fn back_stop(&mut self) -> Result<Answer, DebugFault>
         ensures { MatchResult result (GoesBackTo self.old.stops answers.StopAt self.old self.new) (RefusesBackTo self.old.stops self.old self.new) }
     {
@@ -303,8 +311,9 @@ impl<A: Allocator> Session<A> {
         Ok(Answer::StopAt(found.1, found.0))
     }
 
-    /// A board at the last earlier clock at which one of `stops` held, that clock, and the least number of those that
-    /// held. The last `near` clocks are searched first, so that only one board has to run up to them.
+    /// Finds the last earlier clock at which one of `stops` held, for `back step` and `back stop`. Returns a board at
+    /// it, the clock, and the least number of those that held. The last `near` clocks are searched first, so that, if
+    /// it is there, only one board has to run up to them.
     fn last_held(&self, stops: &Stops, near: u64) -> Result<(Board, (Clock, usize)), DebugFault>
         requires { All HasAddress stops.now.items }
         ensures { MatchResult result
@@ -333,7 +342,7 @@ impl<A: Allocator> Session<A> {
         Err(DebugFault::BeforeStart)
     }
 
-    /// Replaces the session's board by one that is the first one some clocks later.
+    /// Makes a way back: puts this board, which is the first one some clocks later, in place of the session's own.
     fn stand(&mut self, board: Board)
         requires { StandsAfter self.old.first board }
         ensures { StandsNow (clock_of board.plain) self.old self.new }
@@ -341,8 +350,8 @@ impl<A: Allocator> Session<A> {
         drop(mem::replace(&mut self.board, board));
     }
 
-    /// A copy of the board as it was `near` clocks before `clock`, or at the clock of the last kept copy up to `clock`
-    /// if that is later. Refused as `Memory` if there is none.
+    /// Returns a copy of the board from which a way back starts: as it was `near` clocks before `clock`, or at the
+    /// clock of the last kept copy up to `clock` if that is later. Refused as `Memory` if there is none.
     pub fn board_near(&self, clock: u64, near: u64) -> Result<Board, DebugFault>
         requires from { clock_of self.now.first.plain ≤ clock }
         ensures stands { IfOk result (StandsAfter self.now.first) }
@@ -361,7 +370,8 @@ impl<A: Allocator> Session<A> {
         }
     }
 
-    /// A copy of the latest board that is kept at or before this clock, or else of the first one.
+    /// Returns a copy of the latest board that is kept at or before this clock, or else of the session's first one: the
+    /// start of the way to a clock that is gone.
     fn board_before(&self, clock: u64) -> Result<Board, DebugFault>
         requires { clock_of self.now.first.plain ≤ clock }
         ensures stands { IfOk result (StandsAfter self.now.first) }
@@ -374,12 +384,14 @@ impl<A: Allocator> Session<A> {
         }
     }
 
+    /// Answers the command `regs`: the processor's registers as two lines.
     fn registers(&self, alloc: Global) -> Result<Answer, DebugFault>
         ensures { Shows (register_lines (registers_of self.now.board.plain)) result }
     {
         Ok(Answer::Text(register_lines(alloc, &self.board.regs())?))
     }
 
+    /// Answers the command `screen`: the text that the display adapter shows.
     fn screen(&self) -> Result<Answer, DebugFault>
         ensures { Shows (screen_of self.now.board.plain) result }
     {
@@ -389,6 +401,7 @@ impl<A: Allocator> Session<A> {
         }
     }
 
+    /// Answers the command `dump`: `count` bytes of memory from the physical address `first` on, sixteen a line.
     fn dump(&self, alloc: Global, first: u32, count: u32) -> Result<Answer, DebugFault>
         requires { first + count ≤ 2 ^ 20 }
         ensures { Shows (dump_text self.now.board.plain first count) result }
@@ -396,6 +409,7 @@ impl<A: Allocator> Session<A> {
         Ok(Answer::Text(dump_text(alloc, &self.board, first, count)?))
     }
 
+    /// Answers the command `trail`: the last instructions begun and interrupts entered, a line each.
     fn trail(&self, alloc: Global) -> Result<Answer, DebugFault>
         ensures { Shows (flat_map entry_line self.now.board.trail) result }
     {
@@ -403,7 +417,8 @@ impl<A: Allocator> Session<A> {
     }
 }
 
-/// Runs a board to a clock, not before its own.
+/// Runs a board to a clock, not before its own: the rest of a way back, from a kept copy to the clock that is looked
+/// for.
 fn run_to(board: &mut Board, clock: u64) -> Result<(), DebugFault>
     requires { clock_of board.old.plain ≤ clock }
     ensures ok { OnOk result (Ran (clock - clock_of board.old.plain) board.old board.new) }
@@ -416,8 +431,8 @@ fn run_to(board: &mut Board, clock: u64) -> Result<(), DebugFault>
     }
 }
 
-/// The last clock up to `to`, from this board's own on, at which one of `stops` holds, with the least number of those
-/// that hold. A copy of the board runs.
+/// Finds the last clock from this board's own up to `to` at which one of `stops` holds, with the least number of those
+/// that hold, in a search back; `None` if none does. A copy of the board runs, and this one stays.
 fn last_from(board: &Board, to: u64, stops: &Stops) -> Result<Option<(Clock, usize)>, DebugFault>
     requires address { All HasAddress stops.now.items }
     requires from { clock_of board.now.plain ≤ to }
@@ -434,7 +449,8 @@ fn last_from(board: &Board, to: u64, stops: &Stops) -> Result<Option<(Clock, usi
     }
 }
 
-/// Runs a board for `count` clocks, or up to the first clock after the start at which one of `stops` holds.
+/// Runs a board for `count` clocks, or up to the first clock after the start at which one of `stops` holds, `None` if
+/// none did, and turns the board's faults into the session's.
 fn run(board: &mut Board, count: u64, stops: &Stops) -> Result<Stopped, DebugFault>
     requires { All HasAddress stops.now.items }
     ensures { MatchResult result (Runs stops.now.items count board.old board.new)

@@ -8,7 +8,7 @@ use board::board::Board;
 use debugger_meaning::trail_text::entry_line;
 use std::alloc::{AllocError, Global};
 
-/// The board's trail, a line for each entry, the oldest first.
+/// Returns what the command `trail` shows: a line for each entry of the board's trail, the oldest first.
 pub(crate) fn trail_text(alloc: Global, board: &Board) -> Result<String, AllocError>
     ensures { IfOk result (λ text. string_bytes text ≡ flat_map entry_line board.now.trail) }
 {

@@ -12,8 +12,9 @@ use debugger_meaning::fault::DebugFault;
 use std::alloc::{Allocator, Global};
 
 impl<A: Allocator> Session<A> {
-    /// Takes a key that is still to come, as if it had been there when the session began: the board, the first board
-    /// and the copies that stand before its stamp have it from now on. Refused as `Memory`, with nothing changed.
+    /// Takes a key that is still to come, for the inquiry `key`, as if it had been there when the session began: the
+    /// board, the first one and the kept copies before its stamp have it from now on. Refused as `Memory`, with nothing
+    /// changed.
     pub fn take_key(&mut self, alloc: Global, key: &StampedKey) -> Result<(), DebugFault>
         requires { clock_of self.old.board.plain < key.now.stamp }
         ensures first { OnOk result
@@ -34,7 +35,8 @@ impl<A: Allocator> Session<A> {
     }
 }
 
-/// A board's keys with one more.
+/// Returns a board's list of keys with one more, made before anything changes, so that want of memory leaves the
+/// session as it is.
 pub(crate) fn keys_with(alloc: Global, board: &Board, key: &StampedKey) -> Result<Keys, DebugFault>
     ensures keys { IfOk result (λ keys. keys ≡ inserted board.now.plain.keys key.now) }
     ensures fault { IfErr result (λ fault. fault ≡ DebugFault.Memory None) }

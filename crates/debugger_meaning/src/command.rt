@@ -4,7 +4,7 @@ ghost use Rattle.debugger_meaning.specs.Commands.{IsWithin, back_command, break_
 
 use crate::word::{count_of, hex_number, next_word};
 
-/// What a line asks a session for.
+/// What a typed line asks a debugger's session for.
 #[derive(Clone, Copy, Debug, PartialEq, Eq)]
 pub enum Command {
     /// A stop that holds if the processor is free at this segment and offset.
@@ -35,9 +35,9 @@ pub enum Command {
     BackStop,
 }
 
-/// The command that a line is, if it is one. Its words are separated by spaces, and written in lower case; segments,
-/// offsets, addresses and bytes are hexadecimal in either case, of at most 4, 4, 5 and 2 digits, and counts are
-/// decimal.
+/// Reads a typed line as a command of the debugger; `None` if it is none. Its words are separated by spaces, and
+/// written in lower case; segments, offsets, addresses and bytes are hexadecimal in either case, of at most 4, 4, 5 and
+/// 2 digits, and counts are decimal.
 #[tactic(auto, unfolding(crate::specs::Commands::command_of))]
 pub fn read_command(line: &str) -> Option<Command>
     ensures value { result ≡ command_of line.now }
@@ -67,7 +67,7 @@ pub fn is_quit(line: &str) -> bool
     }
 }
 
-/// The command that one word is.
+/// Reads the line of a single word as a command, such as `step` or `regs`; `None` if no command is this word alone.
 #[tactic(auto, unfolding(crate::specs::Commands::plain_command))]
 fn plain_command(name: &[u8]) -> Option<Command>
     ensures value { result ≡ plain_command name.now }
@@ -90,7 +90,7 @@ fn plain_command(name: &[u8]) -> Option<Command>
     }
 }
 
-/// The command that a word and another after it are.
+/// Reads the line of a command's name and one word after it: `break`, `go` or `back`; `None` if it is no command.
 #[tactic(auto, unfolding(crate::specs::Commands::command_with))]
 fn command_with(name: &[u8], rest: &[u8]) -> Option<Command>
     ensures value { result ≡ command_with name.now rest.now }
@@ -107,7 +107,7 @@ fn command_with(name: &[u8], rest: &[u8]) -> Option<Command>
     }
 }
 
-/// A way back: to a boundary, to a stop, or by a number of clocks.
+/// Reads the word after `back`: `step`, `stop`, or the number of clocks, 1 at least, by which the board goes back.
 #[tactic(auto, unfolding(crate::specs::Commands::back_command))]
 fn back_command(way: &[u8]) -> Option<Command>
     ensures value { result ≡ back_command way.now }
@@ -126,7 +126,7 @@ fn back_command(way: &[u8]) -> Option<Command>
     Some(Command::Back(count))
 }
 
-/// The place of the first colon.
+/// Returns the index of a word's first colon, which parts segment and offset; `None` if it has none.
 pub fn colon_place(place: &[u8]) -> Option<usize>
     ensures value { result ≡ position is_colon place.now }
     ensures bound { IfSome result (λ at. at < length place.now) }
@@ -134,7 +134,8 @@ pub fn colon_place(place: &[u8]) -> Option<usize>
     place.iter().position(|byte| *byte == b':')
 }
 
-/// A stop at a segment and an offset with a colon between them.
+/// Reads the word after `break`, a segment and an offset with a colon between them, as the stop there; an inquiry's
+/// place is read by it, too.
 #[tactic(auto, unfolding(crate::specs::Commands::break_command))]
 pub fn break_command(place: &[u8]) -> Option<Command>
     ensures value { result ≡ break_command place.now }
@@ -146,7 +147,7 @@ pub fn break_command(place: &[u8]) -> Option<Command>
     Some(Command::Break(segment as u16, offset as u16))
 }
 
-/// The command that a word and two after it are.
+/// Reads the line of a command's name and two words after it: `byte` or `dump`; `None` if it is no command.
 #[tactic(auto, unfolding(crate::specs::Commands::command_with_two))]
 fn command_with_two(name: &[u8], first: &[u8], second: &[u8]) -> Option<Command>
     ensures value { result ≡ command_with_two name.now first.now second.now }
@@ -161,7 +162,7 @@ fn command_with_two(name: &[u8], first: &[u8], second: &[u8]) -> Option<Command>
     }
 }
 
-/// A stop at an address and a byte.
+/// Reads the words after `byte`, an address and a byte, as a stop that holds if memory has this byte there.
 #[tactic(auto, unfolding(crate::specs::Commands::byte_command))]
 fn byte_command(address: &[u8], byte: &[u8]) -> Option<Command>
     ensures value { result ≡ byte_command address.now byte.now }
@@ -172,7 +173,8 @@ fn byte_command(address: &[u8], byte: &[u8]) -> Option<Command>
     Some(Command::Byte(address, byte as u8))
 }
 
-/// A dump of a number of bytes from an address on.
+/// Reads the words after `dump`, an address and a count, as a dump; `None` unless it shows 1 to 4,096 bytes, all below
+/// 100000h.
 #[tactic(auto, unfolding(crate::specs::Commands::dump_command))]
 fn dump_command(first: &[u8], count: &[u8]) -> Option<Command>
     ensures value { result ≡ dump_command first.now count.now }

@@ -7,7 +7,7 @@ use board_types::clock::Clock;
 use std::alloc::AllocError;
 use thiserror::Error;
 
-/// Why a session refuses a command.
+/// Why a session refuses a command: what the program prints in place of an answer.
 #[derive(Clone, Copy, Debug, PartialEq, Eq, Drop, Error)]
 pub enum DebugFault {
     #[error("no key has this scan code")]
@@ -32,13 +32,16 @@ pub enum DebugFault {
 impl From<AllocError> for DebugFault {
     ghost from_gives = { λ _ fault. fault ≡ Memory None };
 
+    /// Turns a failed allocation of an answer's text into the refusal `Memory`, so that `?` can hand it on; the board
+    /// hasn't moved, so there is no clock.
     fn from(_error: AllocError) -> DebugFault {
         DebugFault::Memory(None)
     }
 }
 
 impl DebugFault {
-    /// The fault's number.
+    /// The fault's number, 33 to 54, which the program prints, and by which callers in other languages tell faults
+    /// apart.
     pub fn number(self) -> u8
         ensures { result ≡ fault_number self }
     {
@@ -53,7 +56,7 @@ impl DebugFault {
         }
     }
 
-    /// The fault's name, as it is printed.
+    /// The fault's name, which the program prints after its number.
     pub fn name(self) -> &'static str
         ensures { result.now ≡ fault_name self }
     {
@@ -68,7 +71,8 @@ impl DebugFault {
         }
     }
 
-    /// The clock up to which a run has gone that found no memory.
+    /// The clock that a run had reached when it found no memory, for the line that refuses it; `None` of any other
+    /// fault, and if the board hasn't moved.
     pub fn clock(self) -> Option<Clock>
         ensures { result ≡ fault_clock self }
     {

@@ -6,7 +6,7 @@ ghost use Rattle.debugger_meaning.specs.CommandWords.{at_most_greatest, begins_w
 use board_types::digits::digit_of;
 use board_types::text::length_before;
 
-/// The line without the spaces at its front.
+/// Returns the rest of a line from its first word on, without the spaces before it, for `next_word`.
 #[tactic(auto, unfolding(crate::specs::CommandWords::words_of))]
 fn skip_spaces(line: &[u8]) -> &[u8]
     ensures same { words_of result.now ≡ words_of line.now }
@@ -19,7 +19,8 @@ fn skip_spaces(line: &[u8]) -> &[u8]
     rest
 }
 
-/// The first word of a line, and what follows it. `None` if only spaces are left.
+/// Splits a line into its first word and what follows it, for the readers of commands and inquiries. `None` if only
+/// spaces are left.
 #[tactic(auto, unfolding(crate::specs::CommandWords::words_of))]
 pub fn next_word(line: &[u8]) -> Option<(&[u8], &[u8])>
     ensures some { IfSome result (λ p. words_of line.now ≡ p.0.now ∷ words_of p.1.now) }
@@ -32,7 +33,8 @@ pub fn next_word(line: &[u8]) -> Option<(&[u8], &[u8])>
     }
 }
 
-/// The number that these digits to a base of 1 to 16 spell; a larger one than the greatest `u64` counts as that.
+/// Returns the number that digits to a base of 1 to 16 spell, for a command's numbers: 2^64 - 1 if it is larger, 0
+/// without digits; `None` if one of them is no digit to that base.
 fn number_to(base: u8, digits: &[u8]) -> Option<u64>
     requires low { 1 ≤ base }
     requires high { base ≤ 16 }
@@ -51,7 +53,8 @@ fn number_to(base: u8, digits: &[u8]) -> Option<u64>
     Some(number)
 }
 
-/// The number that 1 to `most` hexadecimal digits spell; `most` is at most 5.
+/// Returns the number that a word of 1 to `most` hexadecimal digits spells, for the segments, offsets, addresses and
+/// bytes of a command; `None` for any other word.
 #[tactic(auto, unfolding(crate::specs::CommandWords::hex_number))]
 pub fn hex_number(most: usize, word: &[u8]) -> Option<u32>
     requires { most ≤ 5 }
@@ -65,7 +68,8 @@ pub fn hex_number(most: usize, word: &[u8]) -> Option<u32>
     Some(number as u32)
 }
 
-/// The count that one or more decimal digits spell; a larger one than the greatest `u64` counts as that.
+/// Returns the number that a word of decimal digits spells, such as the clocks of `go`, 2^64 - 1 if it is larger;
+/// `None` for any other word.
 #[tactic(auto, unfolding(crate::specs::CommandWords::count_of))]
 pub fn count_of(word: &[u8]) -> Option<u64>
     ensures { result ≡ count_of word.now }

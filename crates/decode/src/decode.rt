@@ -18,8 +18,8 @@ use isa::row::Row;
 /// address.
 const LONGEST: usize = 15;
 
-/// The instruction whose bytes stand at CS:IP, after at most seven prefixes, or `NoRow` if no row of the encoding table
-/// fits. Offsets wrap at 65,536 and addresses at 2^20.
+/// Decodes the instruction at CS:IP, with seven prefixes at most, for the decode cache and listings; `NoRow` if no row
+/// of the encoding table fits its bytes. Offsets wrap at 65,536 and addresses at 2^20.
 pub fn decode<B: Bytes>(bytes: &B, cs: u16, ip: u16) -> Decoded
     ensures value { result ≡ decoded_from (code_at (B.byte_at bytes.now) cs ip) }
     ensures exact { IsDecoded (code_at (B.byte_at bytes.now) cs ip) result }
@@ -31,7 +31,7 @@ pub fn decode<B: Bytes>(bytes: &B, cs: u16, ip: u16) -> Decoded
     }
 }
 
-/// The instruction at CS:IP, whatever stands before its opcode.
+/// Decodes an instruction at CS:IP that begins with a prefix, which is rare: it reads the full 15 bytes.
 #[cold]
 #[inline(never)]
 fn decode_whole<B: Bytes>(bytes: &B, cs: u16, ip: u16) -> Decoded
@@ -41,7 +41,7 @@ fn decode_whole<B: Bytes>(bytes: &B, cs: u16, ip: u16) -> Decoded
     decode_code(&code_at(bytes, cs, ip))
 }
 
-/// As many bytes from CS:IP on as an instruction without prefixes has at most, and zeros after them. Most instructions
+/// The six bytes from CS:IP on that an instruction without prefixes may have, and zeros after them: most instructions
 /// have no prefix, and each byte that isn't read saves time.
 fn front_at<B: Bytes>(bytes: &B, cs: u16, ip: u16) -> [u8; LONGEST]
     ensures { take 6 result ≡ take 6 (code_at (B.byte_at bytes.now) cs ip) }
@@ -56,7 +56,7 @@ fn front_at<B: Bytes>(bytes: &B, cs: u16, ip: u16) -> [u8; LONGEST]
     code
 }
 
-/// As many bytes from CS:IP on as the longest instruction has.
+/// The 15 bytes from CS:IP on, as many as the longest instruction has with its prefixes.
 fn code_at<B: Bytes>(bytes: &B, cs: u16, ip: u16) -> [u8; LONGEST]
     ensures { result ≡ code_at (B.byte_at bytes.now) cs ip }
 {
@@ -79,13 +79,14 @@ fn code_at<B: Bytes>(bytes: &B, cs: u16, ip: u16) -> [u8; LONGEST]
     ]
 }
 
+/// The byte `index` bytes after CS:IP, with the offset wrapping in the segment, as the processor fetches it.
 fn code_byte<B: Bytes>(bytes: &B, cs: u16, ip: u16, index: u16) -> u8
     ensures { result ≡ B.byte_at bytes.now (physical cs (offset_after ip index)) }
 {
     bytes.byte(physical(cs, ip.wrapping_add(index)))
 }
 
-/// The instruction at the front of `code`, which begins with no prefix.
+/// Decodes the instruction at the front of `code`, which begins with no prefix: the common and fast case of `decode`.
 fn decode_bare(code: &[u8; LONGEST]) -> Decoded
     requires { prefix_of (slice_index code.now 0) ≡ None }
     ensures value { result ≡ decoded_after [] code.now }
@@ -94,7 +95,8 @@ fn decode_bare(code: &[u8; LONGEST]) -> Decoded
     decode_after(ArrayVec::new(), code)
 }
 
-/// The instruction whose bytes stand at the front of `code`, and no other.
+/// Decodes the instruction at the front of `code`, prefixes and all, for bytes that were read already, as those that
+/// the trail holds.
 pub fn decode_code(code: &[u8; LONGEST]) -> Decoded
     ensures value { result ≡ decoded_from code.now }
     ensures exact { IsDecoded code.now result }
@@ -102,7 +104,7 @@ pub fn decode_code(code: &[u8; LONGEST]) -> Decoded
     decode_prefixed(code)
 }
 
-/// The instruction whose bytes stand at the front of `code`, after at most seven prefixes.
+/// Reads the prefixes at the front of `code`, seven at most, and decodes the instruction after them.
 #[tactic(auto, unfolding(crate::specs::Decoding::decoded_from))]
 fn decode_prefixed(code: &[u8; LONGEST]) -> Decoded
     ensures { result ≡ decoded_from code.now }
@@ -112,7 +114,8 @@ fn decode_prefixed(code: &[u8; LONGEST]) -> Decoded
     decode_after(prefixes, &code[count..])
 }
 
-/// The prefixes at the front of `code`, at most seven.
+/// The prefixes at the front of `code` in their order, at most seven; an eighth is taken for an opcode, which no row
+/// has.
 fn prefixes_at(code: &[u8; LONGEST]) -> ArrayVec<Prefix, 7>
     ensures { result.items ≡ prefixes_at 7 code.now }
 {
@@ -126,7 +129,8 @@ fn prefixes_at(code: &[u8; LONGEST]) -> ArrayVec<Prefix, 7>
     prefixes
 }
 
-/// The instruction at the front of `code`, which comes after these prefixes.
+/// Decodes the instruction at the front of `code`, after these prefixes: finds the encoding table's row for it, or
+/// answers `NoRow`.
 #[tactic(auto, unfolding(crate::specs::Decoding::decoded_after))]
 fn decode_after(prefixes: ArrayVec<Prefix, 7>, code: &[u8]) -> Decoded
     requires { 8 ≤ length code.now }
@@ -138,7 +142,8 @@ fn decode_after(prefixes: ArrayVec<Prefix, 7>, code: &[u8]) -> Decoded
     }
 }
 
-/// The row's instruction at the front of `code`, which comes after these prefixes.
+/// Takes the instruction of `row` at the front of `code`, after these prefixes, apart into its form and the numbers in
+/// its fields, and makes it ready to run.
 #[tactic(auto, unfolding(isa::specs::Encoding::form_length))]
 fn decode_row(prefixes: ArrayVec<Prefix, 7>, row: Row, code: &[u8]) -> Decoded
     requires { 8 ≤ length code.now }
@@ -160,7 +165,8 @@ fn decode_row(prefixes: ArrayVec<Prefix, 7>, row: Row, code: &[u8]) -> Decoded
     Decoded::found(&instr, length)
 }
 
-/// The row's form at an opcode, with the byte after it. `second` is the row's second byte.
+/// The form of an instruction of `row`, read from its opcode and the byte after it. `second` says what `row` has in
+/// that byte.
 #[tactic(auto, unfolding(crate::specs::Decoding::form_at))]
 fn form_at(row: Row, second: Second, opcode: u8, next: u8) -> Form
     requires { second ≡ second_part row }
@@ -175,7 +181,8 @@ fn form_at(row: Row, second: Second, opcode: u8, next: u8) -> Form
     }
 }
 
-/// The numbers in the form's fields. `second` is its row's second byte.
+/// The numbers in the fields of an instruction of this form, whose bytes `code` begins with after the prefixes.
+/// `second` says what its row has after the opcode.
 #[tactic(auto, unfolding(crate::specs::Decoding::values_at))]
 fn values_at(form: Form, second: Second, code: &[u8]) -> Values
     requires second { second ≡ second_part form.row }

@@ -7,7 +7,7 @@ use isa::form::{Base, Place, Prefix, Repeat};
 use isa::layout::{CodePart, Field, RegPart, Second};
 use isa::register::SegmentRegister;
 
-/// The prefix that a byte is, if it is one.
+/// The prefix that this byte is; `None` if it is none, so that the opcode stands there.
 pub(crate) fn prefix_of(byte: u8) -> Option<Prefix>
     ensures { result ≡ prefix_of byte }
 {
@@ -23,7 +23,8 @@ pub(crate) fn prefix_of(byte: u8) -> Option<Prefix>
     }
 }
 
-/// What the opcode byte holds beside the row's opcode.
+/// The register's or segment register's number that the opcode byte `byte` holds besides the row's `opcode`; 0 if the
+/// row has none.
 pub(crate) fn code_of(part: CodePart, opcode: u8, byte: u8) -> u8
     ensures { result ≡ code_of part opcode byte }
 {
@@ -34,7 +35,8 @@ pub(crate) fn code_of(part: CodePart, opcode: u8, byte: u8) -> u8
     }
 }
 
-/// What reg holds, unless it is the row's digit.
+/// The number in reg of the addressing byte `byte`; 0 if reg is the row's own digit, so that a form is spelled in one
+/// way.
 fn reg_of(part: RegPart, byte: u8) -> u8
     ensures { result ≡ reg_of part byte }
 {
@@ -44,6 +46,7 @@ fn reg_of(part: RegPart, byte: u8) -> u8
     }
 }
 
+/// The registers of an address in memory that r/m names.
 fn base_of(rm: u8) -> Base
     ensures { result ≡ base_of rm }
 {
@@ -59,6 +62,7 @@ fn base_of(rm: u8) -> Base
     }
 }
 
+/// What mod and r/m name: a register, or an address in memory by its registers and the size of its displacement.
 fn place_of(mode: u8, rm: u8) -> Place
     ensures { result ≡ place_of mode rm }
 {
@@ -71,6 +75,8 @@ fn place_of(mode: u8, rm: u8) -> Place
     }
 }
 
+/// The register's number in reg of the byte after the opcode; 0 if the row has no addressing byte, or a digit of its
+/// own in reg.
 pub(crate) fn reg_at(second: Second, byte: u8) -> u8
     ensures { result ≡ reg_at second byte }
 {
@@ -80,6 +86,7 @@ pub(crate) fn reg_at(second: Second, byte: u8) -> u8
     }
 }
 
+/// What mod and r/m of the byte after the opcode name; `Absent` if the row has no addressing byte.
 pub(crate) fn place_at(second: Second, byte: u8) -> Place
     ensures { result ≡ place_at second byte }
 {
@@ -89,7 +96,8 @@ pub(crate) fn place_at(second: Second, byte: u8) -> Place
     }
 }
 
-/// The number in a field at the front of `bytes`, or the offset in one of a far address.
+/// The number in a field at the front of `bytes`, low byte first, or the offset of a far address; 0 if there is no
+/// field.
 pub(crate) fn number_at(field: Field, bytes: &[u8]) -> u16
     requires { field_size field ≤ length bytes.now }
     ensures { result ≡ number_at field bytes.now }
@@ -101,7 +109,7 @@ pub(crate) fn number_at(field: Field, bytes: &[u8]) -> u16
     }
 }
 
-/// The segment in a field at the front of `bytes`.
+/// The segment of a far address at the front of `bytes`, which follows the offset; 0 for any other field.
 pub(crate) fn segment_at(field: Field, bytes: &[u8]) -> u16
     requires { field_size field ≤ length bytes.now }
     ensures { result ≡ segment_at field bytes.now }

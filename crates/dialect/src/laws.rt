@@ -1,32 +1,38 @@
 //! The laws of the words.
 ghost use Rattle.dialect.specs.DialectLaws.{CaseDoesNotCount, KeywordsAreRead, OneMeaning, OperationsAreRead, PrefixesAreRead, RegistersAreRead};
 
-/// An operation's first mnemonic stands for that operation when it is read.
+/// States that the mnemonic that the disassembler writes for an operation means that operation when the assembler reads
+/// it; the law that disassembled texts are read back rests on it.
 pub fn operations_are_read()
     ensures { OperationsAreRead }
 {}
 
-/// A register's name means that register when it is read.
+/// States that a register's name, as the disassembler writes it, means that register when the assembler reads it; the
+/// law that disassembled texts are read back rests on it.
 pub fn registers_are_read()
     ensures { RegistersAreRead }
 {}
 
-/// A prefix's first word means that prefix when it is read; an override's word means its segment register.
+/// States that the word that the disassembler writes for a prefix means that prefix, or its segment register, when the
+/// assembler reads it; the law that disassembled texts are read back rests on it.
 pub fn prefixes_are_read()
     ensures { PrefixesAreRead }
 {}
 
-/// A keyword's name means that keyword when it is read.
+/// States that a keyword's name, such as WORD in a disassembled text, means that keyword when the assembler reads it;
+/// the law that disassembled texts are read back rests on it.
 pub fn keywords_are_read()
     ensures { KeywordsAreRead }
 {}
 
-/// No two places among the words are spelled alike, so each word has one meaning.
+/// States that no two words of the dialect are spelled alike, so that each word of a source has one meaning; for
+/// readers of the dialect's laws.
 pub fn one_meaning()
     ensures { OneMeaning }
 {}
 
-/// Words that differ only in case mean the same.
+/// States that words that differ only in upper and lower case mean the same to the assembler; for readers of the
+/// dialect's laws.
 pub fn case_does_not_count()
     ensures { CaseDoesNotCount }
 {}

@@ -218,21 +218,22 @@ static WORDS: [Entry; 152] = [
     word!(b"SHORT", Keyword::Short),
 ];
 
-/// All entries, in the definition's order.
+/// All words of the dialect, in which `meaning_of` looks a word up; in the order of their definition.
 fn entries() -> &'static [Entry]
     ensures { map entry_of result.now ≡ words }
 {
     &WORDS
 }
 
-/// What the word means, in upper or lower case. `None` if it isn't one of the dialect's.
+/// What a word of a source, in upper or lower case, means to the assembler: a mnemonic, register, prefix or keyword.
+/// `None` if it may be a symbol's name.
 pub fn meaning_of(word: &[u8]) -> Option<Meaning>
     ensures { result ≡ meaning_of word.now }
 {
     Some(first_of(entries(), word)?.meaning)
 }
 
-/// The first entry that is spelled like the word.
+/// The first of some of the dialect's words that is spelled like `word`, in upper or lower case; `None` if none is.
 fn first_of(entries: &[Entry], word: &[u8]) -> Option<Entry>
     ensures { result ≡ find (λ e. spells word.now e.word.now) entries.now }
 {
@@ -242,14 +243,14 @@ fn first_of(entries: &[Entry], word: &[u8]) -> Option<Entry>
         .find(|entry| spells(word, entry.word))
 }
 
-/// Whether the word is one of the dialect's, in upper or lower case, and so can't be a name.
+/// Whether the word is one of the dialect's, in upper or lower case, and so can't be a symbol's name.
 pub fn is_reserved(word: &[u8]) -> bool
     ensures { result ≡ is_reserved word.now }
 {
     meaning_of(word).is_some()
 }
 
-/// Whether the word spells this keyword, in upper or lower case.
+/// Whether `word`, in upper or lower case, is this word of the dialect, which is in upper case.
 #[tactic(auto, unfolding(crate::specs::Words::spells))]
 fn spells(word: &[u8], keyword: &[u8]) -> bool
     ensures { result ≡ spells word.now keyword.now }

@@ -18,7 +18,8 @@ pub enum Mnemonic {
 }
 
 impl Mnemonic {
-    /// The operation that the mnemonic stands for: JMP and CALL for the one within the segment, NOP for XCHG.
+    /// The operation that the assembler takes a mnemonic for, unless its operand is far: JMP and CALL within the
+    /// segment, XCHG for NOP.
     pub fn near(self) -> Operation
         ensures { result ≡ near_operation self }
     {
@@ -30,7 +31,7 @@ impl Mnemonic {
         }
     }
 
-    /// The operation of JMP and CALL that leaves the segment. Other mnemonics have none.
+    /// The operation that the assembler takes JMP and CALL for if the operand is far; `None` for other mnemonics.
     pub fn far(self) -> Option<Operation>
         ensures { result ≡ far_operation self }
     {

@@ -14,7 +14,8 @@ use isa::operation::{
 };
 use isa::register::{ByteRegister, SegmentRegister, WordRegister};
 
-/// The operation's first mnemonic. A far jump or call has that of the near one.
+/// The mnemonic that the disassembler writes for an operation, the first of those that mean it. A far jump or call has
+/// that of the near one.
 pub fn operation_name(operation: Operation) -> &'static str
     ensures { result.now ≡ operation_name operation }
 {
@@ -33,6 +34,7 @@ pub fn operation_name(operation: Operation) -> &'static str
     }
 }
 
+/// The mnemonic that the disassembler writes for an arithmetic or logic operation on two operands.
 #[tactic(auto, unfolding(crate::specs::Words::words))]
 fn arithmetic_name(arithmetic: Arithmetic) -> &'static str
     ensures { result.now ≡ operation_name (operations.Arithmetic arithmetic) }
@@ -50,6 +52,7 @@ fn arithmetic_name(arithmetic: Arithmetic) -> &'static str
     }
 }
 
+/// The mnemonic that the disassembler writes for a shift or rotate; SHL, not SAL.
 #[tactic(auto, unfolding(crate::specs::Words::words))]
 fn shift_name(shift: Shift) -> &'static str
     ensures { result.now ≡ operation_name (operations.Shift shift) }
@@ -65,6 +68,7 @@ fn shift_name(shift: Shift) -> &'static str
     }
 }
 
+/// The mnemonic that the disassembler writes for a multiplication or division.
 #[tactic(auto, unfolding(crate::specs::Words::words))]
 fn product_name(product: Product) -> &'static str
     ensures { result.now ≡ operation_name (operations.Product product) }
@@ -77,6 +81,7 @@ fn product_name(product: Product) -> &'static str
     }
 }
 
+/// The mnemonic that the disassembler writes for an operation on one operand.
 #[tactic(auto, unfolding(crate::specs::Words::words))]
 fn unary_name(unary: Unary) -> &'static str
     ensures { result.now ≡ operation_name (operations.Unary unary) }
@@ -89,6 +94,7 @@ fn unary_name(unary: Unary) -> &'static str
     }
 }
 
+/// The mnemonic that the disassembler writes for a conditional jump, the first of its names, such as JB and not JC.
 #[tactic(auto, unfolding(crate::specs::Words::words))]
 fn jump_name(condition: JumpCondition) -> &'static str
     ensures { result.now ≡ operation_name (operations.Jump condition) }
@@ -113,6 +119,7 @@ fn jump_name(condition: JumpCondition) -> &'static str
     }
 }
 
+/// The mnemonic that the disassembler writes for a jump that depends on CX, such as LOOPE and not LOOPZ.
 #[tactic(auto, unfolding(crate::specs::Words::words))]
 fn looping_name(looping: Looping) -> &'static str
     ensures { result.now ≡ operation_name (operations.Looping looping) }
@@ -125,6 +132,7 @@ fn looping_name(looping: Looping) -> &'static str
     }
 }
 
+/// The mnemonic that the disassembler writes for a string instruction.
 #[tactic(auto, unfolding(crate::specs::Words::words))]
 fn strings_name(strings: Strings) -> &'static str
     ensures { result.now ≡ operation_name (operations.Strings strings) }
@@ -143,6 +151,7 @@ fn strings_name(strings: Strings) -> &'static str
     }
 }
 
+/// The mnemonic that the disassembler writes for an adjustment of AL or AX.
 #[tactic(auto, unfolding(crate::specs::Words::words))]
 fn adjust_name(adjust: Adjust) -> &'static str
     ensures { result.now ≡ operation_name (operations.Adjust adjust) }
@@ -159,6 +168,7 @@ fn adjust_name(adjust: Adjust) -> &'static str
     }
 }
 
+/// The mnemonic that the disassembler writes for a data transfer.
 #[tactic(auto, unfolding(crate::specs::Words::words))]
 fn transfer_name(transfer: Transfer) -> &'static str
     ensures { result.now ≡ operation_name (operations.Transfer transfer) }
@@ -181,6 +191,8 @@ fn transfer_name(transfer: Transfer) -> &'static str
     }
 }
 
+/// The mnemonic that the disassembler writes for a jump without a condition, a call, a return or an interrupt. Near and
+/// far JMP and CALL differ in their operands alone.
 #[tactic(auto, unfolding(crate::specs::Words::words))]
 fn control_name(control: Control) -> &'static str
     ensures { result.now ≡ operation_name (operations.Control control) }
@@ -199,6 +211,7 @@ fn control_name(control: Control) -> &'static str
     }
 }
 
+/// The mnemonic that the disassembler writes for an instruction of processor control.
 #[tactic(auto, unfolding(crate::specs::Words::words))]
 fn processor_name(processor: Processor) -> &'static str
     ensures { result.now ≡ operation_name (operations.Processor processor) }
@@ -218,7 +231,8 @@ fn processor_name(processor: Processor) -> &'static str
 }
 
 impl Mnemonic {
-    /// The first mnemonic with this meaning.
+    /// The word that is written for a mnemonic's meaning, such as the disassembler's NOP: the first of those that mean
+    /// it, in upper case.
     #[tactic(auto, unfolding(crate::specs::Words::words))]
     pub fn name(self) -> &'static str
         ensures { result.now ≡ mnemonic_name self }
@@ -233,7 +247,7 @@ impl Mnemonic {
 }
 
 impl Register {
-    /// The register's name in upper case.
+    /// The register's name in upper case, as the disassembler writes it.
     pub fn name(self) -> &'static str
         ensures { result.now ≡ register_name self }
     {
@@ -245,6 +259,7 @@ impl Register {
     }
 }
 
+/// The byte register's name in upper case, as the disassembler writes it.
 #[tactic(auto, unfolding(crate::specs::Words::words))]
 fn byte_register_name(register: ByteRegister) -> &'static str
     ensures { result.now ≡ register_name (registers.Byte register) }
@@ -261,6 +276,7 @@ fn byte_register_name(register: ByteRegister) -> &'static str
     }
 }
 
+/// The word register's name in upper case, as the disassembler writes it.
 #[tactic(auto, unfolding(crate::specs::Words::words))]
 fn word_register_name(register: WordRegister) -> &'static str
     ensures { result.now ≡ register_name (registers.Word register) }
@@ -277,6 +293,7 @@ fn word_register_name(register: WordRegister) -> &'static str
     }
 }
 
+/// The segment register's name in upper case, as the disassembler writes it for an operand or an override.
 #[tactic(auto, unfolding(crate::specs::Words::words))]
 fn segment_register_name(register: SegmentRegister) -> &'static str
     ensures { result.now ≡ register_name (registers.Segment register) }
@@ -289,7 +306,8 @@ fn segment_register_name(register: SegmentRegister) -> &'static str
     }
 }
 
-/// The first word for a prefix; for an override its segment register, which a colon follows in a text.
+/// The word that the disassembler writes for a prefix; for an override that of its segment register, which a colon
+/// follows in the text.
 #[tactic(auto, unfolding(crate::specs::Words::words))]
 pub fn prefix_name(prefix: Prefix) -> &'static str
     ensures { result.now ≡ prefix_name prefix }
@@ -303,7 +321,7 @@ pub fn prefix_name(prefix: Prefix) -> &'static str
 }
 
 impl Keyword {
-    /// The keyword's word in upper case.
+    /// The keyword's word in upper case, as a source has it and the disassembler writes WORD or SHORT.
     #[tactic(auto, unfolding(crate::specs::Words::words))]
     pub fn name(self) -> &'static str
         ensures { result.now ≡ keyword_name self }

@@ -20,6 +20,8 @@ struct HexByte(u8);
 impl fmt::Display for HexByte {
     ghost output = { λ n. Some (byte_text n.0) };
 
+    /// Writes an immediate byte, a port or an interrupt's number as a 0, two hexadecimal digits and h, as the assembler
+    /// reads it.
     #[tactic(auto, using(std::proofs::lemmas::Fmt::hex_byte))]
     fn fmt<W: fmt::Write>(&self, f: &mut fmt::Formatter<W>) -> fmt::Result {
         let byte = self.0;
@@ -34,6 +36,7 @@ struct HexWord(u16);
 impl fmt::Display for HexWord {
     ghost output = { λ n. Some (word_text n.0) };
 
+    /// Writes a word or an offset as a 0, four hexadecimal digits and h, as the assembler reads it.
     #[tactic(auto, using(std::proofs::lemmas::Fmt::hex_byte))]
     fn fmt<W: fmt::Write>(&self, f: &mut fmt::Formatter<W>) -> fmt::Result {
         let high = (self.0 / 256) as u8;
@@ -42,7 +45,7 @@ impl fmt::Display for HexWord {
     }
 }
 
-/// The registers of an address.
+/// The registers of an address in memory, as they stand in the brackets of an instruction's text.
 #[tactic(auto, unfolding(dialect::specs::Words::words))]
 fn base_text(base: Base) -> &'static str
     ensures { result.now ≡ base_text base }
@@ -66,6 +69,8 @@ struct Address(Option<Base>, Option<u16>);
 impl fmt::Display for Address {
     ghost output = { λ a. Some (address_text a.0 a.1) };
 
+    /// Writes what stands in the brackets of an operand in memory: its registers, its displacement, or both with a plus
+    /// between them.
     fn fmt<W: fmt::Write>(&self, f: &mut fmt::Formatter<W>) -> fmt::Result {
         match (self.0, self.1) {
             (None, None) => Ok(()),
@@ -93,6 +98,7 @@ struct SizeWord(Option<Keyword>);
 impl fmt::Display for SizeWord {
     ghost output = { λ s. Some (size_text s.0) };
 
+    /// Writes the size word before an operand in memory, such as WORD, and a blank; nothing if it has none.
     fn fmt<W: fmt::Write>(&self, f: &mut fmt::Formatter<W>) -> fmt::Result {
         match self.0 {
             None => Ok(()),
@@ -107,6 +113,8 @@ impl fmt::Display for SizeWord {
 impl fmt::Display for Memory {
     ghost output = { λ m. Some (memory_text m) };
 
+    /// Writes an operand in memory for an instruction's text: its size word, if it needs one, and its address in
+    /// brackets.
     fn fmt<W: fmt::Write>(&self, f: &mut fmt::Formatter<W>) -> fmt::Result {
         let size = SizeWord(self.size);
         let address = Address(self.base, self.displacement);
@@ -121,6 +129,8 @@ struct Target(u16);
 impl fmt::Display for Target {
     ghost output = { λ t. Some (operand_text (Short t.0)) };
 
+    /// Writes the operand of a short JMP: SHORT and the offset to which it goes, so that the assembler chooses the
+    /// short form again.
     fn fmt<W: fmt::Write>(&self, f: &mut fmt::Formatter<W>) -> fmt::Result {
         let short = Keyword::Short.name();
         let target = HexWord(self.0);
@@ -135,6 +145,7 @@ struct Pointer(u16, u16);
 impl fmt::Display for Pointer {
     ghost output = { λ p. Some (operand_text (Far p.0 p.1)) };
 
+    /// Writes the operand of a far jump or call: FAR, the segment, a colon and the offset.
     fn fmt<W: fmt::Write>(&self, f: &mut fmt::Formatter<W>) -> fmt::Result {
         let far = Keyword::Far.name();
         let segment = HexWord(self.0);
@@ -146,6 +157,7 @@ impl fmt::Display for Pointer {
 impl fmt::Display for Written {
     ghost output = { λ w. Some (operand_text w) };
 
+    /// Writes an operand of an instruction's text; nothing if there is none.
     fn fmt<W: fmt::Write>(&self, f: &mut fmt::Formatter<W>) -> fmt::Result {
         match *self {
             Written::Nothing => Ok(()),
@@ -170,6 +182,8 @@ struct Operands(Written, Written);
 impl fmt::Display for Operands {
     ghost output = { λ o. Some (operands_text o.0 o.1) };
 
+    /// Writes the operands after a mnemonic: a blank and the first one, then a comma and the second; nothing if there
+    /// are none.
     fn fmt<W: fmt::Write>(&self, f: &mut fmt::Formatter<W>) -> fmt::Result {
         let first = self.0;
         let second = self.1;
@@ -181,7 +195,7 @@ impl fmt::Display for Operands {
     }
 }
 
-/// Whether the form is XCHG AX,AX in one byte.
+/// Whether the form is XCHG AX,AX in one byte (90h), which is shown as NOP.
 fn is_nop(form: &Form) -> bool
     ensures { result ≡ is_nop form.now }
 {
@@ -201,6 +215,7 @@ struct Body<'a> {
 impl fmt::Display for Body<'_> {
     ghost output = { λ b. Some (body_text b.form.now b.values b.next) };
 
+    /// Writes an instruction without its prefixes: its mnemonic and operands; XCHG AX,AX as NOP.
     #[tactic(auto, unfolding(crate::specs::Text::body_text))]
     fn fmt<W: fmt::Write>(&self, f: &mut fmt::Formatter<W>) -> fmt::Result {
         let row = self.form.row;
@@ -223,6 +238,7 @@ struct PrefixWord(Prefix);
 impl fmt::Display for PrefixWord {
     ghost output = { λ p. Some (prefix_text p.0) };
 
+    /// Writes a prefix and a blank, as they stand before a mnemonic; a segment override has a colon between them.
     fn fmt<W: fmt::Write>(&self, f: &mut fmt::Formatter<W>) -> fmt::Result {
         let name = prefix_name(self.0);
         match self.0 {
@@ -239,6 +255,7 @@ struct Prefixes<'a>(&'a [Prefix]);
 impl fmt::Display for Prefixes<'_> {
     ghost output = { λ p. Some (flat_map prefix_text p.0.now) };
 
+    /// Writes an instruction's prefixes, in their order, before its mnemonic.
     fn fmt<W: fmt::Write>(&self, f: &mut fmt::Formatter<W>) -> fmt::Result {
         for prefix in self.0 {
             let word = PrefixWord(*prefix);
@@ -261,6 +278,7 @@ pub struct InstrText<'a> {
 impl fmt::Display for InstrText<'_> {
     ghost output = { λ t. Some (instr_text t.instr.now t.ip) };
 
+    /// Writes an instruction's text in the assembler's dialect, for the trail and the probe's listings.
     #[tactic(auto, unfolding(crate::specs::Text::instr_text))]
     fn fmt<W: fmt::Write>(&self, f: &mut fmt::Formatter<W>) -> fmt::Result {
         let prefixes = Prefixes(self.instr.prefixes.as_slice());

@@ -36,8 +36,9 @@ pub enum Written {
     Memory(Memory),
 }
 
-/// What is written for the operand of kind `kind` beside one of kind `other`, if the next instruction stands at the
-/// offset `next`.
+/// What the text of an instruction has for its operand of kind `kind`, beside one of kind `other`, which may make a
+/// size word needless. A near jump's target is shown as the offset to which it goes, counted from `next`, that of the
+/// next instruction.
 #[tactic(auto, unfolding(crate::specs::Written::written_operand))]
 pub(crate) fn written_operand(
     form: &Form,
@@ -94,32 +95,35 @@ pub(crate) fn written_operand(
     }
 }
 
+/// The byte register with this number, as an operand of an instruction's text.
 fn byte_register(number: u8) -> Written
     ensures { result ≡ byte_register number }
 {
     Written::Register(Register::Byte(ByteRegister::numbered(number)))
 }
 
+/// The word register with this number, as an operand of an instruction's text.
 fn word_register(number: u8) -> Written
     ensures { result ≡ word_register number }
 {
     Written::Register(Register::Word(WordRegister::numbered(number)))
 }
 
+/// The segment register with this number, as an operand of an instruction's text.
 fn segment_register(number: u8) -> Written
     ensures { result ≡ segment_register number }
 {
     Written::Register(Register::Segment(SegmentRegister::numbered(number)))
 }
 
-/// An ESC's number.
+/// An ESC's number, 0 to 63, as an operand of its text: the high three bits from the opcode, the low three from reg.
 fn escape_operand(code: u8, reg: u8) -> Written
     ensures { result ≡ escape_operand code reg }
 {
     Written::Byte(((8 * u16::from(code) + u16::from(reg)) % 256) as u8)
 }
 
-/// A short jump's target, before which JMP says SHORT.
+/// A short jump's target in its text; JMP has SHORT before it, since the assembler would take its near form otherwise.
 fn target_operand(operation: Operation, target: u16) -> Written
     ensures { result ≡ target_operand operation target }
 {
@@ -129,7 +133,8 @@ fn target_operand(operation: Operation, target: u16) -> Written
     }
 }
 
-/// Whether an operand of this kind tells the size of memory beside it; a shift's CL doesn't.
+/// Whether an operand of this kind tells the size of the one in memory beside it, so that its text needs no BYTE or
+/// WORD; a shift's CL doesn't.
 fn tells_size(kind: Kind) -> bool
     ensures { result ≡ tells_size kind }
 {
@@ -139,14 +144,16 @@ fn tells_size(kind: Kind) -> bool
     )
 }
 
-/// The size word of memory beside an operand of kind `other`.
+/// The size word that an operand in memory has in an instruction's text; `None` beside an operand, of kind `other`,
+/// that tells the size.
 fn size_beside(size: Keyword, other: Kind) -> Option<Keyword>
     ensures { result ≡ size_beside size other }
 {
     if tells_size(other) { None } else { Some(size) }
 }
 
-/// FAR if the operation takes an offset and a segment from memory; LEA, LES and LDS have no size word.
+/// The size word of an operand in memory that is neither a byte nor a word: FAR for a jump or call through it, whose
+/// text needs it; `None` for LEA, LES and LDS, which have none.
 fn far_size(operation: Operation) -> Option<Keyword>
     ensures { result ≡ far_size operation }
 {
@@ -156,6 +163,7 @@ fn far_size(operation: Operation) -> Option<Keyword>
     }
 }
 
+/// The operand of an instruction's text for a byte that mod and r/m name: a register or memory.
 fn byte_operand(place: Place, size: Option<Keyword>, displacement: u16) -> Written
     ensures { result ≡ byte_operand place size displacement }
 {
@@ -165,6 +173,7 @@ fn byte_operand(place: Place, size: Option<Keyword>, displacement: u16) -> Writt
     }
 }
 
+/// The operand of an instruction's text for a word that mod and r/m name: a register or memory.
 fn word_operand(place: Place, size: Option<Keyword>, displacement: u16) -> Written
     ensures { result ≡ word_operand place size displacement }
 {
@@ -174,7 +183,7 @@ fn word_operand(place: Place, size: Option<Keyword>, displacement: u16) -> Writt
     }
 }
 
-/// An operand in memory; any other place gives nothing.
+/// The operand of an instruction's text for a place in memory, with its size word; `Nothing` for any other place.
 fn memory_operand(place: Place, size: Option<Keyword>, displacement: u16) -> Written
     ensures { result ≡ memory_operand place size displacement }
 {

@@ -1,6 +1,7 @@
 //! What the processor does over its bus.
 
-/// What the processor does over its bus, except that reads of memory are left out.
+/// An access of the processor over its bus, as event lists and stops on writes and ports look at it. Reads of memory
+/// are left out.
 #[derive(Clone, Copy, Debug, PartialEq, Eq)]
 pub enum Access {
     /// A byte is written to a physical address, even if the address takes none.
@@ -12,6 +13,7 @@ pub enum Access {
 }
 
 impl Default for Access {
+    /// Returns what stands at the places of an `ArrayVec` that hold no access yet: a write of 0 to address 0.
     fn default() -> Access {
         Access::Write(0, 0)
     }

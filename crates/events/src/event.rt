@@ -5,8 +5,8 @@ use board_plain::trail::TrailEntry;
 use board_types::clock::Clock;
 use board_types::state::State;
 
-/// What happens in a clock. Events of the processor have the clock at which the board stands; those of the chips have
-/// the next one, which is reached.
+/// Something that happens in a clock of the plain board, as an event list says it. The processor's events have the
+/// clock that begins, at which the board stands; those of keys and wires have the next one, to which it leads.
 #[derive(Drop)]
 pub enum Event {
     /// An instruction begins, or an interrupt is entered at a boundary, as the trail has it.

@@ -10,7 +10,8 @@ use execute_machine::registers::Registers;
 use execute_machine::width::Width;
 use isa::operation::Adjust;
 
-/// Performs DAA, DAS, AAA, AAS, AAM, AAD, CBW or CWD.
+/// Performs DAA, DAS, AAA, AAS, AAM, AAD, CBW or CWD, which adjust AL or AX without an operand, for steps by slots (CBW
+/// and CWD) and for all others.
 #[inline(never)]
 #[tactic(auto, unfolding(crate::specs::ArithmeticMeaning::after_adjust))]
 pub fn perform_adjust(registers: &mut Registers, operation: Adjust)
@@ -28,21 +29,23 @@ pub fn perform_adjust(registers: &mut Registers, operation: Adjust)
     }
 }
 
-/// Whether the low digit of AL is above 9, or AF is set.
+/// Whether an adjustment corrects the low digit of AL: it is above 9, or AF says that the sum or difference before
+/// carried or borrowed there.
 fn adjusts_low(flags: Flags, al: u16) -> bool
     ensures { result ≡ adjusts_low (flag_state flags) al }
 {
     al % 16 > 9 || flags.auxiliary_carry
 }
 
-/// Whether AL is above 99h, or CF is set.
+/// Whether DAA or DAS corrects the high digit of AL: AL is above 99h, or CF says that the sum or difference before
+/// carried or borrowed.
 fn adjusts_high(flags: Flags, al: u16) -> bool
     ensures { result ≡ adjusts_high (flag_state flags) al }
 {
     al > 0x99 || flags.carry
 }
 
-/// By how much DAA and DAS change AL.
+/// By how much DAA raises AL and DAS lowers it: 6 for the low digit and 60h for the high one, if they are corrected.
 fn decimal_change(flags: Flags, al: u16) -> u16
     ensures value { result ≡ decimal_change (flag_state flags) al }
     ensures bound { result < 103 }
@@ -52,7 +55,8 @@ fn decimal_change(flags: Flags, al: u16) -> u16
     low + high
 }
 
-/// Puts a packed number into AL. AF and CF say which of its digits were adjusted.
+/// Sets what DAA and DAS set: AL, to `al`, two decimal digits; SF, ZF and PF by it; and AF and CF by whether the low
+/// and the high digit of the old AL had to be corrected.
 fn set_packed(registers: &mut Registers, al: u16)
     requires { al < 256 }
     ensures { registers.new ≡ with_packed registers.old al }
@@ -67,6 +71,7 @@ fn set_packed(registers: &mut Registers, al: u16)
     });
 }
 
+/// Performs DAA: makes of AL, the sum of two bytes of two decimal digits each, such a byte, too.
 #[tactic(auto, unfolding(crate::specs::ArithmeticMeaning::after_adjust))]
 fn daa(registers: &mut Registers)
     ensures { registers.new ≡ after_adjust registers.old Daa }
@@ -76,6 +81,7 @@ fn daa(registers: &mut Registers)
     set_packed(registers, (al + change) % 256);
 }
 
+/// Performs DAS: makes of AL, the difference of two bytes of two decimal digits each, such a byte, too.
 #[tactic(auto, unfolding(crate::specs::ArithmeticMeaning::after_adjust))]
 fn das(registers: &mut Registers)
     ensures { registers.new ≡ after_adjust registers.old Das }
@@ -85,7 +91,7 @@ fn das(registers: &mut Registers)
     set_packed(registers, (al + 256 - change) % 256);
 }
 
-/// Puts a digit into AL and a byte into AH. AF and CF say whether the digit was adjusted.
+/// Leaves what AAA and AAS do: a digit in AL, a byte in AH, and AF and CF by whether the digit was corrected.
 fn set_unpacked(registers: &mut Registers, ah: u16, digit: u16, adjusted: bool)
     requires high { ah < 256 }
     requires low { digit < 16 }
@@ -99,6 +105,7 @@ fn set_unpacked(registers: &mut Registers, ah: u16, digit: u16, adjusted: bool)
     });
 }
 
+/// Performs AAA: makes AL, the sum of two decimal digits, a digit, and adds its carry to AH.
 #[tactic(auto, unfolding(crate::specs::ArithmeticMeaning::after_adjust))]
 fn aaa(registers: &mut Registers)
     ensures { registers.new ≡ after_adjust registers.old Aaa }
@@ -111,6 +118,8 @@ fn aaa(registers: &mut Registers)
     }
 }
 
+/// Performs AAS: corrects AL, the difference of two unpacked decimal digits, to one digit. If that needs a borrow, AH
+/// gives it, and AF and CF are set; else both are cleared.
 #[tactic(auto, unfolding(crate::specs::ArithmeticMeaning::after_adjust))]
 fn aas(registers: &mut Registers)
     ensures { registers.new ≡ after_adjust registers.old Aas }
@@ -123,6 +132,7 @@ fn aas(registers: &mut Registers)
     }
 }
 
+/// Performs AAM: parts AL, mostly the product of two digits, into tens in AH and ones in AL.
 #[tactic(auto, unfolding(crate::specs::ArithmeticMeaning::after_adjust))]
 fn aam(registers: &mut Registers)
     ensures { registers.new ≡ after_adjust registers.old Aam }
@@ -134,6 +144,7 @@ fn aam(registers: &mut Registers)
         .set(with_result(registers.flags.get(), Width::Byte, al % 10));
 }
 
+/// Performs AAD: joins the two digits in AH and AL to a number in AL, mostly before a division.
 #[tactic(auto, unfolding(crate::specs::ArithmeticMeaning::after_adjust))]
 fn aad(registers: &mut Registers)
     ensures { registers.new ≡ after_adjust registers.old Aad }
@@ -145,6 +156,7 @@ fn aad(registers: &mut Registers)
         .set(with_result(registers.flags.get(), Width::Byte, al));
 }
 
+/// Performs CBW: extends the sign of AL into AH.
 #[tactic(auto, unfolding(crate::specs::ArithmeticMeaning::after_adjust))]
 fn cbw(registers: &mut Registers)
     ensures { registers.new ≡ after_adjust registers.old Cbw }
@@ -153,6 +165,7 @@ fn cbw(registers: &mut Registers)
     registers.set_ax(if al < 128 { al } else { 0xFF00 + al });
 }
 
+/// Performs CWD: extends the sign of AX into DX, mostly before a division.
 #[tactic(auto, unfolding(crate::specs::ArithmeticMeaning::after_adjust))]
 fn cwd(registers: &mut Registers)
     ensures { registers.new ≡ after_adjust registers.old Cwd }

@@ -16,7 +16,8 @@ use execute_machine::registers::Registers;
 use execute_machine::width::Width;
 use isa::operation::Arithmetic;
 
-/// Performs ADD, OR, ADC, SBB, AND, SUB, XOR, CMP or TEST on the instruction's operands.
+/// Performs ADD, OR, ADC, SBB, AND, SUB, XOR, CMP or TEST on an instruction's two operands, in a step that isn't made
+/// by a slot; CMP and TEST write nothing back.
 #[inline(always)]
 #[tactic(auto, unfolding(crate::specs::ArithmeticMeaning::after_arithmetic))]
 pub fn perform_arithmetic<B: Bus>(
@@ -35,7 +36,8 @@ pub fn perform_arithmetic<B: Bus>(
     }
 }
 
-/// What the operation makes of both operands, the first of which stands at `to`. The flags are set.
+/// Reads an instruction's two operands, of which the first stands at `to` and gives the width, and returns what the
+/// operation makes of them, for `perform_arithmetic` to write; the flags are set.
 #[inline(always)]
 fn combine<B: Bus>(
     bus: &B,
@@ -62,7 +64,8 @@ fn combine<B: Bus>(
     calculate(&mut registers.flags, operation, width, a, b)
 }
 
-/// What the operation makes of two numbers of this width. The flags are set.
+/// Returns what the operation makes of two numbers of this width and sets the flags: the arithmetic itself, for steps
+/// by slots and all others.
 #[inline(always)]
 #[tactic(auto, unfolding(crate::specs::ArithmeticMeaning::result_of, crate::specs::ArithmeticMeaning::with_flags_of))]
 pub fn calculate(
@@ -94,7 +97,7 @@ pub fn calculate(
     }
 }
 
-/// Sets the flags of a result of logic, and answers the result.
+/// Sets the flags by a result of AND, OR, XOR or TEST and returns it, for `calculate`.
 fn logical(flags: &mut FlagRegister, width: Width, value: u16) -> u16
     ensures value { result ≡ value }
     ensures flags { flags.new ≡ with_logic (forgetting flags.old) width value }
@@ -103,7 +106,7 @@ fn logical(flags: &mut FlagRegister, width: Width, value: u16) -> u16
     value
 }
 
-/// Whether an operation keeps its result: CMP and TEST don't.
+/// Whether an operation writes its result to the first operand: CMP and TEST only set flags.
 pub fn keeps_result(operation: Arithmetic) -> bool
     ensures { result ≡ keeps_result operation }
 {

@@ -19,12 +19,14 @@ pub struct Division {
     pub remainder: u16,
 }
 
+/// Half of a width's values, in 32 bits: from there on an operand of IMUL or IDIV is negative.
 fn half(width: Width) -> u32
     ensures { result ≡ half_size width }
 {
     u32::from(width.half_size())
 }
 
+/// Half of the values of twice the width: from there on a product of IMUL or a dividend of IDIV is negative.
 fn double_half(width: Width) -> u32
     ensures { result ≡ double_half width }
 {
@@ -34,6 +36,8 @@ fn double_half(width: Width) -> u32
     }
 }
 
+/// The absolute value of a signed number, which counts as negative from `half` on: products and quotients are worked
+/// out without signs.
 fn magnitude(half: u32, number: u32) -> u32
     requires { number < 2 * half }
     ensures value { result ≡ magnitude half number }
@@ -46,6 +50,8 @@ fn magnitude(half: u32, number: u32) -> u32
     }
 }
 
+/// Gives a result of IMUL or IDIV its sign: `size`, or minus `size` if `minus` says so, as a number that counts as
+/// negative from `half` on.
 fn with_sign(half: u32, minus: bool, size: u32) -> u32
     requires least { 0 < half }
     requires greatest { half ≤ 2 ^ 31 }
@@ -60,7 +66,7 @@ fn with_sign(half: u32, minus: bool, size: u32) -> u32
     }
 }
 
-/// The product of two unsigned numbers.
+/// Multiplies two unsigned numbers for MUL; the product is wide, as CF and OF then say, if its high half isn't 0.
 #[tactic(auto, unfolding(crate::specs::Numbers::unsigned_product))]
 pub fn unsigned_product(width: Width, a: u16, b: u16) -> FullProduct
     requires first { a < size_of width }
@@ -75,6 +81,7 @@ pub fn unsigned_product(width: Width, a: u16, b: u16) -> FullProduct
     }
 }
 
+/// Multiplies the magnitudes of two signed numbers and gives the product, of twice the width, its sign, for IMUL.
 #[tactic(auto, unfolding(crate::specs::Numbers::signed_value))]
 fn signed_value(width: Width, a: u32, b: u32) -> u32
     requires first { a < size_of width }
@@ -91,7 +98,8 @@ fn signed_value(width: Width, a: u32, b: u32) -> u32
     )
 }
 
-/// The product of two signed numbers.
+/// Multiplies two signed numbers for IMUL; the product is wide, as CF and OF then say, if its high half isn't just its
+/// low half's sign.
 #[tactic(auto, unfolding(crate::specs::Numbers::signed_product))]
 pub fn signed_product(width: Width, a: u16, b: u16) -> FullProduct
     requires first { a < size_of width }
@@ -106,6 +114,8 @@ pub fn signed_product(width: Width, a: u16, b: u16) -> FullProduct
     }
 }
 
+/// The high half of a product that fits its low half as a signed number: each bit is the sign, so that IMUL can tell a
+/// wide product.
 fn sign_extension(width: Width, low: u32) -> u32
     ensures { result ≡ sign_extension width low }
 {
@@ -116,7 +126,8 @@ fn sign_extension(width: Width, low: u32) -> u32
     }
 }
 
-/// Divides unsigned numbers: none if the divisor is 0 or the quotient doesn't fit the width.
+/// Divides unsigned numbers, for DIV: `None`, which enters interrupt 0, if the divisor is 0 or the quotient doesn't fit
+/// the width.
 #[tactic(auto, unfolding(crate::specs::Numbers::unsigned_division))]
 pub fn divide_unsigned(width: Width, dividend: u32, divisor: u16) -> Option<Division>
     requires { divisor < size_of width }
@@ -134,7 +145,8 @@ pub fn divide_unsigned(width: Width, dividend: u32, divisor: u16) -> Option<Divi
     })
 }
 
-/// Divides signed numbers, toward 0: none if the divisor is 0 or the quotient doesn't fit.
+/// Divides signed numbers toward 0, for IDIV: `None`, which enters interrupt 0, if the divisor is 0 or the quotient
+/// isn't within -127 and 127, or -32,767 and 32,767.
 #[tactic(auto, unfolding(crate::specs::Numbers::signed_division))]
 pub fn divide_signed(width: Width, dividend: u32, divisor: u16) -> Option<Division>
     requires dividend { dividend < 2 * double_half width }
@@ -157,7 +169,8 @@ pub fn divide_signed(width: Width, dividend: u32, divisor: u16) -> Option<Divisi
     ))
 }
 
-/// A quotient and a remainder with their signs.
+/// Gives the quotient and the remainder of two magnitudes their signs, for IDIV: the remainder has the dividend's, and
+/// the quotient is negative if dividend and divisor have different ones.
 #[tactic(auto, unfolding(crate::specs::Numbers::signed_result))]
 fn signed_result(
     width: Width,

@@ -18,6 +18,7 @@ use execute_machine::stack::enter;
 use execute_machine::width::Width;
 use isa::operation::Product;
 
+/// The factor that MUL and IMUL don't name: AL, or AX with a word.
 fn accumulator(registers: &Registers, width: Width) -> u16
     ensures value { result ≡ accumulator registers.now width }
     ensures bound { result < size_of width }
@@ -29,6 +30,7 @@ fn accumulator(registers: &Registers, width: Width) -> u16
     }
 }
 
+/// The dividend, which DIV and IDIV don't name: AX, or DX:AX with a word as divisor.
 fn dividend_of(registers: &Registers, width: Width) -> u32
     ensures value { result ≡ dividend_of registers.now width }
     ensures bound { result < 2 * double_half width }
@@ -40,6 +42,7 @@ fn dividend_of(registers: &Registers, width: Width) -> u32
     }
 }
 
+/// Puts the product of MUL or IMUL into AX, or into DX:AX if the factors are words.
 fn set_product_value(registers: &mut Registers, width: Width, value: u32)
     requires { value < 2 * double_half width }
     ensures { registers.new ≡ with_product_value registers.old width value }
@@ -53,6 +56,7 @@ fn set_product_value(registers: &mut Registers, width: Width, value: u32)
     }
 }
 
+/// Leaves what MUL and IMUL do: the product in AX or DX:AX, and CF and OF by whether it takes more than its low half.
 #[tactic(auto, unfolding(crate::specs::Products::with_product))]
 fn set_product(registers: &mut Registers, width: Width, product: FullProduct)
     requires { product.value < 2 * double_half width }
@@ -66,6 +70,7 @@ fn set_product(registers: &mut Registers, width: Width, product: FullProduct)
     set_product_value(registers, width, product.value);
 }
 
+/// Leaves what DIV and IDIV do: the quotient in AL and the remainder in AH, or in AX and DX if the divisor is a word.
 #[tactic(auto, unfolding(crate::specs::Products::with_division))]
 fn set_division(registers: &mut Registers, width: Width, division: Division)
     requires quotient { division.quotient < size_of width }
@@ -81,7 +86,8 @@ fn set_division(registers: &mut Registers, width: Width, division: Division)
     }
 }
 
-/// Puts the quotient and the remainder into the registers, if there are any. Answers whether there are.
+/// Puts a quotient and its remainder into the registers, if there are any, and returns whether there are; otherwise
+/// nothing changes.
 fn take_division(registers: &mut Registers, width: Width, division: Option<Division>) -> bool
     requires quotient { IfSome division (λ d. d.quotient < size_of width) }
     requires remainder { IfSome division (λ d. d.remainder < size_of width) }
@@ -97,8 +103,8 @@ fn take_division(registers: &mut Registers, width: Width, division: Option<Divis
     }
 }
 
-/// Multiplies or divides AL, AX or DX:AX by an operand. A division without a quotient that fits does nothing. Answers
-/// whether it was none of these.
+/// Multiplies or divides AL, AX or DX:AX by a number, for steps by slots and all others. Returns `false`, and changes
+/// nothing, if it is a division without a quotient that fits.
 #[tactic(auto, unfolding(crate::specs::Calculated::calculated))]
 pub fn calculate_product(
     registers: &mut Registers,
@@ -126,8 +132,8 @@ pub fn calculate_product(
     }
 }
 
-/// Multiplies or divides by an operand; a division without a quotient enters interrupt 0. Answers whether that
-/// happened.
+/// Multiplies or divides by an operand that has been read, for `perform_product`; a division without a quotient that
+/// fits enters interrupt 0. Returns whether that happened.
 fn perform_operation<B: Bus>(
     bus: &mut B,
     registers: &mut Registers,
@@ -147,8 +153,9 @@ fn perform_operation<B: Bus>(
     true
 }
 
-/// Multiplies or divides AL, AX or DX:AX by the first operand. A division without a quotient that fits enters interrupt
-/// 0 and changes nothing else. Answers whether that happened.
+/// Performs MUL, IMUL, DIV or IDIV by an instruction's operand, in a step that isn't made by a slot. A division without
+/// a quotient that fits enters interrupt 0 and changes nothing else. Returns whether that happened, since the clocks
+/// depend on it.
 #[inline(never)]
 #[tactic(auto, unfolding(crate::specs::Products::after_product, crate::specs::Products::has_fault))]
 pub fn perform_product<B: Bus>(

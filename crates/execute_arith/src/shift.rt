@@ -13,13 +13,15 @@ use execute_machine::registers::Registers;
 use execute_machine::width::Width;
 use isa::operation::Shift;
 
+/// Whether a shift sets SF, ZF and PF by its result: SHL, SHR and SAR do, rotates leave them.
 fn tells_result(operation: Shift) -> bool
     ensures { result ≡ tells_result operation }
 {
     matches!(operation, Shift::Shl | Shift::Shr | Shift::Sar)
 }
 
-/// Sets the flags after single shifts that left `after`.
+/// Sets the flags after a shift or rotate by at least one place, which left `after`: CF and OF by the last place, and
+/// SF, ZF and PF by the result unless it is a rotate; AF stays.
 fn tell(flags: &mut FlagRegister, operation: Shift, width: Width, after: Shifted)
     ensures { flags.new ≡ with_told flags.old operation width after }
 {
@@ -38,7 +40,7 @@ fn tell(flags: &mut FlagRegister, operation: Shift, width: Width, after: Shifted
     });
 }
 
-/// Sets the flags after `count` single shifts that left `after`; a count of 0 sets none.
+/// Sets the flags after a shift or rotate by `count` places, which left `after`; a count of 0, from CL, sets none.
 #[tactic(auto, unfolding(crate::specs::Shifts::with_shifted))]
 fn set_shifted(flags: &mut FlagRegister, operation: Shift, width: Width, count: u16, after: Shifted)
     ensures { flags.new ≡ with_shifted flags.old operation width count after }
@@ -48,8 +50,8 @@ fn set_shifted(flags: &mut FlagRegister, operation: Shift, width: Width, count: 
     }
 }
 
-/// Shifts or rotates the first operand by as many single shifts as the second operand counts: 1, or CL. A count of 0
-/// writes the operand back and changes no flag.
+/// Performs a shift or rotate on an instruction's first operand, in a step that isn't made by a slot: by 1 place, or as
+/// many as CL counts. A count of 0 writes the operand back and changes no flag.
 #[inline(never)]
 #[tactic(auto, unfolding(crate::specs::Shifts::after_shift))]
 pub fn perform_shift<B: Bus>(
@@ -70,8 +72,8 @@ pub fn perform_shift<B: Bus>(
     put(bus, registers, place, value);
 }
 
-/// What `count` single shifts make of a number of this width. The flags are set. It is inlined, so that an operation
-/// that is known costs no choice.
+/// Returns what a shift or rotate by `count` places makes of a number of this width, for steps by slots and all others,
+/// and sets the flags. Inlined, so that an operation that is known costs no choice.
 #[inline(always)]
 pub fn calculate_shift(
     flags: &mut FlagRegister,
@@ -89,7 +91,8 @@ pub fn calculate_shift(
     after.value
 }
 
-/// What `count` single shifts leave. CF and OF, which have to be computed, are asked for in a rotate alone.
+/// Returns the value, CF and OF that a shift or rotate by `count` places leaves, for `calculate_shift`. Only a rotate,
+/// or a count of 0, needs CF and OF from before, which have to be worked out.
 #[inline(always)]
 #[tactic(auto, using(crate::proofs::Places::last_left, crate::proofs::Places::last_right, crate::proofs::Places::last_signed))]
 fn shifted(flags: &FlagRegister, operation: Shift, width: Width, a: u16, count: u16) -> Shifted

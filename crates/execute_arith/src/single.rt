@@ -17,6 +17,7 @@ pub struct Shifted {
     pub overflow: bool,
 }
 
+/// The bit below a value's top one; after ROR and RCR, OF says whether the two differ.
 fn second_bit(width: Width, value: u16) -> bool
     requires { value < size_of width }
     ensures { result ≡ second_bit width value }
@@ -24,6 +25,8 @@ fn second_bit(width: Width, value: u16) -> bool
     value % width.half_size() >= width.half_size() / 2
 }
 
+/// Moves a value's bits one place to the left, for ROL, RCL and SHL; `entering` becomes the lowest, and the top one
+/// leaves.
 fn left_value(width: Width, value: u16, entering: bool) -> u16
     requires { value < size_of width }
     ensures value { result ≡ 2 * value % size_of width + flag_bit entering 1 }
@@ -32,6 +35,8 @@ fn left_value(width: Width, value: u16, entering: bool) -> u16
     2 * (value % width.half_size()) + u16::from(entering)
 }
 
+/// Moves a value's bits one place to the right, for ROR, RCR, SHR and SAR; `entering` becomes the top one, and the
+/// lowest leaves.
 fn right_value(width: Width, value: u16, entering: bool) -> u16
     requires { value < size_of width }
     ensures value { result ≡ right_value width value entering }
@@ -44,7 +49,8 @@ fn right_value(width: Width, value: u16, entering: bool) -> u16
     }
 }
 
-/// One place to the left; `entering` is the bit that enters at the bottom.
+/// Makes ROL, RCL or SHL by one place; `entering` is the bit that enters at the bottom. CF takes the bit that leaves,
+/// and OF says whether the top bit has changed.
 #[tactic(auto, unfolding(crate::specs::Single::after_left))]
 fn left(width: Width, operand: Shifted, entering: bool) -> Shifted
     requires { operand.value < size_of width }
@@ -60,7 +66,8 @@ fn left(width: Width, operand: Shifted, entering: bool) -> Shifted
     }
 }
 
-/// One place to the right; `entering` is the bit that enters at the top.
+/// Makes a shift or rotate to the right by one place; `entering` is the bit that enters at the top. CF takes the bit
+/// that leaves; the caller says OF.
 #[tactic(auto, unfolding(crate::specs::Single::after_right))]
 fn right(width: Width, operand: Shifted, entering: bool, overflow: bool) -> Shifted
     requires { operand.value < size_of width }
@@ -74,6 +81,8 @@ fn right(width: Width, operand: Shifted, entering: bool, overflow: bool) -> Shif
     }
 }
 
+/// Makes ROR or RCR by one place; `entering` is the bit that enters at the top, and OF says whether the two top bits
+/// differ then.
 #[tactic(auto, unfolding(crate::specs::Single::after_right_rotation))]
 fn right_rotation(width: Width, operand: Shifted, entering: bool) -> Shifted
     requires { operand.value < size_of width }
@@ -85,7 +94,7 @@ fn right_rotation(width: Width, operand: Shifted, entering: bool) -> Shifted
     right(width, operand, entering, overflow)
 }
 
-/// One shift or rotate by one place.
+/// Makes a shift or rotate by one place: all of it for a count of 1, otherwise one of its steps.
 #[inline(always)]
 #[tactic(auto, unfolding(crate::specs::Single::after_single))]
 pub(crate) fn single(operation: Shift, width: Width, operand: Shifted) -> Shifted
@@ -106,7 +115,8 @@ pub(crate) fn single(operation: Shift, width: Width, operand: Shifted) -> Shifte
 }
 
 impl Shifted {
-    /// An operand of a shift that reads neither CF nor OF.
+    /// Makes the operand of a shift that reads neither CF nor OF, which are `false` so that nobody has to work them
+    /// out.
     pub(crate) fn alone(value: u16) -> Shifted
         ensures { result ≡ alone value }
     {
@@ -118,7 +128,8 @@ impl Shifted {
     }
 }
 
-/// What a shift to the left by `places` places leaves of a value.
+/// Shifts a value to the left by `places` places at once, for all places of SHL but the last, which alone decides the
+/// flags.
 #[tactic(auto, using(crate::proofs::Places::none_left))]
 pub(crate) fn left_by(width: Width, value: u16, places: u16) -> u16
     requires { value < size_of width }
@@ -131,7 +142,8 @@ pub(crate) fn left_by(width: Width, value: u16, places: u16) -> u16
     ((u32::from(value) << places) % width.size()) as u16
 }
 
-/// What a shift to the right by `places` places leaves of a value, if zeros enter.
+/// Shifts a value to the right by `places` places at once, and lets zeros enter, for all places of SHR but the last,
+/// which alone decides the flags.
 #[tactic(auto, using(crate::proofs::Places::none_right))]
 pub(crate) fn right_by(value: u16, places: u16) -> u16
     ensures value { result ≡ value / 2 ^ places }
@@ -143,7 +155,8 @@ pub(crate) fn right_by(value: u16, places: u16) -> u16
     value >> places
 }
 
-/// What a shift to the right by `places` places leaves of a value, if its top bit enters.
+/// Shifts a value to the right by `places` places at once, and lets its top bit enter, for all places of SAR but the
+/// last, which alone decides the flags.
 pub(crate) fn signed_right_by(width: Width, value: u16, places: u16) -> u16
     requires { value < size_of width }
     ensures value { result ≡ signed_right width value places }
@@ -157,7 +170,8 @@ pub(crate) fn signed_right_by(width: Width, value: u16, places: u16) -> u16
     }
 }
 
-/// Shifts or rotates by `count` places, one after the other.
+/// Rotates by `count` places, one after the other; a shift comes here only with a count of 0, which leaves all as it
+/// is.
 #[tactic(auto, unfolding(crate::specs::Shifts::after_shifts), using(board_types::proofs::Iterate::iterate_steps))]
 pub(crate) fn rotate_by(operation: Shift, width: Width, operand: Shifted, count: u16) -> Shifted
     requires { operand.value < size_of width }

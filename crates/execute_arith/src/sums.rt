@@ -9,7 +9,8 @@ use execute_machine::flags::{FlagRegister, StatusFlags};
 use execute_machine::overflow::{difference_overflows, sum_overflows};
 use execute_machine::width::Width;
 
-/// The sum of two numbers of this width and the carry, cut to the width, with its flags; nothing is kept.
+/// Adds two numbers of this width and the carry, for ADC: returns the sum, cut to the width, and sets all status flags
+/// at once.
 #[inline(never)]
 #[tactic(auto, unfolding(execute_machine::specs::Sums::with_sum))]
 pub fn add(flags: &mut FlagRegister, width: Width, a: u16, b: u16, carry: bool) -> u16
@@ -30,8 +31,8 @@ pub fn add(flags: &mut FlagRegister, width: Width, a: u16, b: u16, carry: bool) 
     sum
 }
 
-/// The first of two numbers of this width less the second and the borrow, cut to the width, with its flags; nothing
-/// is kept.
+/// Subtracts the second of two numbers of this width, and the borrow, from the first, for SBB, NEG and comparisons:
+/// returns the difference, cut to the width, and sets all status flags at once.
 #[inline(never)]
 #[tactic(auto, unfolding(execute_machine::specs::Sums::with_difference))]
 pub fn subtract(flags: &mut FlagRegister, width: Width, a: u16, b: u16, borrow: bool) -> u16
@@ -52,7 +53,8 @@ pub fn subtract(flags: &mut FlagRegister, width: Width, a: u16, b: u16, borrow: 
     difference
 }
 
-/// The flags of the first of two numbers of this width less the second; nothing is kept.
+/// Sets the status flags by the first of two numbers of this width less the second, for CMPS and SCAS, which need no
+/// more of the difference.
 pub fn compare(flags: &mut FlagRegister, width: Width, a: u16, b: u16)
     requires first { a < size_of width }
     requires second { b < size_of width }

@@ -13,7 +13,7 @@ use execute_machine::registers::Registers;
 use execute_machine::width::Width;
 use isa::operation::Unary;
 
-/// Performs INC, DEC, NOT or NEG on the instruction's operand.
+/// Performs INC, DEC, NOT or NEG on an instruction's operand, in a step that isn't made by a slot.
 #[inline(always)]
 #[tactic(auto, unfolding(crate::specs::ArithmeticMeaning::after_unary))]
 pub fn perform_unary<B: Bus>(
@@ -32,7 +32,8 @@ pub fn perform_unary<B: Bus>(
     put(bus, registers, to, result);
 }
 
-/// What the operation makes of a number of this width. The flags are set.
+/// Returns what INC, DEC, NOT or NEG makes of a number of this width, for steps by slots and all others, and sets the
+/// flags, which NOT leaves as they are.
 #[tactic(auto, unfolding(crate::specs::ArithmeticMeaning::unary_result_of, crate::specs::ArithmeticMeaning::with_unary_flags_of))]
 pub fn calculate_unary(flags: &mut FlagRegister, operation: Unary, width: Width, a: u16) -> u16
     requires { a < size_of width }
@@ -47,7 +48,7 @@ pub fn calculate_unary(flags: &mut FlagRegister, operation: Unary, width: Width,
     }
 }
 
-/// The operand with each bit inverted.
+/// Inverts each bit of a number of this width, for NOT.
 fn inverse(width: Width, a: u16) -> u16
     requires { a < size_of width }
     ensures { result ≡ size_of width - 1 - a }

@@ -5,7 +5,8 @@ ghost use Rattle.execute_control.specs.ControlMeaning.{after_flag_operation};
 use execute_machine::flags::FlagRegister;
 use isa::operation::Processor;
 
-/// Sets, clears or turns the operation's flag; HLT, WAIT and ESC have none.
+/// Performs CMC, CLC, STC, CLI, STI, CLD or STD on its flag. HLT, WAIT and ESC come here too, and change no flag; that
+/// HLT halts the processor is the caller's to do.
 #[tactic(auto, unfolding(crate::specs::ControlMeaning::after_flag_operation))]
 pub fn perform_flag_operation(flags: &mut FlagRegister, operation: Processor)
     ensures { flags.new ≡ after_flag_operation flags.old operation }

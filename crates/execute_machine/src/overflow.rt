@@ -6,7 +6,8 @@ ghost use Rattle.execute_machine.specs.Widths.{size_of};
 
 use crate::width::Width;
 
-/// Whether a sum overflows: both numbers have one sign, and the sum has the other.
+/// Whether a sum overflows as a signed number, as OF says after ADD, ADC and INC: both numbers have one sign, and the
+/// sum has the other.
 pub fn sum_overflows(width: Width, a: u16, b: u16, carry: bool, sum: u16) -> bool
     requires first { a < size_of width }
     requires second { b < size_of width }
@@ -16,7 +17,8 @@ pub fn sum_overflows(width: Width, a: u16, b: u16, carry: bool, sum: u16) -> boo
     width.is_negative(a) == width.is_negative(b) && width.is_negative(sum) != width.is_negative(a)
 }
 
-/// Whether a difference overflows: the numbers have different signs, and the difference doesn't have the first one's.
+/// Whether a difference overflows as a signed number, as OF says after SUB, SBB, CMP, NEG and DEC: the numbers have
+/// different signs, and the difference doesn't have the first one's.
 pub fn difference_overflows(width: Width, a: u16, b: u16, borrow: bool, difference: u16) -> bool
     requires first { a < size_of width }
     requires second { b < size_of width }

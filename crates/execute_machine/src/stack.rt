@@ -6,7 +6,7 @@ ghost use Rattle.execute_machine.specs.Stack.{after_entry, after_entry_pushes, a
 use crate::registers::Registers;
 use bus::Bus;
 
-/// Lowers SP by 2 and writes the word there.
+/// Lowers SP by 2 and writes the word at SS:SP, for PUSH, PUSHF, calls and the entry of an interrupt.
 #[inline(always)]
 #[tactic(auto, unfolding(crate::specs::Stack::after_push))]
 pub fn push<B: Bus>(bus: &mut B, registers: &mut Registers, word: u16)
@@ -17,7 +17,8 @@ pub fn push<B: Bus>(bus: &mut B, registers: &mut Registers, word: u16)
     bus.write_word(registers.ss(), registers.sp(), word);
 }
 
-/// The word on top of the stack.
+/// Reads the word on top of the stack, which stays there: after POP, RET or IRET has read it, `drop_bytes` takes it
+/// off.
 #[inline(always)]
 #[tactic(auto, unfolding(crate::specs::Stack::top_word))]
 pub fn top<B: Bus>(bus: &B, registers: &Registers) -> u16
@@ -26,7 +27,7 @@ pub fn top<B: Bus>(bus: &B, registers: &Registers) -> u16
     bus.read_word(registers.ss(), registers.sp())
 }
 
-/// Takes `bytes` bytes off the stack.
+/// Takes `bytes` bytes off the stack by raising SP, after a pop or as RET with a number says; memory stays as it is.
 #[tactic(auto, unfolding(crate::specs::Stack::after_pop))]
 pub fn drop_bytes<B: Bus>(bus: &B, registers: &mut Registers, bytes: u16)
     ensures { machine registers.new (B.state bus.now) ≡ after_pop (machine registers.old (B.state bus.now)) bytes }
@@ -34,7 +35,7 @@ pub fn drop_bytes<B: Bus>(bus: &B, registers: &mut Registers, bytes: u16)
     registers.set_sp(registers.sp().wrapping_add(bytes));
 }
 
-/// Reads the top of the stack and takes it off.
+/// Reads the word on top of the stack and takes it off, for POP and POPF.
 pub fn pop<B: Bus>(bus: &B, registers: &mut Registers) -> u16
     ensures value { result ≡ top_word B.meaning (machine registers.old (B.state bus.now)) }
     ensures machine { machine registers.new (B.state bus.now) ≡ after_pop (machine registers.old (B.state bus.now)) 2 }
@@ -44,6 +45,7 @@ pub fn pop<B: Bus>(bus: &B, registers: &mut Registers) -> u16
     word
 }
 
+/// Pushes FLAGS, CS and IP, with which IRET goes back, as the first part of an interrupt's entry.
 #[inline(always)]
 #[tactic(auto, unfolding(crate::specs::Stack::after_entry_pushes))]
 fn push_state<B: Bus>(bus: &mut B, registers: &mut Registers)
@@ -57,6 +59,8 @@ fn push_state<B: Bus>(bus: &mut B, registers: &mut Registers)
     push(bus, registers, ip);
 }
 
+/// Goes to an interrupt's handler, as the second part of its entry: clears IF and TF and takes IP and CS from the
+/// type's vector at address 4 * `kind`.
 #[inline(always)]
 #[tactic(auto, unfolding(crate::specs::Stack::after_vector))]
 fn take_vector<B: Bus>(bus: &B, registers: &mut Registers, kind: u8)
@@ -70,7 +74,8 @@ fn take_vector<B: Bus>(bus: &B, registers: &mut Registers, kind: u8)
     registers.set_cs(bus.read_word(0, vector + 2));
 }
 
-/// Enters the interrupt of this type: pushes FLAGS, CS and IP, clears IF and TF, then takes IP and CS from the vector.
+/// Enters the interrupt of this type, for INT, INTO, a division without a quotient, a request or a single step: pushes
+/// FLAGS, CS and IP, clears IF and TF, then takes IP and CS from the vector.
 #[tactic(auto, unfolding(crate::specs::Stack::after_entry))]
 pub fn enter<B: Bus>(bus: &mut B, registers: &mut Registers, kind: u8)
     ensures { machine registers.new (B.state bus.new)

@@ -10,7 +10,7 @@ pub enum Width {
 }
 
 impl Width {
-    /// How many values a width has: 256 or 65,536.
+    /// How many values a width has, 256 or 65,536, so that arithmetic can tell what doesn't fit it.
     pub fn size(self) -> u32
         ensures { result ≡ size_of self }
     {
@@ -20,7 +20,7 @@ impl Width {
         }
     }
 
-    /// Half of a width's values: from there on a value is negative as a signed one.
+    /// Half of a width's values, 128 or 32,768: from there on a value is negative as a signed one.
     pub fn half_size(self) -> u16
         ensures { result ≡ half_size self }
     {
@@ -30,14 +30,14 @@ impl Width {
         }
     }
 
-    /// Whether a value of this width is negative as a signed one.
+    /// Whether a value of this width is negative as a signed one, by which SF and OF are worked out.
     pub fn is_negative(self, value: u16) -> bool
         ensures { result ≡ is_negative self value }
     {
         value >= self.half_size()
     }
 
-    /// The number, cut to this width.
+    /// Cuts a sum or a difference to this width, modulo 256 or 65,536, as an operand takes it.
     pub fn cut(self, number: u32) -> u16
         ensures value { result ≡ number % size_of self }
         ensures bound { result < size_of self }

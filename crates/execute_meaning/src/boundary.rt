@@ -5,7 +5,7 @@ ghost use Rattle.execute_meaning.specs.Boundaries.{entry_clocks, still_due};
 use board_types::choice::ClockTable;
 use isa::words::word_clocks;
 
-/// The cases of a free boundary.
+/// What the processor does at a clock at which it isn't busy.
 #[derive(Clone, Copy, Debug, PartialEq, Eq)]
 pub enum Boundary {
     /// The processor takes the interrupt that is requested.
@@ -28,7 +28,8 @@ pub enum Cause {
 }
 
 impl Cause {
-    /// Whether a single step that is due is still due after the entry.
+    /// Whether a single step that is due is still due after the entry: of a requested interrupt, which comes first, but
+    /// not of the single step's own.
     pub fn leaves_due(self, due: bool) -> bool
         ensures { result ≡ still_due due self }
     {
@@ -38,7 +39,8 @@ impl Cause {
         }
     }
 
-    /// The clocks of the entry.
+    /// Returns the clocks that the entry of an interrupt takes: 61 for a request, 50 for a single step, and what the
+    /// table adds for the five words that it pushes and reads.
     pub fn clocks(self, table: ClockTable) -> u16
         ensures { result ≡ entry_clocks table self }
     {

@@ -14,7 +14,8 @@ pub enum Shadow {
 }
 
 impl Shadow {
-    /// Whether the shadow lets requests come.
+    /// Whether the last instruction lets a requested interrupt come before one more instruction has run: STI doesn't,
+    /// nor do MOV and POP to a segment register.
     pub fn lets_requests(self) -> bool
         ensures { result ≡ lets_requests self }
     {
@@ -24,7 +25,8 @@ impl Shadow {
         }
     }
 
-    /// Whether the shadow lets the single step come.
+    /// Whether the last instruction lets a single step come before one more instruction has run: MOV and POP to a
+    /// segment register don't.
     pub fn lets_single_steps(self) -> bool
         ensures { result ≡ lets_single_steps self }
     {

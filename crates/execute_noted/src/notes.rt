@@ -23,11 +23,11 @@ pub trait Notes {
     // the accesses that were noted last are these, if any are noted
     ghost are: { Self → List Access → Type 0 };
 
-    /// Notes that there is no access.
+    /// Notes that there is no access, for a clock in which the processor does nothing.
     fn none(&mut self)
         ensures { are self.new [] };
 
-    /// Makes a step. Answers the clocks that it takes.
+    /// Makes the step of the instruction `decoded`, and notes its accesses. Answers the clocks that it takes.
     fn step<B: Bus>(
         &mut self,
         cpu: &mut Cpu,
@@ -40,14 +40,15 @@ pub trait Notes {
         ensures noted { are self.new
             (after_step (noting B.meaning) table cpu.old (unnoted (B.state bus.old)) decoded.now).bus.accesses };
 
-    /// Makes the next iteration of a repeat. Answers the clocks that it takes.
+    /// Makes the next iteration of a repeat, and notes its accesses. Answers the clocks that it takes.
     fn again<B: Bus>(&mut self, cpu: &mut Cpu, bus: &mut B, table: ClockTable) -> u16
         ensures done { step_result cpu.new (B.state bus.new) result
             ≡ after_again B.meaning table cpu.old (B.state bus.old) }
         ensures noted { are self.new
             (after_again (noting B.meaning) table cpu.old (unnoted (B.state bus.old))).bus.accesses };
 
-    /// Enters an interrupt of type `kind`. Answers the clocks that it takes.
+    /// Enters an interrupt of type `kind`, by request or by the single step, and notes its accesses. Answers the clocks
+    /// that it takes.
     fn enter<B: Bus>(
         &mut self,
         cpu: &mut Cpu,
@@ -71,9 +72,11 @@ impl Notes for Unnoted {
 
     ghost are = { λ _ accesses. ⊤ };
 
+    /// Does nothing, as an ordinary run lists no accesses.
     #[inline(always)]
     fn none(&mut self) {}
 
+    /// Makes a step without noting its accesses, for an ordinary run. Answers the clocks that it takes.
     #[inline(always)]
     fn step<B: Bus>(
         &mut self,
@@ -85,11 +88,14 @@ impl Notes for Unnoted {
         step(cpu, bus, decoded, table).0
     }
 
+    /// Makes the next iteration of a repeat without noting its accesses, for an ordinary run. Answers the clocks that
+    /// it takes.
     #[inline(always)]
     fn again<B: Bus>(&mut self, cpu: &mut Cpu, bus: &mut B, table: ClockTable) -> u16 {
         again(cpu, bus, table).0
     }
 
+    /// Enters an interrupt without noting its accesses, for an ordinary run. Answers the clocks that it takes.
     #[inline(always)]
     fn enter<B: Bus>(
         &mut self,
@@ -108,10 +114,13 @@ impl Notes for Accesses {
 
     ghost are = { λ noted accesses. noted.items ≡ accesses };
 
+    /// Clears the list, for a clock without accesses.
     fn none(&mut self) {
         self.clear();
     }
 
+    /// Makes a step, after which the list has its accesses alone, for a run that tells events. Answers the clocks that
+    /// it takes.
     fn step<B: Bus>(
         &mut self,
         cpu: &mut Cpu,
@@ -124,12 +133,16 @@ impl Notes for Accesses {
         clocks
     }
 
+    /// Makes the next iteration of a repeat, after which the list has its accesses alone, for a run that tells events.
+    /// Answers the clocks that it takes.
     fn again<B: Bus>(&mut self, cpu: &mut Cpu, bus: &mut B, table: ClockTable) -> u16 {
         let (clocks, accesses) = again_noted(cpu, bus, table);
         *self = accesses;
         clocks
     }
 
+    /// Enters an interrupt, after which the list has its accesses alone, for a run that tells events. Answers the
+    /// clocks that it takes.
     fn enter<B: Bus>(
         &mut self,
         cpu: &mut Cpu,

@@ -24,7 +24,7 @@ struct Noting<'a, B: Bus> {
 }
 
 impl<'a, B: Bus> Noting<'a, B> {
-    /// Takes the accesses out.
+    /// Takes the noted accesses out of the bus after a step, to answer them; the bus then has none.
     fn take(&mut self) -> Accesses
         ensures same { self.new.bus.ghost_name ≡ self.old.bus.ghost_name }
         ensures bus { self.new.bus.now ≡ self.old.bus.now }
@@ -34,7 +34,8 @@ impl<'a, B: Bus> Noting<'a, B> {
     }
 }
 
-/// Notes one more access, if there is room.
+/// Appends one more access to the list, if there is room; no step, iteration or entry makes more than there is room
+/// for.
 #[inline(always)]
 fn keep(accesses: &mut Accesses, access: Access)
     ensures { accesses.new.items
@@ -60,21 +61,25 @@ impl<'a, B: Bus> Bus for Noting<'a, B> {
 
     ghost meaning = { holding B.meaning };
 
+    /// Reads from the bus beneath; reads of memory aren't noted.
     fn read8(&self, addr: u32) -> u8 {
         self.bus.read8(addr)
     }
 
+    /// Writes to the bus beneath, and notes the write of this byte.
     fn write8(&mut self, addr: u32, value: u8) {
         self.bus.write8(addr, value);
         keep(&mut self.accesses, Access::Write(addr, value));
     }
 
+    /// Reads the port on the bus beneath, and notes it with the byte that it gave.
     fn in8(&mut self, port: u16) -> u8 {
         let value = self.bus.in8(port);
         keep(&mut self.accesses, Access::In(port, value));
         value
     }
 
+    /// Writes to the port on the bus beneath, and notes the port and the byte.
     fn out8(&mut self, port: u16, value: u8) {
         self.bus.out8(port, value);
         keep(&mut self.accesses, Access::Out(port, value));
@@ -83,7 +88,7 @@ impl<'a, B: Bus> Bus for Noting<'a, B> {
     ghost keeps_bytes = { holding_keeps_bytes B.meaning B.keeps_bytes };
 }
 
-/// A step, with the clocks that it takes and its accesses.
+/// Makes a step over a bus that notes accesses, for `Accesses`. Answers the clocks that it takes, and its accesses.
 pub(crate) fn step_noted<B: Bus>(
     cpu: &mut Cpu,
     bus: &mut B,
@@ -103,7 +108,8 @@ pub(crate) fn step_noted<B: Bus>(
     (clocks, noting.take())
 }
 
-/// The next iteration of a repeat, with the clocks that it takes and its accesses.
+/// Makes the next iteration of a repeat over a bus that notes accesses, for `Accesses`. Answers the clocks that it
+/// takes, and its accesses.
 pub(crate) fn again_noted<B: Bus>(cpu: &mut Cpu, bus: &mut B, table: ClockTable) -> (u16, Accesses)
     ensures done { step_result cpu.new (B.state bus.new) result.0 ≡ after_again B.meaning table cpu.old (B.state bus.old) }
     ensures noted { result.1.items
@@ -117,7 +123,8 @@ pub(crate) fn again_noted<B: Bus>(cpu: &mut Cpu, bus: &mut B, table: ClockTable)
     (clocks, noting.take())
 }
 
-/// The entry of an interrupt of type `kind`, with the clocks that it takes and its accesses.
+/// Enters an interrupt of type `kind` over a bus that notes accesses, for `Accesses`. Answers the clocks that it takes,
+/// and its accesses.
 pub(crate) fn enter_noted<B: Bus>(
     cpu: &mut Cpu,
     bus: &mut B,

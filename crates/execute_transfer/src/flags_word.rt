@@ -14,6 +14,7 @@ use execute_machine::registers::{Registers, set_byte};
 use execute_machine::stack::{pop, push};
 use isa::register::ByteRegister;
 
+/// Performs PUSHF: pushes the nine flags as the word FLAGS.
 #[inline(never)]
 pub(crate) fn perform_pushf<B: Bus>(bus: &mut B, registers: &mut Registers)
     ensures { machine registers.new (B.state bus.new)
@@ -23,6 +24,7 @@ pub(crate) fn perform_pushf<B: Bus>(bus: &mut B, registers: &mut Registers)
     push(bus, registers, word);
 }
 
+/// Performs POPF: pops a word and takes the nine flags from it.
 #[inline(never)]
 #[tactic(auto, unfolding(crate::specs::TransferMeaning::after_popf))]
 pub(crate) fn perform_popf<B: Bus>(bus: &B, registers: &mut Registers)
@@ -32,7 +34,7 @@ pub(crate) fn perform_popf<B: Bus>(bus: &B, registers: &mut Registers)
     registers.flags.set(popped_flags(word));
 }
 
-/// The flags `flags` with CF, PF, AF, ZF and SF of `low`.
+/// Returns `flags` with CF, PF, AF, ZF and SF of `low`, which are those that SAHF takes from AH.
 fn with_low_flags(flags: Flags, low: Flags) -> Flags
     ensures { flag_state result ≡ with_low_flags (flag_state flags) (flag_state low) }
 {
@@ -46,6 +48,7 @@ fn with_low_flags(flags: Flags, low: Flags) -> Flags
     }
 }
 
+/// Performs SAHF: takes CF, PF, AF, ZF and SF from AH, and leaves the other flags.
 #[inline(never)]
 pub(crate) fn perform_sahf(registers: &mut Registers)
     ensures { registers.new ≡ record registers.old {
@@ -57,6 +60,7 @@ pub(crate) fn perform_sahf(registers: &mut Registers)
     registers.flags.set(with_low_flags(flags, low));
 }
 
+/// Performs LAHF: puts the low byte of FLAGS into AH.
 #[inline(never)]
 pub(crate) fn perform_lahf(registers: &mut Registers)
     ensures { registers.new ≡ with_byte_register registers.old Ah (pushed_word registers.old.flags % 256) }

@@ -7,7 +7,7 @@ use execute_machine::location::{OperandLocation, locate_first, locate_second};
 use execute_machine::registers::Registers;
 use isa::register::WordRegister;
 
-/// The place of the first operand.
+/// Works out where the first operand of a MOV, XCHG, LEA, LES, LDS, PUSH or POP stands.
 #[inline(always)]
 pub(crate) fn first_place(registers: &Registers, instr: &Digest) -> OperandLocation
     ensures { result ≡ first_place registers.now instr.now }
@@ -15,7 +15,7 @@ pub(crate) fn first_place(registers: &Registers, instr: &Digest) -> OperandLocat
     locate_first(registers, instr)
 }
 
-/// The place of the second operand.
+/// Works out where the second operand of a MOV, XCHG, LEA, LES or LDS stands.
 #[inline(always)]
 pub(crate) fn second_place(registers: &Registers, instr: &Digest) -> OperandLocation
     ensures { result ≡ second_place registers.now instr.now }
@@ -23,7 +23,7 @@ pub(crate) fn second_place(registers: &Registers, instr: &Digest) -> OperandLoca
     locate_second(registers, instr)
 }
 
-/// The offset of a place in memory.
+/// The offset of an operand in memory, which is what LEA loads; 0 if it isn't in memory.
 pub(crate) fn offset_of(location: OperandLocation) -> u16
     ensures { result ≡ offset_of location }
 {
@@ -37,7 +37,7 @@ pub(crate) fn offset_of(location: OperandLocation) -> u16
     }
 }
 
-/// Whether a location is SP.
+/// Whether an operand is SP, of which PUSH stores the lowered value.
 pub(crate) fn is_sp(location: OperandLocation) -> bool
     ensures { result ≡ is_sp location }
 {

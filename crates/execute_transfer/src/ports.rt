@@ -10,7 +10,7 @@ use execute_machine::registers::{Registers, set_byte};
 use isa::register::ByteRegister;
 use isa::row::Kind;
 
-/// The port of an IN or OUT.
+/// The port that an IN or OUT reaches: DX, or the number in the instruction, by the operand's kind.
 fn port_of(kind: Kind, dx: u16, number: u16) -> u16
     ensures { result ≡ port_of kind dx number }
 {
@@ -20,13 +20,14 @@ fn port_of(kind: Kind, dx: u16, number: u16) -> u16
     }
 }
 
-/// Whether an IN or OUT is one of AX, which has two bytes.
+/// Whether the accumulator of an IN or OUT is AX, so that two ports are reached, one for each byte.
 fn is_ax(kind: Kind) -> bool
     ensures { result ≡ is_ax kind }
 {
     matches!(kind, Kind::Ax)
 }
 
+/// Performs IN AL: reads a byte from the port.
 #[tactic(auto, unfolding(crate::specs::TransferMeaning::after_byte_input))]
 fn input_byte<B: Bus>(bus: &mut B, registers: &mut Registers, port: u16)
     ensures { machine registers.new (B.state bus.new)
@@ -35,6 +36,7 @@ fn input_byte<B: Bus>(bus: &mut B, registers: &mut Registers, port: u16)
     set_byte(registers, ByteRegister::Al, bus.in8(port));
 }
 
+/// Performs IN AX: reads AL from the port and then AH from the next one.
 #[tactic(auto, unfolding(crate::specs::TransferMeaning::after_word_input))]
 fn input_word<B: Bus>(bus: &mut B, registers: &mut Registers, port: u16)
     ensures { machine registers.new (B.state bus.new)
@@ -45,6 +47,7 @@ fn input_word<B: Bus>(bus: &mut B, registers: &mut Registers, port: u16)
     registers.set_ax(u16::from(low) + 256 * u16::from(high));
 }
 
+/// Performs IN, in a step that isn't made by a slot: reads AL from the port, or AX from it and the next one.
 #[inline(never)]
 #[tactic(auto, unfolding(crate::specs::TransferMeaning::after_in))]
 pub(crate) fn perform_in<B: Bus>(bus: &mut B, registers: &mut Registers, instr: &Digest)
@@ -59,6 +62,7 @@ pub(crate) fn perform_in<B: Bus>(bus: &mut B, registers: &mut Registers, instr: 
     }
 }
 
+/// Performs OUT: writes AL to the port, or AX to it and the next one.
 #[inline(never)]
 #[tactic(auto, unfolding(crate::specs::TransferMeaning::after_out, crate::specs::TransferMeaning::outputs_of))]
 pub(crate) fn perform_out<B: Bus>(bus: &mut B, registers: &Registers, instr: &Digest)
@@ -72,7 +76,8 @@ pub(crate) fn perform_out<B: Bus>(bus: &mut B, registers: &Registers, instr: &Di
     }
 }
 
-/// The port writes of an OUT, in order: each a port and a byte.
+/// Lists the port writes that an OUT would make, in order, each a port and a byte: the board asks before the step, to
+/// foresee how the speaker's level changes.
 #[tactic(auto, unfolding(crate::specs::TransferMeaning::outputs_of))]
 pub fn outputs(registers: &Registers, instr: &Digest) -> ArrayVec<(u16, u8), 2>
     ensures { result.items ≡ outputs_of registers.now instr.now }

@@ -9,7 +9,8 @@ use crate::row::Clocks;
 use crate::words::word_clocks;
 use board_types::choice::ClockTable;
 
-/// The clocks that a step of `instr` with this outcome takes, by either table.
+/// The clocks that a step of `instr` takes if it found `outcome`, by the manual's clock table or by the 8088's, which
+/// adds 4 for each word of data in memory.
 #[tactic(auto, unfolding(crate::specs::WordCounts::clocks_in))]
 pub fn cost(instr: &Instr, outcome: &Outcome, table: ClockTable) -> Cost
     ensures value { result.0 ≡ clocks_in table instr.now outcome.now }
@@ -18,7 +19,8 @@ pub fn cost(instr: &Instr, outcome: &Outcome, table: ClockTable) -> Cost
     Cost(step_clocks(instr, outcome) + word_clocks(table, instr.data_words(outcome)))
 }
 
-/// The clocks that a step of `instr` with this outcome takes, by the first table.
+/// The clocks that a step of `instr` takes if it found `outcome`, by the manual's table: the first step of a repeat
+/// also pays for setting it up, and a division without a quotient for its interrupt.
 #[tactic(auto, unfolding(crate::specs::Clocks::clocks_of))]
 pub fn step_clocks(instr: &Instr, outcome: &Outcome) -> u16
     ensures value { result ≡ clocks_of instr.now outcome.now }
@@ -38,14 +40,14 @@ pub fn step_clocks(instr: &Instr, outcome: &Outcome) -> u16
 }
 
 impl Instr {
-    /// Whether the instruction is a string instruction under a repeat prefix.
+    /// Whether the instruction is a string instruction under a repeat prefix, which runs one iteration a step.
     pub fn is_repeated(&self) -> bool
         ensures { result ≡ is_repeated self.now }
     {
         self.form.row.clocks.can_repeat() && self.repeat().is_some()
     }
 
-    /// Whether the instruction's clocks depend on CL.
+    /// Whether the instruction is a shift or rotate by CL, so that its clocks depend on CL.
     pub fn is_counted(&self) -> bool
         ensures { result ≡ is_counted self.now }
     {
@@ -54,6 +56,7 @@ impl Instr {
 }
 
 impl Clocks {
+    /// Whether the clocks are a string instruction's, so that a repeat prefix matters to it.
     fn can_repeat(self) -> bool
         ensures { result ≡ can_repeat self }
     {
@@ -61,7 +64,7 @@ impl Clocks {
     }
 }
 
-/// The clocks that the first step of an instruction takes besides: it reads the prefixes and sets up a repeat.
+/// The clocks that only the first step of an instruction takes: 2 for each prefix, and 9 to set up a repeat.
 fn first_clocks(instr: &Instr) -> u16
     ensures value { result ≡ first_clocks instr.now }
     ensures bound { result ≤ 23 }
@@ -69,6 +72,8 @@ fn first_clocks(instr: &Instr) -> u16
     2 * instr.prefixes.len() as u16 + if instr.is_repeated() { 9 } else { 0 }
 }
 
+/// The clocks of a step by the row's entry in the table, without prefixes, set-up of a repeat and interrupt, which
+/// `step_clocks` adds.
 fn row_clocks(clocks: Clocks, place: Place, repeated: bool, outcome: &Outcome) -> u16
     ensures value { result ≡ row_clocks clocks place repeated outcome.now }
     ensures bound { result ≤ 1300 }
@@ -85,6 +90,8 @@ fn row_clocks(clocks: Clocks, place: Place, repeated: bool, outcome: &Outcome) -
     }
 }
 
+/// The clocks of an instruction with an operand that mod and r/m name: `register` for one in a register, `memory` and
+/// its address's clocks for one in memory.
 fn place_clocks(place: Place, register: u8, memory: u8) -> u16
     ensures value { result ≡ place_clocks place register memory }
     ensures bound { result ≤ 266 }
@@ -95,7 +102,8 @@ fn place_clocks(place: Place, register: u8, memory: u8) -> u16
     }
 }
 
-/// The clocks that working out an operand's address in memory takes besides.
+/// The clocks that it takes besides to work out the address of an operand in memory (the manual's EA), 0 for a
+/// register.
 fn address_clocks(place: Place) -> u16
     ensures value { result ≡ address_clocks place }
     ensures bound { result ≤ 11 }
@@ -108,6 +116,7 @@ fn address_clocks(place: Place) -> u16
     }
 }
 
+/// The clocks that the base of an operand's address costs: 7 for two registers, 5 for one.
 fn base_clocks(base: Base) -> u16
     ensures value { result ≡ base_clocks base }
     ensures bound { result ≤ 7 }

@@ -9,9 +9,9 @@ use crate::form::{Form, Place, Values};
 use crate::layout::{CodePart, Field, RegPart, Second};
 use arrayvec::ArrayVec;
 
-/// The bytes of the instruction of this form with these numbers in its fields, without its prefixes. The caller sees to
-/// it that the form is one of the table's, its row with what the row's parts take, and that each number fits its field
-/// and is 0 if the form has no such field.
+/// Encodes an instruction without its prefixes, for the assembler and the trail. The caller sees to it that the form is
+/// one of the table's, its row with what the row's parts take, and that each number fits its field and is 0 if the form
+/// has no such field.
 #[tactic(auto, unfolding(crate::specs::Encoding::encoding))]
 pub fn encode(form: &Form, values: Values) -> ArrayVec<u8, 14>
     requires form { IsForm form.now }
@@ -31,7 +31,7 @@ pub fn encode(form: &Form, values: Values) -> ArrayVec<u8, 14>
     bytes
 }
 
-/// The opcode byte.
+/// The first byte of an instruction: the row's opcode, with the register's or segment register's number that it holds.
 fn opcode_byte(form: Form) -> u8
     requires { IsForm form }
     ensures { result ≡ form.row.opcode + code_number (code_part form.row) form.code }
@@ -40,7 +40,8 @@ fn opcode_byte(form: Form) -> u8
 }
 
 impl CodePart {
-    /// What the opcode holds beside the row's opcode, as a number that is added to it.
+    /// What is added to the row's opcode for `code`, a register's or a segment register's number, to make the opcode
+    /// byte.
     fn number(self, code: u8) -> u8
         requires { FitsCode self code }
         ensures { result ≡ code_number self code }
@@ -54,7 +55,7 @@ impl CodePart {
 }
 
 impl RegPart {
-    /// The number in reg.
+    /// The number to write in reg, bits 3 to 5 of the addressing byte: the row's digit, or else `reg`, the form's.
     fn number(self, reg: u8) -> u8
         ensures { result ≡ reg_number self reg }
     {
@@ -65,7 +66,7 @@ impl RegPart {
     }
 }
 
-/// The addressing byte: mod, reg and r/m.
+/// The addressing byte, in which mod and r/m name `place` and reg holds `reg`.
 fn addressing(reg: u8, place: Place) -> u8
     requires reg { reg < 8 }
     requires place { IsPlace place }
@@ -74,6 +75,8 @@ fn addressing(reg: u8, place: Place) -> u8
     64 * place.mode() + 8 * reg + place.rm()
 }
 
+/// Appends the byte after the opcode, if the row has one, when an instruction is encoded: the addressing byte, or the
+/// fixed 0Ah of AAM and AAD.
 fn push_second(bytes: &mut ArrayVec<u8, 14>, second: Second, reg: u8, place: Place)
     requires room { array_vec_len bytes.old < 14 }
     requires digit { HasDigit second }
@@ -88,6 +91,8 @@ fn push_second(bytes: &mut ArrayVec<u8, 14>, second: Second, reg: u8, place: Pla
     }
 }
 
+/// Appends a displacement, an immediate number or a far address to an instruction that is being encoded: 0, 1, 2 or 4
+/// bytes, as `field` says. Only a far address has a segment.
 fn push_field(bytes: &mut ArrayVec<u8, 14>, field: Field, number: u16, segment: u16)
     requires room { array_vec_len bytes.old + 4 ≤ 14 }
     requires fits { FitsField field number segment }
@@ -105,7 +110,7 @@ fn push_field(bytes: &mut ArrayVec<u8, 14>, field: Field, number: u16, segment: 
     }
 }
 
-/// A word, low byte first.
+/// Appends a word to an instruction that is being encoded, low byte first.
 fn push_word(bytes: &mut ArrayVec<u8, 14>, number: u16)
     requires { array_vec_len bytes.old + 2 ≤ 14 }
     ensures items { bytes.new.items ≡ bytes.old.items ++ (number % 256 ∷ number / 256 ∷ []) }

@@ -8,7 +8,7 @@ use crate::register::SegmentRegister;
 use crate::row::Row;
 use arrayvec::ArrayVec;
 
-/// A byte, extended to a word by its sign.
+/// A byte, extended to a word by its sign, as an 8-bit displacement, immediate or jump distance is.
 pub fn sign_extended(byte: u16) -> u16
     ensures { result ≡ sign_extended byte }
 {
@@ -33,7 +33,7 @@ pub enum Base {
 }
 
 impl Base {
-    /// The number of the base in r/m.
+    /// The number by which r/m names the base, for the addressing byte of an encoding.
     pub fn number(self) -> u8
         ensures { result ≡ base_number self }
     {
@@ -68,7 +68,7 @@ pub enum Place {
 }
 
 impl Place {
-    /// The number in mod, 0 to 3.
+    /// The number in mod, 0 to 3, for the addressing byte of an encoding.
     pub fn mode(self) -> u8
         ensures { result ≡ mod_of self }
     {
@@ -80,7 +80,7 @@ impl Place {
         }
     }
 
-    /// The number in r/m, 0 to 7.
+    /// The number in r/m, 0 to 7, for the addressing byte of an encoding.
     pub fn rm(self) -> u8
         ensures { result ≡ rm_of self }
     {
@@ -92,7 +92,7 @@ impl Place {
         }
     }
 
-    /// The displacement that follows the addressing byte.
+    /// What displacement follows the addressing byte: none, a byte or a word; it decides the instruction's length, too.
     pub fn displacement(self) -> Field
         ensures { result ≡ displacement_field self }
     {
@@ -118,7 +118,8 @@ pub struct Form {
 }
 
 impl Form {
-    /// How many bytes an instruction of this form has, its prefixes not counted, whatever the numbers in its fields.
+    /// How many bytes an instruction of this form has, its prefixes not counted. The numbers in its fields don't
+    /// matter, so the assembler places lines before it knows their symbols.
     #[tactic(auto, unfolding(crate::specs::Encoding::form_length))]
     pub fn length(self) -> u8
         ensures value { result ≡ form_length self }
@@ -159,7 +160,7 @@ pub enum Prefix {
 }
 
 impl Prefix {
-    /// The prefix's byte.
+    /// The byte that stands for the prefix in memory, for the assembler and the trail, which write instructions out.
     pub fn byte(self) -> u8
         ensures { result ≡ prefix_byte self }
     {
@@ -197,7 +198,7 @@ impl Instr {
         }
     }
 
-    /// How many bytes the instruction has, its prefixes counted.
+    /// How many bytes the instruction has, its prefixes counted; its text counts a jump's target from after them.
     pub fn length(&self) -> u8
         ensures value { result ≡ instr_length self.now }
         ensures bound { result ≤ 17 }
@@ -205,7 +206,8 @@ impl Instr {
         self.prefixes.len() as u8 + self.form.length()
     }
 
-    /// The segment register that the instruction's last override names, if it has one.
+    /// The segment register that the instruction's last segment override names, in place of the usual one for its data;
+    /// `None` if it has no override.
     pub fn chosen_segment(&self) -> Option<SegmentRegister>
         ensures { result ≡ chosen_segment self.now.prefixes.items }
     {
@@ -218,7 +220,7 @@ impl Instr {
             })
     }
 
-    /// The instruction's last repeat prefix, if it has one.
+    /// The instruction's last repeat prefix, which is the one that counts; `None` if it has none.
     pub fn repeat(&self) -> Option<Repeat>
         ensures { result ≡ repeat_of self.now.prefixes.items }
     {

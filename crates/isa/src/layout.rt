@@ -54,6 +54,8 @@ pub enum Field {
 }
 
 impl Kind {
+    /// What an operand of this kind puts in the opcode byte: a register's or a segment register's number, or nothing
+    /// (`Fixed`).
     fn code_part(self) -> CodePart
         ensures { result ≡ kind_code self }
     {
@@ -65,6 +67,7 @@ impl Kind {
         }
     }
 
+    /// What an operand of this kind puts in reg of the addressing byte; `None` if nothing.
     fn reg_part(self) -> Option<RegPart>
         ensures { result ≡ kind_reg self }
     {
@@ -76,6 +79,8 @@ impl Kind {
         }
     }
 
+    /// The field that an operand of this kind has at the instruction's end: an immediate number, a jump's distance, an
+    /// offset or a far address.
     fn field(self) -> Field
         ensures { result ≡ kind_field self }
     {
@@ -89,7 +94,7 @@ impl Kind {
 }
 
 impl Row {
-    /// What the row's opcode byte holds.
+    /// What the row's opcode byte holds besides the row's opcode, by its operands; for decoding and encoding.
     pub fn code_part(self) -> CodePart
         ensures { result ≡ code_part self }
     {
@@ -99,7 +104,8 @@ impl Row {
         }
     }
 
-    /// What reg holds, if the row has an addressing byte.
+    /// What reg holds, for decoding and encoding: the row's digit or an operand. `None` if the row has no addressing
+    /// byte.
     fn reg_part(self) -> Option<RegPart>
         ensures { result ≡ reg_part self }
     {
@@ -112,7 +118,7 @@ impl Row {
         }
     }
 
-    /// What mod and r/m may name.
+    /// What mod and r/m may name: LEA, LES and LDS only a place in memory, other rows a register, too.
     fn place_part(self) -> PlacePart
         ensures { result ≡ place_part self }
     {
@@ -122,7 +128,7 @@ impl Row {
         }
     }
 
-    /// The row's second byte.
+    /// The row's second byte, for decoding and encoding: the addressing byte, the fixed 0Ah of AAM and AAD, or none.
     pub fn second_part(self) -> Second
         ensures { result ≡ second_part self }
     {
@@ -135,7 +141,8 @@ impl Row {
         }
     }
 
-    /// The row's own field, which comes last.
+    /// The field that comes last in the row's instructions, after the displacement: the immediate number, jump
+    /// distance, offset or far address.
     pub fn field(self) -> Field
         ensures { result ≡ field_part self }
     {
@@ -147,7 +154,7 @@ impl Row {
 }
 
 impl Second {
-    /// How many bytes a row's second byte takes, 0 or 1.
+    /// How many bytes a row's second byte takes, 0 or 1, in an instruction's length.
     pub fn size(self) -> u8
         ensures value { result ≡ second_size self }
         ensures bound { result ≤ 1 }
@@ -160,7 +167,7 @@ impl Second {
 }
 
 impl Field {
-    /// How many bytes the field has.
+    /// How many bytes the field takes in an instruction's length, 0 to 4.
     pub fn size(self) -> u8
         ensures value { result ≡ field_size self }
         ensures bound { result ≤ 4 }

@@ -24,14 +24,15 @@ static FIRST: [u8; 256] = [
     217, 117,
 ];
 
-/// How many rows come before the first that the opcode begins.
+/// How many rows come before the first that the opcode begins; `row_at` starts its search there, to save time.
 fn rows_before(opcode: u8) -> usize
     ensures { IsTrue (is_before opcode result) }
 {
     usize::from(FIRST[usize::from(opcode)])
 }
 
-/// The row of the table that an opcode begins, with the byte after it; no two rows fit. `None` if no row does.
+/// The only row of the table that fits an opcode and the byte after it, for the decoder; `None` if these bytes begin no
+/// instruction.
 #[tactic(auto, unfolding(crate::specs::OpcodeBytes::row_at))]
 pub fn row_at(opcode: u8, next: u8) -> Option<Row>
     ensures { result ≡ row_at opcode next }
@@ -39,7 +40,7 @@ pub fn row_at(opcode: u8, next: u8) -> Option<Row>
     first_of(&table()[rows_before(opcode)..], opcode, next)
 }
 
-/// The first of these rows that an opcode begins, with the byte after it.
+/// The first of some of the table's rows that fits an opcode and the byte after it; `None` if none does.
 fn first_of(rows: &[Row], opcode: u8, next: u8) -> Option<Row>
     ensures { result ≡ find (λ r. begins r opcode next) rows.now }
 {
@@ -47,7 +48,7 @@ fn first_of(rows: &[Row], opcode: u8, next: u8) -> Option<Row>
 }
 
 impl Row {
-    /// Whether an opcode, and the byte after it, are this row's.
+    /// Whether an opcode, and the byte after it, are this row's; how the decoder finds an instruction's row.
     pub fn begins(self, opcode: u8, next: u8) -> bool
         ensures { result ≡ begins self opcode next }
     {
@@ -56,6 +57,8 @@ impl Row {
 }
 
 impl CodePart {
+    /// Whether `byte` is an opcode byte of a row whose opcode is `opcode`, as far as a register's number is added to
+    /// it.
     fn is_in(self, opcode: u8, byte: u8) -> bool
         ensures { result ≡ is_code self opcode byte }
     {
@@ -72,6 +75,7 @@ impl CodePart {
     }
 }
 
+/// Whether a number is that of ES, SS or DS, the segment registers that MOV and POP may change.
 fn is_segment_not_cs(number: u8) -> bool
     ensures { result ≡ is_segment_not_cs number }
 {
@@ -79,6 +83,8 @@ fn is_segment_not_cs(number: u8) -> bool
 }
 
 impl RegPart {
+    /// Whether a row allows the number `reg` in its addressing byte: its own digit, any register, or a segment
+    /// register.
     fn is_in(self, reg: u8) -> bool
         ensures { result ≡ is_reg self reg }
     {
@@ -92,6 +98,7 @@ impl RegPart {
 }
 
 impl PlacePart {
+    /// Whether a row allows this mod: LEA, LES and LDS don't allow a register, which is mod 3.
     fn is_in(self, mode: u8) -> bool
         ensures { result ≡ is_named self mode }
     {
@@ -103,6 +110,8 @@ impl PlacePart {
 }
 
 impl Second {
+    /// Whether `byte`, the one after the opcode, is one that the row allows there; any is if the row has no second
+    /// byte.
     fn is_in(self, byte: u8) -> bool
         ensures { result ≡ is_second self byte }
     {

@@ -16,7 +16,7 @@ pub enum ByteRegister {
 }
 
 impl ByteRegister {
-    /// The register with this number, or the last one if the number is greater than its number.
+    /// The byte register with this number in an instruction; BH if the number is over 7.
     pub fn numbered(number: u8) -> ByteRegister
         ensures value { result ≡ byte_register_of number }
         ensures again { number < 8 → byte_register_number result ≡ number }
@@ -33,7 +33,7 @@ impl ByteRegister {
         }
     }
 
-    /// The number in an instruction's register field.
+    /// The number by which an instruction's bytes name the register.
     pub fn number(self) -> u8
         ensures { result ≡ byte_register_number self }
     {
@@ -64,7 +64,7 @@ pub enum WordRegister {
 }
 
 impl WordRegister {
-    /// The register with this number, or the last one if the number is greater than its number.
+    /// The word register with this number in an instruction; DI if the number is over 7.
     pub fn numbered(number: u8) -> WordRegister
         ensures value { result ≡ word_register_of number }
         ensures again { number < 8 → word_register_number result ≡ number }
@@ -81,7 +81,7 @@ impl WordRegister {
         }
     }
 
-    /// The number in an instruction's register field.
+    /// The number by which an instruction's bytes name the register.
     pub fn number(self) -> u8
         ensures { result ≡ word_register_number self }
     {
@@ -108,7 +108,7 @@ pub enum SegmentRegister {
 }
 
 impl SegmentRegister {
-    /// The register with this number, or the last one if the number is greater than its number.
+    /// The segment register with this number in an instruction; DS if the number is over 3.
     pub fn numbered(number: u8) -> SegmentRegister
         ensures value { result ≡ segment_register_of number }
         ensures again { number < 4 → segment_register_number result ≡ number }
@@ -121,7 +121,7 @@ impl SegmentRegister {
         }
     }
 
-    /// The number in an instruction's register field.
+    /// The number by which an instruction's bytes name the register.
     pub fn number(self) -> u8
         ensures { result ≡ segment_register_number self }
     {

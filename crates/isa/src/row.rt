@@ -81,28 +81,29 @@ pub struct Row {
 }
 
 impl Row {
-    /// What the row's instructions do.
+    /// What the instructions of this row of the encoding table do, such as ADD.
     pub fn operation(self) -> Operation
         ensures { result ≡ operation_of self }
     {
         self.operation
     }
 
-    /// The opcode, without what else its byte may hold.
+    /// The row's opcode, without the register's number or other bits that its byte may hold besides; for encoding and
+    /// decoding.
     pub fn opcode(self) -> u8
         ensures { result ≡ opcode_of self }
     {
         self.opcode
     }
 
-    /// The first operand.
+    /// What the first operand of the row's instructions is, and where it stands in their bytes.
     pub fn first(self) -> Kind
         ensures { result ≡ first_of self }
     {
         self.first
     }
 
-    /// The second operand.
+    /// What the second operand of the row's instructions is, and where it stands in their bytes.
     pub fn second(self) -> Kind
         ensures { result ≡ second_of self }
     {

@@ -270,7 +270,8 @@ static ROWS: [Row; 236] = [
     row!(Arithmetic::Xor 0x83 / 6, Rm16 Signed8, Place(4, 17)),
 ];
 
-/// The rows of the encoding table.
+/// The rows of the encoding table, for the decoder and the assembler to search; if several rows fit a line of assembly,
+/// the first one wins.
 #[tactic(auto, unfolding(crate::specs::Table::rows))]
 pub fn table() -> &'static [Row]
     ensures { result.now ≡ rows }

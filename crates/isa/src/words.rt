@@ -11,7 +11,8 @@ use board_types::choice::ClockTable;
 /// The words that an entry into an interrupt pushes and reads.
 const ENTRY_WORDS: u16 = 5;
 
-/// The clocks that a table adds to a step for this number of words, at most 10.
+/// The clocks that a clock table adds to a step, or to the entry of an interrupt, for so many words in memory: 4 for
+/// each by the 8088's table, none by the manual's.
 pub fn word_clocks(table: ClockTable, words: u16) -> u16
     requires { words ≤ 10 }
     ensures value { result ≡ word_clocks table words }
@@ -24,7 +25,8 @@ pub fn word_clocks(table: ClockTable, words: u16) -> u16
 }
 
 impl Instr {
-    /// The words of a step with this outcome.
+    /// How many words a step with this outcome reads and writes in memory, for each of which the 8088's table adds
+    /// clocks.
     #[tactic(auto, unfolding(crate::specs::WordCounts::data_words))]
     pub fn data_words(&self, outcome: &Outcome) -> u16
         ensures value { result ≡ data_words self.now outcome.now }
@@ -36,7 +38,8 @@ impl Instr {
         self.whole_words(outcome.taken) + if outcome.fault { ENTRY_WORDS } else { 0 }
     }
 
-    /// The words of a step that completes the instruction, or of an iteration of its repeat.
+    /// How many words in memory a step that completes the instruction reads and writes, or an iteration of its repeat;
+    /// `taken` is whether INTO makes its interrupt.
     #[tactic(auto, unfolding(crate::specs::WordCounts::whole_words))]
     pub fn whole_words(&self, taken: bool) -> u16
         ensures value { result ≡ whole_words self.now taken }
@@ -49,6 +52,7 @@ impl Instr {
     }
 }
 
+/// 1 if the word operand that mod and r/m name stands in memory, 0 if it is a register.
 fn word_at_place(place: Place) -> u16
     ensures value { result ≡ word_at_place place }
     ensures bound { result ≤ 1 }
@@ -59,7 +63,7 @@ fn word_at_place(place: Place) -> u16
     }
 }
 
-/// How many words in memory an operand is, 0 or 1.
+/// 1 if an operand of this kind is a word in memory, else 0; a step reads or writes it.
 fn word_at(kind: Kind, place: Place) -> u16
     ensures value { result ≡ word_at kind place }
     ensures bound { result ≤ 1 }
@@ -71,6 +75,8 @@ fn word_at(kind: Kind, place: Place) -> u16
     }
 }
 
+/// How many words in memory an operation reads and writes. `first` and `second` are 1 if that operand is a word in
+/// memory, else 0.
 fn words_of(operation: Operation, first: u16, second: u16, kind: Kind, taken: bool) -> u16
     requires first { first ≤ 1 }
     requires second { second ≤ 1 }
@@ -91,6 +97,8 @@ fn words_of(operation: Operation, first: u16, second: u16, kind: Kind, taken: bo
     }
 }
 
+/// The words in memory that arithmetic on two operands reads and writes: CMP and TEST only read the first operand, the
+/// others write it, too.
 fn arithmetic_words(operation: Arithmetic, first: u16, second: u16) -> u16
     requires first { first ≤ 1 }
     requires second { second ≤ 1 }
@@ -103,6 +111,7 @@ fn arithmetic_words(operation: Arithmetic, first: u16, second: u16) -> u16
     }
 }
 
+/// The words in memory that a data transfer reads and writes, with that on the stack and the pointer of LES or LDS.
 fn transfer_words(operation: Transfer, first: u16, second: u16) -> u16
     requires first { first ≤ 1 }
     requires second { second ≤ 1 }
@@ -119,6 +128,8 @@ fn transfer_words(operation: Transfer, first: u16, second: u16) -> u16
     }
 }
 
+/// 2 for a far jump or call whose target stands in memory as an offset and a segment, 0 if it stands in the
+/// instruction.
 fn pointer_words(kind: Kind) -> u16
     ensures value { result ≡ pointer_words kind }
     ensures bound { result ≤ 2 }
@@ -129,6 +140,8 @@ fn pointer_words(kind: Kind) -> u16
     }
 }
 
+/// The words in memory that a jump, call, return or interrupt reads and writes, those on the stack and the interrupt
+/// vector's with them.
 fn control_words(operation: Control, first: u16, kind: Kind, taken: bool) -> u16
     requires { first ≤ 1 }
     ensures value { result ≡ control_words operation first kind taken }
@@ -147,6 +160,7 @@ fn control_words(operation: Control, first: u16, kind: Kind, taken: bool) -> u16
     }
 }
 
+/// The words in memory that a string instruction reads and writes in an iteration; none if it works on bytes.
 fn element_words(operation: Strings) -> u16
     ensures value { result ≡ element_words operation }
     ensures bound { result ≤ 2 }

@@ -30,7 +30,7 @@ impl Model for CachedMemory {
 }
 
 impl CachedMemory {
-    /// A clear memory, and an empty cache.
+    /// A clear memory, and an empty cache of its instructions, with which the program begins.
     pub fn new(alloc: Global) -> Result<CachedMemory, AllocError> {
         Ok(CachedMemory {
             memory: Memory::new(alloc)?,
@@ -38,12 +38,14 @@ impl CachedMemory {
         })
     }
 
-    /// Does what a line says. Fails with what differs, or with why the line can't be read.
+    /// Does what a line of the cases says: sets up memory, or judges a case of the cache or of a single instruction.
+    /// Fails with what differs, or with why the line can't be read.
     pub fn follow_line(&mut self, alloc: Global, line: &str) -> Result<Judged> {
         let words: Vec<&str> = line.split_whitespace().collect(alloc)?;
         self.follow(alloc, line, &words)
     }
 
+    /// Clears memory (`new`) or writes it (`set`), which are settings for the lines after them, or else judges a case.
     fn follow(&mut self, alloc: Global, line: &str, words: &[&str]) -> Result<Judged> {
         match *words {
             ["new", ..] => self.clear(alloc)?,
@@ -56,6 +58,7 @@ impl CachedMemory {
         Ok(Judged::Setting)
     }
 
+    /// Judges a case of the decode cache over this memory (`fetch`, `rounds`), or one of an instruction by itself.
     fn judge(&mut self, alloc: Global, line: &str, words: &[&str]) -> Result<()> {
         match *words {
             ["fetch", cs, ip, length, ..] => {
@@ -69,7 +72,7 @@ impl CachedMemory {
         }
     }
 
-    /// Clears the memory, and empties the cache.
+    /// Clears the memory, and empties the cache, as the line `new` says.
     fn clear(&mut self, alloc: Global) -> Result<()> {
         let cache = Cache::new(alloc)?;
         self.memory.clear();
@@ -77,7 +80,8 @@ impl CachedMemory {
         Ok(())
     }
 
-    /// Writes the byte at `addr`, below 100000h.
+    /// Writes the byte at `addr`, below 100000h, and tells the cache of it, as the machine does, so that it forgets
+    /// instructions with that byte.
     fn write(&mut self, addr: u32, byte: u8)
         requires { addr < 2 ^ 20 }
     {
@@ -85,12 +89,12 @@ impl CachedMemory {
         self.cache.wrote(addr);
     }
 
-    /// What is decoded at CS:IP.
+    /// Decodes what stands at CS:IP through the cache, for a case to judge.
     fn fetch(&mut self, cs: u16, ip: u16) -> Decoded {
         self.cache.fetch(&self.memory, cs, ip)
     }
 
-    /// Writes the bytes that a word's digits give, from an address on.
+    /// Writes the bytes of a `set` line's digits, two for each, from an address on.
     fn set(&mut self, start: &str, digits: &str) -> Result<()> {
         let mut addr = u32::from_str_radix(start, 16)?;
         for i in 0..digits.len() / 2 {
@@ -102,8 +106,8 @@ impl CachedMemory {
         Ok(())
     }
 
-    /// Fails unless what stands at CS:IP has this length and text, or is no row if the length is `none`; now, and when
-    /// it is fetched again.
+    /// Judges a `fetch` line: fails unless what stands at CS:IP has this length and text, or is no row of the encoding
+    /// table if the length is `none`. Fetches twice, so that what the cache keeps is judged, too.
     fn judge_fetch(
         &mut self,
         alloc: Global,
@@ -120,7 +124,8 @@ impl CachedMemory {
         Ok(())
     }
 
-    /// Fails if `rounds` rounds of fetches at these offsets read more than `most` bytes.
+    /// Judges a `rounds` line: fails if `rounds` rounds of fetches at these offsets read more than `most` bytes of
+    /// memory, since the cache should mostly answer.
     fn judge_reads(&mut self, rounds: u32, most: u64, cs: &str, offsets: &[&str]) -> Result<()> {
         let cs = u16::from_str_radix(cs, 16)?;
         let before = self.memory.reads();
@@ -132,7 +137,8 @@ impl CachedMemory {
         Ok(())
     }
 
-    /// Fetches what stands at each offset; `None` if one can't be read.
+    /// Fetches the instruction at each offset as one round of a `rounds` line, which counts how often the cache reads
+    /// bytes, not what it answers; `None` if an offset isn't a hexadecimal word.
     fn fetch_each(&mut self, cs: u16, offsets: &[&str]) -> Option<()> {
         for offset in offsets {
             let _ = self.fetch(cs, u16::from_str_radix(offset, 16).ok()?);

@@ -15,7 +15,7 @@ pub struct Code {
 }
 
 impl Code {
-    /// The bytes of a word's digits, two for each, from the offset `ip` on.
+    /// Reads a case's instruction: the bytes of a word's digits, two for each and at most 16, from the offset `ip` on.
     pub fn read(ip: &str, digits: &str) -> Result<Code> {
         let mut bytes = ArrayVec::new();
         for i in 0..digits.len() / 2 {
@@ -30,7 +30,8 @@ impl Code {
         })
     }
 
-    /// The byte that stands `index` bytes after the offset.
+    /// The byte that stands `index` bytes after the offset, to be compared with an instruction encoded again; 90h after
+    /// the case's bytes.
     pub fn at(&self, index: usize) -> u8 {
         self.bytes.as_slice().get(index).copied().unwrap_or(0x90)
     }
@@ -42,6 +43,8 @@ impl Bytes for Code {
     ghost byte_at = { λ c address. slice_index_or c.bytes.items
         ((((address + 0x100000) - 16 * 0xF800) + (0x10000 - c.ip)) % 0x10000) 0x90 };
 
+    /// The byte at a physical address, for decoding: one of the case's bytes, whose offset may wrap at the segment's
+    /// end, or 90h.
     fn byte(&self, addr: u32) -> u8 {
         let ip = self.ip;
         let offset = addr + 0x10_0000 - 16 * u32::from(SEGMENT);

@@ -13,7 +13,8 @@ use isa::form::{Instr, Prefix};
 use isa::outcome::Outcome;
 use std::alloc::Global;
 
-/// Fails with what differs in a case of these words, or with why it can't be read.
+/// Judges a line about one instruction alone: `cost BYTES CL FOUND CLOCKS`, or `IP BYTES LENGTH` and its text, if
+/// given. Fails with what differs, or with why the line can't be read.
 pub fn judge(alloc: Global, case: &str, words: &[&str]) -> Result<()> {
     match *words {
         ["cost", bytes, cl, found, clocks] => judge_cost(bytes, cl, found, clocks),
@@ -26,6 +27,8 @@ pub fn judge(alloc: Global, case: &str, words: &[&str]) -> Result<()> {
     }
 }
 
+/// Judges the instruction at a case's offset: fails unless it encodes to its own bytes and has this length and, if one
+/// is wanted, this text.
 fn judge_code(alloc: Global, code: &Code, length: &str, text: Option<&str>) -> Result<()> {
     let found = decode(code, SEGMENT, code.ip).unpack();
     if let Decoding::Found(instr, size) = &found {
@@ -34,7 +37,8 @@ fn judge_code(alloc: Global, code: &Code, length: &str, text: Option<&str>) -> R
     judge_found(alloc, &found, code.ip, length, text)
 }
 
-/// Whether the instruction, encoded again, gives its own bytes, `length` of them.
+/// Whether the decoded instruction, encoded again, gives the bytes that stand there, prefixes included, `length` of
+/// them.
 fn is_encoded(instr: &Instr, length: u8, code: &Code) -> bool
     requires form { IsForm instr.now.form }
     requires values { FitsForm instr.now.form instr.now.values }
@@ -46,6 +50,7 @@ fn is_encoded(instr: &Instr, length: u8, code: &Code) -> bool
         && has_bytes(code, prefixes.len(), again.as_slice())
 }
 
+/// Whether a case's bytes begin with these prefixes, in order, as the instruction's encoding has them.
 fn has_prefixes(code: &Code, prefixes: &[Prefix]) -> bool {
     for (i, prefix) in prefixes.iter().enumerate() {
         if prefix.byte() != code.at(i) {
@@ -55,6 +60,8 @@ fn has_prefixes(code: &Code, prefixes: &[Prefix]) -> bool {
     true
 }
 
+/// Whether a case's bytes from the index `start` on are these, those of an instruction encoded again without its
+/// prefixes.
 fn has_bytes(code: &Code, start: usize, bytes: &[u8]) -> bool {
     for (i, byte) in bytes.iter().enumerate() {
         if *byte != code.at(start.saturating_add(i)) {
@@ -64,8 +71,8 @@ fn has_bytes(code: &Code, start: usize, bytes: &[u8]) -> bool {
     true
 }
 
-/// Fails unless what was found at an offset has this length and, if one is wanted, this text, or is no row if the
-/// length is `none`.
+/// Fails unless what was decoded at an offset has a case's length and, if one is wanted, text, or is no row of the
+/// encoding table if the length is `none`. Cases of an instruction by itself and of the cache end here.
 pub fn judge_found(
     alloc: Global,
     found: &Decoding,
@@ -85,12 +92,15 @@ pub fn judge_found(
     }
 }
 
+/// Fails unless the disassembler shows the instruction as a case's text, and then with what it shows.
 fn judge_text(alloc: Global, shown: &InstrText, text: &str) -> Result<()> {
     let shown = shown.to_string(alloc)?;
     ensure!(shown.as_str() == text, "shown as {shown}");
     Ok(())
 }
 
+/// Judges a `cost` line: fails unless a step of the instruction that finds CL and what `found` says (letters `t`, `f`,
+/// `z`, `d`) takes so many clocks by table C1.
 fn judge_cost(bytes: &str, cl: &str, found: &str, clocks: &str) -> Result<()> {
     let code = Code::read("100", bytes)?;
     let outcome = Outcome {

@@ -25,6 +25,7 @@ use cached::CachedMemory;
 use cases::judge_cases;
 use std::io;
 
+/// Judges the cases on standard input over one memory with its cache, which `new` clears.
 fn main(rt: HostRuntime) -> io::Result<()> {
     let mut memory = CachedMemory::new(rt.alloc())?;
     judge_cases(&rt, |alloc, line| memory.follow_line(alloc, line))

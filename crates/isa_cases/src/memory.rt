@@ -28,7 +28,7 @@ impl Model for Memory {
 }
 
 impl Memory {
-    /// A clear memory that hasn't been read.
+    /// A clear memory that hasn't been read, for the decode cache of the cases.
     pub fn new(alloc: Global) -> Result<Memory, AllocError> {
         Ok(Memory {
             cells: vec![in alloc; CLEAR; ADDRESS_COUNT as usize]?,
@@ -37,7 +37,7 @@ impl Memory {
         })
     }
 
-    /// Clears the memory.
+    /// Makes each byte that was written 90h again, as in a new memory, for the next case; the count of reads stays.
     pub fn clear(&mut self) {
         for &addr in &self.touched {
             if let Some(cell) = self.cells.get_mut(addr as usize) {
@@ -47,7 +47,7 @@ impl Memory {
         self.touched.clear();
     }
 
-    /// Writes `byte` at `addr`.
+    /// Writes `byte` at `addr`, and notes the address so that `clear` needs to set back only those that were written.
     pub fn put(&mut self, addr: u32, byte: u8)
         ensures { self.new ≡ slice_set self.old addr byte }
     {
@@ -57,7 +57,7 @@ impl Memory {
         }
     }
 
-    /// How often a byte was read.
+    /// How often a byte was read since the memory was made, for `rounds` to see how many a cache saves.
     pub fn reads(&self) -> u64 {
         self.reads.get()
     }
@@ -68,6 +68,7 @@ impl Bytes for Memory {
 
     ghost byte_at = { slice_index };
 
+    /// Reads a byte for the decoding of an instruction, and counts it.
     fn byte(&self, addr: u32) -> u8 {
         self.reads.set(self.reads.get().saturating_add(1));
         self.cells.get(addr as usize).copied().unwrap_or(0)

@@ -30,8 +30,8 @@ impl Model for Keyboard {
 }
 
 impl Keyboard {
-    /// A keyboard with no code waiting, an empty latch and no code lost. Fails only if there is no memory for the
-    /// queue.
+    /// A keyboard with no code waiting, an empty latch and no code lost, for a board at power-on. Fails only if there
+    /// is no memory for the queue.
     pub fn new(alloc: Global) -> Result<Keyboard, AllocError>
         ensures { IfOk result (λ keyboard. keyboard ≡ power_on) }
     {
@@ -42,7 +42,7 @@ impl Keyboard {
         })
     }
 
-    /// A copy of the keyboard, in memory of its own. Fails only if there is no memory for it.
+    /// A copy of the keyboard for a copied board, in memory of its own. Fails only if there is no memory for it.
     #[tactic(auto, using(crate::proofs::Copied::parts_kept))]
     pub fn copy(&self) -> Result<Keyboard, AllocError>
         ensures { IfOk result (λ keyboard. keyboard ≡ self.now) }
@@ -63,8 +63,8 @@ impl Keyboard {
         })
     }
 
-    /// The scan code `code` comes from the keyboard: it waits after the others, or is lost and counted if
-    /// `QUEUE_LENGTH` codes wait.
+    /// Takes the scan code `code` of a key that comes at this clock: the code waits after the others, or is lost and
+    /// counted if `QUEUE_LENGTH` codes wait.
     #[tactic(auto, unfolding(crate::specs::Keyboard::after_arrival))]
     pub fn arrive(&mut self, code: u8)
         ensures { self.new ≡ after_arrival self.old code }
@@ -74,8 +74,8 @@ impl Keyboard {
         }
     }
 
-    /// Follows the levels of port B's eight lines: line 7 empties the latch; with it low and line 6 high, the
-    /// first waiting code moves into an empty latch.
+    /// Follows the levels of port B's eight lines after anything has changed: line 7 empties the latch; with it low and
+    /// line 6 high, the first waiting code moves into an empty latch, where the processor reads it at port 60h.
     #[tactic(auto, unfolding(crate::specs::Keyboard::after_settling))]
     pub fn settle(&mut self, port_b: u8)
         ensures { self.new ≡ after_settling self.old port_b }
@@ -87,7 +87,8 @@ impl Keyboard {
         }
     }
 
-    /// Whether nothing is left to do for these levels of port B's eight lines: settling to them changes nothing.
+    /// Whether settling to these levels of port B's eight lines would change nothing, so that the board may spare it
+    /// and lag.
     #[tactic(auto, unfolding(crate::specs::Keyboard::after_settling))]
     pub fn has_settled(&self, port_b: u8) -> bool
         ensures { IsTrue result ↔ after_settling self.now port_b ≡ self.now }
@@ -98,14 +99,16 @@ impl Keyboard {
         !bit(port_b, 6) || self.latch.is_some() || self.waiting.is_empty()
     }
 
-    /// The code in the latch, `None` if it is empty.
+    /// The code in the latch, which port A shows and whose presence drives IR1 of the interrupt controller; `None` if
+    /// it is empty.
     pub fn latch(&self) -> Option<u8>
         ensures { result ≡ self.now.latch }
     {
         self.latch
     }
 
-    /// The waiting code at `index`, the one that moves first being at 0; `None` if no more wait.
+    /// The waiting code at `index`, for a view of the keyboard; the one that moves first is at 0. `None` if no more
+    /// wait.
     pub fn waiting(&self, index: usize) -> Option<u8>
         ensures code { result ≡ slice_get self.now.waiting index }
         ensures few { length self.now.waiting ≤ 16 }
@@ -115,7 +118,8 @@ impl Keyboard {
         self.waiting.get(index).copied()
     }
 
-    /// How many codes were lost, up to the greatest `u64`.
+    /// How many codes were lost since power-on because the queue was full, for reports; counted up to the greatest
+    /// `u64`.
     pub fn lost(&self) -> u64
         ensures { result ≡ self.now.lost }
     {

@@ -40,6 +40,8 @@ pub trait ByteInput {
 impl<R: Read> ByteInput for R {
     ghost remaining = { λ reader. R.remaining reader };
 
+    /// Reads from the reader into the front of `buf`, and answers how many bytes came, none only at its end or without
+    /// room; tries again after an interruption.
     fn read(&mut self, buf: &mut [u8]) -> Result<usize, Failed> {
         'tries: for _ in 0..u64::MAX {
             match Read::read(self, buf) {
@@ -64,6 +66,7 @@ pub enum ReadFault {
 impl From<Failed> for ReadFault {
     ghost from_gives = { λ _ fault. fault ≡ failed };
 
+    /// Lets `?` answer a failure of the input while all of it is read.
     fn from(_failed: Failed) -> ReadFault {
         ReadFault::Failed
     }
@@ -72,13 +75,15 @@ impl From<Failed> for ReadFault {
 impl From<AllocError> for ReadFault {
     ghost from_gives = { λ _ fault. fault ≡ Memory };
 
+    /// Lets `?` answer a refused allocation as want of memory for the bytes read.
     fn from(_error: AllocError) -> ReadFault {
         ReadFault::Memory
     }
 }
 
-/// The first `limit` bytes that `input` has to give, or all of them if there are no more. Refused as `Failed` only if
-/// the input failed in this call, and as `Memory` if there is none for the bytes.
+/// Reads the first `limit` bytes that `input` has to give, or all if there are no more: so a program's file or a run
+/// file is read before it is judged. `Failed` only if the input failed in this call, `Memory` if there is none for the
+/// bytes.
 pub fn read_all<I: ByteInput>(
     alloc: Global,
     input: &mut I,

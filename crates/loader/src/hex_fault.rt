@@ -20,6 +20,7 @@ pub enum RecordFault {
 }
 
 impl RecordFault {
+    /// The number of a HEX text's fault that a line has, from 21 to 26; 24 is that of a text without an end.
     fn number(self) -> u8
         ensures { result ≡ line_fault_number self }
     {
@@ -32,6 +33,7 @@ impl RecordFault {
         }
     }
 
+    /// The name of a HEX text's fault that a line has, as it is printed.
     fn name(self) -> &'static str
         ensures { result.now ≡ line_fault_name self }
     {
@@ -58,7 +60,8 @@ pub enum HexFault {
 }
 
 impl HexFault {
-    /// The fault's number.
+    /// The number of why a HEX text is refused, from 21 to 27, which is printed with its name and by which programs
+    /// tell one fault from another.
     pub fn number(self) -> u8
         ensures { result ≡ hex_fault_number self }
     {
@@ -69,7 +72,7 @@ impl HexFault {
         }
     }
 
-    /// The fault's name, as it is printed.
+    /// The name of why a HEX text is refused, as it is printed beside the fault's number.
     pub fn name(self) -> &'static str
         ensures { result.now ≡ hex_fault_name self }
     {
@@ -80,7 +83,7 @@ impl HexFault {
         }
     }
 
-    /// The line of the text, from 1 on, if the fault has one.
+    /// The line of the HEX text that has the fault, counted from 1, for its report; `None` if it belongs to no line.
     pub fn line(self) -> Option<u64>
         ensures { result ≡ hex_fault_line self }
     {

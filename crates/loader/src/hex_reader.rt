@@ -14,7 +14,7 @@ use board_types::image::{Image, is_loadable};
 use board_types::text::next_line;
 use std::alloc::Global;
 
-/// The image that a HEX text gives, or its first fault.
+/// Reads an Intel HEX text: gives the image to load the board with, or the text's first fault, with its line.
 #[tactic(auto, unfolding(crate::specs::Reading::image_of))]
 pub fn read_hex(alloc: Global, text: &[u8]) -> Result<Image, HexFault>
     ensures image { IfOk result (λ image. image_of text.now ≡ Ok image) }
@@ -37,7 +37,8 @@ pub fn read_hex(alloc: Global, text: &[u8]) -> Result<Image, HexFault>
     Err(HexFault::NoEnd)
 }
 
-/// The image, if all lines after the end record are blank.
+/// The image of a HEX text whose end record was line `number`, if only blank lines follow it, `text`; else the fault of
+/// the first that isn't.
 fn ended(image: Image, number: u64, text: &[u8]) -> Result<Image, HexFault>
     requires { number + length text.now < 2 ^ 64 }
     ensures image { IfOk result (λ given. after_end number image (text_lines text.now) ≡ Ok given) }
@@ -55,7 +56,9 @@ fn ended(image: Image, number: u64, text: &[u8]) -> Result<Image, HexFault>
     Ok(image)
 }
 
-/// Takes a line, without the spaces at its end, and answers the extension after it, or `None` after the end record.
+/// Reads a line of a HEX text, without the spaces at its end, and puts the bytes of a data record into the image. Gives
+/// the extension of the offsets in the lines after it, `None` after the end record, or the line's fault; a blank line
+/// changes nothing.
 #[tactic(auto, unfolding(crate::specs::Reading::after_line, crate::specs::Records::record_of))]
 fn read_line(
     alloc: Global,
@@ -76,7 +79,8 @@ fn read_line(
     }
 }
 
-/// Takes a record, and answers the extension after it, or `None` after the end record.
+/// Does what a record of a HEX text says: puts a data record's bytes into the image. Gives the extension of the offsets
+/// after it, which only an extension record changes, or `None` after the end record.
 fn take_record(
     image: &mut Image,
     extension: Extension,
@@ -98,7 +102,8 @@ fn take_record(
     }
 }
 
-/// Puts bytes into the image, from an offset on.
+/// Puts the bytes of a data record into the image, from its load offset on, each at the address that the extension
+/// gives it. Fails at the first address at which the board can't be loaded.
 fn put_bytes(
     image: &mut Image,
     extension: Extension,
@@ -119,7 +124,8 @@ fn put_bytes(
     Ok(())
 }
 
-/// Puts a byte into the image, if the board can be loaded with it.
+/// Puts a byte of a data record into the image, in place of an earlier one. Fails if the board can't be loaded at the
+/// address, or there is no memory.
 fn put_byte(image: &mut Image, address: u64, byte: u8) -> Result<(), RecordError>
     ensures loadable { OnOk result (is_loadable address ≡ true) }
     ensures put { OnOk result (image.new ≡ insert_entry nat_cmp image.old address byte) }

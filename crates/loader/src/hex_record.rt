@@ -6,7 +6,7 @@ ghost use Rattle.loader.specs.RecordViews.{IsSmall, Refuses, view_of, view_in};
 use crate::hex_fault::RecordFault;
 use std::alloc::Global;
 
-/// What extends the offsets of data records to addresses.
+/// What extends the offsets of a HEX text's data records to addresses: the last extension record.
 #[derive(Clone, Copy)]
 pub enum Extension {
     /// A paragraph of 16 bytes: offsets wrap within 65,536 bytes.
@@ -16,7 +16,8 @@ pub enum Extension {
 }
 
 impl Extension {
-    /// The address of an offset, with this extension.
+    /// The address at which a byte of a data record is loaded, from its offset and the extension that holds there. One
+    /// that is no address of the board is refused later.
     pub(crate) fn address(self, offset: u64) -> u64
         requires { offset < 2 ^ 32 }
         ensures { result ≡ address_in self offset }
@@ -42,14 +43,15 @@ pub enum Record<'a> {
     Start,
 }
 
-/// Why a line can't be read.
+/// Why a line of a HEX text can't be read: a fault of the line, or want of memory.
 #[derive(Clone, Copy, Drop)]
 pub enum RecordError {
     Fault(RecordFault),
     Memory,
 }
 
-/// The bytes that a line spells after its colon, which must be all those of a record.
+/// The bytes that a line of a HEX text spells after its colon, for reading a record from them. `BadRecord` if the
+/// colon, a digit or a byte is missing, or there are too many.
 pub(crate) fn record_bytes(alloc: Global, line: &[u8]) -> Result<Vec<u8>, RecordError>
     ensures found { IfOk result (λ bytes. record_bytes line.now ≡ Ok bytes.items) }
     ensures whole { IfOk result (λ bytes. IsTrue (is_whole bytes.items)) }
@@ -65,14 +67,16 @@ pub(crate) fn record_bytes(alloc: Global, line: &[u8]) -> Result<Vec<u8>, Record
     }
 }
 
-/// Whether there are as many bytes as the first of them asks for.
+/// Whether a line of a HEX text has all bytes of a record and no more: its first one says how many data bytes it has,
+/// and there are five others.
 fn is_whole(bytes: &[u8]) -> bool
     ensures { result ≡ is_whole bytes.now }
 {
     !bytes.is_empty() && bytes.len() == usize::from(bytes[0]) + 5
 }
 
-/// The record that these bytes are, or its fault.
+/// The record that a line of a HEX text is, from all of its bytes; or its fault: they don't add to 0, or are no record
+/// of their type.
 #[tactic(auto, unfolding(crate::specs::Records::record_in))]
 pub(crate) fn record_in(bytes: &[u8]) -> Result<Record<'_>, RecordFault>
     requires { IsTrue (is_whole bytes.now) }
@@ -86,6 +90,7 @@ pub(crate) fn record_in(bytes: &[u8]) -> Result<Record<'_>, RecordFault>
     record_of_type(bytes[3], offset, &bytes[4..][..usize::from(bytes[0])])
 }
 
+/// The sum of a record's bytes, from which its checksum is made and by which it is checked.
 pub(crate) fn sum(bytes: &[u8]) -> u32
     requires { length bytes.now < 2 ^ 16 }
     ensures { result ≡ sum bytes.now }
@@ -93,13 +98,15 @@ pub(crate) fn sum(bytes: &[u8]) -> u32
     bytes.iter().map(|byte| u32::from(*byte)).sum()
 }
 
+/// The number of two bytes of a record, high byte first: an offset, or an extension's paragraph or upper address bits.
 fn number_of_two(high: u8, low: u8) -> u16
     ensures { result ≡ number_of_two high low }
 {
     256 * u16::from(high) + u16::from(low)
 }
 
-/// The record of this type, or its fault.
+/// The record of this type (0 data, 1 end, 2 and 4 extensions, 3 and 5 starts) with this load offset and these data
+/// bytes. `BadType` for any other type, `BadRecord` if it must have another number of bytes.
 #[tactic(auto, unfolding(crate::specs::Records::record_of_type))]
 fn record_of_type(kind: u8, offset: u16, content: &[u8]) -> Result<Record<'_>, RecordFault>
     requires { length content.now < 256 }
@@ -124,6 +131,7 @@ fn record_of_type(kind: u8, offset: u16, content: &[u8]) -> Result<Record<'_>, R
     }
 }
 
+/// The record `found`, an end or start, if it has as many data bytes as its type must, `size`; else `BadRecord`.
 fn record_of_size<'a>(
     size: usize,
     content: &[u8],

@@ -12,7 +12,7 @@ use board_types::image::Image;
 use std::io::Write;
 use thiserror::Error;
 
-/// How many bytes a bank has.
+/// How many bytes a bank has, whose addresses share an extension record.
 const BANK_SIZE: u32 = 65_536;
 
 /// Why a HEX text can't be written.
@@ -22,9 +22,9 @@ pub enum WriteFault {
     Failed,
 }
 
-/// Writes the HEX text of an image: in upper case and in the order of addresses, with a record of its paragraph before
-/// each bank of 65,536 bytes that is in use, and in each record the longest run of up to 16 bytes in the bank. Refused
-/// if the writer fails; how much it has taken by then isn't said.
+/// Writes the Intel HEX text of an image, to save an assembled program: in upper case, in the order of addresses, with
+/// a record of its paragraph before each bank of 65,536 bytes that is in use, and in each record the longest run of up
+/// to 16 bytes. Fails if the writer does; how much it has taken by then isn't said.
 #[tactic(auto, unfolding(crate::specs::HexText::hex_text))]
 pub fn write_hex<W: Write>(image: &Image, to: &mut W) -> Result<(), WriteFault>
     ensures { OnOk result (Appends (W.contents to.old) (W.contents to.new) (hex_text image.now)) }
@@ -45,6 +45,7 @@ pub fn write_hex<W: Write>(image: &Image, to: &mut W) -> Result<(), WriteFault>
     write_text(to, b":00000001FF\n")
 }
 
+/// Writes lines of a HEX text as a whole, or answers that the writer failed.
 fn write_text<W: Write>(to: &mut W, text: &[u8]) -> Result<(), WriteFault>
     ensures { OnOk result (Appends (W.contents to.old) (W.contents to.new) text.now) }
 {
@@ -54,7 +55,8 @@ fn write_text<W: Write>(to: &mut W, text: &[u8]) -> Result<(), WriteFault>
     }
 }
 
-/// The longest run of up to 16 bytes of the image from an address on, within its bank of 65,536 bytes.
+/// The bytes of the image that one record of its HEX text holds: the longest run of up to 16 from an address on, within
+/// its bank of 65,536 bytes. Empty if there is no byte at the address.
 fn row_at(image: &Image, start: u32) -> ArrayVec<u8, 16>
     requires { start < 2 ^ 20 }
     ensures { result.items ≡ longest_run (bytes_from image.now start) start 16 }
@@ -73,7 +75,8 @@ fn row_at(image: &Image, start: u32) -> ArrayVec<u8, 16>
     row
 }
 
-/// The lines of a run of bytes: the line of its bank's paragraph, unless `last` is its bank, and its own.
+/// The lines of a HEX text for a run of bytes at `address`: its data record, and before it the record of its bank's
+/// paragraph, unless `last`, the bank of the run before, is the same.
 fn row_text(last: Option<u32>, address: u32, row: &[u8]) -> ArrayVec<u8, 64>
     requires address { address < 2 ^ 20 }
     requires row { length row.now ≤ 16 }
@@ -88,7 +91,8 @@ fn row_text(last: Option<u32>, address: u32, row: &[u8]) -> ArrayVec<u8, 64>
     text
 }
 
-/// The bytes of a data record, but for their checksum.
+/// The bytes of a data record for a run of bytes, without its checksum: their number, the load offset with its high
+/// byte first, the type 0, and the run.
 fn data_bytes(address: u32, row: &[u8]) -> ArrayVec<u8, 20>
     requires { length row.now ≤ 16 }
     ensures bytes { result.items ≡ length row.now ∷ address % 65536 / 256 ∷ address % 256 ∷ 0 ∷ row.now }
@@ -105,7 +109,8 @@ fn data_bytes(address: u32, row: &[u8]) -> ArrayVec<u8, 20>
     bytes
 }
 
-/// Adds the line of a record of these bytes, with their checksum.
+/// Adds to a HEX text the line of a record of these bytes: a colon, their digits, those of their checksum, and a line
+/// feed.
 #[tactic(auto, unfolding(crate::specs::HexText::record_line))]
 fn push_record(text: &mut ArrayVec<u8, 64>, bytes: &[u8])
     requires { array_vec_len text.old + 2 * length bytes.now + 4 ≤ 64 }
@@ -120,7 +125,7 @@ fn push_record(text: &mut ArrayVec<u8, 64>, bytes: &[u8])
     text.push(b'\n');
 }
 
-/// Adds a byte as two hexadecimal digits.
+/// Adds a byte to a record's line, as two hexadecimal digits in upper case.
 #[tactic(auto, unfolding(hex::specs::Hex::encode_with))]
 fn push_byte(text: &mut ArrayVec<u8, 64>, byte: u8)
     requires { array_vec_len text.old + 2 ≤ 64 }
@@ -131,7 +136,7 @@ fn push_byte(text: &mut ArrayVec<u8, 64>, byte: u8)
     text.push(digit(byte % 16));
 }
 
-/// The hexadecimal digit of a number below 16, in upper case.
+/// The character of a hexadecimal digit, 0 to 15, in upper case, for a record's line.
 fn digit(number: u8) -> u8
     requires { number < 16 }
     ensures { result ≡ slice_index upper_digits number }
@@ -139,7 +144,7 @@ fn digit(number: u8) -> u8
     b"0123456789ABCDEF"[usize::from(number)]
 }
 
-/// The byte that makes the sum of these bytes 0 modulo 256.
+/// The checksum of a record with these bytes: the one with which all of them add to 0 modulo 256.
 fn checksum(bytes: &[u8]) -> u8
     requires { length bytes.now < 2 ^ 16 }
     ensures { result ≡ checksum bytes.now }

@@ -26,13 +26,15 @@ pub enum RunFault {
 impl<T: Drop> From<AllocFailed<T>> for RunFault {
     ghost from_gives = { λ _ fault. fault ≡ Memory };
 
+    /// Lets `?` answer a refused allocation while a run file is read as want of memory.
     fn from(_refused: AllocFailed<T>) -> RunFault {
         RunFault::Memory
     }
 }
 
 impl RunFault {
-    /// The fault's number.
+    /// The number of why a run file is refused, from 31 to 37, which is printed with its name and by which programs
+    /// tell one fault from another.
     pub fn number(self) -> u8
         ensures { result ≡ run_fault_number self }
     {
@@ -46,7 +48,7 @@ impl RunFault {
         }
     }
 
-    /// The fault's name, as it is printed.
+    /// The name of why a run file is refused, as it is printed beside the fault's number.
     pub fn name(self) -> &'static str
         ensures { result.now ≡ run_fault_name self }
     {

@@ -3,7 +3,8 @@ use board_types::choice::{ClockTable, TimerKind};
 use board_types::clock::Clock;
 use board_types::keys::Keys;
 
-/// How a board is run.
+/// What a run file says of how a board is run: its memory, switches, timer and clock table, for how long, and with
+/// which keys.
 #[derive(Drop)]
 pub struct RunFile {
     /// The size of the RAM in units of 1,024 bytes.

@@ -50,8 +50,8 @@ pub fn read_run(alloc: Global, value: &Value) -> Result<RunFile, RunFault>
     })
 }
 
-/// Reads the text of a run file. Refused as `NotJson` if the text isn't UTF-8 or `serde_json` reads no value from it,
-/// else as `read_run` refuses its value.
+/// Reads the text of a run file, which says how a board is run. `NotJson` if the text isn't UTF-8 or no JSON value;
+/// else refused as its value is: a field that is bad, a budget that is too large, or a key that isn't taken.
 #[tactic(auto, using(crate::proofs::Fields::value_refused), unfolding(crate::specs::RunFile::run_of_text))]
 pub fn read_run_text(alloc: Global, text: &[u8]) -> Result<RunFile, RunFault>
     ensures meant { Answers result (run_of_text text.now) }
@@ -63,6 +63,8 @@ pub fn read_run_text(alloc: Global, text: &[u8]) -> Result<RunFile, RunFault>
     }
 }
 
+/// Whether the run file's value is an object that has no field but those of its version; any other makes it a
+/// `BadField`.
 #[tactic(auto, unfolding(crate::specs::RunFile::has_only_fields), using(crate::proofs::Fields::are_fields_view))]
 fn has_only_fields(value: &Value, version: u64) -> bool
     ensures { result ≡ has_only_fields version (view value.now) }
@@ -73,6 +75,7 @@ fn has_only_fields(value: &Value, version: u64) -> bool
     }
 }
 
+/// Whether each member of the run file's object has the name of a field of this version.
 fn are_fields(members: &Map<String, Value>, version: u64) -> bool
     ensures { result ≡ list_all (λ name. is_field_of version (string_bytes name)) (keys members.now) }
 {
@@ -81,6 +84,7 @@ fn are_fields(members: &Map<String, Value>, version: u64) -> bool
         .all(|name| is_field_of(name.as_str(), version))
 }
 
+/// Whether a run file of this version, 1 or 2, has a field of this name.
 #[tactic(auto, unfolding(crate::specs::RunFile::is_field_of))]
 fn is_field_of(name: &str, version: u64) -> bool
     ensures { result ≡ is_field_of version name.now }
@@ -88,6 +92,7 @@ fn is_field_of(name: &str, version: u64) -> bool
     is_field(name) || version == 2 && (name == "timer" || name == "clocks")
 }
 
+/// Whether run files of each version have a field of this name; those of version 2 have two more.
 #[tactic(auto, unfolding(crate::specs::RunFile::is_field))]
 fn is_field(name: &str) -> bool
     ensures { result ≡ is_field name.now }
@@ -100,7 +105,8 @@ fn is_field(name: &str) -> bool
         || name == "keys"
 }
 
-/// The timer of the run file.
+/// Which chip the run file says the timer is: the 8253 in version 1. `None` if the field `timer` is missing or names
+/// neither chip, which makes it a `BadField`.
 #[tactic(auto, unfolding(crate::specs::RunFile::timer_of))]
 fn timer_of(value: &Value, version: u64) -> Option<TimerKind>
     ensures { result ≡ timer_of version (view value.now) }
@@ -115,7 +121,8 @@ fn timer_of(value: &Value, version: u64) -> Option<TimerKind>
     }
 }
 
-/// The table by which the run file's clocks count.
+/// By which clock table the run file says the processor counts: C1 in version 1. `None` if the field `clocks` is
+/// missing or names neither table, which makes it a `BadField`.
 #[tactic(auto, unfolding(crate::specs::RunFile::clocks_of))]
 fn clocks_of(value: &Value, version: u64) -> Option<ClockTable>
     ensures { result ≡ clocks_of version (view value.now) }
@@ -130,7 +137,8 @@ fn clocks_of(value: &Value, version: u64) -> Option<ClockTable>
     }
 }
 
-/// The keys as they are written in the field `keys`.
+/// Reads the field `keys` of a run file as entries, whose keys are judged later. `BadField` if it is missing or no list
+/// of pairs of numbers.
 #[tactic(auto, unfolding(crate::specs::RunFile::entries_in))]
 fn entries_in(alloc: Global, field: Option<&Value>) -> Result<Vec<KeyEntry>, RunFault>
     ensures found { IfOk result (λ entries. entries_in (option_map (λ value. view value.now) field.entry)
@@ -144,6 +152,7 @@ fn entries_in(alloc: Global, field: Option<&Value>) -> Result<Vec<KeyEntry>, Run
     }
 }
 
+/// Reads the elements of a run file's list of keys, each as `[stamp, code]`. `BadField` if one isn't such a pair.
 fn entries_of(alloc: Global, values: &[Value]) -> Result<Vec<KeyEntry>, RunFault>
     ensures found { IfOk result (λ entries. entries_of (items_view values.now) ≡ Some entries.items) }
     ensures refused { IfErr result (λ fault. IsBadList fault (entries_of (items_view values.now))) }
@@ -158,6 +167,7 @@ fn entries_of(alloc: Global, values: &[Value]) -> Result<Vec<KeyEntry>, RunFault
     Ok(entries)
 }
 
+/// Reads an element of a run file's list of keys; `None` if it is no list `[stamp, code]`.
 #[tactic(auto, unfolding(crate::specs::RunFile::entry_of))]
 fn entry_of(value: &Value) -> Option<KeyEntry>
     ensures { result ≡ entry_of (view value.now) }
@@ -165,6 +175,7 @@ fn entry_of(value: &Value) -> Option<KeyEntry>
     pair_of(value.as_array()?.as_slice())
 }
 
+/// Reads the elements of a key's entry in a run file; `None` unless there are just two, its stamp and its code.
 fn pair_of(values: &[Value]) -> Option<KeyEntry>
     ensures { result ≡ pair_of (items_view values.now) }
 {
@@ -176,6 +187,8 @@ fn pair_of(values: &[Value]) -> Option<KeyEntry>
     }
 }
 
+/// Reads the stamp and code of a key's entry in a run file; `None` if one is no natural number, or the stamp is above
+/// 2^40. Whether a key has the code is judged later.
 fn written_key(stamp: &Value, code: &Value) -> Option<KeyEntry>
     ensures { result ≡ entry_from (u64_of (view stamp.now)) (u64_of (view code.now)) }
 {
@@ -184,7 +197,8 @@ fn written_key(stamp: &Value, code: &Value) -> Option<KeyEntry>
     Some(KeyEntry { stamp, code })
 }
 
-/// The keys of these entries, or the fault of the first one that isn't taken.
+/// The keys that reach the keyboard in a run, from the entries of its file, in order; or the fault of the first that
+/// isn't taken.
 #[tactic(auto, unfolding(crate::specs::RunFile::keys_of))]
 fn keys_of(alloc: Global, entries: &[KeyEntry]) -> Result<Keys, RunFault>
     ensures { Answers result (keys_of entries.now) }
@@ -196,7 +210,8 @@ fn keys_of(alloc: Global, entries: &[KeyEntry]) -> Result<Keys, RunFault>
     Ok(keys)
 }
 
-/// Adds the key of an entry after the others.
+/// Adds the key of a run file's entry after the others. `BadScan` if no key has its code, `StampsFall` if its stamp is
+/// before the last one.
 fn push_key(keys: &mut Keys, entry: KeyEntry) -> Result<(), RunFault>
     ensures pushed { OnOk result (keys.new ≡ keys.old ++ key_of entry ∷ []) }
     ensures taken { OnOk result (entry_fault (last_stamp keys.old) entry ≡ None) }
@@ -213,7 +228,8 @@ fn push_key(keys: &mut Keys, entry: KeyEntry) -> Result<(), RunFault>
     }
 }
 
-// The number of a field, which must be from `least` to `most`.
+/// The number in a field of the run file, from `least` to `most`; `BadField` if the field is missing, no number, or out
+/// of this range.
 #[tactic(auto, unfolding(crate::specs::RunFile::number_within))]
 fn number_within(value: &Value, name: &str, least: u64, most: u64) -> Result<u64, RunFault>
     ensures value { result
@@ -226,6 +242,7 @@ fn number_within(value: &Value, name: &str, least: u64, most: u64) -> Result<u64
     }
 }
 
+/// The number in a field of the run file; `None` if there is no such field, or no natural number of 64 bits in it.
 #[tactic(auto, unfolding(crate::specs::RunFile::number_of))]
 fn number(value: &Value, name: &str) -> Option<u64>
     ensures { result ≡ number_of name.now (view value.now) }
@@ -233,6 +250,8 @@ fn number(value: &Value, name: &str) -> Option<u64>
     value.get(name).and_then(Value::as_u64)
 }
 
+/// The text in a field of the run file, which names its timer or clock table; `None` if there is no such field or no
+/// text in it.
 #[tactic(auto, unfolding(crate::specs::RunFile::text_of))]
 fn text<'a>(value: &'a Value, name: &str) -> Option<&'a str>
     ensures { option_map (λ text. text.now) result ≡ text_of name.now (view value.now) }

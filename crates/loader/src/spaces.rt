@@ -2,7 +2,7 @@
 ghost use Rattle.std.specs.Prelude.{◌≡◌};
 ghost use Rattle.loader.specs.Lines.{without_spaces};
 
-/// The line without the spaces at its end.
+/// A line of a HEX text without the spaces at its end, which are ignored; if nothing is left, the line is blank.
 pub(crate) fn without_spaces(line: &[u8]) -> &[u8]
     ensures { result.now ≡ without_spaces line.now }
 {

@@ -25,7 +25,8 @@ impl<'a> Model for ChangedCells<'a> {
 }
 
 impl<'a> ChangedCells<'a> {
-    /// The cells to name for `mark`.
+    /// Makes the walk that `changed_since` gives: over the cells that have changed since `mark`, from the first in
+    /// reading order on.
     pub(crate) fn new(mda: &'a Mda, mark: u64) -> ChangedCells<'a>
         ensures { result ≡ changed_cells mda.now mark }
     {
@@ -42,6 +43,8 @@ impl<'a> Iterator for ChangedCells<'a> {
 
     ghost remaining = { item_count (λ cells. cells) };
 
+    /// The next changed cell, a row and a column; `None` after the last. Cells that can't have changed are passed over
+    /// many at a time.
     #[tactic(auto, using(crate::proofs::Walk::walk_steps))]
     fn next(&mut self) -> Option<(u8, u8)> {
         while self.next < CELL_COUNT {

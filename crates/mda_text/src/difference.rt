@@ -1,4 +1,4 @@
-//! Where two slices of bytes differ: whole blocks at once, then byte by byte.
+//! Where two slices of bytes differ: whole sections at once, then byte by byte.
 ghost use Rattle.std.specs.Prelude.{ℕ, ◌≡◌, ◌≤◌, ◌<◌, ◌+◌, length, slice_index, IsTrue, MatchOption};
 ghost use Rattle.mda_text.specs.Difference.{DiffersFirstAt};
 
@@ -7,7 +7,7 @@ use std::simd::prelude::*;
 /// How many bytes are compared at once.
 const LANES: usize = 32;
 
-/// Whether the 32 bytes from `at` on are the same in both.
+/// Whether the 32 bytes from `at` on are the same in both slices, which are compared in one step of SIMD.
 #[inline(always)]
 fn same_section(a: &[u8], b: &[u8], at: usize) -> bool
     requires first { at + 32 ≤ length a.now }
@@ -18,7 +18,8 @@ fn same_section(a: &[u8], b: &[u8], at: usize) -> bool
     differing.to_bitmask() == 0
 }
 
-/// How many bytes at the front are the same, counted in whole blocks.
+/// How many bytes at the front of two slices are the same, in whole sections of 32: there the search for the first
+/// difference begins.
 fn same_sections(a: &[u8], b: &[u8]) -> usize
     requires { length a.now ≡ length b.now }
     ensures within { result ≤ length a.now }
@@ -31,7 +32,8 @@ fn same_sections(a: &[u8], b: &[u8]) -> usize
     at
 }
 
-/// The least place where two slices of one length differ; none if they are the same.
+/// The least place where two slices of one length differ, which shows what was written to a section of text memory
+/// since a mark; `None` if they are the same.
 pub fn first_difference(a: &[u8], b: &[u8]) -> Option<usize>
     requires { length a.now ≡ length b.now }
     ensures { MatchOption result (a.now ≡ b.now) (DiffersFirstAt a.now b.now) }

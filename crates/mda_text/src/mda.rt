@@ -89,8 +89,8 @@ impl Model for Mda {
 }
 
 impl Mda {
-    /// The adapter at power-on. Fails only if there is no memory for its 4,096 bytes, and for the 2,000 characters and
-    /// the 4,096 bytes that a mark keeps.
+    /// Makes the text adapter at power-on, all its bytes 0. Fails only if there is no memory for its 4,096 bytes, and
+    /// for the 2,000 characters and the 4,096 bytes that a mark keeps.
     #[tactic(auto, unfolding(crate::specs::Mda::power_on))]
     pub fn new(alloc: Global) -> Result<Mda, AllocError>
         ensures { IfOk result (λ mda. mda ≡ power_on) }
@@ -115,7 +115,8 @@ impl Mda {
         })
     }
 
-    /// A copy of the adapter, in memory of its own. Fails only if there is no memory for it.
+    /// Copies the adapter, in memory of its own, so that a copy of a board goes on apart from it. Fails only if there
+    /// is no memory for it.
     pub fn copy(&self) -> Result<Mda, AllocError>
         ensures { IfOk result (λ mda. mda ≡ self.now) }
     {
@@ -139,7 +140,8 @@ impl Mda {
         })
     }
 
-    /// The registers, and where the beam stands, after `clocks` more processor clocks.
+    /// The registers, and where the beam stands, after `clocks` more processor clocks: what the probe shows of an
+    /// adapter whose clocks are still to be made.
     #[tactic(auto, using(crate::proofs::Raster::clocks_come_round))]
     pub fn registers_after(&self, clocks: u64) -> Registers
         ensures { result ≡ registers_of (after_clocks self.now clocks) }
@@ -154,8 +156,8 @@ impl Mda {
         }
     }
 
-    /// The byte that a read of `port` gives: FFh if the adapter doesn't answer there, and at 3B4h and 3B8h, which can
-    /// only be written.
+    /// The byte that a program's IN from `port` gives: FFh if the adapter doesn't answer there, and at 3B4h and 3B8h,
+    /// which can only be written.
     #[tactic(auto, unfolding(crate::specs::Mda::byte_at))]
     pub fn read_port(&self, port: u16) -> u8
         ensures { result ≡ byte_at self.now port }
@@ -167,7 +169,7 @@ impl Mda {
         }
     }
 
-    /// Writes `value` to `port`; if the adapter doesn't answer there, and at 3BAh, nothing happens.
+    /// Does a program's OUT of `value` to `port`; if the adapter doesn't answer there, and at 3BAh, nothing happens.
     #[tactic(auto, unfolding(crate::specs::Mda::after_write))]
     pub fn write_port(&mut self, port: u16, value: u8)
         ensures { self.new ≡ after_write self.old port value }
@@ -180,7 +182,7 @@ impl Mda {
         }
     }
 
-    /// The byte at `offset` of text memory, below 4,096.
+    /// The byte at `offset` of text memory, below 4,096: a code at an even offset, an attribute at an odd one.
     #[tactic(auto, unfolding(crate::specs::Mda::text_byte))]
     pub fn read_mem(&self, offset: u16) -> u8
         requires { offset < 4096 }
@@ -190,7 +192,7 @@ impl Mda {
         self.bytes[offset as usize]
     }
 
-    /// Writes `value` at `offset` of text memory, below 4,096.
+    /// Writes `value` at `offset` of text memory, below 4,096, and notes the section as written since the last mark.
     #[tactic(auto, unfolding(crate::specs::Mda::with_text_byte))]
     pub fn write_mem(&mut self, offset: u16, value: u8)
         requires { offset < 4096 }
@@ -200,7 +202,8 @@ impl Mda {
         self.snapshot.written[offset as usize / SECTION_BYTES] = true;
     }
 
-    /// The character that the cell at `row`, below 25, and `column`, below 80, shows, an ASCII code.
+    /// The character that the cell at `row`, below 25, and `column`, below 80, shows, an ASCII code from 20h to 7Eh:
+    /// for the screen's text, and for a display that draws changed cells.
     #[tactic(auto, unfolding(crate::specs::Screen::cell, crate::specs::Screen::character_at))]
     pub fn cell(&self, row: u8, column: u8) -> u8
         requires row_within { row < 25 }
@@ -214,8 +217,8 @@ impl Mda {
         character_of(self.video, self.read_mem(offset), self.read_mem(offset + 1))
     }
 
-    /// Keeps the characters that are shown now, and gives the mark's number: 1 and then one more each time, up to the
-    /// greatest `u64`, and always 0 after it.
+    /// Keeps the characters that are shown now, so that a display can later ask `changed_since` which cells to draw,
+    /// and gives the mark's number: 1 and then one more each time, up to the greatest `u64`, and always 0 after it.
     #[tactic(auto, unfolding(crate::specs::Marks::after_mark))]
     pub fn mark(&mut self) -> u64
         ensures number { result ≡ self.old.next_mark }
@@ -230,8 +233,8 @@ impl Mda {
         self.last_mark
     }
 
-    /// The cells whose character isn't the one that `mark` kept, in reading order, if it is the last mark that was
-    /// made; for any other number, and for 0, all 2,000 cells.
+    /// The cells that a display must draw anew: in reading order, those whose character isn't the one that `mark`
+    /// kept, if it is the last mark that was made; for any other number, and for 0, all 2,000 cells.
     pub fn changed_since(&self, mark: u64) -> ChangedCells<'_>
         ensures cells { result ≡ changed_cells self.now mark }
         ensures within { length result ≤ 2000 }
@@ -239,8 +242,8 @@ impl Mda {
         ChangedCells::new(self, mark)
     }
 
-    /// The screen's text: 25 lines of 80 characters, each ended by a line feed. Fails only if there is no memory for
-    /// it.
+    /// The screen's text, which a board and a report show: 25 lines of 80 characters, each ended by a line feed. Fails
+    /// only if there is no memory for it.
     #[tactic(auto, unfolding(crate::specs::Screen::screen_text))]
     pub fn text(&self) -> Result<String, AllocError>
         ensures { IfOk result (λ text. string_bytes text ≡ screen_text self.now) }
@@ -252,6 +255,8 @@ impl Mda {
         Ok(text)
     }
 
+    /// Adds the 80 characters of a row, below 25, and a line feed to the screen's text. Fails only if there is no
+    /// memory for them.
     #[tactic(auto, unfolding(crate::specs::Screen::screen_row))]
     fn push_row(&self, text: &mut String, row: u8) -> Result<(), AllocError>
         requires { row < 25 }
@@ -264,7 +269,8 @@ impl Mda {
         Ok(())
     }
 
-    /// Whether the cell that is the `n`-th in reading order, below 2,000, is to be named as changed since `mark`.
+    /// Whether the cell that is the `n`-th in reading order, below 2,000, must be drawn anew: it shows another
+    /// character than `mark` kept, or `mark` is 0 or not the last one.
     #[tactic(auto, unfolding(crate::specs::Marks::is_changed))]
     pub(crate) fn is_changed(&self, mark: u64, n: u16) -> bool
         requires { n < 2000 }
@@ -273,6 +279,7 @@ impl Mda {
         mark != self.last_mark || mark == 0 || self.nth_character(n) != self.kept[n as usize]
     }
 
+    /// The character that the `n`-th cell in reading order, below 2,000, shows, for a mark to keep or to compare with.
     #[tactic(auto, unfolding(crate::specs::Screen::nth_character))]
     fn nth_character(&self, n: u16) -> u8
         requires { n < 2000 }
@@ -282,7 +289,8 @@ impl Mda {
         self.cell((n / columns) as u8, (n % columns) as u8)
     }
 
-    /// Replaces the characters that are kept by those that are shown.
+    /// Replaces the characters that the last mark kept by those that are shown now, for a new mark; until the snapshot
+    /// is taken anew, none counts.
     fn keep_characters(&mut self)
         ensures { self.new ≡ record self.old { kept = characters self.old } }
     {
@@ -295,6 +303,8 @@ impl Mda {
         }
     }
 
+    /// The byte that port 3B5h gives: of R14 or R15, the cursor, if the address register names one of them, and else
+    /// 0.
     fn register(&self) -> u8
         ensures { result ≡ register_byte self.now self.now.index }
     {
@@ -305,6 +315,8 @@ impl Mda {
         }
     }
 
+    /// Writes `value` to the MC6845's register that the address register names: R12 and R13 hold the start address,
+    /// R14 and R15 the cursor; any other write is lost.
     fn set_register(&mut self, value: u8)
         ensures { self.new ≡ with_register self.old self.old.index value }
     {
@@ -317,7 +329,7 @@ impl Mda {
         }
     }
 
-    /// Where the beam stands in its raster.
+    /// Where the beam stands in its raster, from 0 to 258 processor clocks after the start, which decides the status.
     fn raster(&self) -> u64
         ensures place { result ≡ self.now.raster }
         ensures bound { result < 259 }
@@ -325,6 +337,8 @@ impl Mda {
         self.beam % RASTER_CLOCKS
     }
 
+    /// The byte that the status port 3BAh gives: bit 0 is 1 while the beam goes back, in the last 40 of 259 clocks,
+    /// and the upper four bits are always 1.
     fn status(&self) -> u8
         ensures { result ≡ status self.now }
     {
@@ -348,7 +362,7 @@ impl Timed for Mda {
 
     ghost output = { retrace };
 
-    /// Lets `ticks` processor clocks pass: the beam moves on.
+    /// Lets `ticks` processor clocks pass, however many at once: the beam moves on, and nothing else changes.
     #[tactic(auto, using(crate::proofs::Raster::clocks_are_counted, crate::proofs::Raster::clocks_come_round))]
     fn advance(&mut self, ticks: u64)
         ensures { self.new ≡ after_clocks self.old ticks }
@@ -360,7 +374,8 @@ impl Timed for Mda {
         };
     }
 
-    /// After how many processor clocks bit 0 of the status port changes: it is 0 for 219 and 1 for 40 in turn.
+    /// After how many processor clocks bit 0 of the status port changes, so that they can be passed at once: it is 0
+    /// for 219 and 1 for 40 in turn, so never `None`.
     fn until_change(&self) -> Option<u64>
         ensures { IsUntilTurn after_clocks retrace self.now result }
     {
@@ -374,21 +389,22 @@ impl Timed for Mda {
     ghost adds = { λ m k n. sym (iterate_add after_clock k n m) };
 }
 
-// a register of 14 bits with its high part, which has six bits, replaced
+/// A register pair of 14 bits, start or cursor, with its high part, which has six bits, replaced.
 fn with_high(word: u16, byte: u8) -> u16
     ensures { result ≡ with_high word byte }
 {
     u16::from(byte % 64) * 256 + word % 256
 }
 
-// a register of 14 bits with its low part replaced
+/// A register pair of 14 bits, start or cursor, with its low part replaced.
 fn with_low(word: u16, byte: u8) -> u16
     ensures { result ≡ with_low word byte }
 {
     word / 256 * 256 + u16::from(byte)
 }
 
-// what a cell with this code and attribute shows
+/// What a cell with this code and attribute shows, an ASCII code: a space if the video is off, the attribute shows
+/// nothing or the code is 0.
 fn character_of(video: bool, code: u8, attribute: u8) -> u8
     ensures value { result ≡ character_of video code attribute }
     ensures printable { result < 127 }
@@ -400,6 +416,7 @@ fn character_of(video: bool, code: u8, attribute: u8) -> u8
     }
 }
 
+/// The ASCII code by which a cell's code is shown as text: itself if it is printable, and else a full stop.
 fn glyph(code: u8) -> u8
     ensures value { result ≡ glyph code }
     ensures printable { result < 127 }

@@ -7,27 +7,27 @@ ghost use Rattle.mda_text.specs.Snapshot.{IsCopied, SameWord};
 use crate::difference::first_difference;
 use crate::mda::{CELL_COUNT, Mda, WORD_COUNT};
 
-/// How many bytes of text memory are marked as written at once.
+/// How many bytes of text memory a section has: a write marks a whole section as written.
 pub(crate) const SECTION_BYTES: usize = 32;
 
-/// How many words a block has.
+/// How many words a section has, a code and an attribute each.
 const SECTION_WORDS: usize = SECTION_BYTES / 2;
 
-/// What the last mark found.
+/// What the last mark found: a copy of text memory, and which sections of it were written since.
 #[derive(Drop)]
 pub struct Snapshot {
     pub(crate) bytes: Vec<u8>,
     pub(crate) start: u16,
     pub(crate) video: bool,
-    /// The blocks of text memory that were written since the last mark.
+    /// The sections of text memory that were written since the last mark.
     pub(crate) written: [bool; 128],
     /// Whether there is a snapshot: not before the first mark.
     pub(crate) taken: bool,
 }
 
 impl Mda {
-    /// Takes a snapshot of text memory, start and video enable. The characters that are kept must be those that they
-    /// show.
+    /// Copies text memory, start address and video enable for a mark, so that `unchanged_from` can pass over cells
+    /// later; the characters that the mark keeps must be those that they show.
     pub(crate) fn take_snapshot(&mut self)
         requires { self.old.kept ≡ characters self.old }
         ensures { self.new ≡ self.old }
@@ -39,8 +39,8 @@ impl Mda {
         self.snapshot.taken = true;
     }
 
-    /// How many cells from the `n`-th on, below 2,000, can't have changed since `mark`, as far as their block of text
-    /// memory shows; 0 if that isn't known.
+    /// How many cells from the `n`-th on, below 2,000, the walk over changed cells can pass over, since they surely
+    /// show what they did at `mark`; 0 if that isn't known. It looks no further than a section of text memory.
     pub(crate) fn unchanged_from(&self, mark: u64, n: u16) -> u16
         requires { n < 2000 }
         ensures within { n + result ≤ 2000 }
@@ -59,7 +59,8 @@ impl Mda {
     }
 }
 
-/// How many words from `word` on, below 2,048, have the bytes that the mark found, as far as their block shows.
+/// How many words of text memory from `word` on, below 2,048, up to the end of its section, have the bytes that the
+/// mark found: at once all of them if the section wasn't written since.
 fn same_words(bytes: &[u8], snapshot: &Snapshot, word: usize) -> usize
     requires below { word < 2048 }
     requires bytes { length bytes.now ≡ 4096 }

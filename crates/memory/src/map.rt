@@ -25,7 +25,7 @@ pub enum MemoryFault {
 }
 
 impl MemoryFault {
-    /// The fault's number.
+    /// The number by which the user and a calling program are told the fault.
     pub fn number(self) -> u8
         ensures { result ≡ memory_fault_number self }
     {
@@ -39,6 +39,7 @@ impl MemoryFault {
 impl From<AllocError> for MemoryFault {
     ghost from_gives = { λ _ fault. fault ≡ OutOfMemory };
 
+    /// Makes a refused allocation the fault `OutOfMemory`, so that `?` passes it on.
     fn from(_error: AllocError) -> MemoryFault {
         MemoryFault::OutOfMemory
     }
@@ -84,7 +85,8 @@ impl Memory {
         Ok(Memory { ram_size, cells })
     }
 
-    /// The byte at `addr`, below 100000h and outside the text adapter's memory.
+    /// The byte that a read of `addr` gives to the processor or a viewer. `addr` is below 100000h and outside the text
+    /// adapter's memory, which has bytes of its own.
     #[tactic(auto, unfolding(crate::specs::Map::byte_at))]
     pub fn read(&self, addr: u32) -> u8
         requires within { addr < 2 ^ 20 }
@@ -99,7 +101,8 @@ impl Memory {
         }
     }
 
-    /// The eight bytes from `addr` on, below 100000h, the first one lowest, if they lie all in RAM or all in the ROM.
+    /// The eight bytes from `addr` on, the first one lowest, for the cache of decoded instructions, which compares them
+    /// in one go; `None` unless they lie all in RAM or all in the ROM.
     #[inline(always)]
     pub fn code(&self, addr: u32) -> Option<u64>
         requires { addr < 2 ^ 20 }
@@ -116,7 +119,7 @@ impl Memory {
         None
     }
 
-    /// The bytes of eight cells, the first one lowest.
+    /// The bytes of eight cells as one number, the first one lowest, for `code`.
     #[inline(always)]
     fn eight_cells(&self, at: usize) -> u64
         requires { at + 8 ≤ length self.now.cells }
@@ -135,7 +138,8 @@ impl Memory {
         ])
     }
 
-    /// Whether `addr` lies in RAM.
+    /// Whether `addr` lies in RAM, and so neither in the text adapter's memory nor in the ROM: the quick way for most
+    /// accesses asks this.
     #[inline(always)]
     pub fn has_ram(&self, addr: u32) -> bool
         ensures ram { IsTrue result ↔ addr < self.now.ram_size }
@@ -144,7 +148,8 @@ impl Memory {
         addr < self.ram_size
     }
 
-    /// Writes `byte` at `addr`, below 100000h and outside the text adapter's memory. Without RAM there nothing changes.
+    /// Writes `byte` at `addr`, below 100000h and outside the text adapter's memory, for the processor. Without RAM
+    /// there, in the ROM as well, nothing changes.
     #[tactic(auto, unfolding(crate::specs::Map::with_byte, crate::specs::Map::is_writable))]
     pub fn write(&mut self, addr: u32, byte: u8)
         requires within { addr < 2 ^ 20 }
@@ -156,7 +161,8 @@ impl Memory {
         }
     }
 
-    /// Writes the two bytes of a word, the low one at `addr`. Both must lie in RAM.
+    /// Writes the two bytes of a word, the low one at `addr`, in one access. Both must lie in RAM, as the caller has
+    /// found.
     #[inline(always)]
     #[tactic(auto, unfolding(crate::specs::Map::with_byte, crate::specs::Map::is_writable))]
     pub fn write_word(&mut self, addr: u32, word: u16)
@@ -171,7 +177,7 @@ impl Memory {
         cells[at + 1] = (word / 256) as u8;
     }
 
-    /// A copy of the memory, in a place of its own. Fails only if there is no memory for it.
+    /// A copy of the memory for a copied board, in a place of its own. Fails only if there is no memory for it.
     pub fn copy(&self) -> Result<Memory, AllocError>
         ensures { IfOk result (λ memory. memory ≡ self.now) }
     {
@@ -182,14 +188,16 @@ impl Memory {
     }
 }
 
-/// Whether a board can have `ram_kb` times 1,024 bytes of RAM.
+/// Whether a board can have `ram_kb` times 1,024 bytes of RAM, which a run file or caller asks for: a multiple of 16
+/// from 16 to 640.
 fn is_ram_size(ram_kb: u16) -> bool
     ensures { IsTrue result ↔ IsRamSize ram_kb }
 {
     16 <= ram_kb && ram_kb <= 640 && ram_kb % 16 == 0
 }
 
-/// Whether the image has no byte between the RAM's end and A0000h.
+/// Whether the image has no byte between the RAM's end and A0000h, where it would be lost: a new board is refused
+/// otherwise.
 fn fits_ram(image: &Image, ram_size: u32) -> bool
     ensures { IsTrue result ↔ FitsRam image.now ram_size }
 {
@@ -201,7 +209,8 @@ fn fits_ram(image: &Image, ram_size: u32) -> bool
     true
 }
 
-/// The bytes at power-on of a board with `ram_size` bytes of RAM, which the image fits.
+/// The bytes of all addresses at power-on of a board with `ram_size` bytes of RAM, which the image fits: the image's,
+/// and elsewhere those of a bare memory.
 fn power_on_cells(alloc: Global, ram_size: u32, image: &Image) -> Result<Vec<u8>, AllocError>
     requires size { ram_size ≤ 0xA0000 }
     requires fits { FitsRam image.now ram_size }
@@ -213,8 +222,8 @@ fn power_on_cells(alloc: Global, ram_size: u32, image: &Image) -> Result<Vec<u8>
     Ok(with_image(cells, image))
 }
 
-/// The bytes at power-on without an image's: RAM and text memory are 0, the ROM is FFh, and FFh is read if nothing
-/// answers.
+/// The bytes at power-on of a memory without an image's, into which those are then written: RAM and text memory are 0,
+/// the ROM is FFh, and FFh is read if nothing answers.
 fn bare_cells(alloc: Global, ram_size: usize) -> Result<Vec<u8>, AllocError>
     requires { ram_size ≤ 0xA0000 }
     ensures cells { IfOk result (λ cells. (addr : ℕ) → addr < 1048576
@@ -229,7 +238,7 @@ fn bare_cells(alloc: Global, ram_size: usize) -> Result<Vec<u8>, AllocError>
     Ok(cells)
 }
 
-/// The cells with the image's bytes at their addresses.
+/// The cells of a bare memory with the image's bytes written at their addresses, RAM or ROM.
 fn with_image(mut cells: Vec<u8>, image: &Image) -> Vec<u8>
     requires { length cells.items ≡ 1048576 }
     ensures cells { (addr : ℕ)

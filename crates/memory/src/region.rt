@@ -17,14 +17,16 @@ pub enum Region {
     Nothing,
 }
 
-/// Whether the physical address `addr` is one of the text adapter's 4,096.
+/// Whether the physical address `addr` is one of the text adapter's 4,096, so that the adapter and not the memory
+/// answers.
 pub fn is_text_address(addr: u32) -> bool
     ensures { result ≡ is_text_address addr }
 {
     TEXT_START <= addr && addr < TEXT_START + TEXT_SIZE
 }
 
-/// What answers at the physical address `addr` of a board with `ram_size` bytes of RAM.
+/// What answers at the physical address `addr` of a board with `ram_size` bytes of RAM: decides what a read gives and
+/// whether a write changes anything.
 pub fn region_of(ram_size: u32, addr: u32) -> Region
     ensures { result ≡ region_of ram_size addr }
 {

@@ -7,8 +7,8 @@ ghost use Rattle.pic8259.specs.PicLaws.{after_words, HasEnded};
 use board_types::line::Line;
 use pic8259::controller::Pic;
 
-/// A controller after its initialisation: edge mode, no slaves, 8086 mode, nothing masked, and vectors from `base` on,
-/// whose low three bits don't matter.
+/// A controller after the initialisation that a program makes through its two ports: edge mode, no slaves, 8086 mode,
+/// nothing masked, and vectors from `base` on, whose low three bits don't matter. Code for a reader to copy.
 pub fn initialised(base: u8) -> Pic
     ensures words { result ≡ after_words (after_write power_on false 0x13) (base ∷ 1 ∷ []) }
     ensures ended { HasEnded result 0x13 base 1 }
@@ -20,8 +20,8 @@ pub fn initialised(base: u8) -> Pic
     pic
 }
 
-/// The vectors that a bench gets of two lines, of which the one with the lower priority rises first: an acknowledge, a
-/// plain end of interrupt, and another acknowledge.
+/// The vectors that a bench gets of two lines, of which the one with the lower priority rises first: by an acknowledge,
+/// a plain end of interrupt, and another acknowledge. An example of the interrupt controller used alone.
 pub fn vectors_of(base: u8, first: u8, second: u8) -> (u8, u8)
     requires order { first < second }
     requires within { second < 8 }

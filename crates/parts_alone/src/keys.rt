@@ -5,7 +5,8 @@ ghost use Rattle.keyboard.specs.Keyboard.{after_settling};
 use keyboard::keyboard::Keyboard;
 use std::alloc::{AllocError, Global};
 
-/// The codes that a program reads which takes one three times, after two have arrived; an empty latch reads 0.
+/// The codes that a program reads which takes one three times, after two have arrived; an empty latch reads 0. An
+/// example of the keyboard used alone, through its latch.
 pub fn codes_of(alloc: Global, first: u8, second: u8) -> Result<(u8, u8, u8), AllocError>
     ensures { IfOk result (λ codes. codes ≡ (first, second, 0)) }
 {
@@ -18,7 +19,8 @@ pub fn codes_of(alloc: Global, first: u8, second: u8) -> Result<(u8, u8, u8), Al
     Ok((one, two, three))
 }
 
-/// Reads the latch once the keyboard may send, and clears it.
+/// Reads a key code from the latch, once the keyboard may send, and clears the latch for the next, as a program does by
+/// port B; 0 if none came.
 fn take(keyboard: &mut Keyboard) -> u8
     ensures code { result ≡ unwrap_or (after_settling keyboard.old 0x40).latch 0 }
     ensures state { keyboard.new ≡ after_settling (after_settling keyboard.old 0x40) 0xC0 }

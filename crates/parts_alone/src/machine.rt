@@ -23,7 +23,8 @@ pub const CONFIG: Config = Config {
     clocks: ClockTable::C1,
 };
 
-/// A source that waits for a key's code, shows a character for it (for the key A an A), and halts.
+/// The source of a program for the board's example: it waits for a key's code, shows a character for it (for the key A
+/// an A), and halts.
 pub fn program() -> &'static [u8] {
     b"SEGMENT MAIN AT 0F000h
 start:  MOV AL,99h
@@ -49,9 +50,9 @@ ENDS
 "
 }
 
-/// The board of an image with these keys at the first clock at which its processor is halted, or after `limit` clocks
-/// if it isn't halted by then; and which of the two it was. Refused as `RamSize` if the image doesn't fit the RAM, as
-/// `ClockLimit` only if `limit` is above 2^40, and for want of memory.
+/// Runs an image, with these keys, to the first clock at which the processor is halted, or `limit` clocks, and returns
+/// the board there and which of the two it was: the board used from code. Refused as `RamSize` if the image doesn't fit
+/// the RAM, as `ClockLimit` only if `limit` is above 2^40, and for want of memory.
 pub fn run_to_halt(
     alloc: Global,
     image: &Image,

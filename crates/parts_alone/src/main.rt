@@ -21,6 +21,7 @@ use board_types::regs::Regs;
 use std::alloc::Global;
 use std::str;
 
+/// Prints what each of the examples of a part used alone gives, one after another.
 fn main(rt: HostRuntime) -> Result<()> {
     print_vectors(&rt)?;
     print_changes(&rt)?;
@@ -33,14 +34,14 @@ fn main(rt: HostRuntime) -> Result<()> {
     print_machine(&rt)
 }
 
-/// Lines 4 and 1 rise, at a base of 8.
+/// Prints the interrupt controller's example: the vectors of lines 4 and 1, which rise at a base of 8.
 fn print_vectors(rt: &HostRuntime) -> Result<()> {
     let (first, second) = controller::vectors_of(8, 1, 4);
     println!(rt; "vectors {first:02X} {second:02X}")?;
     Ok(())
 }
 
-/// Twenty ticks of a square wave of 7.
+/// Prints the timer's example: at which of twenty ticks OUT2 changes in a square wave of 7.
 fn print_changes(rt: &HostRuntime) -> Result<()> {
     print!(rt; "OUT2 changes at ticks")?;
     for tick in timer::square_changes(rt.alloc(), 7, 20)?.as_slice() {
@@ -50,7 +51,7 @@ fn print_changes(rt: &HostRuntime) -> Result<()> {
     Ok(())
 }
 
-/// SW1 is 6Dh and SW2 1Ah.
+/// Prints the parallel port's example: switches SW1 6Dh and SW2 1Ah as a program reads them, and port C.
 fn print_port(rt: &HostRuntime) -> Result<()> {
     let (sw1, sw2) = parallel_port::switches_of(0x6D, 0x1A);
     let port_c = parallel_port::port_c();
@@ -58,35 +59,36 @@ fn print_port(rt: &HostRuntime) -> Result<()> {
     Ok(())
 }
 
-/// The key A, down and up, and no third code.
+/// Prints the keyboard's example: the codes of the key A, down and up, and no third code.
 fn print_codes(rt: &HostRuntime) -> Result<()> {
     let (first, second, third) = keys::codes_of(rt.alloc(), 0x1E, 0x9E)?;
     println!(rt; "codes {first:02X} {second:02X} {third:02X}")?;
     Ok(())
 }
 
-/// A cell to which an A is written, and the status twice.
+/// Prints the text adapter's example: a cell to which an A is written, and the status twice.
 fn print_cell(rt: &HostRuntime) -> Result<()> {
     let (character, before, after) = screen::shown(rt.alloc())?;
     println!(rt; "cell {character:02X}, status {before:02X} {after:02X}")?;
     Ok(())
 }
 
-/// RAM, the ROM, and an address at which nothing answers.
+/// Prints the memory's example: what is read from RAM, from the ROM, and from an address at which nothing answers.
 fn print_bytes(rt: &HostRuntime) -> Result<()> {
     let (ram, rom, nothing) = ram_and_rom::bytes_read(rt.alloc())?;
     println!(rt; "bytes {ram:02X} {rom:02X} {nothing:02X}")?;
     Ok(())
 }
 
-/// A source of four bytes.
+/// Prints the assembler's example: the HEX text of a source of four bytes.
 fn print_hex(rt: &HostRuntime) -> Result<()> {
     let text = source::hex_of(rt.alloc(), source::GOOD)?;
     print!(rt; "{}", str::from_utf8(text.as_slice())?)?;
     Ok(())
 }
 
-/// The source of `print_hex` with a name mistyped.
+/// Prints the assembler's example of a fault: the number, name and text for the source of `print_hex` with a name
+/// mistyped.
 fn print_fault(rt: &HostRuntime) -> Result<()> {
     if let Err(fault) = source::hex_of(rt.alloc(), source::MISTYPED) {
         println!(rt; "fault {} {}: {fault}", fault.number(), fault.name())?;
@@ -94,7 +96,7 @@ fn print_fault(rt: &HostRuntime) -> Result<()> {
     Ok(())
 }
 
-/// The program of `machine`, with the key A.
+/// Prints the board's example: the program of `machine`, assembled and run with the key A until it halts.
 fn print_machine(rt: &HostRuntime) -> Result<()> {
     let alloc = rt.alloc();
     let listing = assemble(alloc, machine::program())?;
@@ -102,7 +104,7 @@ fn print_machine(rt: &HostRuntime) -> Result<()> {
     print_board(rt, &board)
 }
 
-/// The key A, which goes down at clock 200 and up at clock 260.
+/// The key A for the board's example, which goes down at clock 200 and up at clock 260.
 fn key_a(alloc: Global) -> Result<Keys, KeyFault> {
     let mut keys = Keys::new(alloc);
     keys.push(Clock::new(200).unwrap(), 0x1E)?;
@@ -110,7 +112,7 @@ fn key_a(alloc: Global) -> Result<Keys, KeyFault> {
     Ok(keys)
 }
 
-/// The processor's state and clock, its registers, and the screen's first line.
+/// Prints how the board's example ends: the processor's state and clock, its registers, and the screen's first line.
 fn print_board(rt: &HostRuntime, board: &Board) -> Result<()> {
     println!(rt; "{:?} at clock {}", board.state(), board.clock().get())?;
     print_registers(rt, &board.regs())?;
@@ -121,6 +123,7 @@ fn print_board(rt: &HostRuntime, board: &Board) -> Result<()> {
     Ok(())
 }
 
+/// Prints the registers that the board's example uses, and the flags word.
 fn print_registers(rt: &HostRuntime, regs: &Regs) -> Result<()> {
     println!(rt;
         "AX={:04X} BX={:04X} DX={:04X} DI={:04X}",

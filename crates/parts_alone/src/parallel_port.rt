@@ -11,7 +11,8 @@ const INPUTS: Inputs = Inputs {
     out2: Line::Low,
 };
 
-/// The switches of SW1 and of SW2 as a start-up program reads them. Bits 4 to 0 of `sw2` are its five switches.
+/// The switches of SW1 and SW2 as a start-up program reads them through ports A and C, an example of the parallel port
+/// used alone. Bits 4 to 0 of `sw2` are its five switches.
 pub fn switches_of(sw1: u8, sw2: u8) -> (u8, u8)
     ensures { result ≡ (sw1, sw2 % 32) }
 {
@@ -26,7 +27,8 @@ pub fn switches_of(sw1: u8, sw2: u8) -> (u8, u8)
     (first, four + 16 * fifth)
 }
 
-/// What port C reads if counter 2's output is high and bit 3 of its lower half, an output, was set.
+/// What port C reads if counter 2's output is high and bit 3 of its lower half, an output, was set by a single-bit
+/// word: an example of the parallel port used alone.
 pub fn port_c() -> u8
     ensures { result ≡ 0x28 }
 {

@@ -6,8 +6,8 @@ use board_types::image::Image;
 use memory::map::Memory;
 use std::alloc::Global;
 
-/// What is read at 00400h, at F0000h and at 10000h of a memory of 64 KB, after 55h was written to each. The image has
-/// EAh at F0000h.
+/// What is read at 00400h, at F0000h and at 10000h of a memory of 64 KB, after 55h was written to each: RAM takes it,
+/// the ROM keeps the image's EAh, and nothing answers. An example of the memory used alone.
 pub fn bytes_read(alloc: Global) -> Result<(u8, u8, u8)> {
     let mut image = Image::new(alloc);
     image.put(0xF_0000, 0xEA)?;

@@ -7,7 +7,8 @@ use std::alloc::{AllocError, Global};
 const FIRST_RETRACE: u64 = 219;
 
 /// The character of the cell at row 2 and column 0, after the start address was set to word 1,920 and an `A` written to
-/// the cell's word; and the status at power-on and when the beam first goes back.
+/// the cell's word, and the status at power-on and when the beam first goes back: an example of the text adapter used
+/// alone.
 pub fn shown(alloc: Global) -> Result<(u8, u8, u8), AllocError> {
     let mut mda = Mda::new(alloc)?;
     mda.write_port(INDEX_PORT, 12);

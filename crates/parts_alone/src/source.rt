@@ -26,7 +26,7 @@ again:  IN AL,60h
 ENDS
 ";
 
-/// The HEX text of the image that a source gives, or the source's first fault.
+/// The HEX text of the image that a source gives, or the source's first fault: the assembler used as a library.
 pub fn hex_of(alloc: Global, source: &[u8]) -> Result<Vec<u8>, AsmFault>
     ensures hex { IfOk result (λ text. IsHexOf source.now text.items) }
     ensures fault { IfErr result (IsFirst source.now) }

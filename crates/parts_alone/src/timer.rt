@@ -7,7 +7,7 @@ use board_types::line::Line;
 use pit8253::pit::Pit;
 use std::alloc::{AllocError, Global};
 
-/// A timer whose counter 2 makes a square wave of `count` ticks.
+/// A timer whose counter 2, programmed through the ports as a program does, makes a square wave of `count` ticks.
 pub fn square_timer(count: u16) -> Pit
     requires { 1 < count }
     ensures { (n : ℕ) → level_after result n ≡ square count n }
@@ -20,7 +20,8 @@ pub fn square_timer(count: u16) -> Pit
     pit
 }
 
-/// The ticks at which OUT2 changes, among the next `ticks`, which are counted from 1.
+/// Advances the timer by `ticks` ticks and lists those, counted from 1, at which OUT2 changes: the timer used as a
+/// model of one.
 pub fn changes(alloc: Global, pit: &mut Pit, ticks: u64) -> Result<Vec<u64>, AllocError>
     ensures { IfOk result (λ found. found.items ≡ changes (level_after pit.old) ticks) }
 {
@@ -37,7 +38,7 @@ pub fn changes(alloc: Global, pit: &mut Pit, ticks: u64) -> Result<Vec<u64>, All
     Ok(found)
 }
 
-/// The ticks, from 1 to `ticks`, at which a square wave of `count` ticks changes.
+/// The ticks, from 1 to `ticks`, at which a square wave of `count` ticks changes: an example of the timer used alone.
 pub fn square_changes(alloc: Global, count: u16, ticks: u64) -> Result<Vec<u64>, AllocError>
     requires { 1 < count }
     ensures { IfOk result (λ found. found.items ≡ changes (square count) ticks) }

@@ -5,6 +5,8 @@ use pcboard_program::program::program;
 use pcboard_texts::system::run_on_system;
 use std::process::ExitCode;
 
+/// Runs `pcboard` on the words of its command line, the system's files and its standard streams, and ends with its exit
+/// status.
 fn main(rt: HostRuntime) -> ExitCode {
     run_on_system(&rt, |words, files| {
         program(

@@ -16,7 +16,8 @@ use pcboard_texts::unanswered::Unanswered;
 use std::alloc::Global;
 use std::io::Write;
 
-/// Answers the lines of `input` about a board until one is `quit` or the input ends.
+/// Holds a debugger's session about a board: answers the lines of `input` and prints the replies on `out` until a line
+/// is `quit` or the input ends.
 pub(crate) fn print_session<T: Tool, I: ByteInput, O: Write>(
     alloc: Global,
     board: Board,
@@ -40,7 +41,8 @@ pub(crate) fn print_session<T: Tool, I: ByteInput, O: Write>(
     answered
 }
 
-/// Answers lines as they come until one is `quit` or the input ends. An input of more than `u64::MAX` lines fails.
+/// Answers a session's typed lines as they come, and prints each reply, until one is `quit` or the input ends. An input
+/// of more than `u64::MAX` lines fails.
 fn answer_lines<T: Tool, I: ByteInput, O: Write>(
     alloc: Global,
     session: &mut T::Session,
@@ -69,7 +71,8 @@ fn answer_lines<T: Tool, I: ByteInput, O: Write>(
     Err(Unanswered::Failed)
 }
 
-/// What the session answers to a line, or why it refuses it. A line that isn't UTF-8 is no command.
+/// What the session answers to a typed line, to be printed, or why it refuses the line. One that isn't UTF-8 is
+/// refused as a bad command.
 fn reply_to<T: Tool>(
     alloc: Global,
     session: &mut T::Session,

@@ -22,9 +22,9 @@ use pcboard_words::task::{LineFault, Task};
 use std::alloc::Global;
 use std::io::Write;
 
-/// Does what `words`, those after the program's name, ask for, and answers the exit status: 0; 1 for a refusal, which
-/// is a line on `err`; 2 for words that aren't the program's, with their usage on `err`; 3, with no text, if an
-/// opening, a read or a write failed.
+/// Runs `pcboard`: does what `words`, those after its name, ask for, and answers the exit status: 0; 1 for a refusal, a
+/// line on `err`; 2 for words that name no task, with the usage on `err`; 3, with no text, if an opening, a read or a
+/// write failed.
 pub fn program<F: Opener, I: ByteInput, O: Write, E: Write>(
     alloc: Global,
     words: &[&str],
@@ -68,8 +68,8 @@ pub fn program<F: Opener, I: ByteInput, O: Write, E: Write>(
     program_of::<Pcboard, F, I, O, E>(alloc, words, files, input, out, err)
 }
 
-/// Does what `program` does, with a tool's words and its answers to typed lines. The clauses are those of `program`, in
-/// terms of what the tool reads and answers.
+/// Runs a program that shares all with `pcboard` but its words and its answers to typed lines, which are the tool's,
+/// and answers the exit status, as `program` does; `pcprobe` is one.
 pub fn program_of<T: Tool, F: Opener, I: ByteInput, O: Write, E: Write>(
     alloc: Global,
     words: &[&str],
@@ -105,7 +105,7 @@ pub fn program_of<T: Tool, F: Opener, I: ByteInput, O: Write, E: Write>(
     }
 }
 
-/// Prints the answer to a task.
+/// Prints the answer to the task that the command line names: a report, a HEX text, a listing, or a session's replies.
 fn print_task<T: Tool, F: Opener, I: ByteInput, O: Write>(
     alloc: Global,
     task: Task<'_>,
@@ -141,7 +141,7 @@ fn print_task<T: Tool, F: Opener, I: ByteInput, O: Write>(
     }
 }
 
-/// Prints a report, and drops it.
+/// Prints the report of a run, and drops the report with its board.
 fn print_report<O: Write>(report: Report, out: &mut O) -> Result<(), Unanswered>
     ensures printed { OnOk result (Appends (O.contents out.old) (O.contents out.new)
         (string_bytes report.text)) }

@@ -17,7 +17,8 @@ use pcboard_texts::texts::{parted, read_texts};
 use pcboard_texts::unanswered::Unanswered;
 use std::alloc::Global;
 
-/// The report of a stored run: the first line of the input is the run file, and the rest the source.
+/// Runs what stands on standard input, a run file in its first line and then a source, and answers the report, for the
+/// program called without a file.
 pub(crate) fn stored_report<I: ByteInput>(
     alloc: Global,
     input: &mut I,
@@ -33,7 +34,8 @@ pub(crate) fn stored_report<I: ByteInput>(
     Ok(run_texts(alloc, false, source, run)?)
 }
 
-/// The report of a program's file (a HEX text if `hex`, else a source) under a run file.
+/// Runs the program in `file` (a HEX text if `hex`, else a source) as the run file in `run` says, and answers the
+/// report to be printed.
 pub(crate) fn read_report<F: Opener>(
     alloc: Global,
     files: &F,
@@ -53,8 +55,9 @@ pub(crate) fn read_report<F: Opener>(
     Ok(run_texts(alloc, hex, bytes.as_slice(), said.as_slice())?)
 }
 
-/// The board at power-on of a program's file (a HEX text if `hex`, else a source) under a run file. Refused with the
-/// first fault of the two files, and for want of memory; fails if one can't be opened or read.
+/// Reads the two files of `debug`, the program `file` (a HEX text if `hex`, else a source) and the run file `run`,
+/// and returns the board at power-on that they describe. Refused with the files' first fault or for want of memory;
+/// fails if a file can't be opened or read.
 pub fn read_board<F: Opener>(
     alloc: Global,
     files: &F,
@@ -73,8 +76,8 @@ pub fn read_board<F: Opener>(
     Ok(board_of(alloc, hex, bytes.as_slice(), said.as_slice())?)
 }
 
-/// The board at power-on of a HEX text, if `hex`, else of a source, under the text of a run file; or the first refusal,
-/// in the order of `run_texts`.
+/// The board at power-on, for a session, of a HEX text, if `hex`, else of a source, under the text of a run file; or
+/// the first refusal: the program's, the run file's or the board's.
 pub fn board_of(alloc: Global, hex: bool, bytes: &[u8], run: &[u8]) -> Result<Board, Fault>
     ensures board { IfOk result (IsBoardOf hex bytes.now run.now) }
     ensures fault { IfErr result (IsTrueRefusal hex bytes.now run.now) }

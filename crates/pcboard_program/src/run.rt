@@ -23,9 +23,9 @@ use pcboard_texts::fault::Fault;
 use pcboard_texts::texts::read_texts;
 use std::alloc::Global;
 
-/// Assembles `source`, runs its image on the board that the run file describes, with the file's stamped key codes, for
-/// the file's budget, and reports that board. Refused with the source's first fault, with `RamSize` if the board can't
-/// have that RAM or the image doesn't fit in it, and for want of memory.
+/// Assembles `source`, runs its image as the run file says, and reports the board: a run in one contract, for its
+/// readers; the program itself uses `run_texts`. Refused with the source's first fault, with `RamSize` if image and RAM
+/// don't suit the board, and for want of memory.
 pub fn run_source(alloc: Global, source: &[u8], run: &RunFile) -> Result<Report, Fault>
     ensures report { IfOk result (λ report. ReportsSource source.now run.now report) }
     ensures fault { IfErr result (λ fault. IsTrueOfSource source.now run.now fault) }
@@ -38,8 +38,8 @@ pub fn run_source(alloc: Global, source: &[u8], run: &RunFile) -> Result<Report,
     run_image(alloc, listing.image(), run)
 }
 
-/// Runs a HEX text, if `hex`, else a source, under the text of a run file, as `run_image` runs its image. Refused with
-/// the program's fault before the run file's, and with both before the board's.
+/// Runs a HEX text, if `hex`, else a source, as the text of a run file says, for the program `pcboard` and for calls
+/// from C. Refused with the program's fault before the run file's, and with both before the board's.
 pub fn run_texts(alloc: Global, hex: bool, bytes: &[u8], run: &[u8]) -> Result<Report, Fault>
     ensures report { IfOk result (λ report. IsReport hex bytes.now run.now (string_bytes report.text)) }
     ensures fault { IfErr result (IsTrueRefusal hex bytes.now run.now) }
@@ -52,7 +52,7 @@ pub fn run_texts(alloc: Global, hex: bool, bytes: &[u8], run: &[u8]) -> Result<R
     run_image(alloc, &image, &run)
 }
 
-/// Runs an image on the board that the run file describes, with the file's stamped key codes, for the file's budget,
+/// Runs an image for the run file's budget of clocks, on the board and with the stamped key codes that it describes,
 /// and reports that board. Refused with `RamSize` if the board can't have that RAM or the image doesn't fit in it, and
 /// for want of memory.
 pub fn run_image(alloc: Global, image: &Image, run: &RunFile) -> Result<Report, Fault>
@@ -73,7 +73,8 @@ pub fn run_image(alloc: Global, image: &Image, run: &RunFile) -> Result<Report, 
     }
 }
 
-/// Runs a board for `count` clocks. Answers its report as text.
+/// Runs a board for all the `count` clocks of a run file's budget, and returns the report's text, for `pcboard run`
+/// to print. Fails only for want of memory.
 fn text_after(alloc: Global, board: &mut Board, count: u64) -> Result<String, Fault>
     requires { clock_of board.old.plain + count ≤ 2 ^ 40 }
     ensures plain { OnOk result (board.new.plain ≡ after_clocks board.old.plain count) }
@@ -86,7 +87,8 @@ fn text_after(alloc: Global, board: &mut Board, count: u64) -> Result<String, Fa
     Ok(report_text(alloc, board)?)
 }
 
-/// The board of an image at power-on, as the run file describes it.
+/// The board at power-on, for a run or a session, with the image in its memory, and with RAM, switches, timer, clock
+/// table and keys as the run file says. Refused with `RamSize`, and for want of memory.
 pub(crate) fn new_board(alloc: Global, image: &Image, run: &RunFile) -> Result<Board, Fault>
     ensures start { IfOk result (IsAtPowerOn image.now run.now) }
     ensures clock { IfOk result (λ board. clock_of board.plain ≡ 0) }

@@ -58,14 +58,18 @@ impl Tool for Pcboard {
 
     ghost one_task = { one_task_of };
 
+    /// Reads the words after the program's name: the task that they ask for, or the usage to be told.
     fn read<'a>(alloc: Global, words: &'a [&'a str]) -> Result<Task<'a>, LineFault> {
         read_words(alloc, words)
     }
 
+    /// Begins a debugger's session on a board, for `pcboard debug`. Refused as `Memory` if there is none; the board is
+    /// dropped then.
     fn begin(alloc: Global, board: Board) -> Result<Session, DebugFault> {
         Session::new(alloc, board)
     }
 
+    /// Answers a line that is typed in a session as the debugger's command that it is, or refuses it.
     fn answer(alloc: Global, session: &mut Session, line: &str) -> Result<Answer, DebugFault> {
         session.command(alloc, line)
     }

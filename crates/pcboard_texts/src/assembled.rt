@@ -21,7 +21,8 @@ use loader::hex_writer::write_hex;
 use std::alloc::Global;
 use std::io::Write;
 
-/// Prints the listing of a source, if `list`, else the HEX text of its image.
+/// Assembles the source `file` for `asm` on the command line: prints its listing if `list`, else the HEX text of its
+/// image. Refused with the source's first fault, and then nothing is printed.
 pub fn print_assembled<F: Opener, O: Write>(
     alloc: Global,
     files: &F,
@@ -45,7 +46,7 @@ pub fn print_assembled<F: Opener, O: Write>(
     }
 }
 
-/// Prints the listing of a source of `size` bytes.
+/// Prints the listing of an assembled source of `size` bytes, for `asm` with `--list`.
 fn print_listing<O: Write>(
     alloc: Global,
     listing: &Listing,
@@ -64,7 +65,7 @@ fn print_listing<O: Write>(
     Ok(print(out, text.as_str())?)
 }
 
-/// Prints the HEX text of an image.
+/// Prints the HEX text of an assembled source's image, for `asm` without `--list`.
 fn print_hex<O: Write>(image: &Image, out: &mut O) -> Result<(), Unanswered>
     ensures printed { OnOk result (Appends (O.contents out.old) (O.contents out.new) (hex_text image.now)) }
     ensures kept { IfErr result (WhereRefused (O.contents out.new ≡ O.contents out.old)) }

@@ -17,7 +17,8 @@ use std::alloc::Global;
 use std::io;
 use std::io::Write;
 
-/// The next line of the input, without its line feed, or `None` at the end of the input.
+/// Reads the next line that is typed in a session, without its line feed; `None` at the end of the input, which ends
+/// the session.
 pub fn next_line<I: ByteInput>(alloc: Global, input: &mut I) -> Result<Option<Vec<u8>>, Unanswered>
     ensures line { IfOk result (λ line. TakesLine (I.remaining input.old) (I.remaining input.new)
         (option_map vec_items line)) }
@@ -37,7 +38,7 @@ pub fn next_line<I: ByteInput>(alloc: Global, input: &mut I) -> Result<Option<Ve
     Err(Unanswered::Failed)
 }
 
-/// Whether a line is the word `quit`, which ends a session.
+/// Whether a typed line is the word `quit`, which ends a session; a line that isn't UTF-8 isn't.
 pub fn ends_session(line: &[u8]) -> bool
     ensures { result ≡ ends_session line.now }
 {
@@ -47,7 +48,8 @@ pub fn ends_session(line: &[u8]) -> bool
     }
 }
 
-/// Prints an answer or a refusal, and flushes it.
+/// Prints what a session replies to a typed line, an answer or a refusal, and flushes it, so that whoever typed sees it
+/// at once.
 pub fn print_reply<O: Write>(reply: &Result<Answer, DebugFault>, out: &mut O) -> io::Result<()>
     ensures { OnOk result (Appends (O.contents out.old) (O.contents out.new) (reply_text reply.now)) }
 {
@@ -58,7 +60,7 @@ pub fn print_reply<O: Write>(reply: &Result<Answer, DebugFault>, out: &mut O) ->
     out.flush()
 }
 
-/// Prints a refusal: its number and name, and its clock if it has one.
+/// Prints why a session refuses a typed line, as a line: the fault's number and name, and its clock if it has one.
 fn print_refusal<O: Write>(fault: &DebugFault, out: &mut O) -> io::Result<()>
     ensures { OnOk result (Appends (O.contents out.old) (O.contents out.new) (refusal_text fault.now)) }
 {

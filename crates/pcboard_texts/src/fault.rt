@@ -29,6 +29,7 @@ pub enum Fault {
 impl From<AsmFault> for Fault {
     ghost from_gives = { λ part fault. fault ≡ Source part };
 
+    /// Makes a source's fault the refusal of a run, so that `?` hands it on.
     fn from(fault: AsmFault) -> Self {
         Fault::Source(fault)
     }
@@ -37,6 +38,7 @@ impl From<AsmFault> for Fault {
 impl From<HexFault> for Fault {
     ghost from_gives = { λ part fault. fault ≡ Hex part };
 
+    /// Makes a HEX text's fault the refusal of a run, so that `?` hands it on.
     fn from(fault: HexFault) -> Self {
         Fault::Hex(fault)
     }
@@ -45,6 +47,7 @@ impl From<HexFault> for Fault {
 impl From<RunFault> for Fault {
     ghost from_gives = { λ part fault. fault ≡ Run part };
 
+    /// Makes a run file's fault the refusal of a run, so that `?` hands it on.
     fn from(fault: RunFault) -> Self {
         Fault::Run(fault)
     }
@@ -53,6 +56,8 @@ impl From<RunFault> for Fault {
 impl From<BoardFault> for Fault {
     ghost from_gives = { λ part fault. fault ≡ Board part };
 
+    /// Makes the fault of a board, such as a RAM size that it can't have, the refusal of a run, so that `?` hands it
+    /// on.
     fn from(fault: BoardFault) -> Self {
         Fault::Board(fault)
     }
@@ -62,13 +67,14 @@ impl From<BoardFault> for Fault {
 impl From<AllocError> for Fault {
     ghost from_gives = { λ _ fault. fault ≡ Board Memory };
 
+    /// Makes a failed allocation the refusal of a run for want of memory, as the board's, so that `?` hands it on.
     fn from(_error: AllocError) -> Self {
         Fault::Board(BoardFault::Memory)
     }
 }
 
 impl Fault {
-    /// The fault's number, from 1 on.
+    /// The fault's number, from 1 on, for its printed line and for callers from C.
     pub fn number(self) -> u8
         ensures { result ≡ number_of self }
     {
@@ -81,7 +87,7 @@ impl Fault {
         }
     }
 
-    /// The fault's name, as it is printed.
+    /// The fault's name, as its printed line has it.
     pub fn name(self) -> &'static str
         ensures { result.now ≡ name_of self }
     {
@@ -94,7 +100,8 @@ impl Fault {
         }
     }
 
-    /// The line of the source or HEX text, from 1 on, if the fault has one.
+    /// The line of the source or HEX text, from 1 on, in which the fault is; `None` for faults of run files, boards and
+    /// sessions.
     pub fn line(self) -> Option<u64>
         ensures { result ≡ line_of self }
     {
@@ -106,8 +113,8 @@ impl Fault {
     }
 }
 
-/// Writes the line of a fault, which has its number and name, and the number of its line if there is one, and flushes
-/// it.
+/// Writes why the program refuses its task, as a line on standard error, and flushes it: the fault's number and name,
+/// and the number of the faulty line if there is one.
 #[tactic(auto, unfolding(crate::specs::RunFaults::fault_text))]
 pub fn write_fault<W: Write>(fault: &Fault, to: &mut W) -> io::Result<()>
     ensures { OnOk result (Appends (W.contents to.old) (W.contents to.new) (fault_text fault.now)) }
@@ -122,6 +129,7 @@ pub fn write_fault<W: Write>(fault: &Fault, to: &mut W) -> io::Result<()>
     to.flush()
 }
 
+/// Writes the number of the faulty line, for the end of a refusal.
 fn write_line_number<W: Write>(line: u64, to: &mut W) -> io::Result<()>
     ensures { OnOk result (Appends (W.contents to.old) (W.contents to.new) (codes " line " ++ decimal line)) }
 {

@@ -18,7 +18,7 @@ use std::alloc::Global;
 /// One byte more than a source may have, so that a longer one is seen to be too long.
 const SOURCE_READ_LIMIT: u64 = 1_048_577;
 
-/// The bytes of a program's file: a HEX text as a whole, if `hex`, else as much of a source as has to be seen.
+/// Reads a program's file: a HEX text as a whole, if `hex`, else as much of a source as shows whether it is too long.
 pub(crate) fn read_program<F: Opener>(
     alloc: Global,
     files: &F,
@@ -39,8 +39,8 @@ pub(crate) fn read_program<F: Opener>(
     }
 }
 
-/// The bytes of a program's file, as `read_program` reads them, and those of a run file. Both files are read before
-/// either is judged.
+/// Reads the files that a run or a session names: the program's, as `read_program` does, and the run file. Both are
+/// read before either is judged, so that nothing is judged if one can't be opened.
 pub fn read_files<F: Opener>(
     alloc: Global,
     files: &F,
@@ -61,7 +61,8 @@ pub fn read_files<F: Opener>(
     Ok((bytes, said))
 }
 
-/// All that `input` still has to give. `want` is the refusal if there is no memory for it.
+/// Reads all that `input` still has to give, for files and for a stored run on standard input. `want` is the refusal if
+/// there is no memory for it.
 pub fn read_whole<I: ByteInput>(
     alloc: Global,
     input: &mut I,
@@ -76,8 +77,8 @@ pub fn read_whole<I: ByteInput>(
     Ok(bytes)
 }
 
-/// The first `limit` bytes that `input` has to give, or all of them if there are no more. `want` is the refusal if
-/// there is no memory for them.
+/// Reads the first `limit` bytes that `input` has to give, or all of them if there are no more. `want` is the refusal
+/// if there is no memory for them.
 fn read_front<I: ByteInput>(
     alloc: Global,
     input: &mut I,
@@ -95,7 +96,7 @@ fn read_front<I: ByteInput>(
     }
 }
 
-/// The next byte of the input, or `None` at its end.
+/// Reads the next byte of what is typed, for `next_line`; `None` at the end of the input.
 pub(crate) fn next_byte<I: ByteInput>(input: &mut I) -> Result<Option<u8>, Unanswered>
     ensures byte { IfOk result (TakesByte (I.remaining input.old) (I.remaining input.new)) }
     ensures end { IfErr result (λ end. end ≡ Unanswered.Failed) }

@@ -9,7 +9,8 @@ use assembler::fault::AsmFault;
 use assembler::listing::Listing;
 use std::alloc::{AllocError, Global};
 
-/// All lines of the listing of a source of `size` bytes. A source has no more lines than bytes.
+/// All lines of an assembled source's listing as one text, to be printed. `size` is the source's size in bytes, which
+/// has no more lines than that.
 pub(crate) fn listing_text(
     alloc: Global,
     listing: &Listing,
@@ -32,6 +33,7 @@ pub(crate) fn listing_text(
     Ok(text)
 }
 
+/// Appends a line and its line feed to the text of a listing.
 fn push_line(text: &mut String, line: &str) -> Result<(), AllocError>
     ensures { OnOk result (string_bytes text.new ≡ string_bytes text.old ++ (line.now ++ 10 ∷ [])) }
 {

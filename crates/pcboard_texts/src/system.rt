@@ -15,13 +15,14 @@ pub struct SystemFiles<'a> {
 impl Opener for SystemFiles<'_> {
     type Input = File;
 
+    /// Opens a file of the system for reading, by the path that the command line names.
     fn open(&self, path: &str) -> io::Result<File> {
         fs::open(self.rt, path)
     }
 }
 
-/// Runs a program, which answers its exit status, on the words after its name and on the files of the system. If the
-/// words can't be had, the program isn't run, and standard error says why.
+/// Runs a program, for its `main`, on the words of the command line and the system's files; the program answers its
+/// exit status. If the words can't be had, it isn't run, and standard error says why.
 pub fn run_on_system<P>(rt: &HostRuntime, program: P) -> ExitCode
 where
     P: FnOnce(&[&str], &SystemFiles<'_>) -> u8 + Drop,
@@ -33,7 +34,8 @@ where
     }
 }
 
-/// The exit status of the program. Fails if there is no memory for the words, or if one of them isn't UTF-8.
+/// Collects the command line's words after the program's name, runs the program on them, and answers its exit status.
+/// Fails if there is no memory for the words, or if one of them isn't UTF-8.
 fn status_of<P>(rt: &HostRuntime, program: P) -> io::Result<u8>
 where
     P: FnOnce(&[&str], &SystemFiles<'_>) -> u8 + Drop,
@@ -50,7 +52,7 @@ where
     Ok(program(words.as_slice(), &SystemFiles { rt }))
 }
 
-/// The exit status if the words can't be had; `err` says why.
+/// Says on `err` why the command line's words can't be had, and answers the exit status for that.
 fn status_without_words<E: Write>(error: &io::Error, err: &mut E) -> u8 {
     match error.kind() {
         ErrorKind::OutOfMemory => without_words(err),

@@ -13,7 +13,7 @@ use std::io::Write;
 const UNREADABLE_WORDS: &str =
     "error: invalid UTF-8 was detected in one or more arguments\n\nFor more information, try '--help'.\n";
 
-/// What a program does if there is no memory for its words: it says so, and answers the exit status, which is 1, or 3
+/// Says on `err` that there is no memory for the command line's words, and answers the program's exit status: 1, or 3
 /// if writing failed.
 pub fn without_words<E: Write>(err: &mut E) -> u8
     ensures above { 0 < result }
@@ -24,8 +24,8 @@ pub fn without_words<E: Write>(err: &mut E) -> u8
     refused(err, Fault::Board(BoardFault::Memory))
 }
 
-/// What a program does if a word isn't UTF-8, and so can't be read: it says so, and answers the exit status, which is
-/// 2, or 3 if writing failed.
+/// Says on `err` that a word of the command line isn't UTF-8, and answers the program's exit status: 2, or 3 if writing
+/// failed.
 pub fn with_unreadable_words<E: Write>(err: &mut E) -> u8
     ensures status { result ≡ 2 ⊎ result ≡ 3 }
     ensures told { result ≡ 2 → Appends (E.contents err.old) (E.contents err.new) unreadable_text }
@@ -34,7 +34,7 @@ pub fn with_unreadable_words<E: Write>(err: &mut E) -> u8
     told(err, text, status)
 }
 
-/// The exit status for words that can't be read, and the text that says so.
+/// The exit status, 2, if a word of the command line isn't UTF-8, and the text that says so.
 pub fn unreadable_words() -> (u8, &'static str)
     ensures status { result.0 ≡ 2 }
     ensures text { result.1.now ≡ unreadable_text }
@@ -42,7 +42,7 @@ pub fn unreadable_words() -> (u8, &'static str)
     (2, UNREADABLE_WORDS)
 }
 
-/// Prints a text, and flushes it.
+/// Prints a whole text, a report or a listing, and flushes it.
 pub fn print<W: Write>(to: &mut W, text: &str) -> io::Result<()>
     ensures { OnOk result (Appends (W.contents to.old) (W.contents to.new) text.now) }
 {
@@ -50,7 +50,7 @@ pub fn print<W: Write>(to: &mut W, text: &str) -> io::Result<()>
     to.flush()
 }
 
-/// Prints a text on `err`, and answers `status`, or 3 if writing failed.
+/// Prints a text, such as the usage, on `err`, and answers the program's exit status: `status`, or 3 if writing failed.
 pub fn told<W: Write>(err: &mut W, text: &str, status: u8) -> u8
     requires above { 0 < status }
     requires within { status ≤ 3 }
@@ -62,7 +62,7 @@ pub fn told<W: Write>(err: &mut W, text: &str, status: u8) -> u8
     status_after(&print(err, text), status)
 }
 
-/// Prints the line of a refusal on `err`, and answers the exit status, which is 1, or 3 if writing failed.
+/// Prints the line of a refusal on `err`, and answers the program's exit status: 1, or 3 if writing failed.
 pub fn refused<W: Write>(err: &mut W, fault: Fault) -> u8
     ensures above { 0 < result }
     ensures within { result ≤ 3 }
@@ -72,7 +72,7 @@ pub fn refused<W: Write>(err: &mut W, fault: Fault) -> u8
     status_after(&write_fault(&fault, err), 1)
 }
 
-/// The exit status after a text was to be printed: 3 if writing it failed, and else `status`.
+/// The program's exit status after a text was written to standard error: 3 if that failed, and else `status`.
 fn status_after(written: &io::Result<()>, status: u8) -> u8
     ensures { MatchResult written.now (λ _. result ≡ status) (λ _. result ≡ 3) }
 {

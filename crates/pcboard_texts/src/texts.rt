@@ -13,8 +13,8 @@ use loader::run_file::RunFile;
 use loader::run_reader::read_run_text;
 use std::alloc::Global;
 
-/// The image of a HEX text, if `hex`, else of a source, and what the text of a run file says; or the first refusal, in
-/// which the program's fault comes before the run file's.
+/// What a run needs of its two texts: the image of a HEX text, if `hex`, else of a source, and what the run file says;
+/// or the first fault, in which the program's comes before the run file's.
 pub fn read_texts(
     alloc: Global,
     hex: bool,
@@ -35,7 +35,7 @@ pub fn read_texts(
     Ok((image, run))
 }
 
-/// The image of a HEX text, if `hex`, else of a source; or its first fault, whatever the run file says.
+/// The image of a HEX text, if `hex`, else of a source, for a run; or the text's first fault.
 fn read_image(alloc: Global, hex: bool, bytes: &[u8]) -> Result<Image, Fault>
     ensures gives { IfOk result (GivesImage hex bytes.now) }
     ensures fault { IfErr result (λ fault. (run : List ℕ) → IsTrueRefusal hex bytes.now run fault) }
@@ -49,7 +49,8 @@ fn read_image(alloc: Global, hex: bool, bytes: &[u8]) -> Result<Image, Fault>
     }
 }
 
-/// The text before the first line feed, and the text after it, which is empty without a line feed.
+/// Splits a stored run's text in two: the run file, which is its first line, and the source, which is all after that
+/// line's end; empty if there is no second line.
 #[tactic(auto, using(crate::proofs::Parted::front, crate::proofs::Parted::back, crate::proofs::Parted::front_all, crate::proofs::Parted::back_none))]
 pub fn parted(text: &[u8]) -> (&[u8], &[u8])
     ensures run { result.0.now ≡ run_text_of text.now }
@@ -61,6 +62,7 @@ pub fn parted(text: &[u8]) -> (&[u8], &[u8])
     }
 }
 
+/// Where the first line feed stands in the text; `None` if there is none.
 fn first_line_end(text: &[u8]) -> Option<usize>
     ensures end { result ≡ position (λ byte. byte == 10) text.now }
     ensures bound { IfSome result (λ at. at < length text.now) }

@@ -23,6 +23,7 @@ pub enum Unanswered {
 impl From<Fault> for Unanswered {
     ghost from_gives = { λ fault end. end ≡ Refused fault };
 
+    /// Makes a refusal the reason why the program gives no answer, so that `?` hands it on.
     fn from(fault: Fault) -> Self {
         Unanswered::Refused(fault)
     }
@@ -31,6 +32,7 @@ impl From<Fault> for Unanswered {
 impl From<AsmFault> for Unanswered {
     ghost from_gives = { λ fault end. end ≡ Refused (Source fault) };
 
+    /// Makes a source's fault the reason why the program gives no answer, so that `?` hands it on.
     fn from(fault: AsmFault) -> Self {
         Unanswered::Refused(Fault::Source(fault))
     }
@@ -39,6 +41,8 @@ impl From<AsmFault> for Unanswered {
 impl From<DebugFault> for Unanswered {
     ghost from_gives = { λ fault end. end ≡ Refused (Session fault) };
 
+    /// Makes the fault with which a session couldn't begin the reason why the program gives no answer, so that `?`
+    /// hands it on.
     fn from(fault: DebugFault) -> Self {
         Unanswered::Refused(Fault::Session(fault))
     }
@@ -47,6 +51,8 @@ impl From<DebugFault> for Unanswered {
 impl From<io::Error> for Unanswered {
     ghost from_gives = { λ _ end. end ≡ Failed };
 
+    /// Makes a failed opening, read or write the reason why the program gives no answer, so that `?` hands it on; which
+    /// one it was isn't told.
     fn from(_error: io::Error) -> Self {
         Unanswered::Failed
     }
@@ -55,6 +61,7 @@ impl From<io::Error> for Unanswered {
 impl From<byte_input::Failed> for Unanswered {
     ghost from_gives = { λ _ end. end ≡ Failed };
 
+    /// Makes a failed read of the input the reason why the program gives no answer, so that `?` hands it on.
     fn from(_failed: byte_input::Failed) -> Self {
         Unanswered::Failed
     }
@@ -63,6 +70,8 @@ impl From<byte_input::Failed> for Unanswered {
 impl<T: Drop> From<AllocFailed<T>> for Unanswered {
     ghost from_gives = { λ _ end. end ≡ Refused (Board Memory) };
 
+    /// Makes a failed allocation, for want of memory, the reason why the program gives no answer, so that `?` hands it
+    /// on.
     fn from(_refused: AllocFailed<T>) -> Self {
         Unanswered::Refused(Fault::Board(BoardFault::Memory))
     }

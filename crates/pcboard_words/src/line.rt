@@ -8,8 +8,8 @@ use clap::error::ErrorKind;
 use clap::{Arg, ArgAction, ArgMatches, Command, Error};
 use std::alloc::{AllocError, Global};
 
-/// Reads the words after the program's name. Without a word the task is the stored run; the others are `asm FILE
-/// [--list]`, `run FILE RUN [--hex]` and `debug FILE RUN [--hex]`. Refused as `Usage`, with the text of `clap`, if that
+/// Reads the words after the name of the program `pcboard` as its task: no word for the stored run, or `asm FILE
+/// [--list]`, `run FILE RUN [--hex]` or `debug FILE RUN [--hex]`. Refused as `Usage`, with the text of `clap`, if that
 /// refuses the words, and as `Memory` for want of memory.
 #[tactic(auto, unfolding(crate::specs::CommandLine::Answers))]
 pub fn read_words<'a>(alloc: Global, words: &'a [&'a str]) -> Result<Task<'a>, LineFault>
@@ -33,7 +33,8 @@ pub fn read_words<'a>(alloc: Global, words: &'a [&'a str]) -> Result<Task<'a>, L
     }
 }
 
-// The command line of `pcboard`.
+/// Describes the command line of `pcboard` to `clap`, which reads the words by it: the subcommands `asm`, `run` and
+/// `debug`, and none for a run from standard input.
 fn command<'a>(alloc: Global) -> Result<Command<'a>, AllocError>
     ensures { IfOk result (λ command. app_of command ≡ app) }
 {
@@ -59,7 +60,8 @@ fn command<'a>(alloc: Global) -> Result<Command<'a>, AllocError>
     )
 }
 
-// The command with the subcommand `asm`.
+/// Adds the subcommand `asm`, which assembles a source, to a command line's description. `clap` may lack memory for it;
+/// the description is dropped then.
 fn with_asm<'a>(alloc: Global, command: Command<'a>) -> Result<Command<'a>, AllocError>
     ensures { IfOk result (λ r. app_of r ≡ with_subcommand (app_of command.entry) asm_command.top) }
 {
@@ -72,7 +74,8 @@ fn with_asm<'a>(alloc: Global, command: Command<'a>) -> Result<Command<'a>, Allo
     }
 }
 
-// The command with a subcommand that puts a program on a board.
+/// Adds a subcommand that puts a program on a board, `run` or `debug`, to a command line's description. `clap` may lack
+/// memory for it; the description is dropped then.
 fn with_board<'a>(
     alloc: Global,
     command: Command<'a>,
@@ -90,6 +93,7 @@ fn with_board<'a>(
     }
 }
 
+/// Describes the subcommand `asm FILE [--list]` to `clap`, with its text of help.
 fn asm_command<'a>(alloc: Global) -> Result<Command<'a>, AllocError>
     ensures shape { IfOk result (λ command. app_of command ≡ asm_command) }
     ensures local { IfOk result (λ command. has_globals command ≡ false) }
@@ -104,7 +108,8 @@ fn asm_command<'a>(alloc: Global) -> Result<Command<'a>, AllocError>
         ))
 }
 
-// A subcommand that puts a program on a board.
+/// Describes the words that put a program on a board, `FILE RUN [--hex]`, to `clap`: for the subcommands `run` and
+/// `debug` of `pcboard`, and for the whole command line of `pcprobe`.
 pub(crate) fn board_command<'a>(
     alloc: Global,
     name: &'a str,
@@ -120,7 +125,7 @@ pub(crate) fn board_command<'a>(
         .arg(flag(alloc, "hex", "FILE is an Intel HEX text, not a source"))
 }
 
-// An argument that must be there.
+/// Describes an argument that must be there, such as a file's name, to `clap`.
 fn required_word<'a>(alloc: Global, name: &'a str, help: &'a str) -> Arg<'a>
     ensures rule { rule_of result ≡ required_word name.entry.now }
     ensures local { result.global ≡ false }
@@ -131,7 +136,7 @@ fn required_word<'a>(alloc: Global, name: &'a str, help: &'a str) -> Arg<'a>
         .help(help)
 }
 
-// An argument `--NAME` without a value.
+/// Describes an option `--NAME` without a value, such as `--hex`, to `clap`.
 fn flag<'a>(alloc: Global, name: &'a str, help: &'a str) -> Arg<'a>
     ensures rule { rule_of result ≡ flag name.entry.now }
     ensures local { result.global ≡ false }
@@ -142,7 +147,7 @@ fn flag<'a>(alloc: Global, name: &'a str, help: &'a str) -> Arg<'a>
         .help(help)
 }
 
-// The task that the matches hold.
+/// Turns what `clap` found in the words of `pcboard` into the task that the program does.
 fn task<'a>(matches: &ArgMatches<'a>) -> Task<'a>
     requires { IfSome (subcommand_rows_of matches.now) HoldsTask }
     ensures { IsTaskOf (subcommand_rows_of matches.now) result }
@@ -166,7 +171,8 @@ fn task<'a>(matches: &ArgMatches<'a>) -> Task<'a>
     }
 }
 
-// The text of an argument that the matches hold; the empty text is never taken in its place.
+/// Returns the text of an argument that `clap` has found, such as a file's name. Only arguments that must be there are
+/// asked for, so the empty text is never taken in its place.
 #[tactic(auto, using(crate::proofs::Matches::first_rows))]
 pub(crate) fn text_in<'a>(matches: &ArgMatches<'a>, name: &str) -> &'a str
     requires { is_there name.now (rows_of (found_of matches.now)) ≡ true }
@@ -175,7 +181,7 @@ pub(crate) fn text_in<'a>(matches: &ArgMatches<'a>, name: &str) -> &'a str
     matches.get_str(name).unwrap_or("")
 }
 
-// Whether a flag is among the words: its value is then the text `true`.
+/// Whether an option such as `--hex` is among the words: `clap` gives it the value `true` then.
 #[tactic(auto, using(crate::proofs::Matches::first_rows))]
 pub(crate) fn is_given(matches: &ArgMatches<'_>, name: &str) -> bool
     ensures { result ≡ is_given name.now (rows_of (found_of matches.now)) }
@@ -183,6 +189,8 @@ pub(crate) fn is_given(matches: &ArgMatches<'_>, name: &str) -> bool
     matches.get_str(name) == Some("true")
 }
 
+/// Turns the error with which `clap` refuses the words into why they name no task: `Memory` if it ran out, or else
+/// `Usage` with its text, which the program prints to standard error.
 pub(crate) fn line_fault(alloc: Global, error: &Error) -> LineFault
     ensures { OnUsage result (kind_of error.now ≢ ErrorKind.OutOfMemory) }
 {

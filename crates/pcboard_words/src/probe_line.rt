@@ -9,8 +9,8 @@ use crate::task::{LineFault, Task};
 use clap::{ArgMatches, Command};
 use std::alloc::{AllocError, Global};
 
-/// Reads the words after the name of `pcprobe`, `FILE RUN [--hex]`, as the task of a session. Refused as `Usage`, with
-/// the text of `clap`, if that refuses the words, and as `Memory` for want of memory.
+/// Reads the words after the name of the program `pcprobe`, `FILE RUN [--hex]`, as the task of a session. Refused as
+/// `Usage`, with the text of `clap`, if that refuses the words, and as `Memory` for want of memory.
 #[tactic(auto, unfolding(crate::specs::ProbeLine::AnswersProbe))]
 pub fn read_probe_words<'a>(alloc: Global, words: &'a [&'a str]) -> Result<Task<'a>, LineFault>
     ensures { AnswersProbe (map (λ word. word.now) words.entry.now) result }
@@ -33,7 +33,7 @@ pub fn read_probe_words<'a>(alloc: Global, words: &'a [&'a str]) -> Result<Task<
     }
 }
 
-// The command line of `pcprobe`.
+/// Describes the command line of `pcprobe`, `FILE RUN [--hex]`, to `clap`, which reads the words by it.
 fn probe_command<'a>(alloc: Global) -> Result<Command<'a>, AllocError>
     ensures { IfOk result (λ command. app_of command ≡ probe_app) }
 {
@@ -45,7 +45,8 @@ fn probe_command<'a>(alloc: Global) -> Result<Command<'a>, AllocError>
     Ok(command.bin_name("pcprobe")?.no_binary_name(true))
 }
 
-// The task of a session that the matches hold.
+/// Turns what `clap` found in the words of `pcprobe` into the task that the program does: a session about a program's
+/// board.
 fn probe_task<'a>(matches: &ArgMatches<'a>) -> Task<'a>
     requires { HoldsFiles (rows_of (found_of matches.now)) }
     ensures { IsSessionOf (rows_of (found_of matches.now)) result }

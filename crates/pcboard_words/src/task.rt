@@ -1,6 +1,6 @@
 //! What the program is asked to do.
 
-/// A task of the program.
+/// What the words of a command line ask `pcboard` or `pcprobe` to do.
 #[derive(Clone, Copy, Debug, PartialEq, Eq)]
 pub enum Task<'a> {
     /// Runs the source that follows its run file on standard input, and prints the report.
@@ -26,7 +26,7 @@ pub enum Task<'a> {
     },
 }
 
-/// Why the words name no task.
+/// Why the words of a command line name no task.
 #[derive(Debug, Drop)]
 pub enum LineFault {
     /// The words aren't the program's, or they ask for help; this is the text for standard error.

@@ -24,14 +24,17 @@ impl Tool for Pcprobe {
 
     ghost one_task = { one_session };
 
+    /// Reads the words of the command line, `FILE RUN [--hex]`.
     fn read<'a>(alloc: Global, words: &'a [&'a str]) -> Result<Task<'a>, LineFault> {
         read_probe_words(alloc, words)
     }
 
+    /// Begins a probe of the board, which answers the lines typed. Refused as `Memory` if there is none.
     fn begin(alloc: Global, board: Board) -> Result<Probe, DebugFault> {
         Probe::new(alloc, board)
     }
 
+    /// Answers a typed line: a command of the debugger or an inquiry.
     fn answer(alloc: Global, session: &mut Probe, line: &str) -> Result<Answer, DebugFault> {
         session.command(alloc, line)
     }

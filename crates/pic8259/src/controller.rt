@@ -109,8 +109,8 @@ impl Pic {
     ghost use Rattle.pic8259.specs.AskingLevels.{is_pending, requests};
     ghost use Rattle.pic8259.specs.Pic.{power_on, is_requesting, is_ready, asks, blocks, may_be_taken, level_to_take, after_taking, after_acknowledge, vector, byte_at, after_read, after_line, after_icw1, after_word, after_end, after_lowering, highest_served, after_ocw2, after_ocw3, after_command, after_write, is_operating, expected_after_icw3};
 
-    /// A controller at power-on: every line low, nothing masked or in service, edge mode, no initialisation
-    /// sequence begun.
+    /// Makes a controller at power-on: every line low, nothing masked or in service, edge mode, no initialisation
+    /// sequence begun. ICW1, too, goes back to that, but for what it leaves.
     #[tactic(auto, unfolding(crate::specs::Levels::order_with_lowest))]
     pub fn new() -> Pic
         ensures { result ≡ power_on }
@@ -137,7 +137,8 @@ impl Pic {
         }
     }
 
-    /// The controller that an image stands for; any numbers stand for some controller.
+    /// Makes the controller that an image stands for, so that a call from C or the probe can go on with it; any
+    /// numbers stand for some controller.
     #[tactic(auto, unfolding(crate::specs::PicNumbers::pic_of))]
     pub fn from_image(image: &PicImage) -> Pic
         ensures { result ≡ pic_of image.now }
@@ -164,7 +165,8 @@ impl Pic {
         }
     }
 
-    /// The controller as numbers, of which `from_image` makes it again.
+    /// The controller as plain numbers, of which `from_image` makes it again: for callers in C, and for the probe,
+    /// which prints them.
     #[tactic(auto, unfolding(crate::specs::PicNumbers::pic_of))]
     pub fn image(&self) -> PicImage
         ensures { pic_of result ≡ self.now }
@@ -191,8 +193,8 @@ impl Pic {
         }
     }
 
-    /// Sets the request line of level `n`, from 0 to 7. A line that goes from low to high has risen, and stays so
-    /// until its level is taken or ICW1 is written ("Edge and Level Triggered Modes").
+    /// Sets the request line of level `n`, from 0 to 7, as the device on it drives it. A line that goes from low to
+    /// high has risen, and stays so until its level is taken or ICW1 is written ("Edge and Level Triggered Modes").
     #[tactic(auto, unfolding(crate::specs::Pic::after_line))]
     pub fn set_line(&mut self, n: u8, line: Line)
         requires { n < 8 }
@@ -209,7 +211,8 @@ impl Pic {
         }
     }
 
-    /// Whether level `n`, from 0 to 7, has risen since it was last taken.
+    /// Whether level `n`, from 0 to 7, has risen since it was last taken: then further rises change nothing, and the
+    /// board needn't stop at each one of OUT0, which drives IR0.
     pub fn has_risen(&self, n: u8) -> bool
         requires { n < 8 }
         ensures { result ≡ contains self.now.risen n }
@@ -217,9 +220,9 @@ impl Pic {
         self.risen.contains(n)
     }
 
-    /// Reads at address line A0. A pending poll is answered at either port: it takes a level as an acknowledge does and
-    /// gives 80h plus its number, or gives 0. Else A0 = 1 gives the mask, and A0 = 0 the requests or the levels in
-    /// service ("Poll Command", "Reading the 8259A Status").
+    /// Answers a program's IN at address line A0. A pending poll is answered at either port: it takes a level as an
+    /// acknowledge does and gives 80h plus its number, or gives 0. Else A0 = 1 gives the mask, and A0 = 0 the requests
+    /// or the levels in service ("Poll Command", "Reading the 8259A Status").
     #[tactic(auto, unfolding(crate::specs::Pic::byte_at, crate::specs::Pic::after_read))]
     pub fn read(&mut self, a0: bool) -> u8
         ensures value { result ≡ byte_at self.old a0 }
@@ -236,8 +239,8 @@ impl Pic {
         }
     }
 
-    /// Writes at address line A0. At A0 = 0 the value is ICW1, OCW2 or OCW3, by its bits 4 and 3; at A0 = 1 it is the
-    /// word that the initialisation sequence waits for, and else the mask ("Programming the 8259A").
+    /// Does a program's OUT at address line A0. At A0 = 0 the value is ICW1, OCW2 or OCW3, by its bits 4 and 3; at A0
+    /// = 1 it is the word that the initialisation sequence waits for, and else the mask ("Programming the 8259A").
     #[tactic(auto, unfolding(crate::specs::Pic::after_write))]
     pub fn write(&mut self, a0: bool, value: u8)
         ensures state { self.new ≡ after_write self.old a0 value }
@@ -256,15 +259,16 @@ impl Pic {
         }
     }
 
-    /// Whether the interrupt output is high: an acknowledge would take a level.
+    /// Whether the interrupt output INT, which goes to the processor, is high: an acknowledge would take a level.
     pub fn request(&self) -> bool
         ensures { result ≡ is_requesting self.now }
     {
         self.find_level().is_some()
     }
 
-    /// Whether level `n`, from 0 to 7, requests nothing whatever its line does, as long as nothing is written or taken:
-    /// the controller isn't ready, or the level is masked, or not above one in service.
+    /// Whether level `n`, from 0 to 7, requests nothing whatever its line does, as long as nothing is written or
+    /// taken: the controller isn't ready, or the level is masked, or not above one in service. If so for IR0, the
+    /// board goes on over the timer's edges.
     #[inline(never)]
     pub fn is_inhibited(&self, n: u8) -> bool
         requires { n < 8 }
@@ -273,7 +277,8 @@ impl Pic {
         !self.is_ready() || self.masked.contains(n) || self.is_blocked(n)
     }
 
-    /// Whether a level that blocks stands in the list at or before the place of level `n`.
+    /// Whether level `n`, below 8, can't be taken, for `is_inhibited`, because a level that blocks stands at or before
+    /// its place in the order of priority.
     #[tactic(auto, using(crate::proofs::Walk::none_blocks))]
     fn is_blocked(&self, n: u8) -> bool
         requires { n < 8 }
@@ -291,7 +296,7 @@ impl Pic {
         is_blocked
     }
 
-    /// The place of level `n` in the order of priority, from 0 for the highest.
+    /// The place of level `n` in the order of priority, from 0 for the highest: `is_blocked` looks no further.
     #[tactic(auto, using(crate::proofs::Order::stands_at))]
     fn place(&self, n: u8) -> usize
         requires { n < 8 }
@@ -301,9 +306,9 @@ impl Pic {
         usize::from((n + 7 - self.lowest) % 8)
     }
 
-    /// The processor's interrupt acknowledge: takes the first level in the order of priority that asks, is unmasked and
-    /// isn't blocked, and answers its vector. If there is none, the vector is that of level 7 and nothing changes
-    /// ("Interrupt Sequence").
+    /// Answers the processor's interrupt acknowledge: takes the first level in the order of priority that asks, is
+    /// unmasked and isn't blocked, and gives its vector. If there is none, the vector is that of level 7 and nothing
+    /// changes ("Interrupt Sequence").
     pub fn acknowledge(&mut self) -> u8
         ensures vector { result ≡ vector self.old }
         ensures state { self.new ≡ after_acknowledge self.old }
@@ -317,7 +322,7 @@ impl Pic {
         }
     }
 
-    /// Bits 7 to 3 of each vector.
+    /// Bits 7 to 3 of each vector, to which `acknowledge` adds the level: at most 248, so that the sum is a byte.
     fn vector_base(&self) -> u8
         ensures value { result ≡ self.now.vector_base }
         ensures bound { result ≤ 248 }
@@ -325,6 +330,8 @@ impl Pic {
         self.vector_base
     }
 
+    /// Answers the read after a poll command: takes a level as an acknowledge does and gives 80h plus its number, or
+    /// gives 0 if there is none; the poll is over.
     fn answer_poll(&mut self) -> u8
         ensures value { result ≡ option_map_or (λ level. 0x80 + level) (level_to_take self.old) 0 }
         ensures state { self.new ≡ record (after_acknowledge self.old) { polled = false } }
@@ -337,7 +344,8 @@ impl Pic {
         }
     }
 
-    /// Takes the level that an acknowledge or a poll takes, if there is one.
+    /// Takes the level that an acknowledge or a poll takes, and gives its number; if there is none, gives `None` and
+    /// changes nothing.
     #[tactic(auto, unfolding(crate::specs::Pic::after_acknowledge))]
     fn take_level(&mut self) -> Option<u8>
         ensures level { result ≡ level_to_take self.old }
@@ -349,6 +357,8 @@ impl Pic {
         Some(level)
     }
 
+    /// Puts a level, below 8, that an acknowledge or a poll takes into service and forgets its rise; under automatic
+    /// end of interrupt it doesn't come into service, but becomes the lowest if rotation is set.
     #[tactic(auto, using(crate::proofs::Order::turned_to_lowest), unfolding(crate::specs::Pic::after_taking))]
     fn serve(&mut self, level: u8)
         requires { level < 8 }
@@ -362,6 +372,8 @@ impl Pic {
         }
     }
 
+    /// The levels that ask, for a read of the requests and for `pending`: those whose line is high and, in edge mode,
+    /// has risen since they were last taken.
     fn requests(&self) -> LevelSet
         ensures { result ≡ requests self.now }
     {
@@ -372,6 +384,8 @@ impl Pic {
         }
     }
 
+    /// Whether `level`, below 8, asks for an interrupt: its line is high and, in edge mode, has risen since it was
+    /// last taken.
     fn asks(&self, level: u8) -> bool
         requires { level < 8 }
         ensures { result ≡ asks self.now level }
@@ -379,6 +393,7 @@ impl Pic {
         self.high.contains(level) && (self.is_level_triggered || self.risen.contains(level))
     }
 
+    /// Whether `level`, below 8, asks and is unmasked: an acknowledge takes the first such level that isn't blocked.
     fn is_pending(&self, level: u8) -> bool
         requires { level < 8 }
         ensures { result ≡ is_pending self.now level }
@@ -386,7 +401,8 @@ impl Pic {
         self.asks(level) && !self.masked.contains(level)
     }
 
-    /// The levels that ask and are unmasked. If there are none, no level may be taken.
+    /// The levels that ask and are unmasked. If there are none, no level may be taken, and `find_level` needn't go
+    /// through the order.
     #[tactic(auto, using(crate::proofs::Walk::none_pending))]
     fn pending(&self) -> LevelSet
         ensures levels { result ≡ map (is_pending self.now) all_levels }
@@ -395,6 +411,8 @@ impl Pic {
         self.requests().difference(self.masked)
     }
 
+    /// Whether `level`, below 8, keeps itself and those after it in the order from being taken: it is in service, and
+    /// not masked in special mask mode.
     fn blocks(&self, level: u8) -> bool
         requires { level < 8 }
         ensures { result ≡ blocks self.now level }
@@ -402,13 +420,15 @@ impl Pic {
         self.served.contains(level) && !(self.special_mask && self.masked.contains(level))
     }
 
+    /// Whether an acknowledge or a poll can take levels at all: no initialisation sequence is under way, and 8086 mode
+    /// is set.
     fn is_ready(&self) -> bool
         ensures { result ≡ is_ready self.now }
     {
         self.is_operating() && self.is_8086
     }
 
-    /// The levels, the highest priority first.
+    /// The levels, the highest priority first: the list in which the level to take, or the one to end, is looked for.
     #[tactic(auto, unfolding(crate::specs::Levels::order_with_lowest))]
     fn order(&self) -> [u8; 8]
         ensures order { result ≡ self.now.order }
@@ -430,7 +450,8 @@ impl Pic {
         ]
     }
 
-    /// The level that an acknowledge would take. Mostly none is pending, and then the order isn't gone through.
+    /// The level that an acknowledge or a poll would take; `None` if there is none, and then INT is low. Mostly none
+    /// is pending, and then the order isn't gone through.
     #[tactic(auto, unfolding(crate::specs::Pic::level_to_take))]
     fn find_level(&self) -> Option<u8>
         ensures level { result ≡ level_to_take self.now }
@@ -442,7 +463,8 @@ impl Pic {
         self.first_to_take()
     }
 
-    /// The first level in the order of priority that is pending and isn't blocked.
+    /// The first level in the order of priority that is pending and isn't blocked, for `find_level`; `None` if there
+    /// is none.
     #[inline(never)]
     fn first_to_take(&self) -> Option<u8>
         ensures level { result ≡ find (may_be_taken self.now) self.now.order }
@@ -458,6 +480,8 @@ impl Pic {
         None
     }
 
+    /// The level that a plain end of interrupt ends: the first in the order that is in service and not excepted by
+    /// special mask mode; `None` if there is none.
     #[tactic(auto, unfolding(crate::specs::Pic::highest_served))]
     fn highest_served(&self) -> Option<u8>
         ensures level { result ≡ highest_served self.now }
@@ -471,6 +495,8 @@ impl Pic {
         None
     }
 
+    /// Takes a byte written at A0 = 0: ICW1 if its bit 4 is set, else OCW3 or OCW2 by bit 3. The last two are ignored
+    /// while an initialisation sequence is under way.
     #[tactic(auto, unfolding(crate::specs::Pic::after_command))]
     fn write_command(&mut self, value: u8)
         ensures { self.new ≡ after_command self.old value }
@@ -486,12 +512,15 @@ impl Pic {
         }
     }
 
+    /// Whether no initialisation sequence is under way: only then are OCW2 and OCW3 heard and levels taken.
     fn is_operating(&self) -> bool
         ensures { result ≡ is_operating self.now.expected }
     {
         matches!(self.expected, Expected::Operation)
     }
 
+    /// Begins an initialisation sequence with ICW1: all is as at power-on but for the lines, the vector's bits and
+    /// ICW3, and the word says whether ICW3 and ICW4 follow, and whether the mode is level or edge.
     #[tactic(auto, unfolding(crate::specs::Pic::after_icw1, crate::specs::Levels::order_with_lowest))]
     fn write_icw1(&mut self, value: u8)
         ensures { self.new ≡ after_icw1 self.old value }
@@ -508,6 +537,8 @@ impl Pic {
         };
     }
 
+    /// Takes ICW2, the sequence's second word, which has the vector's bits 7 to 3, and waits for the next word that
+    /// ICW1 announced.
     #[tactic(auto, unfolding(crate::specs::Pic::after_word))]
     fn write_icw2(&mut self, value: u8)
         ensures { self.new ≡ after_word self.old Icw2 value }
@@ -520,6 +551,7 @@ impl Pic {
         };
     }
 
+    /// Stores ICW3, without effect since the controller is alone, and waits for ICW4 if ICW1 announced it.
     #[tactic(auto, unfolding(crate::specs::Pic::after_word))]
     fn write_icw3(&mut self, value: u8)
         ensures { self.new ≡ after_word self.old Icw3 value }
@@ -528,6 +560,7 @@ impl Pic {
         self.expected = self.expected_after_icw3();
     }
 
+    /// The word that the sequence waits for once ICW3 is written or left out: ICW4 if ICW1 announced it, else none.
     fn expected_after_icw3(&self) -> Expected
         ensures { result ≡ expected_after_icw3 self.now }
     {
@@ -538,6 +571,8 @@ impl Pic {
         }
     }
 
+    /// Takes ICW4, which ends the sequence: it sets 8086 mode, automatic end of interrupt and, without effect, special
+    /// fully nested mode.
     #[tactic(auto, unfolding(crate::specs::Pic::after_word))]
     fn write_icw4(&mut self, value: u8)
         ensures { self.new ≡ after_word self.old Icw4 value }
@@ -548,6 +583,7 @@ impl Pic {
         self.expected = Expected::Operation;
     }
 
+    /// Sets the mask with OCW1, a byte written at A0 = 1 outside a sequence: a level whose bit is 1 isn't taken.
     #[tactic(auto, unfolding(crate::specs::Pic::after_word))]
     fn write_ocw1(&mut self, value: u8)
         ensures { self.new ≡ after_word self.old Operation value }
@@ -555,6 +591,8 @@ impl Pic {
         self.masked = LevelSet::from_byte(value);
     }
 
+    /// Does what OCW2 says by its bits 7, 6 and 5 (`rotate`, `specific`, `end`): ends a level in service, makes one
+    /// the lowest, or both, or turns rotation under automatic end of interrupt on or off.
     #[tactic(auto, unfolding(crate::specs::Pic::after_ocw2))]
     fn write_ocw2(&mut self, rotate: bool, specific: bool, end: bool, level: u8)
         requires { level < 8 }
@@ -575,6 +613,8 @@ impl Pic {
         }
     }
 
+    /// Does a plain end of interrupt, such as the word 20h: ends the first level that is in service and not excepted
+    /// by special mask mode, and makes it the lowest if `rotate`; nothing changes if there is none.
     #[tactic(auto, unfolding(crate::specs::Pic::after_ocw2))]
     fn end_highest(&mut self, rotate: bool)
         ensures { self.new ≡ after_ocw2 self.old rotate false true 0 }
@@ -587,6 +627,7 @@ impl Pic {
         }
     }
 
+    /// Takes `level`, below 8, out of service, for an OCW2 that names it or a plain end of interrupt.
     #[tactic(auto, unfolding(crate::specs::Pic::after_end))]
     fn end_level(&mut self, level: u8)
         requires { level < 8 }
@@ -595,6 +636,7 @@ impl Pic {
         self.served.remove(level);
     }
 
+    /// Gives `level`, below 8, the lowest priority and the one after it the highest, for an OCW2 that rotates.
     #[tactic(auto, using(crate::proofs::Order::turned_to_lowest), unfolding(crate::specs::Pic::after_lowering))]
     fn make_lowest(&mut self, level: u8)
         requires { level < 8 }
@@ -603,6 +645,8 @@ impl Pic {
         self.lowest = level;
     }
 
+    /// Does what OCW3 says: sets or clears special mask mode, chooses whether reads give the requests or the levels in
+    /// service, and sets a poll command or withdraws it.
     #[tactic(auto, unfolding(crate::specs::Pic::after_ocw3))]
     fn write_ocw3(&mut self, value: u8)
         ensures { self.new ≡ after_ocw3 self.old value }

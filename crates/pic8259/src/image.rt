@@ -45,25 +45,30 @@ pub struct PicImage {
     pub reads_served: u8,
 }
 
-/// A controller goes through its image and is what it was.
+/// Makes a controller's image and a controller of it again, which is what it was: so a caller in C that holds only the
+/// image loses nothing.
 pub fn goes_through_its_image(pic: &Pic) -> Pic
     ensures { result ≡ pic.now }
 {
     Pic::from_image(&pic.image())
 }
 
+/// Reads a flag of an image, for `Pic::from_image`: 0 is no, and any other number yes.
 pub(crate) fn flag_of(number: u8) -> bool
     ensures { result ≡ flag_of number }
 {
     number != 0
 }
 
+/// Writes a flag as a number, for `Pic::image`: 1 for yes, 0 for no.
 pub(crate) fn flag_number(flag: bool) -> u8
     ensures { flag_of result ≡ flag }
 {
     if flag { 1 } else { 0 }
 }
 
+/// Reads from an image, for `Pic::from_image`, the word that the initialisation sequence waits for: 2, 3 or 4 is ICW2,
+/// ICW3 or ICW4, and any other number none.
 pub(crate) fn expected_of(number: u8) -> Expected
     ensures { result ≡ expected_of number }
 {
@@ -75,6 +80,8 @@ pub(crate) fn expected_of(number: u8) -> Expected
     }
 }
 
+/// Writes as a number, for `Pic::image`, the word that the initialisation sequence waits for: 2, 3 or 4, or 0 if no
+/// sequence is under way.
 pub(crate) fn expected_number(expected: Expected) -> u8
     ensures { expected_of result ≡ expected }
 {
@@ -86,6 +93,8 @@ pub(crate) fn expected_number(expected: Expected) -> u8
     }
 }
 
+/// Reads the vector of level 0 from an image, for `Pic::from_image`: above 248 it counts as 248, so that the vector of
+/// level 7 is a byte, too.
 pub(crate) fn base_of(number: u8) -> u8
     ensures base { result ≡ base_of number }
     ensures bound { result ≤ 248 }

@@ -31,14 +31,15 @@ impl Model for LevelSet {
 }
 
 impl LevelSet {
-    /// The set of the levels whose bits are 1 in `byte`.
+    /// Makes the set of the levels whose bits are 1 in `byte`: of a mask that a program writes, or a set in an image.
     pub fn from_byte(byte: u8) -> LevelSet
         ensures { result ≡ levels_of byte }
     {
         LevelSet { mask: byte }
     }
 
-    /// The byte whose bits at the levels of this set are 1, and the others 0.
+    /// The byte whose bits at the levels of this set are 1, and the others 0: what a read of the mask, the requests or
+    /// the levels in service gives.
     #[tactic(auto, using(crate::proofs::Masks::byte_of_levels))]
     pub fn byte(self) -> u8
         ensures byte { result ≡ byte_of self }
@@ -47,7 +48,8 @@ impl LevelSet {
         self.mask
     }
 
-    /// The set has a place for each of the eight levels.
+    /// Tells the proofs of `Pic::write` and `Pic::acknowledge` that the set has a place for each of the eight levels;
+    /// the code does nothing.
     #[inline(always)]
     pub(crate) fn has_eight(self)
         ensures { length self ≡ 8 }
@@ -64,7 +66,7 @@ impl LevelSet {
         bit(self.mask, level)
     }
 
-    /// Puts `level` into the set.
+    /// Puts `level`, below 8, into the set, such as that of the levels in service.
     #[tactic(auto, using(crate::proofs::Masks::levels_with))]
     pub fn insert(&mut self, level: u8)
         requires { level < 8 }
@@ -73,7 +75,7 @@ impl LevelSet {
         self.mask |= 1 << level;
     }
 
-    /// Takes `level` out of the set.
+    /// Takes `level`, below 8, out of the set, such as that of the levels in service.
     #[tactic(auto, using(crate::proofs::Masks::levels_without))]
     pub fn remove(&mut self, level: u8)
         requires { level < 8 }
@@ -82,7 +84,7 @@ impl LevelSet {
         self.mask &= !(1 << level);
     }
 
-    /// The levels that are in both sets.
+    /// The levels that are in both sets: in edge mode those that are high and have risen are the requests.
     #[tactic(auto, using(crate::proofs::Masks::levels_in_both))]
     pub fn intersection(self, other: LevelSet) -> LevelSet
         ensures { result ≡ in_both self other }
@@ -92,7 +94,7 @@ impl LevelSet {
         }
     }
 
-    /// The levels of this set that aren't in `other`.
+    /// The levels of this set that aren't in `other`: of the requests, those that aren't masked.
     #[tactic(auto, using(crate::proofs::Masks::levels_in_first))]
     pub fn difference(self, other: LevelSet) -> LevelSet
         ensures { result ≡ map (λ level. contains self level && not (contains other level)) all_levels }
@@ -102,7 +104,8 @@ impl LevelSet {
         }
     }
 
-    /// Whether no level is in the set.
+    /// Whether no level is in the set; if none requests or is in service, the controller needn't go through the order
+    /// of priority.
     #[tactic(auto, using(crate::proofs::Masks::levels_of_none))]
     pub fn is_empty(self) -> bool
         ensures { IsTrue result ↔ self ≡ no_levels }

@@ -95,7 +95,8 @@ impl Model for Counter {
 }
 
 impl Counter {
-    /// A counter at power-on, its gate at the level `gate`: mode 0, two bytes, binary, no count, OUT low.
+    /// Makes a counter at power-on, its gate at the level `gate`: mode 0, two bytes, binary, no count, OUT low. A
+    /// control word, too, goes back to that, but for what it sets or leaves.
     pub fn new(kind: TimerKind, gate: Line) -> Self
         ensures { result ≡ power_on kind gate }
     {
@@ -121,7 +122,8 @@ impl Counter {
         }
     }
 
-    /// The counter that an image stands for; any numbers stand for some counter.
+    /// Makes the counter that an image stands for, so that a call from C or the probe can go on with it; any numbers
+    /// stand for some counter.
     #[tactic(auto, unfolding(crate::specs::PitNumbers::counter_of))]
     pub fn from_image(image: &CounterImage) -> Self
         ensures { result ≡ counter_of image.now }
@@ -150,7 +152,8 @@ impl Counter {
         }
     }
 
-    /// The counter as numbers, of which `from_image` makes it again.
+    /// The counter as plain numbers, of which `from_image` makes it again: for callers in C, and for the probe, which
+    /// prints them.
     #[tactic(auto, unfolding(crate::specs::PitNumbers::counter_of))]
     pub fn image(&self) -> CounterImage
         ensures { counter_of result ≡ self.now }
@@ -183,14 +186,15 @@ impl Counter {
         }
     }
 
-    /// The level of OUT.
+    /// The level of OUT, the counter's output pin.
     pub fn out(&self) -> Line
         ensures { result ≡ self.now.out }
     {
         self.out
     }
 
-    /// A control word, of which bits 5 to 0 count here: access 00 latches, any other programs the counter anew.
+    /// Takes a control word that names this counter, of which bits 5 to 0 count here: access 00 latches the count, any
+    /// other programs the counter anew.
     #[tactic(auto, unfolding(crate::specs::Counter::after_control_word))]
     pub fn write_control(&mut self, word: u8)
         ensures { self.new ≡ after_control_word self.old word }
@@ -204,7 +208,8 @@ impl Counter {
         self.program(mode_of(word / 2 % 8), access, radix_of(word % 2));
     }
 
-    /// Holds what the counter shows for the reads to come. What is latched already stays.
+    /// Holds the count that the counter shows for the reads to come, so that a program reads both bytes of one moment;
+    /// a count that is latched already stays. For access 00 and an 8254's read-back.
     #[tactic(auto, unfolding(crate::specs::Counter::after_latch))]
     pub fn latch(&mut self)
         ensures { self.new ≡ after_latch self.old }
@@ -212,8 +217,8 @@ impl Counter {
         self.latch = Some(self.reading());
     }
 
-    /// A read-back that names the counter. An 8254 latches the count if bit 5 of `word` is 0, and the status if bit 4
-    /// is 0; an 8253 does nothing.
+    /// Takes a read-back that names this counter: an 8254 latches the count if bit 5 of `word` is 0, and the status if
+    /// bit 4 is 0; an 8253 does nothing.
     #[tactic(auto, unfolding(crate::specs::Counter::after_read_back))]
     pub fn read_back(&mut self, word: u8)
         ensures { self.new ≡ after_read_back self.old word }
@@ -229,7 +234,8 @@ impl Counter {
         }
     }
 
-    /// A byte of a count. With two-byte access the low byte comes first; with one-byte access the other byte is 0.
+    /// Takes a byte of a count that a program writes. With two-byte access the low byte comes first; with one-byte
+    /// access the other byte is 0.
     #[tactic(auto, unfolding(crate::specs::Counter::after_write))]
     pub fn write(&mut self, value: u8)
         ensures { self.new ≡ after_write self.old value }
@@ -244,7 +250,8 @@ impl Counter {
         }
     }
 
-    /// The byte that is read: of a latched status, or else of the latch or the running count, by the access.
+    /// Answers a program's read: with the latched status, or else with a byte of the latched or the running count, by
+    /// the access; the read of a latch's last byte ends the latch.
     #[tactic(auto, unfolding(crate::specs::Counter::next_byte, crate::specs::Counter::after_read))]
     pub fn read(&mut self) -> u8
         ensures byte { result ≡ next_byte self.old }
@@ -276,8 +283,8 @@ impl Counter {
         }
     }
 
-    /// The gate takes the level `line`. In modes 1, 2, 3 and 5 a rise after a full count triggers a load; in
-    /// modes 2 and 3 a low gate sets OUT high.
+    /// Gives the gate the level `line`. In modes 1, 2, 3 and 5 a rise after a full count triggers a load; in modes 2
+    /// and 3 a low gate sets OUT high.
     #[tactic(auto, unfolding(crate::specs::Counter::after_gate))]
     pub fn set_gate(&mut self, line: Line)
         ensures { self.new ≡ after_gate self.old line }
@@ -290,8 +297,8 @@ impl Counter {
         self.gate = line;
     }
 
-    /// Whether giving the level `line` to the gate changes nothing: the gate has it already, and OUT is as that level
-    /// makes it.
+    /// Whether giving the level `line` to the gate changes nothing, so that a timer that lags needn't catch up: the
+    /// gate has it already, and OUT is as that level makes it.
     #[tactic(auto, using(crate::proofs::GateKept::gate_kept, crate::proofs::GateKept::gate_was, crate::proofs::GateKept::out_was))]
     pub fn keeps_gate(&self, line: Line) -> bool
         ensures { IsTrue result ↔ after_gate self.now line ≡ self.now }
@@ -299,6 +306,8 @@ impl Counter {
         self.gate == line && out_at_gate(self.mode, line, self.out) == self.out
     }
 
+    /// Programs the counter anew, for a control word: a latch, a trigger and a count that wait are dropped, OUT is as
+    /// the mode begins, and kind, gate and running count stay.
     fn program(&mut self, mode: Mode, access: Access, radix: Radix)
         ensures { self.new ≡ after_program self.old mode access radix }
     {
@@ -313,6 +322,8 @@ impl Counter {
         };
     }
 
+    /// The sixteen bits that reads show and a latch holds: the latched count, or else the running count, as binary or
+    /// decimal digits.
     fn reading(&self) -> u16
         ensures { result ≡ reading self.now }
     {
@@ -322,6 +333,8 @@ impl Counter {
         }
     }
 
+    /// Takes a count whose bytes have all been written as the newest one. In modes 0 and 4, and as the first in modes
+    /// 2 and 3, the next tick loads it; in mode 0 OUT goes low.
     fn keep_full_count(&mut self, word: u16)
         ensures { self.new ≡ after_full_count self.old word }
     {
@@ -337,6 +350,8 @@ impl Counter {
         }
     }
 
+    /// Keeps the low byte of two until the high byte is written; in mode 0 it already sets OUT low, and no tick counts
+    /// until then.
     fn keep_first_byte(&mut self, low: u8)
         ensures { self.new ≡ record self.old { first_byte = Some low; out = out_at_write self.old.mode self.old.out } }
     {
@@ -346,6 +361,8 @@ impl Counter {
         }
     }
 
+    /// Loads the newest count as the running one and sets OUT to `out`: in the tick after a write or a trigger, or at
+    /// the end of a period. A strobe is to come again.
     fn load(&mut self, out: Line)
         ensures { self.new ≡ after_load self.old out }
     {
@@ -359,13 +376,15 @@ impl Counter {
         self.out = out;
     }
 
-    // whether mode 3 loads the newest count less 1
+    /// Whether mode 3 loads the newest count less 1, so that each tick falls by 2: on an 8254, if it is odd and not 1.
     fn loads_less(&self) -> bool
         ensures { result ≡ loads_less self.now }
     {
         self.kind == TimerKind::I8254 && self.newest % 2 == 1 && self.newest != 1
     }
 
+    /// Loads the newest count as mode 3 does and sets OUT to `out`. An 8254 loads an odd one above 1 less 1, and with
+    /// OUT high it then shows 0 for a tick of its own, so that the half is as long as an 8253's.
     fn square_load(&mut self, out: Line)
         ensures { self.new ≡ after_square_load self.old out }
     {
@@ -377,6 +396,7 @@ impl Counter {
         }
     }
 
+    /// Makes the load that a write or a trigger asked for, in the next tick, and sets OUT as a load does in the mode.
     fn load_due_count(&mut self)
         ensures { self.new ≡ after_due_load self.old self.old.mode }
     {
@@ -387,6 +407,7 @@ impl Counter {
         }
     }
 
+    /// Holds the status for the next read, for an 8254's read-back; a status that is latched already stays.
     #[tactic(auto, unfolding(crate::specs::Counter::after_status_latch))]
     fn latch_status(&mut self)
         ensures { self.new ≡ after_status_latch self.old }
@@ -396,7 +417,8 @@ impl Counter {
         }
     }
 
-    // the status byte
+    /// The byte that a read-back latches: bit 7 OUT, bit 6 null count, bits 5 and 4 the access, 3 to 1 the mode, 0 the
+    /// radix.
     fn status(&self) -> u8
         ensures { result ≡ status_of self.now }
     {
@@ -407,6 +429,7 @@ impl Counter {
             + image::radix_number(self.radix)
     }
 
+    /// How many ticks bring the running count to 0, at 1 a tick: from 1 to 65,536, since 0 is the largest count.
     fn ticks_left(&self) -> u64
         ensures ticks { result ≡ ticks_left self.now }
         ensures some { 0 < result }
@@ -415,7 +438,7 @@ impl Counter {
         length_of(self.count_radix, self.count)
     }
 
-    // the newest count's length: in modes 2 and 3 OUT comes round after it
+    /// The newest count's length in ticks, from 1 to 65,536: in modes 2 and 3 OUT comes round after it.
     fn period(&self) -> u64
         ensures ticks { result ≡ size self.now }
         ensures some { 0 < result }
@@ -424,7 +447,8 @@ impl Counter {
         length_of(self.radix, self.newest)
     }
 
-    // `ticks` ticks with no load due
+    /// Lets `ticks` ticks pass in which no load is due from a write or a trigger, for `advance`: counts as the mode
+    /// does if a count is loaded and the gate lets it, and else stands still.
     #[tactic(auto, unfolding(crate::specs::Ahead::after_run))]
     fn run(&mut self, ticks: u64)
         ensures { self.new ≡ after_run self.old ticks }
@@ -444,6 +468,8 @@ impl Counter {
         }
     }
 
+    /// Lets `ticks` ticks pass that don't count, for `run`: only a strobe ends, since in modes 4 and 5 OUT goes high
+    /// at the first of them.
     fn rest(&mut self, ticks: u64)
         ensures { self.new ≡ after_rests self.old self.old.mode ticks }
     {
@@ -453,8 +479,8 @@ impl Counter {
         }
     }
 
-    // lets the count fall by `ticks`; as long as it stays above 0, neither its length nor a remainder is needed: most
-    // calls are short
+    /// Lets the count fall by `ticks` as in modes 0 and 1: OUT goes high at 0, and the count goes on below it. As long
+    /// as it stays above 0, neither its length nor a remainder is needed: most calls are short.
     #[tactic(auto, using(crate::proofs::Shorter::falls_short))]
     fn fall(&mut self, ticks: u64)
         ensures { self.new ≡ after_fall self.old ticks }
@@ -470,6 +496,8 @@ impl Counter {
         self.count = count_after(self.count_radix, self.count, ticks);
     }
 
+    /// Lets `ticks` ticks pass in mode 2: the end of the period loads the newest count, and of the whole periods after
+    /// it only the remainder is made.
     #[tactic(auto, unfolding(crate::specs::Ahead::after_rate), using(crate::proofs::Shorter::divides_short))]
     fn divide(&mut self, ticks: u64)
         ensures { self.new ≡ after_rate self.old ticks }
@@ -487,6 +515,8 @@ impl Counter {
         self.fall_in_period((ticks - left) % self.period());
     }
 
+    /// Lets the count fall by `ticks` in mode 2, which don't reach the end of the period: OUT goes low for its last
+    /// tick.
     fn fall_in_period(&mut self, ticks: u64)
         ensures { self.new ≡ after_rate_fall self.old ticks }
     {
@@ -497,6 +527,8 @@ impl Counter {
         self.count = count_after(self.count_radix, self.count, ticks);
     }
 
+    /// Lets `ticks` ticks pass in mode 3: the count falls by 2, the end of a half loads the newest count and turns
+    /// OUT, and of the whole periods after it only the remainder is made.
     #[tactic(auto, unfolding(crate::specs::Ahead::after_square), using(crate::proofs::Shorter::squares_short))]
     fn square(&mut self, ticks: u64)
         ensures { self.new ≡ after_square self.old ticks }
@@ -515,7 +547,7 @@ impl Counter {
         self.run_halves((ticks - half) % period);
     }
 
-    // `ticks` ticks with at most one turn of OUT
+    /// Lets `ticks` ticks pass in mode 3 in which OUT turns at most once: what `square` leaves after whole periods.
     #[tactic(auto, unfolding(crate::specs::Ahead::after_halves))]
     fn run_halves(&mut self, ticks: u64)
         ensures { self.new ≡ after_halves self.old ticks }
@@ -528,7 +560,8 @@ impl Counter {
         self.fall_in_half(ticks - half);
     }
 
-    // the falls that bring the count to 0; an odd count has one more in the high half
+    /// How many falls by 2 bring the count to 0 in mode 3; an odd count has one more in the high half than in the low
+    /// one. If a 0 is kept for a tick, a count of 0 has no fall left.
     fn falls_left(&self) -> u64
         ensures ticks { result ≡ falls_left self.now }
         ensures bound { 2 * result ≤ modulus self.now.count_radix }
@@ -544,7 +577,8 @@ impl Counter {
         }
     }
 
-    // the ticks to the end of the half; a 0 that is kept has one of its own
+    /// How many ticks of mode 3 end the half, at a count other than 1: one for each fall, and one for a 0 that an 8254
+    /// keeps for a tick.
     fn half_left(&self) -> u64
         ensures ticks { result ≡ half_left self.now }
         ensures bound { result ≤ 32769 }
@@ -553,6 +587,7 @@ impl Counter {
         if self.keeps_zero { falls + 1 } else { falls }
     }
 
+    /// After how many ticks mode 3 loads the newest count and turns OUT: a count of 1 is loaded anew at the next tick.
     fn half_ticks(&self) -> u64
         ensures ticks { result ≡ half_ticks self.now }
         ensures bound { result ≤ 32769 }
@@ -560,6 +595,8 @@ impl Counter {
         if self.count == 1 { 1 } else { self.half_left() }
     }
 
+    /// Lets the count fall for `ticks` ticks of mode 3 that don't reach the end of the half: it is then twice the
+    /// number of falls that are left.
     fn fall_in_half(&mut self, ticks: u64)
         ensures { self.new ≡ after_half_fall self.old ticks }
     {
@@ -569,6 +606,8 @@ impl Counter {
         }
     }
 
+    /// Ends a half of mode 3: loads the newest count and turns OUT to its other level; after a count of 1, or with a
+    /// newest count of 1, OUT is high instead.
     #[tactic(auto, unfolding(crate::specs::Ahead::after_turn))]
     fn turn(&mut self)
         ensures { self.new ≡ after_turn self.old }
@@ -581,6 +620,8 @@ impl Counter {
         self.square_load(out);
     }
 
+    /// Lets the count fall by `ticks` as in modes 4 and 5: OUT is low for the one tick that reaches 0, once for each
+    /// load.
     #[tactic(auto, using(crate::proofs::Shorter::strobes_short))]
     fn strobe(&mut self, ticks: u64)
         ensures { self.new ≡ after_strobe_fall self.old ticks }
@@ -603,7 +644,8 @@ impl Counter {
         self.count = count_after(self.count_radix, self.count, ticks);
     }
 
-    // the ticks to the first change of OUT if no load is due
+    /// After how many ticks OUT first changes if no load is due, for `until_change`; `None` if it never does, else
+    /// from 1 to 65,536.
     #[tactic(auto, unfolding(crate::specs::Ahead::until_turn))]
     fn until_turn(&self) -> Option<u64>
         ensures turn { result ≡ until_turn self.now }
@@ -624,6 +666,8 @@ impl Counter {
         }
     }
 
+    /// After how many ticks OUT first changes while the counter doesn't count: 1 if a strobe of mode 4 or 5 is low,
+    /// and else `None`, never.
     fn until_rest(&self) -> Option<u64>
         ensures turn { result ≡ until_rest self.now self.now.mode }
         ensures bound { IfSome result (λ ticks. ticks ≤ 65536) }
@@ -634,6 +678,8 @@ impl Counter {
         }
     }
 
+    /// After how many ticks OUT first changes in modes 0 and 1: it goes high at the end of the count; `None` if it is
+    /// high already.
     fn until_end(&self) -> Option<u64>
         ensures turn { result ≡ until_end self.now }
         ensures bound { IfSome result (λ ticks. ticks ≤ 65536) }
@@ -644,6 +690,8 @@ impl Counter {
         }
     }
 
+    /// After how many ticks OUT first changes in mode 2: it goes low for the last tick of a period and then high;
+    /// `None` if it stays high, at a count of 1.
     fn until_pulse(&self) -> Option<u64>
         ensures turn { result ≡ until_pulse self.now }
         ensures bound { IfSome result (λ ticks. ticks ≤ 65536) }
@@ -658,6 +706,8 @@ impl Counter {
         }
     }
 
+    /// After how many ticks OUT first changes in mode 3: mostly at the end of the half; `None` if it stays high, with
+    /// a newest count of 1.
     fn until_half(&self) -> Option<u64>
         ensures turn { result ≡ until_half self.now }
         ensures bound { IfSome result (λ ticks. ticks ≤ 65536) }
@@ -670,6 +720,8 @@ impl Counter {
         }
     }
 
+    /// After how many ticks OUT first changes in modes 4 and 5: it goes low at the end of the count if the strobe is
+    /// still to come, and mostly high at the tick after; `None` if the strobe is over.
     fn until_strobe(&self) -> Option<u64>
         ensures turn { result ≡ until_strobe self.now }
         ensures bound { IfSome result (λ ticks. ticks ≤ 65536) }
@@ -696,7 +748,8 @@ impl Timed for Counter {
 
     ghost output = { out_of };
 
-    /// Lets `ticks` ticks pass: falling edges of CLK. Takes as long whatever their number.
+    /// Lets `ticks` ticks pass: falling edges of CLK, the first of which makes a load that is due. Takes as long
+    /// whatever their number, so that a board can pass many clocks at once.
     fn advance(&mut self, ticks: u64)
         ensures { self.new ≡ after_ticks self.old ticks }
     {
@@ -711,8 +764,8 @@ impl Timed for Counter {
         }
     }
 
-    /// After how many ticks, from 1 on, OUT first changes as long as nothing is written and the gate stays; `None` if
-    /// it never does, and else at most 65,537.
+    /// After how many ticks, from 1 on, OUT first changes, so that a board can go up to there at once: as long as
+    /// nothing is written and the gate stays. `None` if it never does, and else at most 65,537.
     fn until_change(&self) -> Option<u64>
         ensures turn { IsUntilTurn after_ticks out_of self.now result }
         ensures bound { IfSome result (λ ticks. ticks ≤ 65537) }
@@ -731,6 +784,8 @@ impl Timed for Counter {
     ghost adds = { λ c k m. sym (iterate_add after_tick k m c) };
 }
 
+/// The level of OUT that a load after a write or a trigger gives: low in mode 1, high in modes 2 to 5, in mode 0 as it
+/// was.
 fn out_at_load(mode: Mode, out: Line) -> Line
     ensures { result ≡ out_at_load mode out }
 {
@@ -742,6 +797,7 @@ fn out_at_load(mode: Mode, out: Line) -> Line
     }
 }
 
+/// The level of OUT that a control word gives: low in mode 0, high in any other.
 fn out_at_control(mode: Mode) -> Line
     ensures { result ≡ out_at_control mode }
 {
@@ -752,6 +808,8 @@ fn out_at_control(mode: Mode) -> Line
     }
 }
 
+/// Whether a full count that is written is loaded at the next tick: always in modes 0 and 4, in modes 2 and 3 if it is
+/// the first after the control word, never in modes 1 and 5, which wait for a trigger.
 fn loads_when_written(mode: Mode, progress: Progress) -> bool
     ensures { result ≡ loads_when_written mode progress }
 {
@@ -762,6 +820,7 @@ fn loads_when_written(mode: Mode, progress: Progress) -> bool
     }
 }
 
+/// Whether a rise of the gate triggers a load in this mode: in modes 1, 2, 3 and 5.
 fn is_triggered(mode: Mode) -> bool
     ensures { result ≡ is_triggered mode }
 {
@@ -771,18 +830,22 @@ fn is_triggered(mode: Mode) -> bool
     }
 }
 
+/// Whether the gate goes from low to high, which can trigger a load.
 fn rises(before: Line, after: Line) -> bool
     ensures { result ≡ rises before after }
 {
     before == Line::Low && after == Line::High
 }
 
+/// Whether OUT has another level after a load than before it, for `until_change`.
 fn differ(before: Line, after: Line) -> bool
     ensures { result ≡ differ before after }
 {
     before != after
 }
 
+/// Adds the tick that makes a load to the ticks that come after it, for `until_change`; `None`, for never, stays
+/// `None`.
 fn a_tick_later(turn: Option<u64>) -> Option<u64>
     requires { IfSome turn (λ ticks. ticks ≤ 65536) }
     ensures later { result ≡ a_tick_later turn }
@@ -794,12 +857,14 @@ fn a_tick_later(turn: Option<u64>) -> Option<u64>
     }
 }
 
+/// Whether no full count has been written since the control word: then a trigger loads nothing.
 fn is_awaited(progress: Progress) -> bool
     ensures { result ≡ is_awaited progress }
 {
     progress == Progress::Awaited
 }
 
+/// The level of OUT once the gate is at `gate`: in modes 2 and 3 a low gate sets it high, and else it stays as it was.
 fn out_at_gate(mode: Mode, gate: Line, out: Line) -> Line
     ensures { result ≡ out_at_gate mode gate out }
 {
@@ -809,6 +874,7 @@ fn out_at_gate(mode: Mode, gate: Line, out: Line) -> Line
     }
 }
 
+/// The mode that bits 3 to 1 of a control word, or the number of an image, stand for: 6 and 7 are modes 2 and 3.
 fn mode_of(bits: u8) -> Mode
     requires { bits < 8 }
     ensures { result ≡ mode_of bits }
@@ -823,6 +889,8 @@ fn mode_of(bits: u8) -> Mode
     }
 }
 
+/// The radix that bit 0 of a control word, or the number of an image, stands for: 0 is binary, and any other number
+/// decimal.
 fn radix_of(bit: u8) -> Radix
     ensures { result ≡ radix_of bit }
 {

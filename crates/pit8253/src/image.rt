@@ -65,13 +65,15 @@ pub struct PitImage {
     pub counter_2: CounterImage,
 }
 
-/// A timer goes through its image and is what it was.
+/// Makes a timer's image and a timer of it again, which is what it was: so a caller in C that holds only the image
+/// loses nothing.
 pub fn goes_through_its_image(pit: &Pit) -> Pit
     ensures { result ≡ pit.now }
 {
     Pit::from_image(&pit.image())
 }
 
+/// Reads a timer's kind from an image, for `Counter::from_image`: 0 is an 8253, and any other number an 8254.
 pub(crate) fn kind_of(number: u8) -> TimerKind
     ensures { result ≡ kind_of number }
 {
@@ -82,6 +84,7 @@ pub(crate) fn kind_of(number: u8) -> TimerKind
     }
 }
 
+/// Writes a timer's kind as a number, for `Counter::image`: 0 for an 8253, 1 for an 8254.
 pub(crate) fn kind_number(kind: TimerKind) -> u8
     ensures { kind_of result ≡ kind }
 {
@@ -91,6 +94,7 @@ pub(crate) fn kind_number(kind: TimerKind) -> u8
     }
 }
 
+/// Writes a mode as its number, 0 to 5, for `Counter::image` and for the status byte.
 pub(crate) fn mode_number(mode: Mode) -> u8
     ensures number { result ≡ mode_number mode }
     ensures bound { result ≤ 5 }
@@ -106,6 +110,8 @@ pub(crate) fn mode_number(mode: Mode) -> u8
     }
 }
 
+/// Reads an access from an image, for `Counter::from_image`: 1 is the low byte, 2 the high byte, and any other number
+/// both.
 pub(crate) fn access_of(bits: u8) -> Access
     ensures { result ≡ access_of bits }
 {
@@ -116,6 +122,8 @@ pub(crate) fn access_of(bits: u8) -> Access
     }
 }
 
+/// Writes an access as bits 5 and 4 of a control word have it, for `Counter::image` and for the status byte: 1 the low
+/// byte, 2 the high byte, 3 both.
 pub(crate) fn access_number(access: Access) -> u8
     ensures number { result ≡ access_number access }
     ensures bound { result ≤ 3 }
@@ -128,6 +136,8 @@ pub(crate) fn access_number(access: Access) -> u8
     }
 }
 
+/// Writes a radix as bit 0 of a control word has it, for `Counter::image` and for the status byte: 0 binary, 1
+/// decimal.
 pub(crate) fn radix_number(radix: Radix) -> u8
     ensures number { result ≡ radix_number radix }
     ensures bound { result ≤ 1 }
@@ -139,6 +149,8 @@ pub(crate) fn radix_number(radix: Radix) -> u8
     }
 }
 
+/// Reads from an image, for `Counter::from_image`, how far a count has come: 0 none written, 1 one that waits to be
+/// loaded, any other number a loaded one.
 pub(crate) fn progress_of(number: u8) -> Progress
     ensures { result ≡ progress_of number }
 {
@@ -149,6 +161,8 @@ pub(crate) fn progress_of(number: u8) -> Progress
     }
 }
 
+/// Writes as a number, for `Counter::image`, how far a count has come: 0 none written, 1 one that waits to be loaded,
+/// 2 a loaded one.
 pub(crate) fn progress_number(progress: Progress) -> u8
     ensures { progress_of result ≡ progress }
 {
@@ -159,12 +173,15 @@ pub(crate) fn progress_number(progress: Progress) -> u8
     }
 }
 
+/// Reads the level of the gate or of OUT from an image, for `Counter::from_image`: 0 is low, and any other number
+/// high.
 pub(crate) fn line_of(number: u8) -> Line
     ensures { result ≡ line_of number }
 {
     if number == 0 { Line::Low } else { Line::High }
 }
 
+/// Writes the level of the gate or of OUT as a number, for `Counter::image` and for the status byte: 0 low, 1 high.
 pub(crate) fn line_number(line: Line) -> u8
     ensures number { result ≡ (if is_high line then 1 else 0) }
     ensures bound { result ≤ 1 }
@@ -176,12 +193,14 @@ pub(crate) fn line_number(line: Line) -> u8
     }
 }
 
+/// Reads a flag of an image, for `Counter::from_image`: 0 is no, and any other number yes.
 pub(crate) fn flag_of(number: u8) -> bool
     ensures { result ≡ flag_of number }
 {
     number != 0
 }
 
+/// Writes a flag as a number, for `Counter::image` and for the status byte: 1 for yes, 0 for no.
 pub(crate) fn flag_number(flag: bool) -> u8
     ensures number { result ≡ (if flag then 1 else 0) }
     ensures bound { result ≤ 1 }
@@ -190,12 +209,16 @@ pub(crate) fn flag_number(flag: bool) -> u8
     if flag { 1 } else { 0 }
 }
 
+/// Reads a byte from the two numbers that an image has for it, for `Counter::from_image`: there is none if `is_there`
+/// is 0.
 pub(crate) fn byte_where(is_there: u8, byte: u8) -> Option<u8>
     ensures { result ≡ option_of is_there byte }
 {
     if is_there == 0 { None } else { Some(byte) }
 }
 
+/// Writes a byte that may be missing as two numbers, for `Counter::image`: whether it is there, 1 or 0, and the byte,
+/// 0 if it isn't.
 pub(crate) fn byte_numbers(byte: Option<u8>) -> (u8, u8)
     ensures { option_of result.0 result.1 ≡ byte }
 {
@@ -205,12 +228,16 @@ pub(crate) fn byte_numbers(byte: Option<u8>) -> (u8, u8)
     }
 }
 
+/// Reads a latched count from the two numbers that an image has for it, for `Counter::from_image`: there is none if
+/// `is_there` is 0.
 pub(crate) fn word_where(is_there: u8, word: u16) -> Option<u16>
     ensures { result ≡ option_of is_there word }
 {
     if is_there == 0 { None } else { Some(word) }
 }
 
+/// Writes a latched count that may be missing as two numbers, for `Counter::image`: whether it is there, 1 or 0, and
+/// the count, 0 if it isn't.
 pub(crate) fn word_numbers(word: Option<u16>) -> (u8, u16)
     ensures { option_of result.0 result.1 ≡ word }
 {
@@ -220,7 +247,8 @@ pub(crate) fn word_numbers(word: Option<u16>) -> (u8, u16)
     }
 }
 
-// a count that any sixteen bits stand for
+/// Reads a count from an image, for `Counter::from_image`: in decimal it is taken modulo 10,000, so that any number
+/// stands for a count.
 pub(crate) fn count_within(radix: Radix, count: u16) -> u16
     ensures count { result ≡ count % modulus radix }
     ensures within { result < modulus radix }

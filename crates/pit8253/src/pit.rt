@@ -36,14 +36,15 @@ impl Model for Pit {
 }
 
 impl Pit {
-    /// An 8253 at power-on.
+    /// Makes an 8253 at power-on, for callers that don't choose the kind.
     pub fn new() -> Self
         ensures { result ≡ power_on I8253 }
     {
         Pit::with(TimerKind::I8253)
     }
 
-    /// A timer of this kind at power-on: each counter in mode 0 with no count, gates 0 and 1 high, gate 2 low.
+    /// Makes a timer of this kind at power-on, for a board or an image: each counter in mode 0 with no count, gates 0
+    /// and 1 high, gate 2 low.
     #[tactic(auto, unfolding(crate::specs::Pit::power_on))]
     pub fn with(kind: TimerKind) -> Self
         ensures { result ≡ power_on kind }
@@ -55,7 +56,8 @@ impl Pit {
         }
     }
 
-    /// The timer that an image stands for; any numbers stand for some timer.
+    /// Makes the timer that an image stands for, so that a call from C can go on with it; any numbers stand for some
+    /// timer.
     #[tactic(auto, unfolding(crate::specs::PitNumbers::pit_of))]
     pub fn from_image(image: &PitImage) -> Self
         ensures { result ≡ pit_of image.now }
@@ -67,7 +69,8 @@ impl Pit {
         }
     }
 
-    /// The timer as numbers, of which `from_image` makes it again.
+    /// The timer as plain numbers, of which `from_image` makes it again: for callers in C, and for the probe, which
+    /// prints them.
     #[tactic(auto, unfolding(crate::specs::PitNumbers::pit_of))]
     pub fn image(&self) -> PitImage
         ensures { pit_of result ≡ self.now }
@@ -79,7 +82,8 @@ impl Pit {
         }
     }
 
-    /// Reads a byte of counter `port`; port 3 gives FFh. A read ends a latch with its last byte.
+    /// Answers a program's IN at `port`, below 4: a byte of the counter of that number, or FFh at port 3. The read of
+    /// a latch's last byte ends the latch.
     #[tactic(auto, unfolding(crate::specs::Pit::byte_at, crate::specs::Pit::after_read))]
     pub fn read(&mut self, port: u8) -> u8
         requires { port < 4 }
@@ -94,8 +98,8 @@ impl Pit {
         }
     }
 
-    /// Writes a byte of a count to counter `port`, or a control word to port 3. A control word whose bits 7 and 6 are
-    /// 11 is a read-back, which an 8253 ignores.
+    /// Does a program's OUT at `port`, below 4: a byte of a count for the counter of that number, or a control word at
+    /// port 3. A control word whose bits 7 and 6 are 11 is a read-back, which an 8253 ignores.
     #[tactic(auto, unfolding(crate::specs::Pit::after_write))]
     pub fn write(&mut self, port: u8, value: u8)
         requires { port < 4 }
@@ -109,7 +113,8 @@ impl Pit {
         }
     }
 
-    /// Gate `n` takes the level `line`; `n` is below 3.
+    /// Gives gate `n`, below 3, the level `line`, as the board's wire drives it: on the board only gate 2 moves, with
+    /// port B.
     #[tactic(auto, unfolding(crate::specs::Pit::after_gate))]
     pub fn set_gate(&mut self, n: u8, line: Line)
         requires { n < 3 }
@@ -122,8 +127,8 @@ impl Pit {
         }
     }
 
-    /// Whether giving the level `line` to gate 2 changes nothing: the gate has it already, and OUT2 is as that level
-    /// makes it.
+    /// Whether giving the level `line` to gate 2 changes nothing, so that a timer that lags needn't catch up: the gate
+    /// has it already, and OUT2 is as that level makes it.
     #[tactic(auto, unfolding(crate::specs::Pit::after_gate))]
     pub fn keeps_gate_2(&self, line: Line) -> bool
         ensures { IsTrue result ↔ after_gate self.now 2 line ≡ self.now }
@@ -131,7 +136,8 @@ impl Pit {
         self.counter_2.keeps_gate(line)
     }
 
-    /// The level of OUT `n`; `n` is below 3.
+    /// The level of OUT `n`, below 3: OUT0 is wired to the interrupt controller, OUT2 to the speaker and the parallel
+    /// port.
     pub fn out(&self, n: u8) -> Line
         requires { n < 3 }
         ensures { result ≡ (counter self.now n).out }
@@ -139,7 +145,7 @@ impl Pit {
         self.counter(n).out()
     }
 
-    /// Counter `n` as it is now; `n` is below 3.
+    /// Counter `n` as it is now, below 3: a copy.
     pub fn counter(&self, n: u8) -> Counter
         requires { n < 3 }
         ensures { result ≡ counter self.now n }
@@ -151,8 +157,8 @@ impl Pit {
         }
     }
 
-    /// After how many ticks, from 1 on, OUT `n` first changes as long as nothing is written and gate `n` stays; `None`
-    /// if it never does, and else at most 65,537; `n` is below 3.
+    /// After how many ticks, from 1 on, OUT `n` first changes, so that a board can go up to there at once: as long as
+    /// nothing is written and gate `n` stays. `None` if it never does, else at most 65,537; `n` is below 3.
     pub fn until_change(&self, n: u8) -> Option<u64>
         requires { n < 3 }
         ensures turn { IsUntilTurn one.after_ticks out_of (counter self.now n) result }
@@ -165,7 +171,8 @@ impl Pit {
         }
     }
 
-    /// `ticks` ticks of the three counters. Takes as long whatever their number.
+    /// Lets `ticks` ticks of the three counters pass; takes as long whatever their number, so that a board can pass
+    /// many clocks at once.
     #[tactic(auto, using(crate::proofs::PitTicks::each_counter))]
     pub fn advance(&mut self, ticks: u64)
         ensures { self.new ≡ after_ticks self.old ticks }
@@ -175,6 +182,8 @@ impl Pit {
         self.counter_2.advance(ticks);
     }
 
+    /// Takes a control word, a byte written to port 3: its bits 7 and 6 name the counter that it is for, and 11 is a
+    /// read-back.
     fn write_control(&mut self, word: u8)
         ensures { self.new ≡ after_control_word self.old word }
     {
@@ -186,6 +195,8 @@ impl Pit {
         }
     }
 
+    /// Gives a read-back to each counter that it names, 0, 1 and 2 by its bits 1, 2 and 3, so that an 8254 latches
+    /// counts or statuses.
     fn read_back(&mut self, word: u8)
         ensures { self.new ≡ after_read_back self.old word }
     {

@@ -26,13 +26,15 @@ pub struct PpiImage {
     pub c_latch: u8,
 }
 
-/// A parallel port goes through its image and is what it was.
+/// Makes a parallel port of its own image. The contract states that nothing is lost so: a caller in C that keeps the
+/// image keeps the parallel port.
 pub fn goes_through_its_image(ppi: &Ppi) -> Ppi
     ensures { result ≡ ppi.now }
 {
     Ppi::from_image(&ppi.image())
 }
 
+/// The direction that a number of an image stands for: output if it is 0, else input.
 pub(crate) fn direction_by(number: u8) -> Direction
     ensures { result ≡ direction_by number }
 {
@@ -43,6 +45,7 @@ pub(crate) fn direction_by(number: u8) -> Direction
     }
 }
 
+/// The number that stands for a direction in an image: 0 for output, 1 for input.
 pub(crate) fn direction_number(direction: Direction) -> u8
     ensures { direction_by result ≡ direction }
 {

@@ -5,12 +5,13 @@ ghost use Rattle.ppi8255.specs.declared.ppi.Inputs.{Inputs};
 ghost use Rattle.ppi8255.specs.Ppi.{PpiState};
 ghost use Rattle.ppi8255.specs.PpiLaws.{ReadsBack, BeginsAnew, SetsOneBit, ShowsSwitches, DiffersUnseen, LooksAlike};
 
-/// An output port reads what was last written to it.
+/// A read of a port that is an output gives what was last written to it, whatever is on its pins.
 pub fn reads_back()
     ensures { (s : PpiState) (byte : ℕ) (inputs : Inputs) → ReadsBack s byte inputs }
 {}
 
-/// After a mode word the port is as if nothing but that word had been written since reset.
+/// After a mode word the parallel port is as if nothing but that word had been written since reset: its latches are
+/// cleared, and only the switches stay.
 pub fn begins_anew()
     ensures { (s : PpiState) (word : ℕ) → BeginsAnew s word }
 {}

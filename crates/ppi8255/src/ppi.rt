@@ -72,8 +72,8 @@ impl Model for Ppi {
 }
 
 impl Ppi {
-    /// The parallel port after reset. `sw1` has the eight switches of SW1; bits 4 to 0 of `sw2` are the five of
-    /// SW2, and the bits above them stand for nothing.
+    /// The parallel port after reset, with all ports as inputs, for a board at power-on. `sw1` has the eight switches
+    /// of SW1; bits 4 to 0 of `sw2` are the five of SW2, and the bits above them stand for nothing.
     pub fn new(sw1: u8, sw2: u8) -> Self
         ensures { result ≡ power_on sw1 sw2 }
     {
@@ -90,7 +90,7 @@ impl Ppi {
         }
     }
 
-    /// The parallel port that an image stands for; any numbers stand for some parallel port.
+    /// The parallel port that an image stands for, as a caller in C hands it over; any numbers stand for some one.
     #[tactic(auto, unfolding(crate::specs::PpiNumbers::ppi_of))]
     pub fn from_image(image: &PpiImage) -> Self
         ensures { result ≡ ppi_of image.now }
@@ -108,7 +108,7 @@ impl Ppi {
         }
     }
 
-    /// The parallel port as numbers, of which `from_image` makes it again.
+    /// The parallel port as plain numbers, for callers in C and for showing it; `from_image` makes it again of them.
     #[tactic(auto, unfolding(crate::specs::PpiNumbers::ppi_of))]
     pub fn image(&self) -> PpiImage
         ensures { ppi_of result ≡ self.now }
@@ -126,8 +126,8 @@ impl Ppi {
         }
     }
 
-    /// The byte that a read of `port` gives: 0 to 2 are ports A to C, 3 is the control register, which can't be
-    /// read and gives FFh.
+    /// The byte that IN gives from one of the ports 60h to 63h, as `port` 0 to 3: 0 to 2 are ports A to C, 3 is the
+    /// control register, which can't be read and gives FFh.
     #[inline(always)]
     #[tactic(auto, unfolding(crate::specs::Ppi::byte_at))]
     pub fn read(&self, port: u8, inputs: Inputs) -> u8
@@ -142,7 +142,8 @@ impl Ppi {
         }
     }
 
-    /// Writes `value` to `port`: 0 to 2 are the output latches of ports A to C, 3 is the control register.
+    /// Takes `value` from OUT to one of the ports 60h to 63h, as `port` 0 to 3: 0 to 2 are the output latches of ports
+    /// A to C, 3 is the control register.
     #[tactic(auto, unfolding(crate::specs::Ppi::after_write))]
     pub fn write(&mut self, port: u8, value: u8)
         requires { port < 4 }
@@ -157,13 +158,16 @@ impl Ppi {
         }
     }
 
-    /// The levels of port B's eight lines, which are 0 until port B is made an output.
+    /// The levels of port B's eight lines, by which the board drives gate 2, the speaker and the keyboard; all 0 until
+    /// port B is made an output.
     pub fn port_b(&self) -> u8
         ensures { result ≡ lines_b self.now }
     {
         self.b.port_byte(self.b_latch, 0)
     }
 
+    /// The levels on port A's pins: the switches SW1 if line 7 of port B is high, else the keyboard's latch, 0 if it is
+    /// empty.
     fn pins_a(&self, inputs: Inputs) -> u8
         ensures { result ≡ pins_a self.now inputs }
     {
@@ -174,6 +178,8 @@ impl Ppi {
         }
     }
 
+    /// The levels on port C's pins: in bits 3 to 0 four switches of SW2 if line 2 of port B is high, else the fifth in
+    /// bit 0; in bit 5 OUT2 of the timer.
     fn pins_c(&self, inputs: Inputs) -> u8
         ensures { result ≡ pins_c self.now inputs }
     {
@@ -188,6 +194,8 @@ impl Ppi {
         }
     }
 
+    /// The byte that a read of port C gives, with these levels on its pins: the upper and the lower four lines each
+    /// show pins or latch, by their direction.
     fn port_c(&self, pins: u8) -> u8
         ensures { result ≡ port_c_byte self.now pins }
     {
@@ -196,6 +204,8 @@ impl Ppi {
         upper / 16 * 16 + lower % 16
     }
 
+    /// Obeys a mode word, a write of the control register with bit 7 set: sets the directions of ports A, B and both
+    /// halves of C, and clears all latches.
     fn set_mode(&mut self, word: u8)
         ensures { self.new ≡ after_mode_word self.old word }
     {
@@ -208,6 +218,8 @@ impl Ppi {
         self.c_latch = 0;
     }
 
+    /// Obeys a bit set/reset word, a write of the control register with bit 7 clear: sets the bit of port C's latch
+    /// that bits 3 to 1 name to bit 0.
     fn set_bit(&mut self, word: u8)
         ensures { self.new ≡ record self.old { c_latch = with_bit self.old.c_latch (word / 2 % 8) (has_bit word 0) } }
     {
@@ -221,7 +233,7 @@ impl Ppi {
 }
 
 impl Direction {
-    // what a group of lines with this direction shows
+    /// What a read of a group of lines with this direction gives: the latch of an output, the pins of an input.
     fn port_byte(self, latch: u8, pins: u8) -> u8
         ensures { result ≡ port_byte self latch pins }
     {
@@ -232,7 +244,7 @@ impl Direction {
     }
 }
 
-// the direction that bit `k` of a mode word gives
+/// The direction that bit `k` of a mode word gives to a group of lines: 1 is input.
 fn direction_of(word: u8, k: u8) -> Direction
     requires { k < 8 }
     ensures { result ≡ direction_of word k }

@@ -2,7 +2,7 @@
 use board::board::Board;
 use board_types::bytes::Bytes;
 
-/// The bytes that stand in a board's memory.
+/// A board's memory as the bytes from which the decoder reads, for the inquiry `list`.
 #[derive(Clone, Copy)]
 pub(crate) struct BoardBytes<'a>(pub(crate) &'a Board);
 
@@ -11,6 +11,7 @@ impl Bytes for BoardBytes<'_> {
 
     ghost byte_at = { λ bytes. byte_of bytes.0.now.plain };
 
+    /// Reads a byte of the board's memory at a physical address, without any effect on the board.
     fn byte(&self, addr: u32) -> u8 {
         self.0.byte(addr)
     }

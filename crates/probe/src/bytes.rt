@@ -9,7 +9,8 @@ use board::board::Board;
 use events::access::Access;
 use std::alloc::{AllocError, Global};
 
-/// Copies of the bytes from an address on.
+/// A copy of the bytes from an address on, as they were a clock ago: by it a stop on changes sees whether a written
+/// byte has changed.
 #[derive(Drop)]
 pub(crate) struct Copied {
     first: u32,
@@ -17,7 +18,7 @@ pub(crate) struct Copied {
 }
 
 impl Copied {
-    /// No bytes.
+    /// Makes an empty copy, for a stop that waits for no change of bytes.
     pub(crate) fn none(alloc: Global) -> Copied
         ensures first { result.first ≡ 0 }
         ensures none { length result.bytes.items ≡ 0 }
@@ -28,7 +29,8 @@ impl Copied {
         }
     }
 
-    /// A copy with room for the bytes whose changes a stop waits for.
+    /// Makes room for a copy of the bytes whose changes a stop waits for, when it is added; an empty copy for other
+    /// stops. A run then copies the bytes.
     pub(crate) fn new(alloc: Global, stop: &Stop) -> Result<Copied, AllocError>
         requires { HasBytes stop.now }
         ensures covers { IfOk result (λ copied. IsCovered copied stop.now) }
@@ -41,7 +43,7 @@ impl Copied {
         }
     }
 
-    /// A copy with room for `count` bytes from `first` on.
+    /// Makes room for a copy of `count` bytes from the address `first` on.
     fn zeros(alloc: Global, first: u32, count: u32) -> Result<Copied, AllocError>
         ensures first { IfOk result (λ copied. copied.first ≡ first) }
         ensures count { IfOk result (λ copied. length copied.bytes.items ≡ count) }
@@ -50,7 +52,7 @@ impl Copied {
         Ok(Copied { first, bytes })
     }
 
-    /// Copies all its bytes anew.
+    /// Copies all the bytes anew from the board, when a run begins.
     pub(crate) fn copy(&mut self, board: &Board)
         requires { HasRoom self.old }
         ensures { IsRecopied board.now.plain self.old self.new }
@@ -60,7 +62,8 @@ impl Copied {
         }
     }
 
-    /// Whether the byte at an address differs from its copy; no if it has none.
+    /// Whether the byte at an address differs from its copy, so that a stop on its changes is met; no if the address
+    /// has no copy.
     pub(crate) fn differs(&self, address: u32, board: &Board) -> bool
         requires { address < 2 ^ 20 }
         ensures { result ≡ differs_copied self.now address board.now.plain }
@@ -74,7 +77,8 @@ impl Copied {
         }
     }
 
-    /// Renews the copies of the bytes that these accesses have written.
+    /// Brings the copy up to date with the bytes that the accesses of the clock just made have written; the next
+    /// clock's check compares with it.
     pub(crate) fn renew(&mut self, accesses: &[Access], board: &Board)
         requires { HasRoom self.old }
         ensures { AreRenewed accesses.now board.now.plain self.old self.new }
@@ -84,7 +88,8 @@ impl Copied {
         }
     }
 
-    /// Renews the copy of the byte that an access has written, if there is one.
+    /// Brings the copy up to date with the byte that an access has written, if the access is a write to an address that
+    /// is copied.
     fn renew_by(&mut self, access: Access, board: &Board)
         requires { HasRoom self.old }
         ensures { IsOneRenewed access board.now.plain self.old self.new }

@@ -21,7 +21,8 @@ use pit8253::pit::Pit;
 use ppi8255::ppi::{Direction, Inputs, Ppi};
 use std::alloc::{AllocError, Global};
 
-/// What the board's chips hold: a line for each chip and counter, and the processor's last.
+/// Returns the answer to the inquiry `chips`: what the board's chips hold, a line for each chip and counter, and the
+/// processor's last.
 #[tactic(auto, unfolding(crate::specs::ChipsText::chips_text))]
 pub(crate) fn chips_text(alloc: Global, board: &Board) -> Result<String, AllocError>
     ensures { IfOk result (λ text. string_bytes text ≡ chips_text board.now.plain) }
@@ -42,6 +43,7 @@ pub(crate) fn chips_text(alloc: Global, board: &Board) -> Result<String, AllocEr
     Ok(text)
 }
 
+/// Returns the lines of the timer's three counters in the answer to `chips`.
 #[tactic(auto, unfolding(crate::specs::ChipsText::timer_lines, pit8253::specs::PitNumbers::pit_of))]
 fn timer_lines(alloc: Global, pit: &Pit) -> Result<String, AllocError>
     ensures { IfOk result (λ text. string_bytes text ≡ timer_lines pit.now) }
@@ -55,7 +57,8 @@ fn timer_lines(alloc: Global, pit: &Pit) -> Result<String, AllocError>
     Ok(text)
 }
 
-/// The levels and bytes that the board brings to the parallel port's pins.
+/// Returns what the board brings to the parallel port's pins, the keyboard's latch and OUT2, by which its ports are
+/// read.
 fn inputs(board: &Board) -> Inputs
     ensures { result ≡ inputs_of board.now.plain.chips }
 {
@@ -65,6 +68,8 @@ fn inputs(board: &Board) -> Inputs
     }
 }
 
+/// Returns the parallel port's line in the answer to `chips`: each port's direction, and the byte that a read would
+/// give now.
 #[tactic(auto, unfolding(crate::specs::ChipsText::ports_line, ppi8255::specs::PpiNumbers::ppi_of))]
 fn ports_line(alloc: Global, ppi: &Ppi, inputs: Inputs) -> Result<String, AllocError>
     ensures { IfOk result (λ text. string_bytes text ≡ ports_line ppi.now inputs) }
@@ -80,12 +85,15 @@ fn ports_line(alloc: Global, ppi: &Ppi, inputs: Inputs) -> Result<String, AllocE
     format!(in alloc; "ports A {a} {port_a} B {b} {port_b} C {upper}/{lower} {port_c}\n")
 }
 
+/// Returns the word for a port's direction in the parallel port's line: `out` for 0 in its image, else `in`.
 fn direction_text(number: u8) -> &'static str
     ensures { result.now ≡ direction_text (direction_by number) }
 {
     if number == 0 { "out" } else { "in" }
 }
 
+/// Returns the keyboard's line in the answer to `chips`: the code in its latch, how many codes were lost, and those
+/// that wait.
 #[tactic(auto, unfolding(crate::specs::ChipsText::keyboard_line))]
 fn keyboard_line(alloc: Global, keyboard: &Keyboard) -> Result<String, AllocError>
     ensures { IfOk result (λ text. string_bytes text ≡ keyboard_line keyboard.now) }
@@ -98,7 +106,7 @@ fn keyboard_line(alloc: Global, keyboard: &Keyboard) -> Result<String, AllocErro
     Ok(text)
 }
 
-/// Adds the codes that wait, with a blank before each.
+/// Adds the key codes that wait to the keyboard's line, a blank before each.
 fn push_waiting(alloc: Global, text: &mut String, keyboard: &Keyboard) -> Result<(), AllocError>
     ensures { OnOk result (string_bytes text.new ≡ string_bytes text.old ++ flat_map spaced_byte keyboard.now.waiting) }
 {
@@ -111,6 +119,7 @@ fn push_waiting(alloc: Global, text: &mut String, keyboard: &Keyboard) -> Result
     Ok(())
 }
 
+/// Returns a byte in two hexadecimal digits after a blank, as the keyboard's line lists each code that waits.
 fn spaced_byte(alloc: Global, byte: u8) -> Result<String, AllocError>
     ensures { IfOk result (λ text. string_bytes text ≡ spaced_byte byte) }
 {
@@ -118,6 +127,7 @@ fn spaced_byte(alloc: Global, byte: u8) -> Result<String, AllocError>
     format!(in alloc; " {byte}")
 }
 
+/// Returns the speaker's line in the answer to `chips`, with its level.
 #[tactic(auto, unfolding(crate::specs::ChipsText::speaker_line))]
 fn speaker_line(alloc: Global, level: Line) -> Result<String, AllocError>
     ensures { IfOk result (λ text. string_bytes text ≡ speaker_line level) }
@@ -126,6 +136,8 @@ fn speaker_line(alloc: Global, level: Line) -> Result<String, AllocError>
     format!(in alloc; "speaker {level}\n")
 }
 
+/// Returns the display adapter's line in the answer to `chips`: the index register, the addresses where the screen
+/// starts and where the cursor stands, whether video is on, and where the beam stands in its raster.
 #[tactic(auto, unfolding(crate::specs::ChipsText::adapter_line))]
 fn adapter_line(alloc: Global, registers: Registers) -> Result<String, AllocError>
     ensures { IfOk result (λ text. string_bytes text ≡ adapter_line registers) }
@@ -140,6 +152,7 @@ fn adapter_line(alloc: Global, registers: Registers) -> Result<String, AllocErro
     )
 }
 
+/// Returns the processor's line in the answer to `chips`: its state, and what decides its next boundary.
 #[tactic(auto, unfolding(crate::specs::ChipsText::processor_line))]
 fn processor_line(alloc: Global, board: &Board) -> Result<String, AllocError>
     ensures { IfOk result (λ text. string_bytes text ≡ processor_line board.now.plain) }
@@ -150,6 +163,7 @@ fn processor_line(alloc: Global, board: &Board) -> Result<String, AllocError>
     Ok(text)
 }
 
+/// Returns the start of the processor's line: its state, the clocks that its last step or entry still takes, and IF.
 #[tactic(auto, unfolding(crate::specs::ChipsText::processor_state))]
 fn processor_state(alloc: Global, board: &Board) -> Result<String, AllocError>
     ensures { IfOk result (λ text. string_bytes text ≡ processor_state board.now.plain) }
@@ -160,6 +174,8 @@ fn processor_state(alloc: Global, board: &Board) -> Result<String, AllocError>
     format!(in alloc; "processor {state} busy {busy} IF {enabled}")
 }
 
+/// Returns the end of the processor's line, what decides its next boundary: the interrupts that the last instruction
+/// keeps off, and whether a single step is due or a repeat is under way.
 #[tactic(auto, unfolding(crate::specs::ChipsText::processor_boundary))]
 fn processor_boundary(alloc: Global, board: &Board) -> Result<String, AllocError>
     ensures { IfOk result (λ text. string_bytes text ≡ processor_boundary board.now.plain) }
@@ -170,6 +186,8 @@ fn processor_boundary(alloc: Global, board: &Board) -> Result<String, AllocError
     format!(in alloc; " inhibits {inhibited} step {step} repeat {repeat}\n")
 }
 
+/// Returns the word of the processor's line for what the last instruction keeps off: `none`, `requests`, or all
+/// `interrupts`.
 fn inhibited_text(shadow: Shadow) -> &'static str
     ensures { result.now ≡ inhibited_text shadow }
 {

@@ -13,7 +13,8 @@ use pic8259::Pic;
 use pic8259::image::PicImage;
 use std::alloc::{AllocError, Global};
 
-/// The line of the controller with this image.
+/// Returns the interrupt controller's line in the answer to `chips`: registers, output, modes, reads and what else it
+/// keeps, by its image.
 #[tactic(auto, unfolding(crate::specs::Controller::controller_line))]
 pub(crate) fn controller_line(alloc: Global, image: &PicImage) -> Result<String, AllocError>
     ensures { IfOk result (λ text. string_bytes text ≡ controller_line (pic_of image.now)) }
@@ -31,6 +32,7 @@ pub(crate) fn controller_line(alloc: Global, image: &PicImage) -> Result<String,
     Ok(text)
 }
 
+/// Returns the start of the controller's line: its request lines, IRR, ISR and IMR.
 #[tactic(auto, unfolding(crate::specs::Controller::controller_registers))]
 fn controller_registers(alloc: Global, image: &PicImage) -> Result<String, AllocError>
     ensures { IfOk result (λ text. string_bytes text ≡ controller_registers (pic_of image.now)) }
@@ -42,6 +44,8 @@ fn controller_registers(alloc: Global, image: &PicImage) -> Result<String, Alloc
     format!(in alloc; "controller IR {ir} IRR {irr} ISR {isr} IMR {imr}")
 }
 
+/// Returns the controller's level of lowest priority, its output INT, the vector an acknowledge would give, and the
+/// word of an initialisation sequence that it awaits, for its line.
 #[tactic(auto, unfolding(crate::specs::Controller::controller_output))]
 fn controller_output(alloc: Global, image: &PicImage) -> Result<String, AllocError>
     ensures { IfOk result (λ text. string_bytes text ≡ controller_output (pic_of image.now)) }
@@ -53,6 +57,8 @@ fn controller_output(alloc: Global, image: &PicImage) -> Result<String, AllocErr
     format!(in alloc; " lowest {lowest} INT {int} vector {vector} awaits {awaited}")
 }
 
+/// Returns the controller's modes for its line: LTIM level mode, uPM 8086 mode, AEOI automatic end of interrupt, and
+/// whether that rotates priorities.
 #[tactic(auto, unfolding(crate::specs::Controller::controller_modes, pic8259::specs::PicNumbers::pic_of))]
 fn controller_modes(alloc: Global, image: &PicImage) -> Result<String, AllocError>
     ensures { IfOk result (λ text. string_bytes text ≡ controller_modes (pic_of image.now)) }
@@ -64,6 +70,8 @@ fn controller_modes(alloc: Global, image: &PicImage) -> Result<String, AllocErro
     format!(in alloc; " LTIM {ltim} uPM {upm} AEOI {aeoi} rotates {rotates}")
 }
 
+/// Returns what decides the controller's reads, for its line: special mask mode (SMM), a pending poll (P), and whether
+/// reads give ISR (RIS).
 #[tactic(auto, unfolding(crate::specs::Controller::controller_reads, pic8259::specs::PicNumbers::pic_of))]
 fn controller_reads(alloc: Global, image: &PicImage) -> Result<String, AllocError>
     ensures { IfOk result (λ text. string_bytes text ≡ controller_reads (pic_of image.now)) }
@@ -74,6 +82,7 @@ fn controller_reads(alloc: Global, image: &PicImage) -> Result<String, AllocErro
     format!(in alloc; " SMM {smm} P {poll} RIS {ris}")
 }
 
+/// Returns the end of the controller's line: the levels whose line has risen, and SNGL and IC4 of the newest ICW1.
 #[tactic(auto, unfolding(crate::specs::Controller::controller_kept, pic8259::specs::PicNumbers::pic_of))]
 fn controller_kept(alloc: Global, image: &PicImage) -> Result<String, AllocError>
     ensures { IfOk result (λ text. string_bytes text ≡ controller_kept (pic_of image.now)) }
@@ -84,7 +93,8 @@ fn controller_kept(alloc: Global, image: &PicImage) -> Result<String, AllocError
     format!(in alloc; " risen {risen} SNGL {sngl} IC4 {ic4}")
 }
 
-/// The request lines that are high, a bit for each level, as in the registers.
+/// Returns the request lines that are high, a bit for each level as in the registers, which the controller's line shows
+/// as IR.
 #[tactic(auto, using(crate::proofs::Registers::byte_of_set), unfolding(pic8259::specs::PicNumbers::pic_of))]
 fn line_register(image: &PicImage) -> u8
     ensures { result ≡ byte_of (pic_of image.now).high }
@@ -92,6 +102,8 @@ fn line_register(image: &PicImage) -> u8
     image.high
 }
 
+/// Returns IRR for the controller's line: the levels that request, in edge mode those whose line is high and has risen,
+/// in level mode those whose line is high.
 fn request_register(image: &PicImage) -> u8
     ensures { result ≡ byte_of (requests (pic_of image.now)) }
 {
@@ -103,6 +115,7 @@ fn request_register(image: &PicImage) -> u8
     }
 }
 
+/// Returns ISR for the controller's line: the levels in service.
 #[tactic(auto, using(crate::proofs::Registers::byte_of_set), unfolding(pic8259::specs::PicNumbers::pic_of))]
 fn service_register(image: &PicImage) -> u8
     ensures { result ≡ byte_of (pic_of image.now).served }
@@ -110,6 +123,7 @@ fn service_register(image: &PicImage) -> u8
     image.served
 }
 
+/// Returns IMR for the controller's line: the levels that are masked.
 #[tactic(auto, using(crate::proofs::Registers::byte_of_set), unfolding(pic8259::specs::PicNumbers::pic_of))]
 fn mask_register(image: &PicImage) -> u8
     ensures { result ≡ byte_of (pic_of image.now).masked }
@@ -117,7 +131,8 @@ fn mask_register(image: &PicImage) -> u8
     image.masked
 }
 
-/// The levels whose line has risen since they were last taken.
+/// Returns the levels whose line has risen since they were last taken, also if it is low again, for the controller's
+/// line.
 #[tactic(auto, using(crate::proofs::Registers::byte_of_set), unfolding(pic8259::specs::PicNumbers::pic_of))]
 fn risen_register(image: &PicImage) -> u8
     ensures { result ≡ byte_of (pic_of image.now).risen }
@@ -125,7 +140,7 @@ fn risen_register(image: &PicImage) -> u8
     image.risen
 }
 
-/// 1 where no ICW3 belongs to the sequence (SNGL of ICW1).
+/// Returns SNGL of ICW1 for the controller's line: 1 if no ICW3 belongs to the initialisation sequence, else 0.
 #[tactic(auto, unfolding(pic8259::specs::PicNumbers::pic_of))]
 fn is_single(image: &PicImage) -> u8
     ensures { result ≡ (if not (pic_of image.now).is_cascaded then 1 else 0) }
@@ -133,7 +148,7 @@ fn is_single(image: &PicImage) -> u8
     digit(image.is_cascaded == 0)
 }
 
-/// The level with the lowest priority.
+/// Returns the level with the lowest priority, 0 to 7, for the controller's line.
 #[tactic(auto, using(crate::proofs::Registers::last_of_order), unfolding(pic8259::specs::PicNumbers::pic_of))]
 fn lowest(image: &PicImage) -> u8
     ensures { result ≡ slice_index (pic_of image.now).order 7 }
@@ -141,14 +156,15 @@ fn lowest(image: &PicImage) -> u8
     image.lowest % 8
 }
 
-/// 1 if the interrupt output is high, else 0.
+/// Returns the level of the output INT for the controller's line: 1 if high, else 0.
 fn interrupt_output(image: &PicImage) -> u8
     ensures { result ≡ (if is_requesting (pic_of image.now) then 1 else 0) }
 {
     digit(Pic::from_image(image).request())
 }
 
-/// The vector that an acknowledge would give now.
+/// Returns the vector that an acknowledge would give now, for the controller's line. A copy of the controller is
+/// acknowledged, so that the board's own stays as it is.
 fn vector(image: &PicImage) -> u8
     ensures { result ≡ vector (pic_of image.now) }
 {
@@ -156,6 +172,8 @@ fn vector(image: &PicImage) -> u8
     pic.acknowledge()
 }
 
+/// Returns the name of the word that an initialisation sequence waits for, `none` without one, for the controller's
+/// line.
 #[tactic(auto, unfolding(pic8259::specs::PicNumbers::pic_of))]
 fn awaited(image: &PicImage) -> &'static str
     ensures { result.now ≡ awaited_text (pic_of image.now).expected }
@@ -168,6 +186,7 @@ fn awaited(image: &PicImage) -> &'static str
     }
 }
 
+/// Returns 1 for a flag that is set in the controller's image, else 0, as its line shows flags.
 fn flag_digit(flag: u8) -> u8
     ensures { result ≡ (if flag_of flag then 1 else 0) }
 {

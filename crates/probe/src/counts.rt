@@ -24,14 +24,15 @@ use std::alloc::{AllocError, Global};
 use std::collections::BTreeMap;
 use std::fmt;
 
-/// How often something began, and the clocks from each beginning up to the next.
+/// How often something began, and the clocks from each beginning up to the next: what `counts` shows of a CS:IP or of a
+/// type of interrupt.
 #[derive(Clone, Copy)]
 pub(crate) struct Tally {
     count: u64,
     clocks: u64,
 }
 
-/// What began so far.
+/// What began so far in a run of the inquiry `counts`.
 #[derive(Drop)]
 pub(crate) struct Counts {
     /// The clock of the first beginning, once there was one.
@@ -45,6 +46,7 @@ pub(crate) struct Counts {
 }
 
 impl Counts {
+    /// Begins to count, for a run from the clock `start`.
     fn new(alloc: Global, start: Clock) -> Counts
         ensures noted { HasCounted [] result }
         ensures started { result.first ≡ start }
@@ -58,7 +60,7 @@ impl Counts {
         }
     }
 
-    /// Notes what begins, if anything does.
+    /// Notes what began in a turn of the run, if anything did.
     fn note(&mut self, begun: Option<Begun>) -> Result<(), AllocError>
         requires { IfSome begun (λ b. IsBefore b.clock self.old) }
         ensures noted { OnOk result ((all : List Begun) → HasCounted all self.old
@@ -74,7 +76,7 @@ impl Counts {
         }
     }
 
-    /// Notes what begins, and tallies what began before it.
+    /// Notes what begins, and tallies what began before it, whose clocks end here.
     fn begin(&mut self, begun: Begun) -> Result<(), AllocError>
         requires { IsBefore begun.clock self.old }
         ensures noted { OnOk result ((all : List Begun) → HasCounted all self.old
@@ -88,8 +90,8 @@ impl Counts {
         Ok(())
     }
 
-    /// Tallies what began last, whose clocks end at this one. If nothing has begun yet, the clocks before the first
-    /// beginning end here.
+    /// Tallies what began last, whose clocks end at this one, the next beginning or the run's end. If nothing has begun
+    /// yet, the clocks before the first beginning end here.
     fn tally_latest(&mut self, clock: Clock) -> Result<(), AllocError>
         requires { IsBefore clock self.old }
         ensures tallied { OnOk result ((all : List Begun) → HasCounted all self.old → HasTallied all clock self.new) }
@@ -110,7 +112,8 @@ impl Counts {
         }
     }
 
-    /// The clocks before the first beginning, and a line for each CS:IP and each type, for a run from `start` to `end`.
+    /// Returns the answer to `counts`, for a run from `start` to `end`: the clocks before the first beginning, a line
+    /// for each CS:IP and each type of interrupt, and the clock that is reached.
     fn text(&mut self, alloc: Global, start: Clock, end: Clock) -> Result<String, AllocError>
         requires before { IsBefore end self.old }
         requires started { start ≤ self.old.first }
@@ -128,14 +131,14 @@ impl Counts {
     }
 }
 
-/// CS:IP as one number, with the segment above the offset.
+/// Returns CS:IP as one number, the segment above the offset, under which the beginnings there are tallied.
 fn place_of(begun: Begun) -> u32
     ensures { result ≡ 65536 * begun.cs + begun.ip }
 {
     65536 * u32::from(begun.cs) + u32::from(begun.ip)
 }
 
-/// Tallies one more beginning, with the clocks from it.
+/// Tallies one more beginning under a number, a CS:IP or a type of interrupt, with the clocks from it to the next.
 #[inline(always)]
 fn add(tallies: &mut BTreeMap<u32, Tally>, number: u32, clocks: u64) -> Result<(), AllocError>
     requires below { AreBelow (2 ^ 40) tallies.old }
@@ -151,8 +154,8 @@ fn add(tallies: &mut BTreeMap<u32, Tally>, number: u32, clocks: u64) -> Result<(
     add_first(tallies, number, clocks)
 }
 
-/// Tallies the first beginning at this number. Kept out of the loop of turns, which mostly comes to numbers that it
-/// has.
+/// Tallies the first beginning under a number. Kept out of the loop of turns, which mostly comes to numbers that have
+/// been tallied before.
 #[inline(never)]
 fn add_first(tallies: &mut BTreeMap<u32, Tally>, number: u32, clocks: u64) -> Result<(), AllocError>
     ensures { OnOk result ((k : ℕ) → get nat_cmp tallies.new k
@@ -162,7 +165,7 @@ fn add_first(tallies: &mut BTreeMap<u32, Tally>, number: u32, clocks: u64) -> Re
     Ok(())
 }
 
-/// What a number stands for.
+/// What the number of a tally stands for.
 #[derive(Clone, Copy)]
 pub(crate) enum Kind {
     /// A CS:IP at which an instruction began.
@@ -171,7 +174,7 @@ pub(crate) enum Kind {
     Entry,
 }
 
-/// How something that began is named.
+/// What a line of `counts` begins with: the CS:IP or the type of interrupt that its tally counts.
 #[derive(Clone, Copy)]
 pub(crate) struct Name {
     kind: Kind,
@@ -181,6 +184,7 @@ pub(crate) struct Name {
 impl fmt::Display for Name {
     ghost output = { λ n. Some (name_of n.kind n.number) };
 
+    /// Writes CS:IP, or `entry` and the type of an interrupt.
     fn fmt<W: fmt::Write>(&self, f: &mut fmt::Formatter<W>) -> fmt::Result {
         match self.kind {
             Kind::Instruction => {
@@ -196,7 +200,7 @@ impl fmt::Display for Name {
     }
 }
 
-/// A line for each number, rising.
+/// Returns the lines of `counts` for all instructions, or for all types of interrupts, by rising numbers.
 fn lines_of(alloc: Global, kind: Kind, tallies: &BTreeMap<u32, Tally>) -> Result<String, AllocError>
     ensures lines { IfOk result (λ text. string_bytes text ≡ flat_map (tally_line kind) tallies.now.entries) }
     ensures ordered { OnOk result (IsOrdered nat_cmp tallies.now) }
@@ -212,6 +216,7 @@ fn lines_of(alloc: Global, kind: Kind, tallies: &BTreeMap<u32, Tally>) -> Result
     Ok(text)
 }
 
+/// Adds a line of `counts`: what began, how often, and the clocks from there to the next beginnings.
 fn push_line(text: &mut String, name: Name, tally: Tally) -> Result<(), AllocError>
     ensures { OnOk result (string_bytes text.new
         ≡ string_bytes text.old ++ count_line (name_of name.kind name.number) tally.count tally.clocks) }
@@ -220,9 +225,9 @@ fn push_line(text: &mut String, name: Name, tally: Tally) -> Result<(), AllocErr
     write!(text, "{name} {count} {clocks}\n")
 }
 
-/// Runs for `count` clocks, whatever the stops are, and answers what began how often and the clocks from it. Refused as
-/// `ClockLimit`, with nothing changed, if it would go past the last clock, and as `Memory`, with the clock that was
-/// reached, if there is none.
+/// Answers the inquiry `counts`: runs for `count` clocks, whatever the stops are, and answers what began how often and
+/// the clocks from it. Refused as `ClockLimit`, with nothing changed, if it would go past the last clock, and as
+/// `Memory`, with the clock that was reached, if there is none.
 pub(crate) fn tell_counts(
     session: &mut Session,
     alloc: Global,

@@ -37,13 +37,14 @@ use keyboard::keyboard::Keyboard;
 use std::alloc::{AllocError, Global};
 use std::fmt;
 
-/// What begins, as the words of its line.
+/// What begins, an instruction or an interrupt's entry, as the words of its line in the answer to `events`.
 #[derive(Drop)]
 struct BegunText<'a>(&'a TrailEntry);
 
 impl fmt::Display for BegunText<'_> {
     ghost output = { λ b. Some (begun_text b.0.now b.0.now.event) };
 
+    /// Writes `start`, CS:IP and the instruction's bytes, or `entry` and the interrupt's type.
     fn fmt<W: fmt::Write>(&self, f: &mut fmt::Formatter<W>) -> fmt::Result {
         match &self.0.event {
             TrailEvent::Instruction { instr: _, bytes } => {
@@ -60,13 +61,14 @@ impl fmt::Display for BegunText<'_> {
     }
 }
 
-/// An access, as the words of its line.
+/// An access, as the words of its line in the answer to `events`.
 #[derive(Clone, Copy)]
 struct AccessText(Access);
 
 impl fmt::Display for AccessText {
     ghost output = { λ a. Some (access_text a.0) };
 
+    /// Writes `write` and the address, or `in` or `out` and the port, and the byte.
     fn fmt<W: fmt::Write>(&self, f: &mut fmt::Formatter<W>) -> fmt::Result {
         match self.0 {
             Access::Write(address, byte) => {
@@ -88,7 +90,7 @@ impl fmt::Display for AccessText {
     }
 }
 
-/// The word for a new state of the processor.
+/// The word for a new state of the processor in the answer to `events`.
 fn state_word(state: State) -> &'static str
     ensures { result.now ≡ state_word state }
 {
@@ -99,7 +101,7 @@ fn state_word(state: State) -> &'static str
     }
 }
 
-/// A wire's name.
+/// A wire's name in the answer to `events`.
 fn wire_name(wire: Wire) -> &'static str
     ensures { result.now ≡ wire_name wire }
 {
@@ -113,20 +115,21 @@ fn wire_name(wire: Wire) -> &'static str
     }
 }
 
-/// Whether one of these kinds lists what begins.
+/// Whether one of the kinds asked for lists what an entry of the trail says began.
 fn lists_begun(kinds: &[Kind], event: &TrailEvent) -> bool
     ensures { result ≡ list_any (λ kind. lists_begun kind event.now) kinds.now }
 {
     kinds.iter().any(|kind| kind_lists_begun(*kind, event))
 }
 
-/// Whether one of these kinds lists an access.
+/// Whether one of the kinds asked for lists an access, for `events` and for stops `when`.
 pub(crate) fn lists_access(kinds: &[Kind], access: Access) -> bool
     ensures { result ≡ list_any (λ kind. lists_access kind access) kinds.now }
 {
     kinds.iter().any(|kind| kind_lists_access(*kind, access))
 }
 
+/// Whether a kind lists what began: `starts` an instruction, `entries` an interrupt's entry.
 fn kind_lists_begun(kind: Kind, event: &TrailEvent) -> bool
     ensures { result ≡ lists_begun kind event.now }
 {
@@ -137,6 +140,7 @@ fn kind_lists_begun(kind: Kind, event: &TrailEvent) -> bool
     }
 }
 
+/// Whether a kind lists an access: writes and ports of its range.
 fn kind_lists_access(kind: Kind, access: Access) -> bool
     ensures { result ≡ lists_access kind access }
 {
@@ -149,28 +153,28 @@ fn kind_lists_access(kind: Kind, access: Access) -> bool
     }
 }
 
-/// Whether one of these kinds lists states.
+/// Whether one of the kinds asked for lists new states of the processor, for `events` and for stops `when`.
 pub(crate) fn lists_states(kinds: &[Kind]) -> bool
     ensures { result ≡ list_any lists_states kinds.now }
 {
     kinds.iter().any(|kind| matches!(kind, Kind::States))
 }
 
-/// Whether one of these kinds lists wires.
+/// Whether one of the kinds asked for lists changes of wires, so that a run has to see them and may not leap over them.
 pub(crate) fn lists_wires(kinds: &[Kind]) -> bool
     ensures { result ≡ list_any lists_wires kinds.now }
 {
     kinds.iter().any(|kind| matches!(kind, Kind::Wires))
 }
 
-/// Whether one of these kinds lists keys.
+/// Whether one of the kinds asked for lists what becomes of keys' codes, so that a run has to see them.
 pub(crate) fn lists_keys(kinds: &[Kind]) -> bool
     ensures { result ≡ list_any lists_keys kinds.now }
 {
     kinds.iter().any(|kind| matches!(kind, Kind::Keys))
 }
 
-/// The word for what becomes of a key's code.
+/// The word for what becomes of a key's code in the answer to `events`.
 fn key_word(what: KeyEvent) -> &'static str
     ensures { result.now ≡ key_word what }
 {
@@ -181,7 +185,7 @@ fn key_word(what: KeyEvent) -> &'static str
     }
 }
 
-/// Adds the line of what becomes of a key's code, if it is listed.
+/// Adds the line of `events` for what becomes of a key's code, if keys are listed.
 #[tactic(auto, using(crate::proofs::Listing::told_listed, crate::proofs::Listing::not_told), unfolding(crate::specs::Listed::event_line))]
 fn push_key(
     text: &mut String,
@@ -201,7 +205,8 @@ fn push_key(
     write!(text, "{clock} key {code} {word}\n")
 }
 
-/// Adds the lines of the codes that arrive while `waiting` wait. Answers how many wait then.
+/// Adds the lines of the codes that arrive, or are lost, at a clock at which `waiting` wait already. Returns how many
+/// wait then, 16 at most.
 fn push_arrivals(
     text: &mut String,
     kinds: &[Kind],
@@ -226,7 +231,7 @@ fn push_arrivals(
     Ok(held)
 }
 
-/// How many codes wait.
+/// Returns how many codes wait in the keyboard, by which arrivals, losses and latching are told apart.
 pub(crate) fn waiting_of(keyboard: &Keyboard) -> usize
     ensures count { result ≡ length keyboard.now.waiting }
     ensures few { result ≤ 16 }
@@ -238,8 +243,8 @@ pub(crate) fn waiting_of(keyboard: &Keyboard) -> usize
     count
 }
 
-/// Adds the line of the code that has moved into the latch, if one has and keys are listed; `held` codes waited before
-/// that.
+/// Adds the line of the code that has moved into the latch, if one has, one waiting fewer than `held`, and keys are
+/// listed.
 fn push_latched(
     text: &mut String,
     kinds: &[Kind],
@@ -279,7 +284,7 @@ fn push_keys(
     push_latched(text, kinds, clock.get(), held, board.keyboard())
 }
 
-/// Adds the line of what begins, if it is listed.
+/// Adds the line of `events` for what an entry of the trail says began, if it is listed.
 #[tactic(auto, using(crate::proofs::Listing::told_listed, crate::proofs::Listing::not_told), unfolding(crate::specs::Listed::event_line))]
 fn push_begun(text: &mut String, kinds: &[Kind], entry: &TrailEntry) -> Result<(), AllocError>
     ensures { OnOk result (string_bytes text.new
@@ -293,7 +298,7 @@ fn push_begun(text: &mut String, kinds: &[Kind], entry: &TrailEntry) -> Result<(
     write!(text, "{clock} {begun}\n")
 }
 
-/// Adds the line of an access in the clock that begins at `clock`, if it is listed.
+/// Adds the line of `events` for an access in the clock that begins at `clock`, if it is listed.
 #[tactic(auto, using(crate::proofs::Listing::told_listed, crate::proofs::Listing::not_told), unfolding(crate::specs::Listed::event_line))]
 fn push_access(
     text: &mut String,
@@ -311,7 +316,7 @@ fn push_access(
     write!(text, "{clock} {access}\n")
 }
 
-/// Adds the lines of those accesses of a clock that are listed.
+/// Adds the lines of `events` for those accesses of a clock that are listed.
 #[tactic(auto, using(crate::proofs::Listing::listed_append, crate::proofs::Listing::listed_none))]
 fn push_accesses(
     text: &mut String,
@@ -328,7 +333,7 @@ fn push_accesses(
     Ok(())
 }
 
-/// Adds the line of a new state of the processor, if states are listed.
+/// Adds the line of `events` for a new state of the processor, if states are listed.
 #[tactic(auto, using(crate::proofs::Listing::told_listed, crate::proofs::Listing::not_told), unfolding(crate::specs::Listed::event_line))]
 fn push_state(text: &mut String, kinds: &[Kind], clock: u64, state: State) -> Result<(), AllocError>
     ensures { OnOk result (string_bytes text.new
@@ -341,7 +346,7 @@ fn push_state(text: &mut String, kinds: &[Kind], clock: u64, state: State) -> Re
     write!(text, "{clock} {word}\n")
 }
 
-/// Adds the line of a wire that takes another level, if wires are listed.
+/// Adds the line of `events` for a wire that takes another level, if wires are listed.
 #[tactic(auto, using(crate::proofs::Listing::told_listed, crate::proofs::Listing::not_told), unfolding(crate::specs::Listed::event_line))]
 fn push_wire(
     text: &mut String,
@@ -361,7 +366,7 @@ fn push_wire(
     write!(text, "{clock} wire {name} {level}\n")
 }
 
-/// Adds the line of a wire, if it takes another level and wires are listed.
+/// Adds the line of `events` for a wire, if its level has changed and wires are listed.
 fn push_change(
     text: &mut String,
     kinds: &[Kind],
@@ -379,7 +384,7 @@ fn push_change(
     push_wire(text, kinds, clock, wire, after)
 }
 
-/// Adds the lines of the wires that take another level, if wires are listed.
+/// Adds the lines of `events` for the wires that have changed between two looks, if wires are listed.
 #[tactic(auto, unfolding(crate::specs::ListedEvents::lines_between))]
 fn push_changes(
     text: &mut String,
@@ -405,15 +410,16 @@ fn push_changes(
     )
 }
 
-/// Which parts of a board have to be looked at: its wires, and its keys.
+/// Which parts of a board have to be looked at before and after each turn for the events or stops asked for: its wires,
+/// and its keys. Clock and state are always looked at.
 #[derive(Clone, Copy)]
 pub(crate) struct Asked {
     pub(crate) wires: bool,
     pub(crate) keys: bool,
 }
 
-/// What is seen of a board before a turn: its clock, the processor's state, how many codes wait, and the wires; the
-/// last two only if they are asked for.
+/// What is seen of a board before a turn, to tell afterwards what has changed: its clock, the processor's state, how
+/// many codes wait, and the wires; the last two only if they are asked for.
 #[derive(Clone, Copy)]
 pub(crate) struct Seen {
     pub(crate) clock: u64,
@@ -422,6 +428,7 @@ pub(crate) struct Seen {
     pub(crate) levels: Option<Levels>,
 }
 
+/// Looks at a board before a turn, at wires and keys only if they are asked for, to tell afterwards what has changed.
 #[tactic(auto, unfolding(crate::specs::ListedEvents::seen_of))]
 pub(crate) fn seen_of(board: &Board, asked: Asked) -> Seen
     ensures seen { result ≡ seen_of asked board.now.plain }
@@ -436,7 +443,7 @@ pub(crate) fn seen_of(board: &Board, asked: Asked) -> Seen
     }
 }
 
-/// How many codes wait, if that is asked for.
+/// Returns how many codes wait in the keyboard if keys are asked for, else 0 without a look.
 fn waiting_seen(board: &Board, keys: bool) -> usize
     ensures waiting { result ≡ waiting_seen keys board.now.plain }
     ensures room { result ≤ 16 }
@@ -448,14 +455,14 @@ fn waiting_seen(board: &Board, keys: bool) -> usize
     }
 }
 
-/// The levels of the wires, if those are asked for.
+/// Returns the levels of the wires if they are asked for, else `None` without a look.
 fn levels_seen(board: &Board, wires: bool) -> Option<Levels>
     ensures { result ≡ levels_seen wires board.now.plain }
 {
     if wires { Some(levels_of(board)) } else { None }
 }
 
-/// Whether two states are the same.
+/// Whether the processor's state is the same before and after a clock, so that there is no event of it.
 pub(crate) fn is_same_state(before: State, after: State) -> bool
     ensures { result ≡ is_same_state before after }
 {
@@ -467,7 +474,7 @@ pub(crate) fn is_same_state(before: State, after: State) -> bool
     }
 }
 
-/// Adds the line of the processor's state, if it changes and states are listed.
+/// Adds the line of `events` for the processor's state, if it has changed and states are listed.
 fn push_new_state(
     text: &mut String,
     kinds: &[Kind],
@@ -484,7 +491,8 @@ fn push_new_state(
     push_state(text, kinds, clock, after)
 }
 
-/// The last entry of a board's trail.
+/// Returns the last entry of a board's trail, which says what began last, with an instruction's bytes; `None` if the
+/// trail is empty.
 fn last_entry(board: &Board) -> Option<TrailEntry>
     requires { length board.now.trail ≤ 32 }
     ensures { result ≡ slice_get board.now.trail (length board.now.trail - 1) }
@@ -499,7 +507,7 @@ fn last_entry(board: &Board) -> Option<TrailEntry>
     None
 }
 
-/// Adds the line of the trail's last entry, if it is listed.
+/// Adds the line of `events` for the trail's last entry, if it is listed.
 fn push_last(text: &mut String, kinds: &[Kind], board: &Board) -> Result<(), AllocError>
     requires { length board.now.trail ≤ 32 }
     ensures { OnOk result ((entry : TrailEntry) → slice_get board.now.trail (length board.now.trail - 1) ≡ Some entry
@@ -511,7 +519,8 @@ fn push_last(text: &mut String, kinds: &[Kind], board: &Board) -> Result<(), All
     }
 }
 
-/// Whether one of these kinds lists what begins: an instruction, or the entry of an interrupt, which has a type.
+/// Whether one of the kinds asked for lists what began in a turn: an instruction, or, with a type, the entry of an
+/// interrupt. It saves a look at the trail if none does.
 fn lists_beginning(kinds: &[Kind], entered: Option<u8>) -> bool
     ensures { result ≡ list_any (λ kind. lists_beginning kind entered) kinds.now }
 {
@@ -520,6 +529,7 @@ fn lists_beginning(kinds: &[Kind], entered: Option<u8>) -> bool
         .any(|kind| kind_lists_beginning(*kind, entered))
 }
 
+/// Whether a kind lists what began: `starts` an instruction, `entries` the entry of an interrupt, which has a type.
 fn kind_lists_beginning(kind: Kind, entered: Option<u8>) -> bool
     ensures { result ≡ lists_beginning kind entered }
 {
@@ -530,7 +540,8 @@ fn kind_lists_beginning(kind: Kind, entered: Option<u8>) -> bool
     }
 }
 
-/// Adds the line of what began last, if anything began and it is listed.
+/// Adds the line of `events` for what began in a turn, if anything did and it is listed: its bytes are in the trail's
+/// last entry.
 fn push_begun_last(
     text: &mut String,
     kinds: &[Kind],
@@ -551,7 +562,7 @@ fn push_begun_last(
     push_last(text, kinds, board)
 }
 
-/// Adds the lines of the wires, if they are seen.
+/// Adds the lines of `events` for the wires that have changed, if they were looked at before and after the turn.
 fn push_seen(
     text: &mut String,
     kinds: &[Kind],
@@ -570,7 +581,7 @@ fn push_seen(
     }
 }
 
-/// Adds the lines of the keys, if those are asked for.
+/// Adds the lines of `events` for the keys of a turn's first clock, if keys are asked for.
 fn push_asked_keys(
     text: &mut String,
     kinds: &[Kind],
@@ -592,8 +603,9 @@ fn push_asked_keys(
     push_keys(text, kinds, clock, before.waiting, board)
 }
 
-/// Adds the lines of a turn's first clock, which began with what was seen `before`. The board stands at the end of the
-/// turn, and what is asked for is still as that clock left it.
+/// Adds the lines of `events` for a turn's first clock, which began with what was seen `before`; in the turn's other
+/// clocks nothing that is listed happens. The board stands at the end of the turn, and what is asked for is still as
+/// that clock left it.
 #[tactic(auto, unfolding(crate::specs::ListedEvents::clock_lines))]
 fn push_turn(
     text: &mut String,
@@ -621,9 +633,9 @@ fn push_turn(
     push_seen(text, kinds, before.clock + 1, before.levels, levels)
 }
 
-/// Runs for `count` clocks, whatever the stops are, and answers a line for each event of these kinds. Refused as
-/// `ClockLimit`, with nothing changed, if it would go past the last clock, and as `Memory`, with the clock that was
-/// reached, if there is none.
+/// Answers the inquiry `events`: runs for `count` clocks, whatever the stops are, and answers a line for each event of
+/// these kinds. Refused as `ClockLimit`, with nothing changed, if it would go past the last clock, and as `Memory`,
+/// with the clock that was reached, if there is none.
 pub(crate) fn tell_events(
     session: &mut Session,
     alloc: Global,

@@ -8,14 +8,14 @@ use crate::kinds::{Kinds, read_kinds};
 use debugger_meaning::command::{Command, break_command, colon_place};
 use debugger_meaning::word::{count_of, hex_number, next_word};
 
-/// A place in memory.
+/// A place in memory from which instructions are listed.
 #[derive(Clone, Copy, Debug, PartialEq, Eq)]
 pub struct Place {
     pub segment: u16,
     pub offset: u16,
 }
 
-/// An inquiry into a session's board, beside the debugger's commands.
+/// What a typed line asks `pcprobe` of a session's board, beside the debugger's commands.
 #[derive(Drop)]
 pub enum Inquiry {
     /// What the chips hold.
@@ -32,9 +32,9 @@ pub enum Inquiry {
     Key(u8, Option<u64>),
 }
 
-/// The inquiry that a line is, if it is one. Its words are separated by spaces, and written in lower case; a place is a
-/// segment and an offset of at most four hexadecimal digits with a colon between them, or a physical address of at most
-/// five; counts are decimal.
+/// Reads a typed line as an inquiry; `None` if it is none, and may be a command. Its words are separated by spaces, in
+/// lower case; a place is a segment and an offset of at most four hexadecimal digits with a colon between them, or a
+/// physical address of at most five; counts are decimal.
 #[tactic(auto, unfolding(crate::specs::Inquiry::inquiry_of))]
 pub fn read_inquiry(line: &str) -> Option<Inquiry>
     ensures { result ≡ inquiry_of line.now }
@@ -59,7 +59,7 @@ pub fn read_inquiry(line: &str) -> Option<Inquiry>
     }
 }
 
-/// The inquiry of a word and one more after it.
+/// Reads the line of an inquiry's name and one word after it: `key`, `counts` or `signals`; `None` if it is no inquiry.
 fn inquiry_with(name: &[u8], first: &[u8]) -> Option<Inquiry>
     ensures { result ≡ inquiry_with name.now first.now }
 {
@@ -69,7 +69,7 @@ fn inquiry_with(name: &[u8], first: &[u8]) -> Option<Inquiry>
     run_inquiry(name, first)
 }
 
-/// The inquiry of a word and two more after it.
+/// Reads the line of an inquiry's name and two words after it: `list` or `key`; `None` if it is no inquiry.
 fn inquiry_with_two(name: &[u8], first: &[u8], second: &[u8]) -> Option<Inquiry>
     ensures { result ≡ inquiry_with_two name.now first.now second.now }
 {
@@ -82,7 +82,8 @@ fn inquiry_with_two(name: &[u8], first: &[u8], second: &[u8]) -> Option<Inquiry>
     }
 }
 
-/// A key that comes at the next clock.
+/// Parses the word after the command `key`, a scan code in hexadecimal, as a keystroke at the next clock; `None` if
+/// it is no such number.
 fn key(code: &[u8]) -> Option<Inquiry>
     ensures { result ≡ key_of (hex_number 2 code.now) }
 {
@@ -90,7 +91,7 @@ fn key(code: &[u8]) -> Option<Inquiry>
     Some(Inquiry::Key(code as u8, None))
 }
 
-/// A key that comes at a clock.
+/// Reads the words after `key`, a scan code and a clock, as a key that comes at the clock.
 fn key_at(code: &[u8], stamp: &[u8]) -> Option<Inquiry>
     ensures { result ≡ key_at (hex_number 2 code.now) (count_of stamp.now) }
 {
@@ -99,7 +100,7 @@ fn key_at(code: &[u8], stamp: &[u8]) -> Option<Inquiry>
     Some(Inquiry::Key(code as u8, Some(stamp)))
 }
 
-/// An inquiry for the events of the kinds that these words name.
+/// Reads the words after `events`, a count of clocks and the kinds of events to list, as an inquiry.
 fn events(count: &[u8], words: &[u8]) -> Option<Inquiry>
     ensures { result ≡ events_of (count_of count.now) (kinds_from [] (words_of words.now)) }
 {
@@ -108,7 +109,7 @@ fn events(count: &[u8], words: &[u8]) -> Option<Inquiry>
     Some(Inquiry::Events(count, kinds))
 }
 
-/// An inquiry that runs for some clocks.
+/// Reads the line `counts` or `signals` with its count of clocks as an inquiry that runs for so long.
 fn run_inquiry(name: &[u8], count: &[u8]) -> Option<Inquiry>
     ensures { result ≡ run_inquiry name.now (count_of count.now) }
 {
@@ -122,7 +123,7 @@ fn run_inquiry(name: &[u8], count: &[u8]) -> Option<Inquiry>
     None
 }
 
-/// An inquiry for some instructions from a place on.
+/// Reads the words after `list`, a place and a count of 1 to 4,096 instructions, as an inquiry.
 fn list(place: &[u8], count: &[u8]) -> Option<Inquiry>
     ensures { result ≡ list_of (place_of place.now) (count_of count.now) }
 {
@@ -134,7 +135,8 @@ fn list(place: &[u8], count: &[u8]) -> Option<Inquiry>
     Some(Inquiry::List(place, count as u16))
 }
 
-/// A place in memory. A physical address gets the segment of its 64 KB.
+/// Reads the place from which instructions are listed: `SEGMENT:OFFSET`, or a physical address, to which the segment of
+/// its 64 KB is given.
 #[tactic(auto, unfolding(crate::specs::Inquiry::place_of))]
 fn place_of(word: &[u8]) -> Option<Place>
     ensures { result ≡ place_of word.now }

@@ -6,7 +6,7 @@ ghost use Rattle.probe.specs.Kinds.{is_equals, is_hyphen, kind_of, kind_with, ki
 use arrayvec::ArrayVec;
 use debugger_meaning::word::{hex_number, next_word};
 
-/// A kind of events.
+/// A kind of events, which `events` lists, or at which a stop `when` is met.
 #[derive(Clone, Copy, Debug, PartialEq, Eq, Default)]
 pub enum Kind {
     /// Instructions that begin.
@@ -26,10 +26,11 @@ pub enum Kind {
     States,
 }
 
-/// One to sixteen kinds.
+/// The one to sixteen kinds that a line `events` or `when` names.
 pub type Kinds = ArrayVec<Kind, 16>;
 
-/// The kinds that the words of a line name, one to sixteen, each by a word.
+/// Reads the words of a line after `when`, or after `events` and its count, as the kinds that they name, one to
+/// sixteen, each by a word; `None` if one names none.
 pub(crate) fn read_kinds(line: &[u8]) -> Option<Kinds>
     ensures { option_map (λ kinds. kinds.items) result ≡ kinds_from [] (words_of line.now) }
 {
@@ -49,7 +50,7 @@ pub(crate) fn read_kinds(line: &[u8]) -> Option<Kinds>
     Some(kinds)
 }
 
-/// The kind that a word names.
+/// Reads a word as a kind of events: a name, or `writes` or `ports` with a range after `=`.
 #[tactic(auto, unfolding(crate::specs::Kinds::kind_of))]
 fn kind_of(word: &[u8]) -> Option<Kind>
     ensures { result ≡ kind_of word.now }
@@ -60,6 +61,7 @@ fn kind_of(word: &[u8]) -> Option<Kind>
     }
 }
 
+/// Returns the index of a word's first `=`, which parts a kind's name and its range; `None` if it has none.
 fn equals_place(word: &[u8]) -> Option<usize>
     ensures value { result ≡ position is_equals word.now }
     ensures bound { IfSome result (λ at. at < length word.now) }
@@ -67,6 +69,8 @@ fn equals_place(word: &[u8]) -> Option<usize>
     word.iter().position(|byte| *byte == b'=')
 }
 
+/// Returns the index of a word's first hyphen, which parts the first and the last number of a range; `None` if it has
+/// none.
 fn hyphen_place(word: &[u8]) -> Option<usize>
     ensures value { result ≡ position is_hyphen word.now }
     ensures bound { IfSome result (λ at. at < length word.now) }
@@ -74,7 +78,7 @@ fn hyphen_place(word: &[u8]) -> Option<usize>
     word.iter().position(|byte| *byte == b'-')
 }
 
-/// The kind that is named by a word alone.
+/// Reads a word without a range as a kind of events; `writes` and `ports` then mean all addresses and all ports.
 #[tactic(auto, unfolding(crate::specs::Kinds::plain_kind))]
 fn plain_kind(word: &[u8]) -> Option<Kind>
     ensures { result ≡ plain_kind word.now }
@@ -98,7 +102,7 @@ fn plain_kind(word: &[u8]) -> Option<Kind>
     }
 }
 
-/// The kind that is named by a word and a range.
+/// Reads a name and a range as a kind of events: writes to a range of addresses, or accesses to a range of ports.
 #[tactic(auto, unfolding(crate::specs::Kinds::kind_with))]
 fn kind_with(name: &[u8], range: &[u8]) -> Option<Kind>
     ensures { result ≡ kind_with name.now range.now }
@@ -114,7 +118,8 @@ fn kind_with(name: &[u8], range: &[u8]) -> Option<Kind>
     }
 }
 
-/// Two numbers of at most `most` hexadecimal digits, with a hyphen between them, the second not less than the first.
+/// Reads a range of addresses or ports: two numbers of at most `most` hexadecimal digits, with a hyphen between them,
+/// the second not less than the first.
 #[tactic(auto, unfolding(crate::specs::Kinds::range_of))]
 fn range_of(most: usize, word: &[u8]) -> Option<(u32, u32)>
     requires { most ≤ 5 }

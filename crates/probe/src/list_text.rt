@@ -16,7 +16,7 @@ use disassembler::text::InstrText;
 use std::alloc::{AllocError, Global};
 use std::fmt;
 
-/// What is listed at an offset: an instruction, or a byte that begins none.
+/// What the inquiry `list` shows at an offset: an instruction, or a byte that begins none.
 #[derive(Drop)]
 struct Listed<'a> {
     stands: &'a Decoding,
@@ -27,6 +27,7 @@ struct Listed<'a> {
 impl fmt::Display for Listed<'_> {
     ghost output = { λ l. Some (text_listed l.stands.now l.offset l.byte) };
 
+    /// Writes the instruction as a source has it, or `DB` and the byte that begins none.
     fn fmt<W: fmt::Write>(&self, f: &mut fmt::Formatter<W>) -> fmt::Result {
         match self.stands {
             Decoding::Found(instr, _) => {
@@ -44,7 +45,7 @@ impl fmt::Display for Listed<'_> {
     }
 }
 
-/// `count` instructions from a place on, a line for each.
+/// Returns the answer to the inquiry `list`: `count` instructions from a place on, a line for each.
 pub(crate) fn list_text(
     alloc: Global,
     board: &Board,
@@ -62,7 +63,8 @@ pub(crate) fn list_text(
     Ok(text)
 }
 
-/// Adds the line of what stands at a place. Answers the offset of the next line.
+/// Adds the line of `list` for what stands at a place. Returns the offset of the next line, which wraps around in the
+/// segment.
 #[tactic(auto, unfolding(crate::specs::Listing::list_line, crate::specs::Listing::offset_listed_next))]
 fn push_line(
     alloc: Global,
@@ -80,14 +82,14 @@ fn push_line(
     Ok(offset.wrapping_add(size_listed(&stands)))
 }
 
-/// What is decoded at a place.
+/// Decodes what stands at a place in the board's memory, for its line of `list`.
 fn stands_at(board: &Board, segment: u16, offset: u16) -> Decoding
     ensures { result ≡ stands_at board.now.plain segment offset }
 {
     decode(&BoardBytes(board), segment, offset).unpack()
 }
 
-/// How many bytes a line lists: the instruction's, or the one that begins none.
+/// How many bytes a line of `list` shows: the instruction's, or the one that begins none.
 fn size_listed(stands: &Decoding) -> u16
     ensures { result ≡ size_listed stands.now }
 {
@@ -97,7 +99,7 @@ fn size_listed(stands: &Decoding) -> u16
     }
 }
 
-/// The line of what was decoded at a place.
+/// Returns the line of `list` for what was decoded at a place: the place, the bytes, and the instruction's text.
 fn line_of(
     alloc: Global,
     board: &Board,
@@ -119,7 +121,7 @@ fn line_of(
     format!(in alloc; "{segment}:{offset} {bytes} {listed}\n")
 }
 
-/// The `size` bytes from a place on, two digits each.
+/// Returns the `size` bytes from a place on, two hexadecimal digits each, for a line of `list`.
 fn bytes_text(
     alloc: Global,
     board: &Board,
@@ -139,6 +141,7 @@ fn bytes_text(
     Ok(text)
 }
 
+/// Returns a byte in two hexadecimal digits, as a line of `list` shows an instruction's bytes.
 fn byte_text(alloc: Global, byte: u8) -> Result<String, AllocError>
     ensures { IfOk result (λ text. string_bytes text ≡ hex_byte_text byte) }
 {

@@ -22,8 +22,8 @@ use debugger_meaning::fault::DebugFault;
 use events::access::Access;
 use execute_noted::notes::Accesses;
 
-/// The least number of a stop that is met at the end of a turn of the board. The turn was one clock, or a leap in which
-/// nothing happened.
+/// Returns the least number of a stop that is met at the end of a turn of the board, in a run or a search, and brings
+/// copies of bytes up to date. The turn was one clock, or a leap in which nothing happened.
 pub(crate) fn found(
     watches: &mut [Watched],
     before: Seen,
@@ -50,7 +50,8 @@ pub(crate) fn found(
     number
 }
 
-/// Which parts of a board these stops have to look at.
+/// Tells which parts of a board these stops have to look at before and after each turn: reading wires and keys takes
+/// time, and a run that needn't see the wires leaps further.
 pub(crate) fn asked_by(watches: &[Watched]) -> Asked
     ensures { result ≡ asked_of watches.now }
 {
@@ -60,20 +61,21 @@ pub(crate) fn asked_by(watches: &[Watched]) -> Asked
     }
 }
 
-/// Whether one of these stops has to look at the wires.
+/// Whether one of these stops has to look at the wires at each turn.
 fn ask_wires(watches: &[Watched]) -> bool
     ensures { result ≡ (asked_of watches.now).wires }
 {
     watches.iter().any(|watched| asks_wires(&watched.stop))
 }
 
-/// Whether one of these stops has to look at the keys.
+/// Whether one of these stops has to look at the keys at each turn.
 fn ask_keys(watches: &[Watched]) -> bool
     ensures { result ≡ (asked_of watches.now).keys }
 {
     watches.iter().any(|watched| asks_keys(&watched.stop))
 }
 
+/// Whether a stop waits for changes of wires, so that a run has to look at them at each turn.
 fn asks_wires(stop: &Stop) -> bool
     ensures { result ≡ asks_wires stop.now }
 {
@@ -83,6 +85,7 @@ fn asks_wires(stop: &Stop) -> bool
     }
 }
 
+/// Whether a stop waits for what becomes of keys' codes, so that a run has to look at them at each turn.
 fn asks_keys(stop: &Stop) -> bool
     ensures { result ≡ asks_keys stop.now }
 {
@@ -92,8 +95,8 @@ fn asks_keys(stop: &Stop) -> bool
     }
 }
 
-/// The clock up to which a turn may lead in a run from `start` to `end`. The run's first clock is a turn of its own:
-/// what holds at the start may still hold after it.
+/// Returns the clock up to which a turn may lead in a run to `end` that began at `start`. The run's first clock is a
+/// turn of its own: what holds at the start may still hold after it, and has to be met there.
 pub(crate) fn turn_end(clock: u64, start: u64, end: Clock) -> Clock
     requires { clock < end }
     ensures first { clock ≡ start → result ≡ clock + 1 }
@@ -107,7 +110,8 @@ pub(crate) fn turn_end(clock: u64, start: u64, end: Clock) -> Clock
     }
 }
 
-/// The clock after one that isn't the last.
+/// Returns the clock after `clock`: a run that looks for stops at each clock lets a turn go no further, unless it leaps
+/// over clocks in which nothing happens.
 pub(crate) fn next_clock(clock: u64, end: Clock) -> Clock
     requires { clock < end }
     ensures { result ≡ clock + 1 }
@@ -115,8 +119,9 @@ pub(crate) fn next_clock(clock: u64, end: Clock) -> Clock
     Clock::new(clock + 1).unwrap()
 }
 
-/// Runs a session to the clock `end`, or up to the first clock after the start at which a stop is met. Answers the
-/// least number of those that are met there.
+/// Makes a probe's `go`: runs a session to the clock `end`, or up to the first clock after the start at which a stop is
+/// met. Returns the least number of those that are met there, `None` at the end; or `Memory`, with the clock that was
+/// reached.
 pub(crate) fn run_to_stop(
     session: &mut Session,
     watches: &mut [Watched],
@@ -148,8 +153,9 @@ pub(crate) fn run_to_stop(
     Ok(None)
 }
 
-/// The last clock up to `to`, after the board's own, at which a stop is met, with the least number of those that are;
-/// the board's own clock, too, if it is a session's first (`is_first`), which no clock precedes.
+/// Searches a stretch for `back stop`: returns the last clock up to `to`, after the board's own, at which a stop is
+/// met, with the least number of those that are; the board's own clock, too, if it is the session's first (`is_first`),
+/// which no clock precedes.
 pub(crate) fn last_met(
     board: &mut Board,
     watches: &mut [Watched],
@@ -185,7 +191,8 @@ pub(crate) fn last_met(
     Ok(last)
 }
 
-/// What a search has found at a session's first clock, if the board stands there: `here` is the stop that holds.
+/// Returns what a search back has found as it begins: the stop `here` that holds, if the board stands at the session's
+/// first clock, and else nothing yet.
 fn found_first(is_first: bool, here: Option<usize>, clock: Clock) -> Option<(Clock, usize)>
     ensures { result ≡ (if is_first then found_at None here clock else None) }
 {
@@ -196,7 +203,8 @@ fn found_first(is_first: bool, here: Option<usize>, clock: Clock) -> Option<(Clo
     }
 }
 
-/// What a search has found up to the clock before a turn's end: the stop `here` holds at each clock that a leap passes.
+/// Returns what a search back has found up to the clock before a turn's end: if the turn is a leap, the stop `here`,
+/// which holds at each clock that it passes.
 fn found_before(
     last: Option<(Clock, usize)>,
     here: Option<usize>,
@@ -213,7 +221,8 @@ fn found_before(
     found_at(last, here, Clock::new(end.get() - 1).unwrap())
 }
 
-/// The least number of a stop that holds as a condition; `number` is one that is met, and without one none holds.
+/// Returns the least number of a stop that holds as a condition after a turn of a search back: it then holds at each
+/// clock of a leap that comes next. `number` is a stop that is met; without one none holds, and no look is needed.
 fn standing_now(number: Option<usize>, watches: &[Watched], board: &Board) -> Option<usize>
     requires within { All IsWatched watches.now }
     requires none { number ≡ None → standing (stops_of watches.now) board.now.plain ≡ None }
@@ -225,7 +234,7 @@ fn standing_now(number: Option<usize>, watches: &[Watched], board: &Board) -> Op
     }
 }
 
-/// What a search has found last: this stop at this clock, or what it found before.
+/// Returns what a search back has found last: this stop at this clock, or, if there is none, what it found before.
 fn found_at(
     last: Option<(Clock, usize)>,
     number: Option<usize>,

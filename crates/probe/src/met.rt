@@ -20,8 +20,9 @@ use board::one_turn::Begun;
 use board_types::clock::Clock;
 use events::access::Access;
 
-/// The least number, from 1, of a stop that is met at the board's clock: `before` was seen before the clock that led to
-/// it, in which this began and these accesses were made.
+/// Returns the least number, from 1, of a stop that is met at the board's clock, by what stands there or by what
+/// happened in the clock that led to it: `before` was seen before that clock, in which `begun` began and these accesses
+/// were made.
 #[tactic(auto, unfolding(crate::specs::Met::met))]
 pub(crate) fn met(
     watches: &[Watched],
@@ -44,7 +45,8 @@ pub(crate) fn met(
     None
 }
 
-/// The least number, from 1, of a stop that holds as a condition at the board's clock.
+/// Returns the least number, from 1, of a stop that holds as a condition at the board's clock; after a leap, and at a
+/// session's first clock, no other stop can be met.
 #[tactic(auto, unfolding(crate::specs::ProbeStops::standing))]
 pub(crate) fn standing(watches: &[Watched], board: &Board) -> Option<usize>
     requires { All IsWatched watches.now }
@@ -58,7 +60,7 @@ pub(crate) fn standing(watches: &[Watched], board: &Board) -> Option<usize>
     None
 }
 
-/// Whether a stop holds as a condition.
+/// Whether a stop holds as a condition at the board's clock; no if it waits for events or changes of bytes.
 #[tactic(auto, unfolding(crate::specs::ProbeStops::stands))]
 fn stands(stop: &Stop, board: &Board) -> bool
     requires { HasBytes stop.now }
@@ -70,7 +72,7 @@ fn stands(stop: &Stop, board: &Board) -> bool
     }
 }
 
-/// Whether a stop is met at the board's clock.
+/// Whether a stop is met at the board's clock, by what stands there or by what happened in the clock that led to it.
 fn is_met(
     watched: &Watched,
     before: Seen,
@@ -93,7 +95,7 @@ fn is_met(
     }
 }
 
-/// Whether an event of these kinds has happened.
+/// Whether an event of these kinds has happened in the clock just made, so that a stop `when` is met.
 fn happened(
     kinds: &[Kind],
     before: Seen,
@@ -113,7 +115,8 @@ fn happened(
         || (lists_wires(kinds) && wires_changed(before.levels, board))
 }
 
-/// Whether one of these kinds lists what began.
+/// Whether one of these kinds lists what began in the clock just made, an instruction or an interrupt's entry; no if
+/// nothing did.
 fn lists_begun(kinds: &[Kind], begun: &Option<Begun>) -> bool
     ensures { result ≡ lists_entered kinds.now begun.now }
 {
@@ -129,28 +132,28 @@ fn lists_begun(kinds: &[Kind], begun: &Option<Begun>) -> bool
     }
 }
 
-/// Whether one of these kinds lists instructions that begin.
+/// Whether one of a stop's kinds lists instructions that begin.
 fn lists_starts(kinds: &[Kind]) -> bool
     ensures { result ≡ list_any is_starts kinds.now }
 {
     kinds.iter().any(|kind| matches!(kind, Kind::Starts))
 }
 
-/// Whether one of these kinds lists interrupts that are entered.
+/// Whether one of a stop's kinds lists interrupts that are entered.
 fn lists_entries(kinds: &[Kind]) -> bool
     ensures { result ≡ list_any is_entries kinds.now }
 {
     kinds.iter().any(|kind| matches!(kind, Kind::Entries))
 }
 
-/// Whether one of these kinds lists one of these accesses.
+/// Whether one of these kinds lists one of the accesses of the clock just made.
 fn lists_some(kinds: &[Kind], accesses: &[Access]) -> bool
     ensures { result ≡ lists_some kinds.now accesses.now }
 {
     accesses.iter().any(|access| lists_access(kinds, *access))
 }
 
-/// Whether a code has arrived or moved into the latch.
+/// Whether a key's code has arrived, been lost or moved into the latch in the clock just made, for stops on keys.
 fn keys_moved(before: Seen, board: &Board) -> bool
     requires room { before.waiting ≤ 16 }
     requires limit { before.clock < 2 ^ 40 }
@@ -165,7 +168,8 @@ fn keys_moved(before: Seen, board: &Board) -> bool
     waiting_of(board.keyboard()) + 1 == before.waiting
 }
 
-/// Whether a wire has taken another level.
+/// Whether a wire has taken another level in the clock just made, for stops on wires; no if no stop asked for the
+/// levels before it.
 fn wires_changed(before: Option<Levels>, board: &Board) -> bool
     ensures { result ≡ wires_moved before (levels_of board.now.plain) }
 {
@@ -175,6 +179,7 @@ fn wires_changed(before: Option<Levels>, board: &Board) -> bool
     }
 }
 
+/// Whether the wires have the same levels before and after a clock, so that no stop on wires is met.
 fn are_same_levels(before: Levels, after: Levels) -> bool
     ensures { result ≡ same_levels before after }
 {
@@ -186,7 +191,8 @@ fn are_same_levels(before: Levels, after: Levels) -> bool
         && before.speaker == after.speaker
 }
 
-/// Whether one of `count` bytes from `address` on has been written and differs from its copy.
+/// Whether one of `count` bytes from `address` on has been written in the clock just made and differs from its copy, so
+/// that a stop `changes` is met.
 fn one_differs(
     address: u32,
     count: u32,

@@ -26,7 +26,8 @@ use debugger_meaning::fault::DebugFault;
 use execute_noted::notes::Accesses;
 use std::alloc::{AllocError, Global};
 
-/// A key's code that is tried at each clock from the first to the last, in runs of `count` clocks.
+/// What a line `moments` asks: a key's code that is tried at each clock from the first to the last, in runs of `count`
+/// clocks from the board's present one.
 #[derive(Clone, Copy, Debug, PartialEq, Eq)]
 pub struct Trial {
     pub code: u8,
@@ -51,9 +52,10 @@ pub struct Moments {
     pub ends: Option<Ends>,
 }
 
-/// How runs from the board's clock end with one more key, for each clock of the trial. Refused in this order: as
-/// `ClockLimit` if the last of those clocks, or the end of the run, is past the last clock there is; as `BadScan` if no
-/// key sends the code; as `StampsFall` if the first clock isn't later than the board's; as `Memory` if there is none.
+/// Answers the line `moments`: how runs from the board's clock end with one more key, for each clock of the trial.
+/// Refused in this order: as `ClockLimit` if the last of those clocks, or the end of the run, is past the last clock
+/// there is; as `BadScan` if no key sends the code; as `StampsFall` if the first clock isn't later than the board's; as
+/// `Memory` if there is none.
 pub(crate) fn tell_moments(
     board: &Board,
     alloc: Global,
@@ -71,7 +73,8 @@ pub(crate) fn tell_moments(
     Ok(Answer::Text(moments_text(alloc, ranges.as_slice())?))
 }
 
-/// The clock up to which the runs go, if the key can be tried; otherwise as `tell_moments` refuses it.
+/// Returns the clock up to which the runs of a trial go, if the key can be tried; otherwise refuses the trial, as
+/// `tell_moments` says.
 fn end_of(clock: Clock, trial: Trial) -> Result<Clock, DebugFault>
     ensures { MatchResult result (λ end. (end ≡ clock + trial.count) × CanBeTried clock trial) (CannotBeTried clock trial) }
 {
@@ -87,7 +90,8 @@ fn end_of(clock: Clock, trial: Trial) -> Result<Clock, DebugFault>
     Ok(Clock::new(clock.get() + trial.count).unwrap())
 }
 
-/// Tries the key at one clock after another.
+/// Tries the key at one clock of the trial after another, each in a run of a copy of the board. Returns the ranges of
+/// clocks with which the runs end alike.
 fn try_key(
     board: &Board,
     alloc: Global,
@@ -116,8 +120,9 @@ fn try_key(
     Ok(ranges)
 }
 
-/// Lets the board without the key run to the clock before the stamp, and tries the key there. Answers whether all
-/// ranges are known: if that run has ended, a key at this stamp or later changes nothing.
+/// Tries the key at one clock, the stamp, and adds how that run ends to the ranges: `bare`, the board without the key,
+/// first runs to the clock before it. Returns whether all ranges are known: if that run has ended, a key at this stamp
+/// or later changes nothing.
 fn try_at(
     bare: &mut Board,
     alloc: Global,
@@ -159,7 +164,7 @@ fn try_at(
     Ok(false)
 }
 
-/// The clock before a stamp, at most `end`.
+/// Returns the clock before a stamp, up to which the board runs without the key, but at most the run's `end`.
 fn clock_before(stamp: u64, end: Clock) -> Clock
     requires { 1 ≤ stamp }
     ensures { result ≡ min (stamp - 1) end }
@@ -171,7 +176,7 @@ fn clock_before(stamp: u64, end: Clock) -> Clock
     }
 }
 
-/// A copy of a board with one key more.
+/// Copies a board with one key more, to run it with the key that is tried.
 fn copy_with(board: &Board, alloc: Global, key: StampedKey) -> Result<Board, DebugFault>
     ensures plain { IfOk result (λ copy. copy.plain ≡ with_key board.now.plain key) }
     ensures few { IfOk result (λ copy. length copy.trail ≤ 32) }
@@ -185,6 +190,7 @@ fn copy_with(board: &Board, alloc: Global, key: StampedKey) -> Result<Board, Deb
     Ok(copy)
 }
 
+/// Copies a board, so that a trial leaves the session's own as it is. Refused as `Memory` if there is none.
 fn copy_of(board: &Board) -> Result<Board, DebugFault>
     ensures plain { IfOk result (λ copy. copy.plain ≡ board.now.plain) }
     ensures few { IfOk result (λ copy. length copy.trail ≤ 32) }
@@ -196,7 +202,8 @@ fn copy_of(board: &Board) -> Result<Board, DebugFault>
     }
 }
 
-/// Runs a board to the clock `end`, or up to the first clock after the start at which a stop is met.
+/// Makes one run of a trial: to the clock `end`, or up to the first clock after the start at which a stop is met,
+/// `None` if none was.
 fn run(board: &mut Board, watches: &mut [Watched], end: Clock) -> Result<Stopped, DebugFault>
     requires from { clock_of board.old.plain ≤ end }
     requires trail { length board.old.trail ≤ 32 }
@@ -219,8 +226,8 @@ fn run(board: &mut Board, watches: &mut [Watched], end: Clock) -> Result<Stopped
     }
 }
 
-/// Runs a board to the clock `end`, or up to the first clock after the start at which a stop is met. Answers the least
-/// number of those that are met there.
+/// Makes a run of a trial whose stops aren't all conditions, turn by turn: to the clock `end`, or up to the first clock
+/// after the start at which a stop is met. Returns the least number of those that are met there, `None` if none is.
 fn run_board(
     board: &mut Board,
     watches: &mut [Watched],
@@ -254,7 +261,7 @@ fn run_board(
     Ok(None)
 }
 
-/// Runs a board by its own search, if all stops are conditions.
+/// Makes a run of a trial whose stops are all conditions, by the board's own search, which is faster.
 fn run_standing(board: &mut Board, watches: &[Watched], end: Clock) -> Result<Stopped, DebugFault>
     requires from { clock_of board.old.plain ≤ end }
     requires within { All IsWatched watches.now }
@@ -271,7 +278,8 @@ fn run_standing(board: &mut Board, watches: &[Watched], end: Clock) -> Result<St
     }
 }
 
-/// Adds the clocks from `first` to `last`, with which runs end like this, to the list of ranges.
+/// Adds the clocks from `first` to `last` of the key, with which runs end as `stopped` says, to the ranges: to the last
+/// range if its runs end at the same stop.
 fn add(
     ranges: &mut Vec<Moments>,
     first: u64,
@@ -287,7 +295,8 @@ fn add(
     }
 }
 
-/// Adds a range widened by the next clocks, if their runs end as its own do, else both.
+/// Puts the last range back on the list, widened by the clocks that come after it if their runs end at the same stop,
+/// or else followed by them as a range of their own.
 fn push_joined(
     ranges: &mut Vec<Moments>,
     range: &Moments,
@@ -309,7 +318,8 @@ fn push_joined(
     }
 }
 
-/// A range that goes on to a later clock.
+/// Returns a range that goes on to a later clock, with the ends of all its runs, when the next clock's run has ended at
+/// the same stop.
 fn with_ends(range: &Moments, last: u64, ends: Option<Ends>) -> Moments
     ensures { result ≡ record range.now { last = last; ends = ends } }
 {
@@ -317,7 +327,7 @@ fn with_ends(range: &Moments, last: u64, ends: Option<Ends>) -> Moments
     Moments { first, last, ends }
 }
 
-/// Adds a range.
+/// Adds a range to the list of a trial's ranges.
 fn push(ranges: &mut Vec<Moments>, range: &Moments) -> Result<(), AllocError>
     ensures { OnOk result (ranges.new.items ≡ ranges.old.items ++ range.now ∷ []) }
 {
@@ -326,6 +336,7 @@ fn push(ranges: &mut Vec<Moments>, range: &Moments) -> Result<(), AllocError>
     Ok(())
 }
 
+/// Makes a range of the clocks from `first` to `last`, with which runs end as `stopped` says.
 fn moments_of(first: u64, last: u64, stopped: &Stopped) -> Moments
     ensures { result ≡ moments_of first last stopped.now }
 {
@@ -336,7 +347,8 @@ fn moments_of(first: u64, last: u64, stopped: &Stopped) -> Moments
     }
 }
 
-/// The ends of runs, the first of which ends like this.
+/// Returns how runs of a new range end, the first of them as `stopped` says: the stop, and its clock as the least and
+/// the greatest.
 fn ends_of(stopped: &Stopped) -> Option<Ends>
     ensures { result ≡ ends_of stopped.now }
 {
@@ -350,7 +362,8 @@ fn ends_of(stopped: &Stopped) -> Option<Ends>
     }
 }
 
-/// The ends of runs and of one more, if that ends at their stop, or, as they do, at none.
+/// Returns the ends of a range's runs and of one more, if that ends at their stop, or, as they do, at none; the outer
+/// `None` if it doesn't, and a new range has to begin.
 fn ends_with(ends: &Option<Ends>, stopped: &Stopped) -> Option<Option<Ends>>
     ensures { result ≡ ends_with ends.now stopped.now }
 {
@@ -370,19 +383,21 @@ fn ends_with(ends: &Option<Ends>, stopped: &Stopped) -> Option<Option<Ends>>
     }
 }
 
+/// The earlier of two clocks, for a range's least end.
 fn earlier(a: Clock, b: Clock) -> Clock
     ensures { result ≡ min a b }
 {
     if a <= b { a } else { b }
 }
 
+/// The later of two clocks, for a range's greatest end.
 fn later(a: Clock, b: Clock) -> Clock
     ensures { result ≡ max a b }
 {
     if a <= b { b } else { a }
 }
 
-/// A line for each range.
+/// Returns the answer to `moments`: a line for each range.
 fn moments_text(alloc: Global, ranges: &[Moments]) -> Result<String, AllocError>
     ensures { IfOk result (λ text. string_bytes text ≡ flat_map moments_line ranges.now) }
 {
@@ -393,6 +408,8 @@ fn moments_text(alloc: Global, ranges: &[Moments]) -> Result<String, AllocError>
     Ok(text)
 }
 
+/// Adds the line of a range: its first and last clock of the key, and the stop with the least and the greatest clock at
+/// which its runs end, or `none`.
 #[tactic(auto, unfolding(crate::specs::Moments::moments_line))]
 fn push_line(text: &mut String, range: &Moments) -> Result<(), AllocError>
     ensures { OnOk result (string_bytes text.new ≡ string_bytes text.old ++ moments_line range.now) }

@@ -22,11 +22,12 @@ use debugger_meaning::fault::DebugFault;
 use std::alloc::Global;
 use std::marker::Model;
 
-/// A way back searches this many clocks before the present one first, after one run to them: what is met often is met
-/// there.
+/// `back stop` searches this many clocks before the present one first, after one run to them: a stop that is met often
+/// is met there.
 const NEAR: u64 = 1024;
 
-/// A session, and the stops of its runs. The session itself has those of them that are conditions, in order.
+/// A session of `pcprobe`: the debugger's, with stops of its own on events and changes of bytes. The session itself has
+/// those of the stops that are conditions, in order.
 #[derive(Drop)]
 pub struct Probe {
     session: Session,
@@ -45,8 +46,8 @@ impl Model for Probe {
 }
 
 impl Probe {
-    /// A probe of the board, as it stands, without stops. Refused as `Memory` if there is none; the board is dropped
-    /// then.
+    /// Begins a session of `pcprobe` about the board, as it stands, without stops. Refused as `Memory` if there is
+    /// none; the board is dropped then.
     pub fn new(alloc: Global, board: Board) -> Result<Probe, DebugFault>
         ensures session { IfOk result (λ probe. probe ≡ probe_about board) }
         ensures stands { IfOk result (λ probe. Stands (session_of probe)) }
@@ -59,8 +60,8 @@ impl Probe {
         })
     }
 
-    /// Does what the line commands, and answers: by the probe's own stops if the line has to do with stops, and else as
-    /// its session does. After each line the board is the one with which the probe began, some clocks later.
+    /// Answers a typed line: by the probe's own stops if the line has to do with stops, else as a command of the
+    /// debugger or an inquiry. After each line the board is the one with which the probe began, some clocks later.
     pub fn command(&mut self, alloc: Global, line: &str) -> Result<Answer, DebugFault>
         ensures answers { AnswersStopping line.now self.old result self.new }
         ensures stands { Stands (session_of self.new) }
@@ -71,6 +72,7 @@ impl Probe {
         answer
     }
 
+    /// Does what a typed line asks for: runs, stops and trials here, and any other line in the session.
     fn answer(&mut self, alloc: Global, line: &str) -> Result<Answer, DebugFault>
         ensures { AnswersStopping line.now self.old result self.new }
     {
@@ -83,7 +85,8 @@ impl Probe {
         }
     }
 
-    /// Adds a stop, if there are fewer than sixteen, and memory for a copy of the bytes whose changes it waits for.
+    /// Adds a stop, for lines such as `break`, `when` and `changes`, and answers its number. Refused as `TooManyStops`
+    /// if there are sixteen, and as `Memory` if there is none for a copy of the bytes whose changes it waits for.
     fn add(&mut self, alloc: Global, stop: Stop) -> Result<Answer, DebugFault>
         requires { HasBytes stop }
         ensures { MatchResult result (AddsStop stop self.old self.new) (RefusesStop stop self.old self.new) }
@@ -97,7 +100,7 @@ impl Probe {
         }
     }
 
-    /// Adds a stop with the room for its copy. Answers its number.
+    /// Adds a stop, once there is room for it and its copy of bytes. Answers its number, from 1.
     fn push(&mut self, watched: Watched) -> Answer
         requires room { length self.old.stops < 16 }
         requires watched { IsWatched watched }
@@ -108,7 +111,9 @@ impl Probe {
         Answer::Stop(self.watches.len())
     }
 
-    /// Runs for `count` clocks, or up to the first clock after the start at which a stop is met.
+    /// Runs for `count` clocks, or up to the first clock after the start at which a stop is met, for the command `go`.
+    /// Stops that are all conditions are left to the session's faster search. Refused as `ClockLimit` past clock 2^40,
+    /// and as `Memory`.
     fn go(&mut self, count: u64) -> Result<Answer, DebugFault>
         ensures { MatchResult result (GoesOn count self.old self.new) (RefusesGoing count self.old self.new) }
     {
@@ -126,7 +131,8 @@ impl Probe {
         }
     }
 
-    /// Goes back to the last earlier clock at which a stop was met.
+    /// Goes back to the last earlier clock at which a stop was met, for the command `back stop`. Stops that are all
+    /// conditions are left to the session's search. Refused as `BeforeStart` if none was met, and as `Memory`.
     fn back_stop(&mut self) -> Result<Answer, DebugFault>
         ensures { MatchResult result (GoesBackToStop self.old self.new) (RefusesBackToStop self.old self.new) }
     {
@@ -139,7 +145,7 @@ impl Probe {
         }
     }
 
-    /// Goes back to a clock that was found. Answers it with the stop's number.
+    /// Goes back to the clock that a search for a stop has found. Answers it with the stop's number.
     fn go_back_to(&mut self, clock: Clock, number: usize) -> Result<Answer, DebugFault>
         requires last { MetLast self.old.stops (gone_by self.old) self.old.first.plain clock number }
         requires some { 1 ≤ length self.old.stops }
@@ -149,7 +155,8 @@ impl Probe {
         with_number(self.session.back(count), clock, number)
     }
 
-    /// How runs would end with one more key, for each clock of the trial.
+    /// Answers the line `moments`: how runs from here would end with one more key, for each clock of the trial. The
+    /// probe stays as it is.
     fn moments(&mut self, alloc: Global, trial: Trial) -> Result<Answer, DebugFault>
         requires { IsRising trial }
         ensures answers { AnswersTrial self.old.stops self.old.board.plain trial result }
@@ -163,7 +170,8 @@ impl Probe {
         )
     }
 
-    /// The last earlier clock at which a stop was met, and the least number of those that were.
+    /// Finds the last earlier clock at which a stop was met, for `back stop`, and the least number of those that were.
+    /// Refused as `BeforeStart` if none was, and as `Memory`.
     fn last_met(&mut self) -> Result<(Clock, usize), DebugFault>
         ensures kept { self.new ≡ self.old }
         ensures found { MatchResult result
@@ -174,7 +182,9 @@ impl Probe {
     }
 }
 
-/// The last clock before a session's own at which a stop was met, and the least number of those that were.
+/// Finds the last clock before a session's own at which a stop was met, and the least number of those that were: runs
+/// copies of the board, one stretch before the other, back to the session's first clock. Refused as `BeforeStart` if
+/// none was met, and as `Memory`.
 fn search_back(session: &Session, watches: &mut [Watched]) -> Result<(Clock, usize), DebugFault>
     requires { All IsWatched watches.old }
     ensures keeps { KeepsStops watches.old watches.new }
@@ -207,8 +217,8 @@ fn search_back(session: &Session, watches: &mut [Watched]) -> Result<(Clock, usi
     Err(DebugFault::BeforeStart)
 }
 
-/// The first clock of a stretch from a board at `from`. The search can't tell what was met at that board's own clock,
-/// unless it is the session's first.
+/// The first clock that a stretch of a search back has covered, which ran from a board at `from`; the next stretch ends
+/// before it. What was met at that board's own clock can't be told, unless it is the session's first.
 fn stretch_start(from: u64, first: u64) -> u64
     requires { from < 2 ^ 40 }
     ensures { result ≡ from_of (from == first) from }
@@ -216,7 +226,8 @@ fn stretch_start(from: u64, first: u64) -> u64
     if from == first { from } else { from + 1 }
 }
 
-/// Adds a stop's condition to a session's stops, if it is one.
+/// Adds a stop to the session's own stops, if it is a condition, so that the session can search for it; other stops are
+/// the probe's alone.
 fn add_condition(session: &mut Session, stop: &Stop)
     requires within { HasBytes stop.now }
     requires room { length session.old.stops < 16 }
@@ -229,7 +240,7 @@ fn add_condition(session: &mut Session, stop: &Stop)
     }
 }
 
-/// The answer at the end of a run: the clock, with the number of the stop that was met, if any.
+/// The answer at the end of a `go`: the clock, with the number of the stop that was met, if any.
 fn told(found: Option<usize>, clock: Clock) -> Answer
     ensures { result ≡ answer_at found clock }
 {
@@ -239,7 +250,8 @@ fn told(found: Option<usize>, clock: Clock) -> Answer
     }
 }
 
-/// The answer of a way back, with the number of the stop that was found at its clock.
+/// Turns the session's answer to a way back into that of `back stop`: the clock, with the number of the stop that was
+/// found there. A refusal stays.
 fn with_number(
     back: Result<Answer, DebugFault>,
     clock: Clock,

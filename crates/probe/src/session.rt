@@ -18,10 +18,9 @@ use debugger_meaning::answer::Answer;
 use debugger_meaning::fault::DebugFault;
 use std::alloc::Global;
 
-/// Does what the line commands, and answers: an inquiry itself, and any other line as the session does. `chips` and
-/// `list` change nothing; `counts`, `signals` and `events` run for some clocks; `key` adds a key that is still to come.
-/// An inquiry is refused as `Memory` if there is none. After each line the board is the session's first one some clocks
-/// later.
+/// Answers a typed line: an inquiry here, and any other line as the debugger's session does. `chips` and `list` change
+/// nothing; `counts`, `signals` and `events` run for some clocks; `key` adds a key that is still to come. An inquiry is
+/// refused as `Memory` if there is none. The board always stays the session's first one some clocks later.
 pub fn command(session: &mut Session, alloc: Global, line: &str) -> Result<Answer, DebugFault>
     ensures answers { AnswersProbe line.now session.old result session.new }
     ensures stands { Stands session.new }
@@ -35,6 +34,7 @@ pub fn command(session: &mut Session, alloc: Global, line: &str) -> Result<Answe
     answer
 }
 
+/// Answers an inquiry, once its line has been read, or refuses it.
 fn answer(session: &mut Session, alloc: Global, inquiry: Inquiry) -> Result<Answer, DebugFault>
     ensures { AnswersInquiry inquiry session.old result session.new }
 {
@@ -48,14 +48,14 @@ fn answer(session: &mut Session, alloc: Global, inquiry: Inquiry) -> Result<Answ
     }
 }
 
-/// What the board's chips hold.
+/// Answers the inquiry `chips`: what the board's chips hold, a line for each.
 fn chips(session: &Session, alloc: Global) -> Result<Answer, DebugFault>
     ensures { Shows (chips_text session.now.board.plain) result }
 {
     Ok(Answer::Text(chips_text(alloc, session.board())?))
 }
 
-/// `count` instructions from a place on.
+/// Answers the inquiry `list`: `count` instructions from a place in memory on.
 fn list(session: &Session, alloc: Global, place: Place, count: u16) -> Result<Answer, DebugFault>
     ensures { Shows (list_text session.now.board.plain place.segment place.offset count) result }
 {

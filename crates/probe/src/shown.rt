@@ -7,13 +7,15 @@ use board_types::digits::{HexByte, HexWord};
 use board_types::line::Line;
 use std::fmt;
 
-/// A byte in two hexadecimal digits, or `none`.
+/// A byte that may be missing, such as the keyboard's latch, as the lines of `chips` show it: two hexadecimal digits,
+/// or `none`.
 #[derive(Clone, Copy)]
 pub(crate) struct ByteOrNone(pub(crate) Option<u8>);
 
 impl fmt::Display for ByteOrNone {
     ghost output = { λ b. Some (byte_or_none b.0) };
 
+    /// Writes the byte in two hexadecimal digits, or `none`.
     fn fmt<W: fmt::Write>(&self, f: &mut fmt::Formatter<W>) -> fmt::Result {
         match self.0 {
             None => f.write_str("none"),
@@ -25,13 +27,15 @@ impl fmt::Display for ByteOrNone {
     }
 }
 
-/// A word in four hexadecimal digits, or `none`.
+/// A word that may be missing, such as a counter's latch, as the lines of `chips` show it: four hexadecimal digits, or
+/// `none`.
 #[derive(Clone, Copy)]
 pub(crate) struct WordOrNone(pub(crate) Option<u16>);
 
 impl fmt::Display for WordOrNone {
     ghost output = { λ w. Some (word_or_none w.0) };
 
+    /// Writes the word in four hexadecimal digits, or `none`.
     fn fmt<W: fmt::Write>(&self, f: &mut fmt::Formatter<W>) -> fmt::Result {
         match self.0 {
             None => f.write_str("none"),
@@ -43,7 +47,7 @@ impl fmt::Display for WordOrNone {
     }
 }
 
-/// 1 for yes and 0 for no.
+/// Shows a yes as 1 and a no as 0, as flags and levels stand in the answers to inquiries.
 pub(crate) fn digit(yes: bool) -> u8
     ensures digit { result ≡ (if yes then 1 else 0) }
     ensures bound { result ≤ 1 }
@@ -51,7 +55,7 @@ pub(crate) fn digit(yes: bool) -> u8
     if yes { 1 } else { 0 }
 }
 
-/// 1 for a high line and 0 for a low one.
+/// Shows a high line as 1 and a low one as 0, in the lines of `chips`.
 pub(crate) fn line_digit(line: Line) -> u8
     ensures { result ≡ (if is_high line then 1 else 0) }
 {

@@ -18,7 +18,7 @@ use execute_noted::notes::Unnoted;
 use pic8259::Pic;
 use std::alloc::{AllocError, Global};
 
-/// Whether each of these wires is high.
+/// Whether each of the wires is high whose changes the inquiries `signals` and `events` list.
 #[derive(Clone, Copy)]
 pub(crate) struct Levels {
     pub(crate) out_0: bool,
@@ -29,7 +29,8 @@ pub(crate) struct Levels {
     pub(crate) speaker: bool,
 }
 
-/// The levels of a board's wires.
+/// The levels of a board's wires now. The probe takes them before and after a turn (one step of the board), to list
+/// the wires that changed.
 #[tactic(auto, unfolding(crate::specs::Signalled::levels_of))]
 pub(crate) fn levels_of(board: &Board) -> Levels
     ensures { result ≡ levels_of board.now.plain }
@@ -47,7 +48,7 @@ pub(crate) fn levels_of(board: &Board) -> Levels
     }
 }
 
-/// Whether request lines 0 and 1 are high.
+/// Whether request lines 0 and 1 of the interrupt controller are high, which the timer and the keyboard drive.
 #[tactic(auto, unfolding(pic8259::specs::PicNumbers::pic_of))]
 fn lines_of(controller: &Pic) -> (bool, bool)
     ensures ir_0 { result.0 ≡ contains controller.now.high 0 }
@@ -57,7 +58,7 @@ fn lines_of(controller: &Pic) -> (bool, bool)
     (lines % 2 == 1, lines / 2 % 2 == 1)
 }
 
-/// Adds a line for each wire that takes another level.
+/// Adds a line for each wire that takes another level at `clock`, for the inquiry `signals`.
 #[tactic(auto, unfolding(crate::specs::Signalled::changes_between))]
 fn push_changes(
     text: &mut String,
@@ -75,7 +76,7 @@ fn push_changes(
     push_change(text, "speaker", clock, before.speaker, after.speaker)
 }
 
-/// Adds a line, if the wire takes another level.
+/// Adds the line `CLOCK NAME LEVEL`, if the wire takes another level.
 fn push_change(
     text: &mut String,
     name: &str,
@@ -92,9 +93,9 @@ fn push_change(
     write!(text, "{clock} {name} {level}\n")
 }
 
-/// Runs for `count` clocks, whatever the stops are, and answers a line for each change of the wires. Refused as
-/// `ClockLimit`, with nothing changed, if it would go past the last clock, and as `Memory`, with the clock that was
-/// reached, if there is none.
+/// Answers the inquiry `signals`: runs for `count` clocks, whatever the stops are, and answers a line for each change
+/// of the wires. Refused as `ClockLimit`, with nothing changed, if it would go past the last clock, and as `Memory`,
+/// with the clock that was reached, if there is none.
 pub(crate) fn tell_signals(
     session: &mut Session,
     alloc: Global,
@@ -124,7 +125,7 @@ pub(crate) fn tell_signals(
     }
 }
 
-/// A text, followed by the clock that is reached.
+/// Adds the line of the clock that is reached to a text, as `signals` and `events` end.
 pub(crate) fn with_clock(alloc: Global, text: &str, clock: Clock) -> Result<String, AllocError>
     ensures { IfOk result (λ whole. string_bytes whole ≡ text.now ++ (codes "clock " ++ (decimal clock ++ codes "\n"))) }
 {

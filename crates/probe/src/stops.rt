@@ -11,7 +11,7 @@ use board_plain::stop::Condition;
 use debugger_meaning::command::{Command, read_command};
 use debugger_meaning::word::{count_of, hex_number, next_word};
 
-/// A stop of a probe's runs.
+/// A stop of a probe's runs: `go` ends at a clock at which it is met, and `back stop` goes back to one.
 #[derive(Drop)]
 pub enum Stop {
     /// This condition of the board holds.
@@ -23,8 +23,8 @@ pub enum Stop {
     Changes(u32, u32),
 }
 
-/// A stop that isn't used, for `ArrayVec`.
 impl Default for Stop {
+    /// Returns what stands at the places of an `ArrayVec` that hold no stop yet.
     fn default() -> Stop {
         Stop::Changes(0, 1)
     }
@@ -46,7 +46,8 @@ pub(crate) enum Request {
     Try(Trial),
 }
 
-/// What a line asks for, if that has to do with stops.
+/// Reads a typed line that adds a stop, runs to one or goes back to one, or tries a key; `None` if it is another line,
+/// which the session then answers.
 pub(crate) fn read_request(line: &str) -> Option<Request>
     ensures value { result ≡ request_of line.now }
     ensures within { IfSome result IsRequest }
@@ -68,13 +69,15 @@ pub(crate) fn read_request(line: &str) -> Option<Request>
     }
 }
 
+/// What a command such as `break` asks a probe for: a stop that is a condition of the board.
 fn standing(condition: Condition) -> Request
     ensures { result ≡ Request.Add (Stop.Standing condition) }
 {
     Request::Add(Stop::Standing(condition))
 }
 
-/// The stop on events or changes of bytes that a line names, by `when` or `changes`.
+/// Reads a line that begins with `when` or `changes` as a stop on events or on changes of bytes; `None` if it is no
+/// such line.
 #[tactic(auto, unfolding(crate::specs::Requests::stop_of))]
 fn read_stop(line: &str) -> Option<Stop>
     ensures value { result ≡ stop_of line.now }
@@ -91,8 +94,8 @@ fn read_stop(line: &str) -> Option<Stop>
     None
 }
 
-/// The trial of a key that a line names, by `moments`: its code, the first and the last clock, and how many clocks a
-/// run has.
+/// Reads a line `moments CODE FIRST LAST COUNT` as the trial of a key: its code, the first and the last clock at which
+/// it may come, and how many clocks a run has; `None` if it is no such line.
 #[tactic(auto, unfolding(crate::specs::Requests::trial_of))]
 fn read_trial(line: &str) -> Option<Trial>
     ensures value { result ≡ trial_of line.now }
@@ -124,8 +127,8 @@ fn read_trial(line: &str) -> Option<Trial>
     })
 }
 
-/// The stop on changes of bytes that these words name: an address, and how many bytes from it on, one if no count is
-/// given.
+/// Reads the words after `changes` as a stop on changes of bytes: an address, and how many bytes from it on, one if no
+/// count is given; `None` unless they are 1 to 65,536 bytes below 100000h.
 fn changes(words: &[u8]) -> Option<Stop>
     ensures value { result ≡ changes_in (words_of words.now) }
     ensures within { IfSome result HasBytes }
@@ -145,7 +148,8 @@ fn changes(words: &[u8]) -> Option<Stop>
     Some(Stop::Changes(address, count as u32))
 }
 
-/// Whether a stop is a condition.
+/// Whether a stop is a condition, which the board can search for by itself; other stops need a look at each turn of the
+/// run.
 pub(crate) fn is_standing(stop: &Stop) -> bool
     ensures { result ≡ is_standing stop.now }
 {

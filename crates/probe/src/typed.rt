@@ -11,10 +11,10 @@ use debugger_meaning::answer::Answer;
 use debugger_meaning::fault::DebugFault;
 use std::alloc::{AllocError, Global};
 
-/// Takes a key's code, stamped `at`, or with the next clock if no stamp is given, as if it had been there when the
-/// session began. Refused in this order, with nothing changed: as `ClockLimit` if the stamp is past the last clock, as
-/// `BadScan` if no key sends the code, as `StampsFall` if the stamp isn't later than the present clock, and as `Memory`
-/// if there is none.
+/// Answers the inquiry `key`: takes a key's code, stamped `at`, or with the next clock, as if it had been there when
+/// the session began. Refused in this order, with nothing changed: as `ClockLimit` if the stamp is past the last clock,
+/// as `BadScan` if no key sends the code, as `StampsFall` if the stamp isn't later than the present clock, and as
+/// `Memory` if there is none.
 pub(crate) fn type_key(
     session: &mut Session,
     alloc: Global,
@@ -30,7 +30,8 @@ pub(crate) fn type_key(
     Ok(Answer::Text(text))
 }
 
-/// The key that is typed at this clock, if it is still to come; otherwise as `type_key` refuses it.
+/// Checks a typed key, before it is taken, and stamps it: it must be sent by some key, and still to come. Refused as
+/// `type_key` says.
 fn key_to_come(clock: Clock, code: u8, at: Option<u64>) -> Result<StampedKey, DebugFault>
     ensures { MatchResult result (λ key. (key ≡ typed_key clock code at) × IsToCome clock key)
         (IsRefused clock (typed_key clock code at)) }
@@ -47,7 +48,7 @@ fn key_to_come(clock: Clock, code: u8, at: Option<u64>) -> Result<StampedKey, De
     Ok(StampedKey { stamp, code })
 }
 
-/// The stamp that is asked for, or the next clock.
+/// Returns the stamp of a typed key: the clock that was asked for, or the next one.
 fn stamp_of(clock: Clock, at: Option<u64>) -> u64
     ensures { result ≡ stamp_of clock at }
 {
@@ -57,7 +58,7 @@ fn stamp_of(clock: Clock, at: Option<u64>) -> u64
     }
 }
 
-/// The line of a key that was typed.
+/// Returns the answer to the inquiry `key`: a line with the key's code and its stamp.
 #[tactic(auto, unfolding(crate::specs::Typed::key_text))]
 fn key_text(alloc: Global, key: &StampedKey) -> Result<String, AllocError>
     ensures { IfOk result (λ text. string_bytes text ≡ key_text key.now) }

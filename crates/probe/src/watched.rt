@@ -14,15 +14,15 @@ use events::access::Access;
 use std::alloc::{AllocError, Global};
 use std::default::MadeWith;
 
-/// A stop with a copy of the bytes whose changes it waits for.
+/// A stop with a copy of the bytes whose changes it waits for, as they were a clock ago.
 #[derive(Drop)]
 pub(crate) struct Watched {
     pub(crate) stop: Stop,
     pub(crate) copied: Copied,
 }
 
-/// A stop that isn't used, for `ArrayVec`.
 impl MadeWith<Global> for Watched {
+    /// Returns what stands at the places of an `ArrayVec` that hold no stop yet, with no bytes copied.
     fn made_with(alloc: Global) -> Watched {
         Watched {
             stop: Stop::default(),
@@ -31,10 +31,11 @@ impl MadeWith<Global> for Watched {
     }
 }
 
-/// At most sixteen stops, numbered from 1.
+/// The stops of a probe, at most sixteen, numbered from 1.
 pub(crate) type Watches = ArrayVec<Watched, 16, Global>;
 
-/// A stop with room for a copy of the bytes whose changes it waits for.
+/// Makes room for a copy of the bytes whose changes a stop waits for, before the stop is added, so that no run has to
+/// ask for memory.
 pub(crate) fn with_room(alloc: Global, stop: Stop) -> Result<Watched, AllocError>
     requires { HasBytes stop }
     ensures stop { IfOk result (λ watched. watched.stop ≡ stop) }
@@ -47,14 +48,14 @@ pub(crate) fn with_room(alloc: Global, stop: Stop) -> Result<Watched, AllocError
     }
 }
 
-/// Whether all stops are conditions.
+/// Whether all stops are conditions: the board's own search, which is faster, finds them then.
 pub(crate) fn all_stand(watches: &[Watched]) -> bool
     ensures { result ≡ all_standing watches.now }
 {
     watches.iter().all(|watched| is_standing(&watched.stop))
 }
 
-/// The conditions of those stops that are one.
+/// Returns the conditions among the stops, in order, as the stops of the board's own search; the others are left out.
 pub(crate) fn conditions_of(watches: &[Watched]) -> Conditions
     requires few { length (stops_of watches.now) ≤ 16 }
     ensures { result.items ≡ conditions_of (stops_of watches.now) }
@@ -68,7 +69,7 @@ pub(crate) fn conditions_of(watches: &[Watched]) -> Conditions
     conditions
 }
 
-/// Copies the bytes of all stops anew.
+/// Copies the bytes of all stops on changes anew, when a run or a search begins.
 pub(crate) fn copy_bytes(watches: &mut [Watched], board: &Board)
     requires { All IsWatched watches.old }
     ensures keeps { KeepsStops watches.old watches.new }
@@ -79,8 +80,8 @@ pub(crate) fn copy_bytes(watches: &mut [Watched], board: &Board)
     }
 }
 
-/// Renews the copies of those bytes of all stops that these accesses have written, in the clock that led to the
-/// board's.
+/// For each stop, brings its copy of bytes up to date with what `accesses`, those of the clock just made, wrote; the
+/// next clock's check compares with it.
 pub(crate) fn renew_bytes(watches: &mut [Watched], accesses: &[Access], board: &Board)
     requires { All IsWatched watches.old }
     ensures keeps { KeepsStops watches.old watches.new }

@@ -7,7 +7,8 @@ pub struct Case<'a> {
 }
 
 impl<'a> Case<'a> {
-    /// What follows this name in the first part that begins with it.
+    /// What follows this name in the first part of the case that begins with it, such as the program's `words`; `None`
+    /// if there is no such part.
     pub fn part(self, name: &str) -> Option<&'a str> {
         for part in self.text.split(" ;; ") {
             let (first, rest) = part.split_once(' ').unwrap_or((part, ""));
@@ -18,12 +19,13 @@ impl<'a> Case<'a> {
         None
     }
 
-    /// The number in a part.
+    /// The number in the case's part of this name, such as the wanted `status`; `None` if there is no such part or
+    /// number.
     pub fn count(self, name: &str) -> Option<u64> {
         self.part(name)?.parse::<u64>().ok()
     }
 
-    /// The text of the file of this name.
+    /// The text of the file of this name that the case gives the program to open; `None` if it gives none.
     pub fn file(self, path: &str) -> Option<&'a str> {
         for part in self.text.split(" ;; ") {
             if let Some(("file", file)) = part.split_once(' ') {

@@ -23,11 +23,13 @@ use run::{Failing, Ran, run};
 use std::alloc::Global;
 use std::io;
 
+/// Judges the cases on standard input, each a whole run of `pcboard`.
 fn main(rt: HostRuntime) -> io::Result<()> {
     judge_cases(&rt, |alloc, text| judge(alloc, Case { text }))
 }
 
-/// Runs the program on a case. Fails with what isn't as the case says.
+/// Runs the program on a case, with the reads and writes failing that the case says, and again for each failing call if
+/// it has the part `each`. Fails with what isn't as the case says.
 fn judge(alloc: Global, case: Case<'_>) -> Result<()> {
     let failing = Failing {
         read: case.count("reads"),
@@ -43,6 +45,7 @@ fn judge(alloc: Global, case: Case<'_>) -> Result<()> {
     Ok(())
 }
 
+/// Fails unless a run's exit status, standard output and standard error are those that the case wants.
 fn judge_answer(case: Case<'_>, ran: &Ran) -> Result<()> {
     ensure!(
         case.count("status") == Some(u64::from(ran.status)),
@@ -61,7 +64,8 @@ fn judge_answer(case: Case<'_>, ran: &Ran) -> Result<()> {
     Ok(())
 }
 
-/// Makes each read of a run fail in turn.
+/// Makes each read of a run fail in turn, in runs of their own: each must end with status 3, a silent standard error
+/// and a beginning of the output of `whole`, the run without failures.
 fn judge_failing_reads(alloc: Global, case: Case<'_>, whole: &Ran) -> Result<()> {
     for number in 0..whole.reads {
         let failing = Failing {
@@ -74,7 +78,8 @@ fn judge_failing_reads(alloc: Global, case: Case<'_>, whole: &Ran) -> Result<()>
     Ok(())
 }
 
-/// Makes each write of standard output in a run fail in turn.
+/// Makes each write of standard output fail in turn, in runs of their own: each must end with status 3, a silent
+/// standard error and a beginning of the output of `whole`, the run without failures.
 fn judge_failing_writes(alloc: Global, case: Case<'_>, whole: &Ran) -> Result<()> {
     for number in 0..whole.out.writes() {
         let failing = Failing {

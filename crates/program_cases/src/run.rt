@@ -36,8 +36,8 @@ pub struct Ran {
 }
 
 impl Ran {
-    /// Whether the run ended at a read or a write that failed: standard error is empty, and standard output is the
-    /// beginning of that of `whole`.
+    /// Whether the run ended as it has to at a read or a write that failed: status 3, standard error empty, and
+    /// standard output the beginning of that of `whole`, the run without failures.
     pub fn is_cut_off(&self, whole: &Ran) -> bool {
         self.status == 3 && self.err.is("") && whole.out.begins_with(&self.out)
     }
@@ -53,6 +53,8 @@ struct Files<'a> {
 impl<'a> Opener for Files<'a> {
     type Input = Input<'a>;
 
+    /// Opens the file of this name for the program: a text of the case, or NotFound if it has none. Its reads count
+    /// among those of the run.
     fn open(&self, path: &str) -> io::Result<Input<'a>> {
         match self.case.file(path) {
             Some(text) => Ok(Input::new(text, self.reads)),
@@ -61,7 +63,8 @@ impl<'a> Opener for Files<'a> {
     }
 }
 
-/// Runs the program on a case. Fails if there is no memory for it.
+/// Runs `pcboard` on a case's words, files and input, with these calls failing, for the case to judge what it came to.
+/// Fails if there is no memory for it.
 pub fn run(alloc: Global, case: Case<'_>, failing: Failing) -> Result<Ran> {
     let mut words = Vec::new(alloc);
     for word in case.part("words").unwrap_or("").split(' ') {

@@ -10,7 +10,7 @@ pub struct Spelled<'a> {
 }
 
 impl<'a> Spelled<'a> {
-    /// The whole of a text.
+    /// The whole of a case's text, to be spelled out byte by byte.
     pub fn new(text: &'a str) -> Self {
         Spelled {
             blanks: 0,
@@ -18,7 +18,7 @@ impl<'a> Spelled<'a> {
         }
     }
 
-    /// Takes the next byte, or answers `None` at the end.
+    /// Takes the next byte that a case's text stands for, with `|`, `\HH` and `\_HH` spelled out; `None` at the end.
     pub fn next_byte(&mut self) -> Option<u8> {
         if self.blanks > 0 {
             self.blanks -= 1;
@@ -47,11 +47,12 @@ impl<'a> Spelled<'a> {
     }
 }
 
-/// The number of two hexadecimal digits.
+/// The number of the two hexadecimal digits in `\HH` or `\_HH`.
 fn number(high: u8, low: u8) -> u8 {
     digit(high) << 4 | digit(low)
 }
 
+/// The value of a hexadecimal digit in upper case; 0 for any other byte.
 fn digit(byte: u8) -> u8 {
     match byte {
         b'0'..=b'9' => byte - b'0',

@@ -16,7 +16,7 @@ pub struct Calls {
 }
 
 impl Calls {
-    /// Calls of which the one of this number fails, and no other.
+    /// Calls, none made yet, of which the one of this number fails, and no other; with `None` none does.
     pub fn new(failing: Option<u64>) -> Self {
         Calls {
             made: Cell::new(0),
@@ -24,12 +24,12 @@ impl Calls {
         }
     }
 
-    /// How many were made.
+    /// How many calls were made, so that a case can make each of them fail in turn.
     pub fn made(&self) -> u64 {
         self.made.get()
     }
 
-    /// Makes the next call.
+    /// Counts the next call, and fails if it is the one that has to.
     fn make(&self) -> io::Result<()> {
         let number = self.made.get();
         self.made.set(number.saturating_add(1));
@@ -49,7 +49,7 @@ pub struct Input<'a> {
 }
 
 impl<'a> Input<'a> {
-    /// An input of this text, whose reads are counted among `reads`.
+    /// An input of this text of a case, whose reads are counted among `reads`, together with those of other inputs.
     pub fn new(text: &'a str, reads: &'a Calls) -> Self {
         Input {
             text: Spelled::new(text),
@@ -60,6 +60,8 @@ impl<'a> Input<'a> {
 }
 
 impl Read for Input<'_> {
+    /// Reads at most seven bytes, so that the program must read on; every other call fails as interrupted, which it
+    /// must make again, and another one fails if the case wants it.
     fn read(&mut self, buf: &mut [u8]) -> io::Result<usize> {
         self.is_interrupted = !self.is_interrupted;
         if self.is_interrupted {
@@ -85,7 +87,7 @@ pub struct Output {
 }
 
 impl Output {
-    /// An output of which the write of this number fails.
+    /// An output that keeps what the program writes, and of which the write of this number fails.
     pub fn new(alloc: Global, failing: Option<u64>) -> Self {
         Output {
             bytes: Vec::new(alloc),
@@ -93,17 +95,17 @@ impl Output {
         }
     }
 
-    /// How many writes were made.
+    /// How many writes were made to the output, so that each can be made to fail in turn.
     pub fn writes(&self) -> u64 {
         self.writes.made()
     }
 
-    /// Whether what was written here begins with what was written to `front`.
+    /// Whether what was written here begins with what was written to `front`, the output of a run that was cut off.
     pub fn begins_with(&self, front: &Output) -> bool {
         self.bytes.as_slice().starts_with(front.bytes.as_slice())
     }
 
-    /// Whether what was written begins with this text.
+    /// Whether what was written begins with this text, as the case's part `begins` says.
     pub fn begins(&self, text: &str) -> bool {
         let mut wanted = Spelled::new(text);
         for byte in self.bytes.as_slice() {
@@ -116,7 +118,7 @@ impl Output {
         wanted.next_byte().is_none()
     }
 
-    /// Whether this text was written, and no more.
+    /// Whether this text was written, and no more, as the case's parts `out` and `err` say.
     pub fn is(&self, text: &str) -> bool {
         let mut wanted = Spelled::new(text);
         for byte in self.bytes.as_slice() {
@@ -127,7 +129,8 @@ impl Output {
         wanted.next_byte().is_none()
     }
 
-    /// Whether this text, of one line and without a backslash, stands in what was written.
+    /// Whether this text, of one line and without a backslash, stands in what was written, as the case's part `usage`
+    /// says of standard error.
     pub fn has(&self, text: &str) -> bool {
         self.bytes
             .as_slice()
@@ -137,6 +140,8 @@ impl Output {
 }
 
 impl Write for Output {
+    /// Keeps at most seven bytes of what the program writes, so that it must write the rest anew; fails if this is the
+    /// write that has to.
     fn write(&mut self, buf: &[u8]) -> io::Result<usize> {
         self.writes.make()?;
         let size = buf.len().min(PIECE);
@@ -144,6 +149,7 @@ impl Write for Output {
         Ok(size)
     }
 
+    /// Does nothing: whatever is written is kept at once.
     fn flush(&mut self) -> io::Result<()> {
         Ok(())
     }

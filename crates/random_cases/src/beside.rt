@@ -35,7 +35,8 @@ const IN_ROM: u32 = 0xF_0000;
 /// The code of a key that is struck.
 const STRUCK: u8 = 0x1E;
 
-/// A board at power-on, with a key stamped with a clock, if one is given.
+/// A board at power-on with a random program's image, with a key stamped with a clock, if one is given, for each run to
+/// begin afresh. Even seeds count by table C1, odd ones by C2.
 fn board_at_power_on(
     alloc: Global,
     image: &Image,
@@ -60,8 +61,8 @@ fn board_at_power_on(
     Ok(Board::new(alloc, image, config, keys)?)
 }
 
-/// Compares a run of each number of clocks, from `clocks - width` to `clocks`, with the board that makes them one by
-/// one.
+/// Judges a `budgets` case: compares a run from power-on of each number of clocks, from `clocks - width` to `clocks`,
+/// with a board that makes them one by one. Fails with the first that differs.
 pub fn compare_budgets(alloc: Global, seed: u64, clocks: u64, width: u64) -> Result<()> {
     let image = random_image(alloc, seed)?;
     let mut ticking = board_at_power_on(alloc, &image, seed, None)?;
@@ -70,6 +71,8 @@ pub fn compare_budgets(alloc: Global, seed: u64, clocks: u64, width: u64) -> Res
     answer
 }
 
+/// Runs a board of each length of a `budgets` case, while `ticking` is brought to the same clock one clock at a time,
+/// and compares them.
 fn compare_from(
     alloc: Global,
     image: &Image,
@@ -92,7 +95,8 @@ fn compare_from(
     Ok(())
 }
 
-/// Compares a run of `count` clocks with a board that stands at its end.
+/// Runs a board `count` clocks and compares it with `other`, which stands there after single clocks; `whole` compares
+/// all its RAM.
 fn compare_run(board: &mut Board, count: u64, other: &Board, whole: bool) -> Result<()> {
     board.run(count)?;
     match difference(board, other, whole) {
@@ -101,7 +105,8 @@ fn compare_run(board: &mut Board, count: u64, other: &Board, whole: bool) -> Res
     }
 }
 
-/// Compares runs of `clocks` clocks with a key stamped at each of `width` clocks.
+/// Judges a `keys` case: compares runs of `clocks` clocks, with a key stamped at each of the `width` clocks before the
+/// last 300, with boards that make them one by one.
 pub fn compare_keys(alloc: Global, seed: u64, clocks: u64, width: u64) -> Result<()> {
     let image = random_image(alloc, seed)?;
     let last = clocks.saturating_sub(AFTER_KEYS);
@@ -114,6 +119,8 @@ pub fn compare_keys(alloc: Global, seed: u64, clocks: u64, width: u64) -> Result
     Ok(())
 }
 
+/// Compares, for a `keys` case, a run of `clocks` clocks with a key stamped at a clock with `ticking`, which makes them
+/// one by one. Fails with the stamp.
 fn compare_struck(
     alloc: Global,
     image: &Image,
@@ -132,8 +139,8 @@ fn compare_struck(
     }
 }
 
-/// Compares runs of `clocks` clocks that go on until the processor is free at an offset of the code, for `width`
-/// offsets.
+/// Judges a `stops` case: compares runs of `clocks` clocks that go on until the processor is free at an offset of the
+/// code, for `width` offsets, with boards that go on one clock at a time.
 pub fn compare_stops(alloc: Global, seed: u64, clocks: u64, width: u64) -> Result<()> {
     let image = random_image(alloc, seed)?;
     let mut ticking = board_at_power_on(alloc, &image, seed, None)?;
@@ -142,6 +149,8 @@ pub fn compare_stops(alloc: Global, seed: u64, clocks: u64, width: u64) -> Resul
     answer
 }
 
+/// Brings `ticking` to clock `clocks`, and compares from there, for each offset of a `stops` case, how a copy of it and
+/// another board go on to the stop.
 fn compare_stops_after(
     alloc: Global,
     image: &Image,
@@ -161,7 +170,8 @@ fn compare_stops_after(
     Ok(())
 }
 
-/// Compares a board that has made `clocks` clocks and goes on to a stop with one that goes on to it clock by clock.
+/// Compares a board that has made `clocks` clocks and goes on to a stop at an offset with `ticking`, which goes on to
+/// it clock by clock. Fails with the offset.
 fn compare_stopped(
     alloc: Global,
     image: &Image,
@@ -181,6 +191,8 @@ fn compare_stopped(
     }
 }
 
+/// Runs a board `clocks` clocks and on to a stop, and fails unless it ends by the stop that is wanted and shows what
+/// `other` shows.
 fn compare_stop(
     board: &mut Board,
     clocks: u64,
@@ -200,7 +212,8 @@ fn compare_stop(
     }
 }
 
-/// A stop that waits for a free processor at an offset of the code.
+/// A stop that holds once the processor is free at an offset of the random code's segment, to which a `stops` case's
+/// boards run.
 fn stop_at(offset: u16) -> Stops
     ensures { All HasAddress result.items }
 {
@@ -209,13 +222,14 @@ fn stop_at(offset: u16) -> Stops
     stops
 }
 
-/// Makes clocks one by one, each as a run of its own up to a stop that never holds: so none is part of a longer leap.
+/// Makes clocks one by one, each as a run of its own up to a stop that never holds: so none is part of a longer leap on
+/// the board with which runs are compared.
 fn tick(board: &mut Board, clocks: u64) -> Result<()> {
     tick_to(board, clocks, &stop_never())?;
     Ok(())
 }
 
-/// A stop that never holds.
+/// A stop that never holds, a byte of ROM that isn't what it says: with it every clock of a run is a turn of its own.
 fn stop_never() -> Stops
     ensures { All HasAddress result.items }
 {
@@ -224,7 +238,8 @@ fn stop_never() -> Stops
     stops
 }
 
-/// Makes clocks one by one, up to the first one at which a stop holds.
+/// Makes at most `clocks` clocks one by one, up to the first one at which a stop holds, and returns that; `None` if
+/// none held.
 fn tick_to(board: &mut Board, clocks: u64, stops: &Stops) -> Result<Option<Stop>>
     requires { All HasAddress stops.now.items }
 {

@@ -22,7 +22,7 @@ const ALONE: [u8; 11] = [
 /// The high bytes of segments in RAM, text memory, ROM and unused addresses.
 const SEGMENTS: [u8; 4] = [0x01, 0xB0, 0xF0, 0x40];
 
-/// Puts an instruction, or a few that belong together.
+/// Puts a random instruction, or a few that belong together, into the program's loops; common ones come more often.
 pub fn put_instruction(chance: &mut Chance, code: &mut Code) -> Result<(), AllocError> {
     match chance.below(24) {
         0..=3 => put_two_operands(chance, code),
@@ -44,7 +44,7 @@ pub fn put_instruction(chance: &mut Chance, code: &mut Code) -> Result<(), Alloc
     }
 }
 
-/// An operation on two registers, or on one and memory.
+/// Puts an operation on two registers, or on a register and memory, such as ADD or MOV, into a random program.
 fn put_two_operands(chance: &mut Chance, code: &mut Code) -> Result<(), AllocError> {
     let is_word = chance.once_in(2);
     let to_register = chance.once_in(2);
@@ -58,7 +58,8 @@ fn put_two_operands(chance: &mut Chance, code: &mut Code) -> Result<(), AllocErr
     put_memory(chance, code, reg)
 }
 
-/// A number into a register, mostly the offset of a byte.
+/// Puts MOV of a number into a register, mostly the offset of a byte to which later instructions store, into a random
+/// program.
 fn put_load(chance: &mut Chance, code: &mut Code) -> Result<(), AllocError> {
     if chance.once_in(4) {
         code.put(0xB0 + byte_register(chance))?;
@@ -69,7 +70,8 @@ fn put_load(chance: &mut Chance, code: &mut Code) -> Result<(), AllocError> {
     code.put_word(number)
 }
 
-/// An operation of memory or a register with a number.
+/// Puts an operation of a memory word or a register with a byte that is extended by its sign (opcode 83h) into a random
+/// program.
 fn put_immediate(chance: &mut Chance, code: &mut Code) -> Result<(), AllocError> {
     let operation = chance.byte() % 8;
     code.put(0x83)?;
@@ -82,7 +84,8 @@ fn put_immediate(chance: &mut Chance, code: &mut Code) -> Result<(), AllocError>
     code.put(chance.byte())
 }
 
-/// A jump over a few bytes, which may end in the middle of an instruction.
+/// Puts a short jump over a few bytes, mostly a conditional one, into a random program; it may end in the middle of an
+/// instruction.
 fn put_jump(chance: &mut Chance, code: &mut Code) -> Result<(), AllocError> {
     if chance.once_in(8) {
         code.put(0xEB)?;
@@ -92,7 +95,8 @@ fn put_jump(chance: &mut Chance, code: &mut Code) -> Result<(), AllocError> {
     code.put(chance.byte() % 7)
 }
 
-/// A comparison or test, and a jump by it.
+/// Puts a comparison or test of registers and a short jump by its flags into a random program, as the run's loop makes
+/// them together.
 fn put_compare_and_jump(chance: &mut Chance, code: &mut Code) -> Result<(), AllocError> {
     let is_word = chance.once_in(2);
     code.put(chance.pick(&[0x38, 0x84]) % 0x85 + u8::from(is_word))?;
@@ -102,7 +106,8 @@ fn put_compare_and_jump(chance: &mut Chance, code: &mut Code) -> Result<(), Allo
     put_jump(chance, code)
 }
 
-/// A store into one of the bytes shortly before or after this place.
+/// Puts a store into one of the bytes shortly before or after this place into a random program, so that it changes
+/// itself.
 fn put_store_nearby(chance: &mut Chance, code: &mut Code) -> Result<(), AllocError> {
     let near = (code.here() + 24).saturating_sub(chance.below(40));
     match chance.below(3) {
@@ -125,6 +130,7 @@ fn put_store_nearby(chance: &mut Chance, code: &mut Code) -> Result<(), AllocErr
     }
 }
 
+/// Puts a shift or rotation of a register or of memory, by 1 or CL, into a random program.
 fn put_shift(chance: &mut Chance, code: &mut Code) -> Result<(), AllocError> {
     let is_word = chance.once_in(2);
     let by_cl = if chance.once_in(3) { 2 } else { 0 };
@@ -137,7 +143,7 @@ fn put_shift(chance: &mut Chance, code: &mut Code) -> Result<(), AllocError> {
     put_register(code, operation, register)
 }
 
-/// NOT, NEG, MUL, IMUL, DIV or IDIV.
+/// Puts NOT, NEG, MUL, IMUL, DIV or IDIV of a register or of memory into a random program.
 fn put_unary(chance: &mut Chance, code: &mut Code) -> Result<(), AllocError> {
     let is_word = chance.once_in(2);
     let operation = chance.pick(&[2, 3, 4, 5, 6, 7]) % 8;
@@ -149,7 +155,7 @@ fn put_unary(chance: &mut Chance, code: &mut Code) -> Result<(), AllocError> {
     put_register(code, operation, register)
 }
 
-/// A push of a register, memory or a segment register, and a pop.
+/// Puts a push of a register, memory or a segment register, and a pop, into a random program.
 fn put_stack(chance: &mut Chance, code: &mut Code) -> Result<(), AllocError> {
     match chance.below(4) {
         0 => {
@@ -165,7 +171,8 @@ fn put_stack(chance: &mut Chance, code: &mut Code) -> Result<(), AllocError> {
     code.put(0x58 + word_register(chance))
 }
 
-/// A load of ES, and mostly something that uses it.
+/// Puts into a random program a load of ES with a segment of RAM, text memory, ROM or nothing, and then either a
+/// store through ES or a load of ES with CS.
 fn put_segment(chance: &mut Chance, code: &mut Code) -> Result<(), AllocError> {
     code.put(0xB8)?;
     code.put_word(u16::from(chance.pick(&SEGMENTS)) * 256)?;
@@ -180,7 +187,7 @@ fn put_segment(chance: &mut Chance, code: &mut Code) -> Result<(), AllocError> {
     }
 }
 
-/// A string instruction, perhaps repeated a few times.
+/// Puts a string instruction, perhaps repeated up to five times, into a random program.
 fn put_string(chance: &mut Chance, code: &mut Code) -> Result<(), AllocError> {
     if chance.once_in(2) {
         code.put(0xB9)?;
@@ -190,14 +197,14 @@ fn put_string(chance: &mut Chance, code: &mut Code) -> Result<(), AllocError> {
     code.put(chance.pick(&STRINGS))
 }
 
-/// A CALL of the routine after the code.
+/// Puts a CALL of the routine after the code, which only increments AX, into a random program.
 fn put_call(code: &mut Code) -> Result<(), AllocError> {
     let next = code.here() + 3;
     code.put(0xE8)?;
     code.put_word(ROUTINE_AT.wrapping_sub(next))
 }
 
-/// A loop of a few rounds: a LOOP to itself, DEC and JNZ, or a loop around an instruction.
+/// Puts a loop of up to 40 rounds into a random program: a LOOP to itself, DEC and JNZ, or LOOP around an ADD.
 fn put_loop(chance: &mut Chance, code: &mut Code) -> Result<(), AllocError> {
     code.put(0xB9)?;
     code.put_word(1 + chance.below(40))?;
@@ -215,7 +222,8 @@ fn put_loop(chance: &mut Chance, code: &mut Code) -> Result<(), AllocError> {
     }
 }
 
-/// IN of the timer, the parallel port or the adapter, or OUT to the parallel port, which holds the speaker's gate.
+/// Puts IN from the timer (40h, 42h), port B (61h) or the interrupt controller (20h), or, once in three, OUT to port B,
+/// into a random program.
 fn put_port(chance: &mut Chance, code: &mut Code) -> Result<(), AllocError> {
     if chance.once_in(3) {
         code.put(0xE6)?;
@@ -225,7 +233,7 @@ fn put_port(chance: &mut Chance, code: &mut Code) -> Result<(), AllocError> {
     code.put(chance.pick(&[0x40, 0x42, 0x61, 0x20]))
 }
 
-/// INC or DEC of a register or of memory.
+/// Puts INC or DEC of a register or of memory into a random program.
 fn put_step(chance: &mut Chance, code: &mut Code) -> Result<(), AllocError> {
     if chance.once_in(2) {
         code.put(0xFE + chance.byte() % 2)?;

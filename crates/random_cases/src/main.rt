@@ -25,10 +25,13 @@ use cases::judge_cases;
 use std::alloc::Global;
 use std::io;
 
+/// Judges the cases on standard input, each by itself.
 fn main(rt: HostRuntime) -> io::Result<()> {
     judge_cases(&rt, judge)
 }
 
+/// Judges a case `KIND SEED CLOCKS WIDTH`: compares runs of the seed's random program in the way that the kind names.
+/// Fails with the first that differs, and the seed.
 fn judge(alloc: Global, case: &str) -> Result<()> {
     let mut words = case.split_whitespace();
     let kind = words.next().context("no kind")?;
@@ -47,7 +50,7 @@ fn judge(alloc: Global, case: &str) -> Result<()> {
     }
 }
 
-/// A number in decimal, below 2^32.
+/// The number that a word of a case gives in decimal, below 2^32.
 fn number(word: Option<&str>) -> Result<u64> {
     let number = word.context("no number")?.parse::<u32>().ok();
     Ok(u64::from(number.context("not a number")?))

@@ -19,21 +19,23 @@ const BASES: [u8; 3] = [4, 5, 7];
 /// `[BP]` and `[BX]`, with a displacement.
 const DISPLACED: [u8; 2] = [6, 7];
 
-/// The number of a word register that a random instruction may change.
+/// Draws the number of a word register that a random instruction may change: not DX, which counts the loop's rounds,
+/// nor SP.
 pub fn word_register(chance: &mut Chance) -> u8
     ensures { result < 8 }
 {
     chance.pick(&WORD_REGISTERS) % 8
 }
 
-/// The number of a byte register that a random instruction may change.
+/// Draws the number of a byte register that a random instruction may change: not DL or DH, as DX counts the loop's
+/// rounds.
 pub fn byte_register(chance: &mut Chance) -> u8
     ensures { result < 8 }
 {
     chance.pick(&BYTE_REGISTERS) % 8
 }
 
-/// The number of a register of this width that a random instruction may change.
+/// Draws the number of a register, of a word or a byte, that a random instruction may change.
 pub fn register(chance: &mut Chance, is_word: bool) -> u8
     ensures { result < 8 }
 {
@@ -44,7 +46,7 @@ pub fn register(chance: &mut Chance, is_word: bool) -> u8
     }
 }
 
-/// The offset of a byte of data, or of code.
+/// Draws the offset of a byte of data, or once in four of the random code, to which an instruction may then store.
 pub fn offset(chance: &mut Chance) -> u16 {
     if chance.once_in(4) {
         chance.below(CODE_SIZE)
@@ -53,7 +55,8 @@ pub fn offset(chance: &mut Chance) -> u16 {
     }
 }
 
-/// Puts the addressing byte of a register operand and another register or operation.
+/// Puts the addressing byte of an instruction that has a register operand, `register`, and another register or
+/// operation code, `reg`.
 pub fn put_register(code: &mut Code, reg: u8, register: u8) -> Result<(), AllocError>
     requires reg { reg < 8 }
     requires register { register < 8 }
@@ -61,7 +64,8 @@ pub fn put_register(code: &mut Code, reg: u8, register: u8) -> Result<(), AllocE
     code.put(0xC0 + 8 * reg + register)
 }
 
-/// Puts the addressing byte, and a displacement, of a memory operand and a register or operation.
+/// Puts the addressing byte, and a displacement or an offset, of an instruction that has a random memory operand and a
+/// register or operation code, `reg`.
 pub fn put_memory(chance: &mut Chance, code: &mut Code, reg: u8) -> Result<(), AllocError>
     requires { reg < 8 }
 {

@@ -75,7 +75,8 @@ SEGMENT VECTORS AT 0
 ENDS
 ";
 
-/// The image of the program that this seed decides.
+/// The image of the program that a seed decides, with what sets the board up and handles interrupts around the random
+/// code, for the boards that are compared.
 pub fn random_image(alloc: Global, seed: u64) -> Result<Image> {
     let listing = match assemble(alloc, AROUND.as_bytes()) {
         Ok(listing) => listing,
@@ -94,7 +95,7 @@ pub fn random_image(alloc: Global, seed: u64) -> Result<Image> {
     Ok(image)
 }
 
-/// Puts a byte into the image, if its address is loadable.
+/// Puts a byte of the program into its image, if its address is loadable.
 fn put_in(image: &mut Image, addr: u32, byte: u8) -> Result<(), AllocError> {
     if !is_loadable(addr) {
         return Ok(());
@@ -102,7 +103,7 @@ fn put_in(image: &mut Image, addr: u32, byte: u8) -> Result<(), AllocError> {
     image.put(addr, byte)
 }
 
-/// Loops of random instructions, with stores into them in between, again and again.
+/// The random code of a program: loops of random instructions, with stores into them in between, again and again.
 fn random_code(alloc: Global, chance: &mut Chance) -> Result<Code, AllocError> {
     let mut code = Code::new(alloc);
     put_counts(chance, &mut code)?;
@@ -115,7 +116,8 @@ fn random_code(alloc: Global, chance: &mut Chance) -> Result<Code, AllocError> {
     Ok(code)
 }
 
-/// Gives counter 0 a count, and enables interrupts or disables them.
+/// Puts the start of the random code: it gives counter 0 a count, 256 to 1,279, so that the timer interrupts, and
+/// enables interrupts or disables them.
 fn put_counts(chance: &mut Chance, code: &mut Code) -> Result<(), AllocError> {
     for byte in [chance.byte(), 1 + chance.byte() % 4] {
         code.put_all(&[0xB0, byte, 0xE6, 0x40])?;
@@ -123,7 +125,8 @@ fn put_counts(chance: &mut Chance, code: &mut Code) -> Result<(), AllocError> {
     code.put(if chance.once_in(3) { 0xFA } else { 0xFB })
 }
 
-/// MOV DX,rounds; random instructions; DEC DX; and a jump back to them, short if it can be.
+/// Puts a loop of 10 to 33 rounds into the random code: MOV DX, random instructions, DEC DX, and a jump back to them,
+/// short if it can be; half of them also store into themselves in the end.
 fn put_rounds(chance: &mut Chance, code: &mut Code) -> Result<(), AllocError> {
     code.put(0xBA)?;
     code.put_word(10 + chance.below(24))?;
@@ -145,8 +148,8 @@ fn put_rounds(chance: &mut Chance, code: &mut Code) -> Result<(), AllocError> {
     put_round_back(code, begin)
 }
 
-/// MOV BX with an offset some bytes from here: the stores at BX, which goes down by one each round, come to the loop
-/// itself after some rounds.
+/// Puts MOV BX with an offset some bytes from here before a loop: the loop's store at BX, which goes down by one each
+/// round, comes to the loop's own code after some rounds.
 fn put_start_of_creep(chance: &mut Chance, code: &mut Code) -> Result<(), AllocError> {
     let offset = code.here() + 10 + chance.below(30);
     code.put(0xBB)?;
@@ -154,7 +157,7 @@ fn put_start_of_creep(chance: &mut Chance, code: &mut Code) -> Result<(), AllocE
     code.close()
 }
 
-/// JNZ, or JZ over a JMP, back to a place in the code.
+/// Puts JNZ, or JZ over a JMP, back to the loop's first instruction, according to how far that is.
 fn put_round_back(code: &mut Code, begin: u16) -> Result<(), AllocError> {
     let size = code.here().saturating_sub(begin);
     if size < 120 {
@@ -164,7 +167,8 @@ fn put_round_back(code: &mut Code, begin: u16) -> Result<(), AllocError> {
     put_jump_back(code, begin)
 }
 
-/// Stores into what was put so far: INC BYTE [..], or MOV BYTE [..],number.
+/// Puts up to two stores into instructions put so far, INC BYTE [..] or MOV BYTE [..],number, so that they change
+/// between loops.
 fn put_stores(chance: &mut Chance, code: &mut Code) -> Result<(), AllocError> {
     for _ in 0..chance.below(3) {
         let offset = code.some_last(chance);
@@ -180,7 +184,7 @@ fn put_stores(chance: &mut Chance, code: &mut Code) -> Result<(), AllocError> {
     Ok(())
 }
 
-/// JMP back to a place in the code.
+/// Puts a near JMP back to a place in the code, for the program's endless loop or a round too long for a short jump.
 fn put_jump_back(code: &mut Code, to: u16) -> Result<(), AllocError> {
     let next = code.here() + 3;
     code.put(0xE9)?;

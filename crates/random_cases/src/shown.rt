@@ -3,8 +3,8 @@
 use board::board::Board;
 use board_plain::trail::{TRAIL_LENGTH, TrailEntry, TrailEvent};
 
-/// What two boards show differently, if anything. The first 16 KB of RAM are compared if `whole`, else only the code
-/// and its data.
+/// What two boards that ran the same random program show differently, for a case to report, or `None`. The first 16 KB
+/// of RAM are compared if `whole`, else only the code and its data.
 pub fn difference(one: &Board, other: &Board, whole: bool) -> Option<&'static str> {
     if one.clock() != other.clock() {
         return Some("the clocks");
@@ -27,6 +27,8 @@ pub fn difference(one: &Board, other: &Board, whole: bool) -> Option<&'static st
     None
 }
 
+/// Whether two boards have the same bytes in the first 16 KB of RAM if `whole`, else only in the random code and its
+/// data.
 fn have_same_memory(one: &Board, other: &Board, whole: bool) -> bool {
     let (start, end) = if whole { (0, 0x4000) } else { (0x1000, 0x1400) };
     for addr in start..end {
@@ -37,6 +39,7 @@ fn have_same_memory(one: &Board, other: &Board, whole: bool) -> bool {
     true
 }
 
+/// Whether two boards list the same instructions and interrupts in their trails, the last 32.
 fn have_same_trail(one: &Board, other: &Board) -> bool {
     for index in 0..TRAIL_LENGTH {
         if !have_same_entry(one, other, index) {
@@ -46,6 +49,7 @@ fn have_same_trail(one: &Board, other: &Board) -> bool {
     true
 }
 
+/// Whether the trails of two boards have the same entry at this index, or neither has one.
 fn have_same_entry(one: &Board, other: &Board, index: usize) -> bool {
     match (one.trail(index), other.trail(index)) {
         (None, None) => true,
@@ -54,6 +58,7 @@ fn have_same_entry(one: &Board, other: &Board, index: usize) -> bool {
     }
 }
 
+/// Whether two trail entries have the same clock, place and event, in a comparison of boards.
 fn are_the_same(one: &TrailEntry, other: &TrailEntry) -> bool {
     one.clock == other.clock
         && one.cs == other.cs
@@ -61,6 +66,7 @@ fn are_the_same(one: &TrailEntry, other: &TrailEntry) -> bool {
         && tell_the_same(&one.event, &other.event)
 }
 
+/// Whether two trail entries tell of the same interrupt type, or of instructions with the same bytes.
 fn tell_the_same(one: &TrailEvent, other: &TrailEvent) -> bool {
     match (one, other) {
         (TrailEvent::Entry(one), TrailEvent::Entry(other)) => one == other,

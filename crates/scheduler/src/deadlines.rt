@@ -56,7 +56,7 @@ impl Model for Deadlines {
 }
 
 impl Deadlines {
-    /// Deadlines of which none is set.
+    /// Deadlines of which none is set, for a board to set those of its parts.
     pub fn new() -> Deadlines
         ensures { result ≡ no_deadlines }
     {
@@ -69,7 +69,7 @@ impl Deadlines {
         }
     }
 
-    /// Sets the clock at which `source` is due next, or that it isn't due.
+    /// Sets the clock at which `source` is due next; `None` says that it isn't due.
     pub fn set(&mut self, source: Source, at: Option<Clock>)
         ensures { self.new ≡ with_deadline self.old source at }
     {
@@ -82,7 +82,8 @@ impl Deadlines {
         }
     }
 
-    /// The least clock at which a source is due, and the first source in order that is due then; `None` if none is.
+    /// The earliest clock at which a source is due, up to which the board may leap, and that source, the first in the
+    /// sources' order if several are due then; `None` if no source has a deadline.
     pub fn next(&self) -> Option<(Clock, Source)>
         ensures { MatchOption result ((source : Source) → deadline_of self.now source ≡ None) (λ first. IsNext self.now
             first.0 first.1) }
@@ -90,6 +91,7 @@ impl Deadlines {
         self.least()
     }
 
+    /// The soonest deadline, found by comparing one source after the other in order: the body of `next`.
     fn least(&self) -> Option<(Clock, Source)>
         ensures { result ≡ next_of self.now }
     {
@@ -101,7 +103,8 @@ impl Deadlines {
     }
 }
 
-/// The sooner of two deadlines; the first one, if both are at one clock.
+/// The sooner of the best deadline so far and that of `source`, which is due at `at` or not at all; the best so far if
+/// both are at one clock, since its source comes earlier in order.
 fn sooner(
     first: Option<(Clock, Source)>,
     at: Option<Clock>,

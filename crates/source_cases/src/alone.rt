@@ -4,7 +4,8 @@ use assembler_lexeme::fault::{SyntaxError, SyntaxFault};
 use assembler_syntax::read::read_line;
 use std::alloc::Global;
 
-/// The fault that the line has whatever the other lines are, or none. In `text` `^` stands for a carriage return.
+/// The answer to an `alone` case: `alone N` with the fault that a line of a source has whatever the other lines are, or
+/// `alone -` for none. In `text` `^` stands for a carriage return.
 pub fn answer_to(alloc: Global, text: &str) -> Result<String> {
     let line = text.replace(alloc, '^', "\r")?;
     let answer = match read_line(alloc, line.as_bytes()) {

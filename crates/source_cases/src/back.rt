@@ -20,7 +20,7 @@ struct Setting {
 }
 
 impl Setting {
-    /// The setting in `back PREFIX TAIL STEP`.
+    /// Reads the setting in `back PREFIX TAIL STEP`; `None` if it can't be read.
     fn read(text: &str) -> Option<Setting> {
         let (prefix, rest) = text.strip_prefix("back ")?.split_once(' ')?;
         let (tail, step) = rest.split_once(' ')?;
@@ -34,13 +34,15 @@ impl Setting {
         })
     }
 
-    /// The instruction of these two bytes, if they give one that is tried.
+    /// The instruction of these two bytes in the setting, if they give one that is tried: the second must be an
+    /// addressing byte, or a number below 16.
     fn instruction(self, opcode: u8, second: u8) -> Option<Instr> {
         let instr = Code::new(self.prefix, opcode, second, self.tail).instruction()?;
         (second < NUMBERS || has_addressing(&instr)).then_some(instr)
     }
 
-    /// Counts the instructions of the setting. Fails with the text of the first that doesn't come back.
+    /// Counts the instructions of the setting, and fails with the text of the first that, assembled again, doesn't come
+    /// back as the same text.
     fn count(self, alloc: Global) -> Result<u64> {
         let mut count = 0u64;
         for opcode in 0..=255u8 {
@@ -58,11 +60,14 @@ impl Setting {
     }
 }
 
+/// Whether the byte after the instruction's opcode is an addressing byte, of which values up to FFh are tried, not only
+/// numbers below 16.
 fn has_addressing(instr: &Instr) -> bool {
     matches!(instr.form.row.second_part(), Second::Addressing(_, _))
 }
 
-/// How many instructions of the setting come back with the same text. Fails with the first that doesn't.
+/// The answer to a `back` case: how many instructions of its setting come back from text to bytes with the same text.
+/// Fails with the first that doesn't.
 pub fn answer_to(alloc: Global, text: &str) -> Result<String> {
     let setting = Setting::read(text).context("no setting")?;
     let count = setting.count(alloc)?;

@@ -21,7 +21,8 @@ pub struct Code {
 }
 
 impl Code {
-    /// An opcode, after a prefix if there is one, with what follows it.
+    /// The bytes that a `back` case decodes: a prefix if there is one, an opcode, its addressing byte (mod, reg, r/m)
+    /// and the four bytes after that.
     pub fn new(prefix: Option<u8>, opcode: u8, addressing: u8, tail: [u8; 4]) -> Code {
         let mut bytes = ArrayVec::new();
         if let Some(prefix) = prefix {
@@ -33,7 +34,8 @@ impl Code {
         Code { bytes }
     }
 
-    /// The first bytes that an image has at the offset.
+    /// The first 16 bytes that an assembled image has at the offset, 0 for those it lacks, so that what was assembled
+    /// can be decoded.
     pub fn of_image(image: &Image) -> Code {
         let mut bytes = ArrayVec::new();
         for n in 0..16u16 {
@@ -43,7 +45,7 @@ impl Code {
         Code { bytes }
     }
 
-    /// The instruction that stands at the offset, if one does.
+    /// The instruction that is decoded at the offset; `None` if the encoding table has no row for the bytes.
     pub fn instruction(&self) -> Option<Instr> {
         match decode(self, SEGMENT, OFFSET).unpack() {
             Decoding::Found(instr, _) => Some(instr),
@@ -57,6 +59,7 @@ impl Bytes for Code {
 
     ghost byte_at = { λ c address. slice_index_or c.bytes.items ((address + 0xEC000) % 0x100000) 0 };
 
+    /// The byte at a physical address, for decoding: one of the code's bytes, counted from 1000:4000, or 0.
     fn byte(&self, addr: u32) -> u8 {
         let index = (addr + 0xE_C000) % 0x10_0000;
         match self.bytes.as_slice().get(index as usize) {

@@ -13,19 +13,22 @@ const SOURCE: &str =
 /// The first address of each run of bytes of the image, and one after its end.
 const PLACES: [(u32, u32); 2] = [(0xF_0000, 0xF_0040), (0xF_FFF0, 0x10_0030)];
 
-/// What the assembler makes of as many bytes of the source as the text says.
+/// The answer to a `front` case: what the assembler makes of as many first bytes of the example source as the text
+/// says.
 pub fn answer_to(alloc: Global, text: &str) -> Result<String> {
     let front = front_in(text).context("no front")?;
     Ok(assembled(alloc, front)?)
 }
 
-/// As many bytes of the source as `front SIZE` says.
+/// The first bytes of the example source, as many as `front SIZE` says; `None` if it can't be read or the source is
+/// shorter.
 fn front_in(text: &str) -> Option<&'static [u8]> {
     let digits = text.strip_prefix("front ")?;
     let size = digits.parse::<u8>().ok()?;
     SOURCE.as_bytes().get(..usize::from(size))
 }
 
+/// The answer's text for what the assembler makes of a source: the image's bytes, or its fault.
 fn assembled(alloc: Global, source: &[u8]) -> Result<String, AllocError> {
     match assemble(alloc, source) {
         Ok(listing) => image_text(alloc, listing.image()),
@@ -33,7 +36,8 @@ fn assembled(alloc: Global, source: &[u8]) -> Result<String, AllocError> {
     }
 }
 
-/// The bytes of each run, up to the first address without one.
+/// The text of a `front` case's answer for an image: for each place at which a run can begin, its address and its
+/// bytes, up to the first address without one.
 fn image_text(alloc: Global, image: &Image) -> Result<String, AllocError> {
     let mut text = String::from_str(alloc, "front")?;
     for (place, end) in PLACES {
@@ -45,6 +49,7 @@ fn image_text(alloc: Global, image: &Image) -> Result<String, AllocError> {
     Ok(text)
 }
 
+/// The text of a `front` case's answer for a source that is refused: the fault's number, and its line if it has one.
 fn fault_text(alloc: Global, fault: AsmFault) -> Result<String, AllocError> {
     let number = fault.number();
     match fault.line() {

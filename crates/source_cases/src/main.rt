@@ -48,11 +48,13 @@ use cases::judge_cases;
 use std::alloc::{AllocError, Global};
 use std::io;
 
+/// Judges the cases on standard input, each by itself.
 fn main(rt: HostRuntime) -> io::Result<()> {
     judge_cases(&rt, judge)
 }
 
-/// Fails if a case's answer is another one, or the case can't be read.
+/// Judges a case `TEXT => ANSWER`: fails, with the answer it got, if that isn't the one it has, or the case can't be
+/// read.
 fn judge(alloc: Global, case: &str) -> Result<()> {
     let (text, wanted) = case.split_once(" => ").context("no answer")?;
     let answer = answer_to(alloc, text, wanted)?;
@@ -60,7 +62,7 @@ fn judge(alloc: Global, case: &str) -> Result<()> {
     Ok(())
 }
 
-/// The answer to a case's text, in the form that the text or the wanted answer shows.
+/// The assembler's or the loader's answer to a case's text, in the form that the text or the wanted answer shows.
 fn answer_to(alloc: Global, text: &str, wanted: &str) -> Result<String> {
     match text.split_once(": ") {
         Some(("hex", text)) => hex_text::answer_to(alloc, unfolded(alloc, text)?),
@@ -70,7 +72,8 @@ fn answer_to(alloc: Global, text: &str, wanted: &str) -> Result<String> {
     }
 }
 
-/// The assembler's answer.
+/// The assembler's answer to a case's text, in the form that the first word of the wanted answer shows: for a line
+/// alone, a front of a source, a way back to text, or a line in a whole source.
 fn source_answer(alloc: Global, text: &str, wanted: &str) -> Result<String> {
     match wanted.split(' ').next() {
         Some("alone") => alone::answer_to(alloc, text),
@@ -80,7 +83,7 @@ fn source_answer(alloc: Global, text: &str, wanted: &str) -> Result<String> {
     }
 }
 
-/// The text of several lines that a case has in one.
+/// The text of several lines that a case for the loader has in one: `|` becomes a line feed, `^` a carriage return.
 fn unfolded(alloc: Global, text: &str) -> Result<String, AllocError> {
     text.replace(alloc, '|', "\n")?.replace(alloc, '^', "\r")
 }

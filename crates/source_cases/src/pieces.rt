@@ -16,7 +16,8 @@ pub struct Pieces<'a> {
 }
 
 impl<'a> Pieces<'a> {
-    /// These bytes, of which a read gives at most `most`; the read after the first `reads_left` fails.
+    /// An input of these bytes, of which a read gives at most `most`; the read after the first `reads_left` fails. With
+    /// `u64::MAX` none fails.
     pub fn new(bytes: &'a [u8], most: usize, reads_left: u64) -> Self {
         Pieces {
             rest: bytes,
@@ -26,12 +27,12 @@ impl<'a> Pieces<'a> {
         }
     }
 
-    /// How many reads are left before the one that fails.
+    /// How many reads are left before the one that fails, from which a case counts those made.
     pub fn reads_left(&self) -> u64 {
         self.reads_left
     }
 
-    /// The bytes that are still to come.
+    /// The bytes that are still to come, by which a case sees how many were taken.
     pub fn rest(&self) -> &'a [u8] {
         self.rest
     }
@@ -42,6 +43,8 @@ impl ByteInput for Pieces<'_> {
 
     ghost failures = { λ pieces. Some (if pieces.has_failed then 1 else 0) };
 
+    /// Reads the next bytes, at most `most`, or fails once after the reads that were left; the loader's `read_all` must
+    /// then refuse the whole.
     fn read(&mut self, buf: &mut [u8]) -> Result<usize, Failed> {
         if self.reads_left == 0 && !self.has_failed {
             self.has_failed = true;

@@ -20,7 +20,8 @@ const PLACE: u32 = 0x11000;
 /// The address of `fore`.
 const END: u32 = 0x11040;
 
-/// What the assembler makes of the line.
+/// The answer to a case of a line in a whole source: the bytes that the assembler places for it amid the fixed lines
+/// around it, or the source's fault.
 pub fn answer_to(alloc: Global, line: &str) -> Result<String, AllocError> {
     let source = format!(in alloc; "{BEFORE}{line}{AFTER}")?;
     match assemble(alloc, source.as_bytes()) {
@@ -29,7 +30,8 @@ pub fn answer_to(alloc: Global, line: &str) -> Result<String, AllocError> {
     }
 }
 
-/// The bytes from the case's place on, up to the first address without one.
+/// The bytes of an assembled source from the case's place on, up to the first address without one or `END`; `none` for
+/// no byte.
 fn code_text(alloc: Global, image: &Image) -> Result<String, AllocError> {
     let mut text = String::new(alloc);
     push_bytes(alloc, &mut text, image, PLACE, END)?;
@@ -39,7 +41,8 @@ fn code_text(alloc: Global, image: &Image) -> Result<String, AllocError> {
     Ok(text)
 }
 
-/// Adds the bytes from an address on, up to `end` or the first address without one.
+/// Adds an image's bytes from an address on to an answer, two digits each, up to `end` or the first address without
+/// one.
 pub fn push_bytes(
     alloc: Global,
     text: &mut String,
@@ -56,7 +59,7 @@ pub fn push_bytes(
     Ok(())
 }
 
-/// The fault's number, and its line if it isn't the case's.
+/// The answer for a source that is refused: the fault's number, and its line if it isn't the case's own.
 fn fault_text(alloc: Global, fault: AsmFault) -> Result<String, AllocError> {
     let number = fault.number();
     match fault.line() {

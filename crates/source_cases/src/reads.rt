@@ -7,7 +7,8 @@ use std::alloc::{AllocError, Global};
 /// How many bytes the loader asks for at once.
 const PIECE: usize = 4096;
 
-/// How many bytes are read, and by how many reads. Fails if one of these reads fails and the whole isn't refused.
+/// The answer to a `read:` case: how many bytes are read, and by how many reads. Fails if one of these reads, made to
+/// fail, doesn't get the whole refused.
 pub fn answer_to(alloc: Global, text: &str) -> Result<String> {
     let (size, most, limit) = numbers(text).context("no numbers")?;
     let bytes = counted(alloc, size)?;
@@ -15,6 +16,7 @@ pub fn answer_to(alloc: Global, text: &str) -> Result<String> {
     Ok(format!(in alloc; "{count} {reads}")?)
 }
 
+/// Counts the bytes read and the reads of a `read:` case, and then makes each of these reads fail in turn.
 fn judge_reads(alloc: Global, bytes: &[u8], most: usize, limit: u64) -> Result<(usize, u64)> {
     let (count, reads) = count_reads(alloc, bytes, most, limit)?;
     for failing in 0..reads {
@@ -23,6 +25,7 @@ fn judge_reads(alloc: Global, bytes: &[u8], most: usize, limit: u64) -> Result<(
     Ok((count, reads))
 }
 
+/// The three numbers `SIZE MOST LIMIT` of a `read:` case; `None` if one can't be read.
 fn numbers(text: &str) -> Option<(u64, u64, u64)> {
     let mut words = text.split(' ');
     let size = words.next()?.parse().ok()?;
@@ -31,7 +34,8 @@ fn numbers(text: &str) -> Option<(u64, u64, u64)> {
     Some((size, most, limit))
 }
 
-/// How many of the bytes are read, and by how many reads, if none fails.
+/// How many of the bytes the loader reads, at most `limit`, and by how many reads, if none fails; each gives at most
+/// `most`.
 fn count_reads(alloc: Global, bytes: &[u8], most: usize, limit: u64) -> Result<(usize, u64)> {
     let mut input = Pieces::new(bytes, most, u64::MAX);
     let read = read_all(alloc, &mut input, limit)?;
@@ -40,7 +44,7 @@ fn count_reads(alloc: Global, bytes: &[u8], most: usize, limit: u64) -> Result<(
     Ok((read.len(), reads))
 }
 
-/// `size` bytes that any shift would change.
+/// `size` bytes for a case to read, chosen so that any shift would change them.
 fn counted(alloc: Global, size: u64) -> Result<Vec<u8>, AllocError> {
     let mut bytes = Vec::new(alloc);
     for i in 0..size {
@@ -49,7 +53,7 @@ fn counted(alloc: Global, size: u64) -> Result<Vec<u8>, AllocError> {
     Ok(bytes)
 }
 
-/// Fails if the read after the first `reads` fails and the whole isn't refused, or bytes are taken after that.
+/// Fails if the read after the first `reads` fails and the loader doesn't refuse the whole, or takes bytes after that.
 fn judge_failure(alloc: Global, bytes: &[u8], most: usize, limit: u64, reads: u64) -> Result<()> {
     let mut input = Pieces::new(bytes, most, reads);
     let read = read_all(alloc, &mut input, limit);

@@ -19,7 +19,7 @@ use std::alloc::{AllocError, Global};
 /// The type of the interrupt that a single step enters.
 const SINGLE_STEP: u8 = 1;
 
-/// What was done at a boundary: the clocks that it took, and the port writes that were predicted.
+/// What was done at a boundary: the clocks that it took, and the port writes that `port_writes` predicted.
 #[derive(Drop)]
 pub struct Done {
     pub clocks: u16,
@@ -36,7 +36,7 @@ pub struct Bench {
 }
 
 impl Bench {
-    /// A bench whose registers and memory are all 0.
+    /// A bench whose registers and memory are all 0 and whose clocks count by table C1, with which the program begins.
     pub fn new(alloc: Global) -> Result<Bench, AllocError> {
         Ok(Bench {
             cpu: Cpu::new(Regs::default()),
@@ -45,7 +45,8 @@ impl Bench {
         })
     }
 
-    /// Does what a line says. Fails with what differs, or with why the line can't be read.
+    /// Does what a line of the cases says: sets up the processor, its memory or the table of clocks, or judges a case.
+    /// Fails with what differs, or with why the line can't be read.
     pub fn follow_line(&mut self, alloc: Global, line: &str) -> Result<Judged> {
         let (name, rest) = line.split_once(' ').context("no such line")?;
         match name {
@@ -60,6 +61,7 @@ impl Bench {
         Ok(Judged::Setting)
     }
 
+    /// Judges a line that is a case, by its name: a boundary, the kept operands, calls of the bus, or a single step.
     fn follow_case(&mut self, alloc: Global, name: &str, rest: &str) -> Result<()> {
         let fields: Vec<&str> = rest.split('|').collect(alloc)?;
         match name {
@@ -70,19 +72,20 @@ impl Bench {
         }
     }
 
-    /// Makes a new processor with the registers of the text, which keeps nothing.
+    /// Makes a new processor over clear memory, with the registers of a `begin` line, and fails if it keeps operands: a
+    /// new one keeps none.
     fn begin_at(&mut self, text: &str) -> Result<()> {
         self.begin(read_regs(text)?);
         judge_kept(self, "none")
     }
 
-    /// Makes a new processor with these registers, and clears memory.
+    /// Makes a new processor with these registers, and clears memory, before a case's first step or boundary.
     fn begin(&mut self, regs: Regs) {
         self.cpu = Cpu::new(regs);
         self.ram.clear();
     }
 
-    /// Puts the bytes of `AAAAA BYTES` into memory.
+    /// Puts bytes into memory, from an address on, as a line `memory AAAAA BYTES` says, for the boundaries after it.
     fn fill(&mut self, alloc: Global, text: &str) -> Result<()> {
         let (start, digits) = text.split_once(' ').context("no bytes")?;
         let mut addr = u32::from_str_radix(start, 16)?;
@@ -93,7 +96,8 @@ impl Bench {
         Ok(())
     }
 
-    /// `at R TYPE | TAKEN | ..`
+    /// Judges a line `at R TYPE | TAKEN | ..`: whether the processor takes at its next boundary what the line says,
+    /// with or without a requested interrupt, and what comes of it.
     fn pass_boundary(&mut self, alloc: Global, fields: &[&str]) -> Result<()> {
         let [place, taken, rest @ ..] = fields else {
             bail!("no such line");
@@ -109,7 +113,8 @@ impl Bench {
         self.make_and_judge(alloc, boundary, kind, rest)
     }
 
-    /// `OP REGS | CODE | READ | ..`
+    /// Judges a line `OP REGS | CODE | READ | ..`: sets up a processor and memory, makes one step or interrupt entry,
+    /// and compares what comes of it with the other fields.
     fn make_step(&mut self, alloc: Global, name: &str, fields: &[&str]) -> Result<()> {
         let [regs, code, read, rest @ ..] = fields else {
             bail!("no such line");
@@ -120,8 +125,8 @@ impl Bench {
         self.make_and_judge(alloc, boundary, kind, rest)
     }
 
-    /// Sets up a new processor with these registers, unless an iteration is next, and an instruction's code. Answers
-    /// the code's first byte, which is an interrupt's type.
+    /// Sets up a new processor with these registers, unless an iteration is next, and puts an instruction's code at
+    /// CS:IP. Returns the code's first byte, which is an interrupt's type if it enters one.
     fn set_up(&mut self, alloc: Global, boundary: Boundary, regs: Regs, code: &str) -> Result<u8> {
         if boundary != Boundary::Iteration {
             self.begin(regs);
@@ -129,7 +134,8 @@ impl Bench {
         self.put_next(alloc, boundary, code)
     }
 
-    /// Puts an instruction's code at CS:IP. Answers its first byte.
+    /// Puts an instruction's code at CS:IP, if an instruction is next. Returns the code's first byte, an interrupt's
+    /// type if one is entered next (1, a single step's, if there is no code).
     fn put_next(&mut self, alloc: Global, boundary: Boundary, code: &str) -> Result<u8> {
         let code = read_bytes(alloc, code)?;
         if boundary == Boundary::Instruction {
@@ -138,7 +144,8 @@ impl Bench {
         Ok(code.first().copied().unwrap_or(SINGLE_STEP))
     }
 
-    /// Does what is due at a boundary, and judges by these fields what came of it.
+    /// Does what is due at a boundary, and fails if what came of it isn't what a line's fields from REGS AFTER on say;
+    /// `kind` is the type of an interrupt that is entered.
     fn make_and_judge(
         &mut self,
         alloc: Global,
@@ -151,7 +158,8 @@ impl Bench {
         judge(alloc, self, &done, &wanted)
     }
 
-    /// `calls REGS | CODE | READ | WORDS BYTES`
+    /// Judges a line `calls REGS | CODE | READ | WORDS BYTES`: a step must read and write so many words and bytes, and
+    /// take 4 clocks more by table C2 than by C1 for each of the words.
     fn count_calls(&mut self, alloc: Global, fields: &[&str]) -> Result<()> {
         let [regs, code, read, wanted, ..] = *fields else {
             bail!("no such line");
@@ -165,7 +173,8 @@ impl Bench {
         Ok(())
     }
 
-    /// The clocks of a step by this table, which must make this number of calls.
+    /// The clocks of a `calls` line's step by this table, which must read and write memory by this number of calls of
+    /// the bus. Leaves the bench's own table as it was.
     fn clocks_by(
         &mut self,
         alloc: Global,
@@ -183,6 +192,7 @@ impl Bench {
         Ok(clocks)
     }
 
+    /// The clocks of a step of a new processor with a `calls` line's registers, code and memory, by the bench's table.
     fn clocks_of(&mut self, alloc: Global, fields: [&str; 3]) -> Result<u16> {
         let [regs, code, read] = fields;
         self.set_up(alloc, Boundary::Instruction, read_regs(regs)?, code)?;
@@ -190,7 +200,8 @@ impl Bench {
         Ok(self.make(Boundary::Instruction, SINGLE_STEP).clocks)
     }
 
-    /// `kept OP CODE | KEPT | ..`
+    /// Judges a line `kept OP CODE | KEPT | ..`: makes a step, an iteration or an entry of the processor as it stands,
+    /// and compares the registers, and the operands and the result that it keeps for its flags.
     fn keep(&mut self, alloc: Global, fields: &[&str]) -> Result<()> {
         let [done, kept, after, ..] = *fields else {
             bail!("no such line");
@@ -203,7 +214,7 @@ impl Bench {
         judge_kept(self, kept)
     }
 
-    /// Puts the bytes of a list `AAAAA=VV ..` into memory.
+    /// Puts the bytes of a list `AAAAA=VV ..`, a case's field READ, into memory, where its step finds them.
     fn put_cells(&mut self, alloc: Global, list: &str) -> Result<()> {
         for word in &words_in(alloc, list)? {
             let (addr, byte) = cell_in(word).context("no byte")?;
@@ -212,7 +223,7 @@ impl Bench {
         Ok(())
     }
 
-    /// Puts an instruction's bytes at CS:IP.
+    /// Puts an instruction's bytes at CS:IP, where the next step decodes them; the offset wraps within the segment.
     fn put_code(&mut self, code: &[u8]) -> Result<()> {
         let cs = self.cpu.cs();
         let mut offset = self.cpu.ip();
@@ -223,7 +234,8 @@ impl Bench {
         Ok(())
     }
 
-    /// Does what is due at a free boundary; `kind` is an interrupt's type.
+    /// Does what is due at a boundary and notes in the bench's memory what it writes and which ports it reaches; `kind`
+    /// is an interrupt's type. Returns its clocks and, of an instruction, the port writes predicted before it.
     fn make(&mut self, boundary: Boundary, kind: u8) -> Done {
         self.ram.begin_step();
         let mut told = ArrayVec::new();
@@ -256,6 +268,7 @@ impl Bench {
     }
 }
 
+/// The table of clocks of this name in a `table` line, if there is one.
 fn table_named(name: &str) -> Option<ClockTable> {
     match name {
         "C1" => Some(ClockTable::C1),
@@ -264,7 +277,7 @@ fn table_named(name: &str) -> Option<ClockTable> {
     }
 }
 
-/// Whether there is a request, and its type, from `R TYPE`.
+/// Whether an `at` line's boundary has a requested interrupt, and its type as text, from `R TYPE`.
 fn request_in(place: &str) -> Option<(bool, &str)> {
     let (request, kind) = place.split_once(' ')?;
     match request {
@@ -274,13 +287,13 @@ fn request_in(place: &str) -> Option<(bool, &str)> {
     }
 }
 
-/// The calls for words and for bytes, from `WORDS BYTES`.
+/// How many words and bytes a `calls` line's step must read and write, from `WORDS BYTES`.
 fn calls_in(text: &str) -> Option<(usize, usize)> {
     let (words, bytes) = text.trim().split_once(' ')?;
     Some((words.parse().ok()?, bytes.parse().ok()?))
 }
 
-/// The boundary at which a line's OP is done.
+/// The boundary at which a line's OP (`step`, `again`, `request` or `single`) is done; `None` for another name.
 fn boundary_named(name: &str) -> Option<Boundary> {
     match name {
         "step" => Some(Boundary::Instruction),
@@ -291,7 +304,7 @@ fn boundary_named(name: &str) -> Option<Boundary> {
     }
 }
 
-/// The name of a boundary in a line.
+/// The name of a boundary, as the fields TAKEN and DUE of a case have it and errors say it.
 pub fn boundary_name(boundary: Boundary) -> &'static str {
     match boundary {
         Boundary::Request => "request",

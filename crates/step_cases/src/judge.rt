@@ -19,7 +19,8 @@ pub struct Wanted<'a> {
 }
 
 impl<'a> Wanted<'a> {
-    /// The first of these fields.
+    /// Reads what a line wants from its fields from REGS AFTER on; any fields after these aren't judged. Fails if one
+    /// is missing.
     pub fn read(fields: &[&'a str]) -> Result<Wanted<'a>> {
         let [after, written, ports, cost, due, ..] = *fields else {
             bail!("no such line");
@@ -34,7 +35,8 @@ impl<'a> Wanted<'a> {
     }
 }
 
-/// Fails with what differs, or with why a field can't be read.
+/// Compares what was done at a boundary with what a line wants: registers, bytes written, port accesses, clocks, and
+/// what is due next. Fails with what differs, or with why a field can't be read.
 pub fn judge(alloc: Global, bench: &Bench, done: &Done, wanted: &Wanted) -> Result<()> {
     judge_registers(bench, wanted.after)?;
     judge_written(alloc, &bench.ram, wanted.written)?;
@@ -46,7 +48,8 @@ pub fn judge(alloc: Global, bench: &Bench, done: &Done, wanted: &Wanted) -> Resu
     judge_due(&bench.cpu, wanted.due)
 }
 
-/// Fails unless these are the registers and the flags word.
+/// Fails, with the first that differs, unless the processor's registers and flags word are the 14 words of a case's
+/// text.
 pub fn judge_registers(bench: &Bench, text: &str) -> Result<()> {
     let wanted = read_words(text)?;
     let found = words_of(bench.cpu.regs());
@@ -58,7 +61,8 @@ pub fn judge_registers(bench: &Bench, text: &str) -> Result<()> {
     Ok(())
 }
 
-/// Fails unless the processor keeps these operands and this result, or nothing if the text is `none`.
+/// Fails unless the processor keeps the two operands and the result that a `kept` line names, or nothing if the text is
+/// `none`.
 pub fn judge_kept(bench: &Bench, text: &str) -> Result<()> {
     match bench.cpu.kept() {
         Some((first, second, value)) => ensure!(
@@ -70,6 +74,8 @@ pub fn judge_kept(bench: &Bench, text: &str) -> Result<()> {
     Ok(())
 }
 
+/// Whether the operands and the result that the processor keeps are the three words of a `kept` line; `None` if one is
+/// missing or no number.
 fn are_kept(kept: [u16; 3], text: &str) -> Option<bool> {
     let mut words = text.split_whitespace();
     for found in kept {
@@ -80,7 +86,7 @@ fn are_kept(kept: [u16; 3], text: &str) -> Option<bool> {
     Some(true)
 }
 
-/// Fails unless each byte of the list was written, and no other.
+/// Fails unless the step wrote each byte of a case's list WRITTEN, and no other.
 fn judge_written(alloc: Global, ram: &Ram, list: &str) -> Result<()> {
     let words = words_in(alloc, list)?;
     if let Some(word) = unwritten(ram, &words) {
@@ -92,7 +98,8 @@ fn judge_written(alloc: Global, ram: &Ram, list: &str) -> Result<()> {
     Ok(())
 }
 
-/// The first of the words whose byte wasn't written.
+/// The first word of a case's list WRITTEN whose byte wasn't written, or stands there with another value, or can't be
+/// read.
 fn unwritten<'a>(ram: &Ram, words: &[&'a str]) -> Option<&'a str> {
     for word in words {
         match cell_in(word) {
@@ -103,7 +110,7 @@ fn unwritten<'a>(ram: &Ram, words: &[&'a str]) -> Option<&'a str> {
     None
 }
 
-/// The first address that was written and that none of the words names.
+/// The first address that the step wrote and that no word of a case's list WRITTEN names.
 fn unnamed(ram: &Ram, words: &[&str]) -> Option<u32> {
     for addr in ram.written() {
         if !names(words, *addr) {
@@ -113,6 +120,7 @@ fn unnamed(ram: &Ram, words: &[&str]) -> Option<u32> {
     None
 }
 
+/// Whether one of the words of a case's list WRITTEN is of this address.
 fn names(words: &[&str], addr: u32) -> bool {
     for word in words {
         if let Some((place, _)) = cell_in(word)
@@ -124,7 +132,7 @@ fn names(words: &[&str], addr: u32) -> bool {
     false
 }
 
-/// Fails unless the port accesses are those of the list, in order.
+/// Fails unless the step's port accesses are those of a case's list PORTS, in order.
 fn judge_accesses(alloc: Global, found: &[Access], list: &str) -> Result<()> {
     let words = words_in(alloc, list)?;
     let same = found.len() == words.len() && are_accesses(found, &words);
@@ -132,6 +140,7 @@ fn judge_accesses(alloc: Global, found: &[Access], list: &str) -> Result<()> {
     Ok(())
 }
 
+/// Whether these port accesses are those of the words, pair by pair; the caller has compared how many there are.
 fn are_accesses(found: &[Access], words: &[&str]) -> bool {
     for (access, word) in found.iter().zip(words) {
         if access_in(word) != Some(*access) {
@@ -141,12 +150,14 @@ fn are_accesses(found: &[Access], words: &[&str]) -> bool {
     true
 }
 
-/// Fails unless the port writes are those that were predicted, in order.
+/// Fails unless the port writes that a step made are, in order, those that `port_writes` predicted. From the
+/// prediction the board knows the speaker's next level before the step's clocks are over.
 fn judge_told(found: &[Access], told: &[(u16, u8)]) -> Result<()> {
     ensure!(are_told(found, told), "other port writes than told");
     Ok(())
 }
 
+/// Whether the writes among these port accesses are the predicted ones, in order, no more and no fewer.
 fn are_told(found: &[Access], told: &[(u16, u8)]) -> bool {
     let mut told = told.iter();
     for access in found {
@@ -160,8 +171,8 @@ fn are_told(found: &[Access], told: &[(u16, u8)]) -> bool {
     told.next().is_none()
 }
 
-/// Fails unless `STATE MARKS ..` is true of the state, and of the next boundary without a request and with one. The
-/// marks can't be seen.
+/// Fails unless a case's field DUE, `STATE MARKS ..`, is true of the processor's state, and of the next boundary
+/// without a request and with one. The marks aren't judged, since they can't be seen.
 fn judge_due(cpu: &Cpu, text: &str) -> Result<()> {
     let state = state_name(cpu.state());
     let alone = boundary_name(cpu.may_take(false));
@@ -173,6 +184,8 @@ fn judge_due(cpu: &Cpu, text: &str) -> Result<()> {
     Ok(())
 }
 
+/// Whether a case's field DUE names this state and these boundaries, without a request and with one, its marks skipped;
+/// `None` if a word is missing.
 fn are_due(found: [&str; 3], text: &str) -> Option<bool> {
     let mut words = text.split_whitespace();
     let state = words.next()? == found[0];
@@ -182,6 +195,7 @@ fn are_due(found: [&str; 3], text: &str) -> Option<bool> {
     Some(state && alone && requested && words.next().is_none())
 }
 
+/// The name of the processor's state in a case's field DUE.
 fn state_name(state: State) -> &'static str {
     match state {
         State::Running => "running",

@@ -47,6 +47,7 @@ use bench::Bench;
 use cases::judge_cases;
 use std::io;
 
+/// Judges the cases on standard input over one bench, whose processor and memory go on from line to line.
 fn main(rt: HostRuntime) -> io::Result<()> {
     let mut bench = Bench::new(rt.alloc())?;
     judge_cases(&rt, |alloc, line| bench.follow_line(alloc, line))

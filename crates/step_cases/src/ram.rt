@@ -29,7 +29,7 @@ pub struct Ram {
 }
 
 impl Ram {
-    /// A clear memory.
+    /// A clear memory, with nothing noted, for the bench over which all cases are judged.
     pub fn new(alloc: Global) -> Result<Ram, AllocError> {
         Ok(Ram {
             cells: vec![in alloc; 0; ADDRESS_COUNT as usize]?,
@@ -40,7 +40,8 @@ impl Ram {
         })
     }
 
-    /// Clears the memory.
+    /// Sets the bytes written since the memory was clear back to 00h, before a new processor begins, and begins to note
+    /// afresh.
     pub fn clear(&mut self) {
         for &addr in &self.touched {
             if let Some(cell) = self.cells.get_mut(addr as usize) {
@@ -51,7 +52,8 @@ impl Ram {
         self.begin_step();
     }
 
-    /// Puts `byte` at `addr`.
+    /// Puts `byte` at `addr` to set up a case; `begin_step` then leaves it out of what the step writes. Fails if there
+    /// is no such address.
     pub fn put(&mut self, addr: u32, byte: u8) -> Result<()> {
         if addr >= ADDRESS_COUNT {
             bail!("no such address");
@@ -60,29 +62,29 @@ impl Ram {
         Ok(())
     }
 
-    /// Begins to note what the step does.
+    /// Begins to note what the next step writes, how often it reads memory, and what it does to ports.
     pub fn begin_step(&mut self) {
         self.found = self.touched.len();
         self.reads.set(0);
         self.accesses.clear();
     }
 
-    /// The addresses that the step has written, in order.
+    /// The addresses that the step has written, in order, to be compared with a case's list WRITTEN.
     pub fn written(&self) -> &[u32] {
         self.touched.get(self.found..).unwrap_or(&[])
     }
 
-    /// How often the step has read or written a byte of memory.
+    /// How often the step has read or written a byte of memory, for a `calls` case; a word counts twice.
     pub fn calls(&self) -> usize {
         self.reads.get().saturating_add(self.written().len())
     }
 
-    /// Whether the byte at `addr` is `byte`.
+    /// Whether the byte at `addr` is `byte`, as a case's list WRITTEN says.
     pub fn holds(&self, addr: u32, byte: u8) -> bool {
         self.cells.get(addr as usize).copied() == Some(byte)
     }
 
-    /// What the step has done to ports, in order.
+    /// What the step has done to ports, in order, to be compared with a case's list PORTS.
     pub fn accesses(&self) -> &[Access] {
         self.accesses.as_slice()
     }
@@ -99,11 +101,14 @@ impl Bus for Ram {
 
     ghost meaning = { ram_bus };
 
+    /// Reads a byte of memory for a step, and counts the read for `calls` cases; a word is read by two of them.
     fn read8(&self, addr: u32) -> u8 {
         self.reads.set(self.reads.get().saturating_add(1));
         self.cells.get(addr as usize).copied().unwrap_or(0)
     }
 
+    /// Writes a byte of memory for a step, and notes its address; memory takes a byte at every address, there is no
+    /// ROM.
     fn write8(&mut self, addr: u32, value: u8) {
         let _ = self.touched.push(addr);
         if let Some(cell) = self.cells.get_mut(addr as usize) {
@@ -111,12 +116,14 @@ impl Bus for Ram {
         }
     }
 
+    /// Reads a port for a step, and notes it: port p gives 7 p + 3, modulo 256, so that a case can tell ports apart.
     fn in8(&mut self, port: u16) -> u8 {
         let byte = ((7 * u32::from(port) + 3) % 256) as u8;
         let _ = self.accesses.push(Access::Read(port, byte));
         byte
     }
 
+    /// Notes the port write of a step, for a case to compare; nothing else comes of it.
     fn out8(&mut self, port: u16, value: u8) {
         let _ = self.accesses.push(Access::Write(port, value));
     }
@@ -129,6 +136,7 @@ impl Bytes for Ram {
 
     ghost byte_at = { λ ram address. slice_index ram.cells.items address };
 
+    /// Reads a byte of memory to decode an instruction; unlike the processor's own reads, it isn't counted.
     fn byte(&self, addr: u32) -> u8 {
         self.cells.get(addr as usize).copied().unwrap_or(0)
     }

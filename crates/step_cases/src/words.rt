@@ -23,7 +23,7 @@ pub const NAMES: [&str; 14] = [
     "the flags",
 ];
 
-/// Reads the 14 hexadecimal words of a case's registers; refused if there are more or fewer.
+/// Reads the 14 hexadecimal words of a case's registers, in the order of `NAMES`; refused if there are more or fewer.
 pub fn read_words(text: &str) -> Result<[u16; 14]> {
     let mut words = [0u16; 14];
     let mut count = 0usize;
@@ -40,7 +40,7 @@ pub fn read_words(text: &str) -> Result<[u16; 14]> {
     Ok(words)
 }
 
-/// The registers in the order of a case.
+/// The processor's registers and flags word in the order of a case, to be compared with its words.
 pub fn words_of(regs: Regs) -> [u16; 14] {
     [
         regs.ax,
@@ -60,7 +60,7 @@ pub fn words_of(regs: Regs) -> [u16; 14] {
     ]
 }
 
-/// Reads the registers of a case.
+/// Reads the registers and the flags word with which a case's processor begins.
 pub fn read_regs(text: &str) -> Result<Regs> {
     let words = read_words(text)?;
     Ok(Regs {
@@ -81,6 +81,7 @@ pub fn read_regs(text: &str) -> Result<Regs> {
     })
 }
 
+/// The flags of a case's flags word, by their bits as the 8086 has them.
 fn read_flags(word: u16) -> Flags {
     Flags {
         carry: word % 2 == 1,
@@ -95,7 +96,7 @@ fn read_flags(word: u16) -> Flags {
     }
 }
 
-/// The words of a list; an empty one is `-`.
+/// The words of a case's list, such as the bytes written or the port accesses; an empty list is `-`.
 pub fn words_in(alloc: Global, list: &str) -> Result<Vec<&str>> {
     let list = list.trim();
     if list == "-" {
@@ -104,7 +105,7 @@ pub fn words_in(alloc: Global, list: &str) -> Result<Vec<&str>> {
     Ok(list.split_whitespace().collect(alloc)?)
 }
 
-/// Bytes of two digits each; `-` stands for none.
+/// Reads bytes of two hexadecimal digits each, as of a case's code; `-` stands for none. Fails if half a byte is left.
 pub fn read_bytes(alloc: Global, digits: &str) -> Result<Vec<u8>> {
     let digits = digits.trim();
     let mut bytes = Vec::new(alloc);
@@ -121,14 +122,16 @@ pub fn read_bytes(alloc: Global, digits: &str) -> Result<Vec<u8>> {
     Ok(bytes)
 }
 
-/// The address and the byte in `AAAAA=VV`.
+/// The address and the byte in `AAAAA=VV`, a word of a case's list of memory found or written; `None` if it is no such
+/// word.
 pub fn cell_in(word: &str) -> Option<(u32, u8)> {
     let (address, byte) = word.split_once('=')?;
     let address = u32::from_str_radix(address, 16).ok()?;
     Some((address, u8::from_str_radix(byte, 16).ok()?))
 }
 
-/// The access in `I0040=C3` or `O0040=C3`.
+/// The port access in `I0040=C3` (a read) or `O0040=C3` (a write), a word of a case's list PORTS; `None` if it is no
+/// such word.
 pub fn access_in(word: &str) -> Option<Access> {
     let (place, byte) = word.split_once('=')?;
     let (kind, port) = place.split_at_checked(1)?;

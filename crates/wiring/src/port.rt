@@ -18,7 +18,7 @@ pub enum Port {
     Nothing,
 }
 
-/// What answers at the port `number`.
+/// Which chip a processor's IN from or OUT to port `number` reaches, and at which of the chip's own ports.
 #[tactic(auto, unfolding(crate::specs::Ports::port_at))]
 pub(crate) fn port_at(number: u16) -> Port
     ensures port { result ≡ port_at number }

@@ -10,7 +10,7 @@ use board_types::line::Line;
 use pit8253::pit::Pit;
 use ppi8255::ppi::Ppi;
 
-/// The timer and the parallel port.
+/// Copies of the timer and the parallel port, with which the speaker's next level is worked out ahead.
 #[derive(Clone, Copy)]
 pub struct Sound {
     pub(crate) pit: Pit,
@@ -18,7 +18,7 @@ pub struct Sound {
 }
 
 impl Sound {
-    /// Gives gate 2 the level of port B bit 0.
+    /// Gives gate 2 the level of line 0 of port B, as the wires settle after a write or a tick.
     pub(crate) fn settle(&mut self)
         ensures { self.new ≡ sound_after_settling self.old }
     {
@@ -26,7 +26,8 @@ impl Sound {
         self.pit.set_gate(2, line);
     }
 
-    /// Lets the clock `clock` be reached: the counters tick if its number is divisible by 4.
+    /// Lets the clock `clock` be reached, after which the speaker's level is asked for: the counters tick if its
+    /// number is divisible by 4.
     #[tactic(auto, using(crate::proofs::Speaker::one_tick))]
     pub(crate) fn tick(&mut self, clock: u64)
         ensures { self.new ≡ record self.old { pit = pit_after_clock self.old.pit clock } }
@@ -36,7 +37,7 @@ impl Sound {
         }
     }
 
-    /// Writes `value` to `port`, if that is the timer's or the parallel port's.
+    /// Writes `value` to `port`, if that is the timer's or the parallel port's: others don't touch the speaker.
     pub(crate) fn write(&mut self, port: Port, value: u8)
         requires { HasNumber port }
         ensures { self.new ≡ sound_after_write self.old port value }
@@ -48,7 +49,7 @@ impl Sound {
         }
     }
 
-    /// Whether the speaker is high.
+    /// Whether the speaker is high: line 1 of port B and OUT2 are both 1.
     pub(crate) fn is_high(&self) -> bool
         ensures { result ≡ is_sound_high self.now }
     {
@@ -56,7 +57,8 @@ impl Sound {
     }
 }
 
-/// Writes `value` to `port`, if that is the parallel port's.
+/// Writes `value` to `port`, if that is the parallel port's, so that the levels of port B after a program's writes are
+/// known without the other chips.
 pub(crate) fn write_parallel(ppi: &mut Ppi, port: Port, value: u8)
     requires { HasNumber port }
     ensures { (sound : Sound) → sound.ppi ≡ ppi.old → ppi.new ≡ (sound_after_write sound port value).ppi }

@@ -17,11 +17,11 @@ use std::marker::Model;
 pub(crate) struct Timer {
     /// The timer as it was before the ticks that are only counted.
     pit: Pit,
-    /// How many ticks it lags: OUT0 and OUT2 haven't turned in them.
+    /// How many ticks `pit` lags: OUT0 and OUT2 haven't changed in them.
     lag: u64,
-    /// After how many ticks, counted from `pit`, OUT0 turns.
+    /// After how many ticks, counted from `pit`, OUT0 changes; `None` if it never does.
     turn_0: Option<u64>,
-    /// After how many ticks, counted from `pit`, OUT2 turns.
+    /// After how many ticks, counted from `pit`, OUT2 changes; `None` if it never does.
     turn_2: Option<u64>,
 }
 
@@ -37,14 +37,14 @@ impl Model for Timer {
 }
 
 impl Timer {
-    /// A timer of this kind at power-on.
+    /// Makes a timer of this kind at power-on, for the board's chips.
     pub(crate) fn new(kind: TimerKind) -> Timer
         ensures { result ≡ power_on kind }
     {
         Timer::standing(Pit::with(kind))
     }
 
-    /// A timer that doesn't lag.
+    /// Makes a timer of this state that doesn't lag, and works out when OUT0 and OUT2 next change.
     #[tactic(auto, using(crate::proofs::Lagging::at_once, crate::proofs::Lagging::no_lag))]
     pub(crate) fn standing(pit: Pit) -> Timer
         ensures { result ≡ pit }
@@ -59,7 +59,7 @@ impl Timer {
         }
     }
 
-    /// The timer with all its ticks made.
+    /// The timer with all its ticks made, which a read, a write, a copy or the probe needs; this one goes on lagging.
     pub(crate) fn synced(&self) -> Pit
         ensures { result ≡ self.now }
     {
@@ -68,7 +68,8 @@ impl Timer {
         pit
     }
 
-    /// Ticks `ticks` times. The ticks are only counted as long as neither OUT0 nor OUT2 turns.
+    /// Lets the counters tick `ticks` times, as the board's clocks pass: the ticks are only counted as long as neither
+    /// OUT0 nor OUT2 changes, and else made.
     #[inline(always)]
     pub(crate) fn advance(&mut self, ticks: u64)
         ensures { self.new ≡ after_ticks self.old ticks }
@@ -78,7 +79,8 @@ impl Timer {
         }
     }
 
-    /// Counts `ticks` more ticks, if neither OUT0 nor OUT2 turns in them. Answers whether it did.
+    /// Counts `ticks` more ticks, to be made later, if neither OUT0 nor OUT2 changes in them, and says whether it did;
+    /// if not, nothing is done, and the board must look at each change.
     #[inline(always)]
     #[tactic(auto, using(crate::proofs::Lagging::later, crate::proofs::Lagging::lags_still))]
     pub(crate) fn count(&mut self, ticks: u64) -> bool
@@ -97,7 +99,8 @@ impl Timer {
         false
     }
 
-    /// Makes the counted ticks, and `ticks` more. Mostly OUT0 turns, and then it stays known when OUT2 does.
+    /// Makes the counted ticks, and `ticks` more, for `advance`, since an output changes in them. Mostly that is OUT0,
+    /// and then it stays known when OUT2 changes.
     #[inline(never)]
     #[tactic(auto, using(crate::proofs::Lagging::later, crate::proofs::Lagging::at_once))]
     fn tick(&mut self, ticks: u64)
@@ -116,7 +119,7 @@ impl Timer {
         };
     }
 
-    /// Makes the counted ticks, and then `ticks` more: together they may be too many to count.
+    /// Makes the counted ticks, and then `ticks` more, for `tick`: together they may be more than a `u64` counts.
     #[inline(never)]
     #[tactic(auto, using(crate::proofs::Lagging::later))]
     fn tick_apart(&mut self, ticks: u64)
@@ -127,7 +130,7 @@ impl Timer {
         *self = Timer::standing(pit);
     }
 
-    /// The level of OUT0.
+    /// The level of OUT0, which drives IR0; no lag changes it.
     #[tactic(auto, using(crate::proofs::Lagging::out_0_stays))]
     pub(crate) fn out_0(&self) -> Line
         ensures { result ≡ self.now.counter_0.out }
@@ -135,7 +138,7 @@ impl Timer {
         self.pit.out(0)
     }
 
-    /// The level of OUT2.
+    /// The level of OUT2, which goes to the speaker and the parallel port; no lag changes it.
     #[tactic(auto, using(crate::proofs::Lagging::out_2_stays))]
     pub(crate) fn out_2(&self) -> Line
         ensures { result ≡ self.now.counter_2.out }
@@ -143,21 +146,22 @@ impl Timer {
         self.pit.out(2)
     }
 
-    /// After how many ticks, from 1 on, OUT0 turns; `None` if it never does.
+    /// After how many ticks, from 1 on, OUT0 changes, so that the board leaps up to there; `None` if it never does.
     pub(crate) fn until_turn_0(&self) -> Option<u64>
         ensures { IsUntilTurn counter.after_ticks out_of self.now.counter_0 result }
     {
         later_turn(self.turn_0, self.lag)
     }
 
-    /// After how many ticks, from 1 on, OUT2 turns; `None` if it never does.
+    /// After how many ticks, from 1 on, OUT2, and with it perhaps the speaker, changes; `None` if it never does.
     pub(crate) fn until_turn_2(&self) -> Option<u64>
         ensures { IsUntilTurn counter.after_ticks out_of self.now.counter_2 result }
     {
         later_turn(self.turn_2, self.lag)
     }
 
-    /// After how many ticks, from 1 on, OUT0 or OUT2 turns; `None` if neither ever does.
+    /// After how many ticks, from 1 on, OUT0 or OUT2 changes, so that the board is quiet up to there; `None` if
+    /// neither ever does.
     pub(crate) fn until_turn(&self) -> Option<u64>
         ensures out_0 { (ticks : ℕ) → is_before ticks result ≡ true
             → IsSteady counter.after_ticks out_of self.now.counter_0 ticks }
@@ -169,7 +173,7 @@ impl Timer {
         later_turn(earlier_turn(self.turn_0, self.turn_2), self.lag)
     }
 
-    /// The byte that a read of `port`, below 4, gives.
+    /// The byte that a program's IN from `port`, below 4, gives; the counted ticks are made first.
     pub(crate) fn read(&mut self, port: u8) -> u8
         requires { port < 4 }
         ensures byte { result ≡ byte_at self.old port }
@@ -181,7 +185,7 @@ impl Timer {
         byte
     }
 
-    /// Writes `value` to `port`, below 4.
+    /// Writes `value` to `port`, below 4, for a program's OUT; the counted ticks are made first.
     pub(crate) fn write(&mut self, port: u8, value: u8)
         requires { port < 4 }
         ensures { self.new ≡ after_write self.old port value }
@@ -191,7 +195,8 @@ impl Timer {
         *self = Timer::standing(pit);
     }
 
-    /// Gate 2 takes the level `line`. If it has that level already, nothing changes, and the timer goes on lagging.
+    /// Gives gate 2 the level `line`, that of line 0 of port B, as the wires settle. If nothing changes by that, the
+    /// timer goes on lagging.
     #[tactic(auto, using(crate::proofs::Lagging::gate_stays))]
     pub(crate) fn set_gate_2(&mut self, line: Line)
         ensures { self.new ≡ after_gate self.old 2 line }
@@ -201,7 +206,8 @@ impl Timer {
         }
     }
 
-    /// Makes the counted ticks, and then gate 2 takes the level `line`.
+    /// Makes the counted ticks and then gives gate 2 the level `line`, for `set_gate_2`, if that changes counter 2:
+    /// OUT2's next change is then another.
     #[inline(never)]
     fn turn_gate_2(&mut self, line: Line)
         ensures { self.new ≡ after_gate self.old 2 line }
@@ -212,7 +218,8 @@ impl Timer {
     }
 }
 
-/// The earlier of two turns.
+/// The earlier of two changes of outputs, each after a number of ticks or, if `None`, never: up to there neither OUT0
+/// nor OUT2 changes.
 #[inline(always)]
 fn earlier_turn(a: Option<u64>, b: Option<u64>) -> Option<u64>
     ensures first { (ticks : ℕ) → is_before ticks result ≡ true → (is_before ticks a ≡ true) × (is_before ticks b ≡ true) }
@@ -226,6 +233,8 @@ fn earlier_turn(a: Option<u64>, b: Option<u64>) -> Option<u64>
     }
 }
 
+/// Whether `ticks` ticks come before an output's change, so that they may be counted without being made; always if it
+/// never changes.
 #[inline(always)]
 fn is_before(ticks: u64, turn: Option<u64>) -> bool
     ensures { result ≡ is_before ticks turn }
@@ -236,7 +245,7 @@ fn is_before(ticks: u64, turn: Option<u64>) -> bool
     }
 }
 
-/// How many ticks are left to a turn after `lag` ticks, which come before it.
+/// How many ticks are left to an output's change after `lag` ticks, which come before it; `None` if it never changes.
 #[inline(always)]
 fn later_turn(turn: Option<u64>, lag: u64) -> Option<u64>
     requires { IsTrue (is_before lag turn) }

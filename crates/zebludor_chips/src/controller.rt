@@ -8,8 +8,8 @@ use crate::levels::line_of;
 use pic8259::controller::Pic;
 use pic8259::image::PicImage;
 
-/// Power-on: every line low, nothing masked or in service, edge mode, no initialisation sequence begun. The image may
-/// hold any bytes before.
+/// Makes `*pic` a controller at power-on, for a bench in C: every line low, nothing masked or in service, edge mode,
+/// no initialisation sequence begun. The image may hold any bytes before.
 #[unsafe(no_mangle)]
 pub extern "C" fn zebludor_pic_power_on(pic: &mut PicImage)
     ensures { pic_of pic.new ≡ power_on }
@@ -17,7 +17,7 @@ pub extern "C" fn zebludor_pic_power_on(pic: &mut PicImage)
     *pic = Pic::new().image();
 }
 
-/// Sets the request line of level `n` modulo 8: low if `level` is 0, else high.
+/// Sets the request line of level `n` modulo 8, as a bench in C drives it: low if `level` is 0, else high.
 #[unsafe(no_mangle)]
 pub extern "C" fn zebludor_pic_set_line(pic: &mut PicImage, n: u8, level: u8)
     ensures { pic_of pic.new ≡ after_line (pic_of pic.old) (n % 8) (line_of level) }
@@ -27,8 +27,8 @@ pub extern "C" fn zebludor_pic_set_line(pic: &mut PicImage, n: u8, level: u8)
     *pic = chip.image();
 }
 
-/// Reads at address line A0. A pending poll is answered at either port; else A0 = 1 gives the mask, and A0 = 0 the
-/// requests or the levels in service.
+/// Answers a bench's read at address line A0. A pending poll is answered at either port, and takes a level as an
+/// acknowledge does; else A0 = 1 gives the mask, and A0 = 0 the requests or the levels in service.
 #[unsafe(no_mangle)]
 pub extern "C" fn zebludor_pic_read(pic: &mut PicImage, a0: u8) -> u8
     ensures value { result ≡ byte_at (pic_of pic.old) (flag_of a0) }
@@ -40,7 +40,7 @@ pub extern "C" fn zebludor_pic_read(pic: &mut PicImage, a0: u8) -> u8
     value
 }
 
-/// Writes a command word at address line A0.
+/// Does a bench's write at address line A0: an initialisation or operation command word, or at A0 = 1 the mask.
 #[unsafe(no_mangle)]
 pub extern "C" fn zebludor_pic_write(pic: &mut PicImage, a0: u8, value: u8)
     ensures { pic_of pic.new ≡ after_write (pic_of pic.old) (flag_of a0) value }
@@ -50,7 +50,8 @@ pub extern "C" fn zebludor_pic_write(pic: &mut PicImage, a0: u8, value: u8)
     *pic = chip.image();
 }
 
-/// Whether the interrupt output is high, 0 or 1: an acknowledge would take a level.
+/// Whether the interrupt output INT is high, 0 or 1, for a bench to compare or to give its processor: an acknowledge
+/// would take a level.
 #[unsafe(no_mangle)]
 pub extern "C" fn zebludor_pic_request(pic: &PicImage) -> u8
     ensures { result ≡ (if is_requesting (pic_of pic.now) then 1 else 0) }
@@ -58,7 +59,8 @@ pub extern "C" fn zebludor_pic_request(pic: &PicImage) -> u8
     if Pic::from_image(pic).request() { 1 } else { 0 }
 }
 
-/// The processor's interrupt acknowledge: the vector of the level that is taken, or of level 7 if none is.
+/// Answers a bench's interrupt acknowledge, both pulses of INTA at once: takes a level and gives its vector, or that
+/// of level 7 if there is none to take.
 #[unsafe(no_mangle)]
 pub extern "C" fn zebludor_pic_acknowledge(pic: &mut PicImage) -> u8
     ensures vector { result ≡ vector (pic_of pic.old) }

@@ -26,14 +26,15 @@ pub struct Outcome {
     pub length: u64,
     /// The refused line of the source or of the HEX text, from 1 on; 0 if there is none.
     pub line: u64,
-    /// 0: `out` begins with the report, and is as it was after it. 1: the run was refused. 2: the report is longer than
-    /// `out`. Unless it is 0, all of `out` is as it was.
+    /// 0: `out` begins with the report, and what comes after it is as it was. 1: the run was refused. 2: the report is
+    /// longer than `out`. Unless it is 0, all of `out` is as it was.
     pub status: u8,
     /// The fault's number; 0 if the run wasn't refused.
     pub fault: u8,
 }
 
-/// Runs a source under the text of a run file, and writes the report into `out`.
+/// Runs a source under the text of a run file, for a caller in C, and writes the report into `out` if that has room;
+/// the result says how long it is, or why the run was refused.
 #[unsafe(no_mangle)]
 pub extern "C" fn zebludor_run(alloc: Global, source: &[u8], run: &[u8], out: &mut [u8]) -> Outcome
     ensures told { Tells (IsReport false source.now run.now) (IsTrueRefusal false source.now run.now) out.old out.new
@@ -46,7 +47,8 @@ pub extern "C" fn zebludor_run(alloc: Global, source: &[u8], run: &[u8], out: &m
     tell(run_texts(alloc, false, source, run), out)
 }
 
-/// Runs a text of Intel HEX under the text of a run file, and writes the report into `out`.
+/// Runs a text of Intel HEX under the text of a run file, for a caller in C, and writes the report into `out` if that
+/// has room; the result says how long it is, or why the run was refused.
 #[unsafe(no_mangle)]
 pub extern "C" fn zebludor_run_hex(
     alloc: Global,
@@ -63,6 +65,8 @@ pub extern "C" fn zebludor_run_hex(
     tell(run_texts(alloc, true, text, run), out)
 }
 
+/// Ends a call of a run: writes its report into the caller's buffer if it has room, or leaves the buffer as it is if
+/// the run was refused, and gives the outcome that the caller gets.
 fn tell(report: Result<Report, Fault>, out: &mut [u8]) -> Outcome
     ensures outcome { MatchResult report (λ report. result ≡ text_outcome (string_bytes report.text) (length out.old))
         (λ fault. result ≡ fault_outcome fault) }
@@ -75,7 +79,8 @@ fn tell(report: Result<Report, Fault>, out: &mut [u8]) -> Outcome
     }
 }
 
-// Writes the text into the buffer, if there is room for it.
+/// Writes a report's text into the caller's buffer if it has room, and gives the outcome of the run: the report's
+/// length, and the status `WRITTEN` or `TOO_LONG`.
 fn put(text: &[u8], out: &mut [u8]) -> Outcome
     ensures outcome { result ≡ text_outcome text.now (length out.old) }
     ensures buffer { out.new ≡ buffer_after text.now out.old }
@@ -94,6 +99,8 @@ fn put(text: &[u8], out: &mut [u8]) -> Outcome
     }
 }
 
+/// The outcome of a run that was refused, as a caller in C gets it: the fault's number, and the line of the source or
+/// HEX text, or 0.
 fn refused(fault: &Fault) -> Outcome
     ensures { result ≡ fault_outcome fault.now }
 {

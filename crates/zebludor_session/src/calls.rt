@@ -37,8 +37,8 @@ pub struct Begun {
 pub struct Told {
     /// How many bytes the text has; 0 at statuses 1 and 3.
     pub length: u64,
-    /// 0: `out` begins with the text, and is as it was after it. 1: there is no session. 2: the text is longer than `out`.
-    /// 3: there is no memory to write the text. But at 0 `out` is as it was.
+    /// 0: `out` begins with the text, and what comes after it is as it was. 1: there is no session. 2: the text is
+    /// longer than `out`. 3: there is no memory to write the text. Unless it is 0, all of `out` is as it was.
     pub status: u8,
     /// The number of the fault with which the line was refused; 0 if it was answered.
     pub fault: u8,
@@ -51,7 +51,9 @@ const NONE: Told = Told {
     fault: 0,
 };
 
-/// Begins a session about the board of a source under the text of a run file. One that was there is ended.
+/// Begins a session for a caller in C, at clock 0 of the board that a source and the text of a run file give, and
+/// hands it over in `session`; the one that was there is ended first. If it is refused, there is none after it, and
+/// the result says why.
 #[unsafe(no_mangle)]
 pub extern "C" fn zebludor_session_new(
     alloc: Global,
@@ -65,7 +67,9 @@ pub extern "C" fn zebludor_session_new(
     hand_over(session, begin(alloc, false, source, run))
 }
 
-/// Begins a session about the board of a text of Intel HEX under the text of a run file. One that was there is ended.
+/// Begins a session for a caller in C, at clock 0 of the board that a text of Intel HEX and the text of a run file
+/// give, and hands it over in `session`; the one that was there is ended first. If it is refused, there is none after
+/// it.
 #[unsafe(no_mangle)]
 pub extern "C" fn zebludor_session_new_hex(
     alloc: Global,
@@ -79,7 +83,8 @@ pub extern "C" fn zebludor_session_new_hex(
     hand_over(session, begin(alloc, true, text, run))
 }
 
-/// Does what a line commands, keeps the reply, and writes its text into `out`.
+/// Does what a caller's line commands, as `pcprobe` does, keeps the reply, and writes its text into `out` if that has
+/// room. The command is done even if it hasn't.
 #[unsafe(no_mangle)]
 pub extern "C" fn zebludor_session_command(
     alloc: Global,
@@ -100,7 +105,7 @@ pub extern "C" fn zebludor_session_command(
     }
 }
 
-/// Writes the text of the last reply into `out` again.
+/// Writes the text of the last reply into `out` again, for a caller in C whose buffer was too small for it.
 #[unsafe(no_mangle)]
 pub extern "C" fn zebludor_session_text(alloc: Global, session: &mut Handle, out: &mut [u8]) -> Told
     ensures { Repeats session.old.session session.new.session out.old out.new result }
@@ -115,7 +120,7 @@ pub extern "C" fn zebludor_session_text(alloc: Global, session: &mut Handle, out
     }
 }
 
-/// Ends the session, if there is one, and gives all of its memory back.
+/// Ends the caller's session, if there is one, and gives all of its memory back.
 #[unsafe(no_mangle)]
 pub extern "C" fn zebludor_session_drop(alloc: Global, session: &mut Handle)
     ensures { session.new.session ≡ None }
@@ -123,7 +128,8 @@ pub extern "C" fn zebludor_session_drop(alloc: Global, session: &mut Handle)
     drop(taken(alloc, session));
 }
 
-/// The session, taken out of the caller's hands.
+/// Takes the session out of the caller's handle, so that a call can work on it or end it; `None` if there is none. The
+/// handle is left without one.
 fn taken(alloc: Global, session: &mut Handle) -> Option<Box<OpenSession>>
     ensures session { option_map (λ session. session.value) result ≡ session.old.session }
     ensures none { session.new.session ≡ None }
@@ -136,14 +142,15 @@ fn taken(alloc: Global, session: &mut Handle) -> Option<Box<OpenSession>>
     }
 }
 
-/// Gives the session back into the caller's hands, which have none.
+/// Puts a session into the caller's handle, which has none: a new one, or one that a call took out and has worked on.
 fn hold(session: &mut Handle, one: Box<OpenSession>)
     ensures { session.new.session ≡ Some one.value }
 {
     *session = Handle::holding(Parts::of(one));
 }
 
-/// A session about the board of a HEX text, if `hex`, else of a source, under the text of a run file.
+/// Makes a session about the board at power-on of a HEX text, if `hex`, else of a source, under the text of a run
+/// file, or gives the fault with which the texts are refused.
 fn begin(alloc: Global, hex: bool, bytes: &[u8], run: &[u8]) -> Result<Box<OpenSession>, Fault>
     ensures session { IfOk result (λ session. BeginsSession hex bytes.now run.now session.value) }
     ensures fault { IfErr result (IsRefusal hex bytes.now run.now) }
@@ -155,7 +162,8 @@ fn begin(alloc: Global, hex: bool, bytes: &[u8], run: &[u8]) -> Result<Box<OpenS
     }
 }
 
-/// Gives a session that has begun into the caller's hands, which have none, or tells its refusal.
+/// Ends a call that begins a session: puts it into the caller's handle, which has none, or gives the refusal to tell
+/// the caller.
 fn hand_over(session: &mut Handle, one: Result<Box<OpenSession>, Fault>) -> Begun
     requires { session.old.session ≡ None }
     ensures { MatchResult one (λ one. IsBegun one.value session.new.session result)
@@ -170,7 +178,8 @@ fn hand_over(session: &mut Handle, one: Result<Box<OpenSession>, Fault>) -> Begu
     }
 }
 
-/// A refusal, as it is told.
+/// The refusal of a session as a caller in C gets it: the fault's number, and the line of the source or HEX text, or
+/// 0.
 fn refused(fault: &Fault) -> Begun
     ensures { result ≡ refusal_told fault.now }
 {
@@ -179,7 +188,8 @@ fn refused(fault: &Fault) -> Begun
     Begun { line, fault }
 }
 
-/// The text of a session's last reply, into a buffer that has room for it.
+/// Writes the text of a session's last reply into the caller's buffer, and gives the result of the call: how long the
+/// text is, whether it was written, and the fault with which the line was refused, or 0.
 fn tell(alloc: Global, session: &OpenSession, out: &mut [u8]) -> Told
     ensures { TellsReply session.now.reply out.old out.new result }
 {
@@ -194,7 +204,8 @@ fn tell(alloc: Global, session: &OpenSession, out: &mut [u8]) -> Told
     }
 }
 
-/// A text into a buffer, if it has room for it.
+/// Writes a reply's text into the caller's buffer if it has room, and gives the result of the call: the text's length,
+/// the status `WRITTEN` or `TOO_LONG`, and `fault`, the number of the line's refusal or 0.
 fn put(text: &[u8], fault: u8, out: &mut [u8]) -> Told
     ensures told { result ≡ text_told text.now fault (length out.old) }
     ensures buffer { out.new ≡ buffer_after text.now out.old }

@@ -23,7 +23,7 @@ impl Model for Handle {
 }
 
 impl Handle {
-    /// No session.
+    /// The handle of a caller that has no session: before the first, after its end, and while a call works on it.
     pub(crate) fn none() -> Handle
         ensures { result.session ≡ None }
     {
@@ -33,7 +33,7 @@ impl Handle {
         }
     }
 
-    /// A session.
+    /// The handle with which a caller outside keeps this session, and owns it until a call takes it out or ends it.
     pub(crate) fn holding(session: Parts<OpenSession, Global>) -> Handle
         ensures { result.session ≡ Some session.value }
     {
@@ -44,7 +44,7 @@ impl Handle {
         }
     }
 
-    /// Whether there is a session, and the handle again.
+    /// Whether there is a session in the handle, and the handle again: a call asks before it takes the session out.
     pub(crate) fn with_flag(self) -> (bool, Handle)
         ensures { (result.0 ≡ self.is_there) × (result.1 ≡ self) }
     {
@@ -52,7 +52,7 @@ impl Handle {
         (is_there, Handle { at, is_there })
     }
 
-    /// The session, which is there.
+    /// Takes the session, which must be there, out of a caller's handle, as the parts of its box.
     pub(crate) fn into_parts(self, alloc: Global) -> Parts<OpenSession, Global>
         requires { IsTrue self.is_there }
         ensures { Some result.value ≡ self.session }

@@ -17,7 +17,8 @@ impl<T, A: Allocator> Model for Parts<T, A> {
 }
 
 impl<T, A: Allocator> Parts<T, A> {
-    /// Takes a box apart.
+    /// Takes a box apart into pointer and allocator, so that a handle in the memory of a caller in C can hold the
+    /// pointer.
     pub fn of(b: Box<T, A>) -> Parts<T, A>
     where
         T: Drop,
@@ -27,7 +28,8 @@ impl<T, A: Allocator> Parts<T, A> {
         Parts { ptr, alloc }
     }
 
-    /// The box again.
+    /// Puts the box of a session together again, from the pointer that a handle held, so that it can be used or
+    /// dropped.
     pub fn into_box(self) -> Box<T, A>
         ensures { result.value ≡ self.value }
     {

@@ -18,7 +18,8 @@ pub struct OpenSession {
 }
 
 impl OpenSession {
-    /// A session about a board as it stands. The board is dropped if there is no memory.
+    /// Makes a session about a board as it stands, for a caller in C; it has answered no line yet. Without memory for
+    /// it, the board is dropped and the fault is `Memory`.
     pub fn new(alloc: Global, board: Board) -> Result<Box<OpenSession>, DebugFault>
         ensures session { IfOk result (λ session. IsAbout board session.value) }
         ensures fault { IfErr result (λ fault. fault ≡ DebugFault.Memory None) }
@@ -31,14 +32,16 @@ impl OpenSession {
         }
     }
 
-    /// Answers a line, and keeps the reply.
+    /// Answers a caller's line as `pcprobe` does, and keeps the reply, whose text and fault can be asked for until the
+    /// next line.
     pub fn answer(&mut self, alloc: Global, line: &[u8])
         ensures { AnswersTyped AnswersSession line.now self.old.probe self.new.reply self.new.probe }
     {
         self.reply = reply_to(alloc, &mut self.probe, line);
     }
 
-    /// The text of the last reply, as `pcprobe` prints it.
+    /// The text of the last reply, as `pcprobe` prints it, for the caller's buffer; no bytes before the first line.
+    /// Fails only if there is no memory for it.
     pub fn text(&self, alloc: Global) -> Result<Vec<u8>, AllocError>
         ensures { IfOk result (λ text. text.items ≡ reply_text self.now.reply) }
     {
@@ -49,7 +52,7 @@ impl OpenSession {
         }
     }
 
-    /// The number of the fault with which the last line was refused, or 0.
+    /// The number of the fault with which the last line was refused, for the result of a call; 0 if it was answered.
     pub fn fault(&self) -> u8
         ensures { result ≡ fault_of self.now.reply }
     {
@@ -60,7 +63,8 @@ impl OpenSession {
     }
 }
 
-/// What a probe answers to a line, or why it refuses it. A line that isn't UTF-8 is no command.
+/// What a probe answers to a session's line, or the fault with which it refuses it. A line that isn't UTF-8 is no
+/// command.
 fn reply_to(alloc: Global, probe: &mut Probe, line: &[u8]) -> Result<Answer, DebugFault>
     ensures { AnswersTyped AnswersSession line.now probe.old result probe.new }
 {

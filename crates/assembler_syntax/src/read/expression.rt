@@ -13,6 +13,8 @@ use dialect::keyword::Keyword;
 use dialect::meaning::Meaning;
 use std::alloc::Global;
 
+/// Reads a single token as what a term of an expression names: a number, a name or `$`. Any other token makes the line
+/// a bad one.
 fn single_atom(token: &Token) -> Result<Atom, SyntaxError>
     ensures { Gives result (single_atom token.now) }
 {
@@ -25,6 +27,8 @@ fn single_atom(token: &Token) -> Result<Atom, SyntaxError>
     }
 }
 
+/// Reads two tokens as what a term of an expression names: SEG and a label, for its segment's paragraph. Any others
+/// make the line a bad one.
 fn segment_atom(first: &Token, second: &Token) -> Result<Atom, SyntaxError>
     ensures { Gives result (segment_atom first.now second.now) }
 {
@@ -36,6 +40,7 @@ fn segment_atom(first: &Token, second: &Token) -> Result<Atom, SyntaxError>
     }
 }
 
+/// Reads the tokens between two signs as what a term of an expression names: a number, a name, `$`, or SEG and a name.
 #[tactic(auto, unfolding(crate::specs::ExpressionSteps::atom_of))]
 fn atom_of(tokens: &[Token]) -> Result<Atom, SyntaxError>
     ensures { Gives result (atom_of tokens.now) }
@@ -47,7 +52,8 @@ fn atom_of(tokens: &[Token]) -> Result<Atom, SyntaxError>
     }
 }
 
-/// The term that tokens are, after a sign.
+/// Reads the tokens between two signs as a term of an expression, or of a displacement in brackets; `is_negative` is
+/// whether the sign before it is a minus.
 pub(crate) fn read_term(is_negative: bool, tokens: &[Token]) -> Result<Term, SyntaxError>
     ensures { Gives result (term_of (signed_part is_negative tokens.now)) }
 {
@@ -55,7 +61,8 @@ pub(crate) fn read_term(is_negative: bool, tokens: &[Token]) -> Result<Term, Syn
     Ok(Term { is_negative, atom })
 }
 
-/// The expression that tokens are.
+/// Reads tokens as an expression, one or more terms with signs between them: an operand, a constant or a number of a
+/// data line.
 #[tactic(auto, unfolding(crate::specs::ExpressionSteps::expression_of))]
 pub(crate) fn read_expression(alloc: Global, tokens: &[Token]) -> Result<Expression, SyntaxError>
     ensures { Gives result (expression_of tokens.now) }
@@ -68,7 +75,7 @@ pub(crate) fn read_expression(alloc: Global, tokens: &[Token]) -> Result<Express
     read_terms(alloc, first, parts)
 }
 
-/// An expression of a term and those that are still to come.
+/// Reads the terms of an expression after its first one, and puts them together.
 #[tactic(auto, using(crate::proofs::Gathering::term_after))]
 fn read_terms(alloc: Global, first: Term, parts: SignedParts) -> Result<Expression, SyntaxError>
     ensures { Gives result (with_front (first ∷ []) (all_of term_of parts.entry)) }
@@ -82,7 +89,8 @@ fn read_terms(alloc: Global, first: Term, parts: SignedParts) -> Result<Expressi
     Ok(expression)
 }
 
-/// The expression that tokens are, which must be a constant: without `$` and SEG.
+/// Reads tokens as an expression that must be a constant, as EQU, ORG, SEGMENT and DUP want it: one with `$` or SEG is
+/// a bad line.
 #[tactic(auto, unfolding(crate::specs::ExpressionSteps::constant_of))]
 pub(crate) fn read_constant(alloc: Global, tokens: &[Token]) -> Result<Expression, SyntaxError>
     ensures { Gives result (constant_of tokens.now) }
@@ -95,6 +103,8 @@ pub(crate) fn read_constant(alloc: Global, tokens: &[Token]) -> Result<Expressio
     }
 }
 
+/// Whether an expression may be a constant by what it says: none of its terms is `$` or SEG. Whether its names are
+/// those of constants is judged later.
 fn are_constant(expression: &Expression) -> bool
     ensures { result ≡ list_all is_constant expression.now }
 {
@@ -102,6 +112,7 @@ fn are_constant(expression: &Expression) -> bool
     first.atom.is_constant() && are_all_constant(rest)
 }
 
+/// Whether none of the terms is `$` or SEG; for the terms of an expression after its first one.
 fn are_all_constant(terms: &[Term]) -> bool
     ensures { result ≡ list_all is_constant terms.now }
 {
@@ -109,6 +120,7 @@ fn are_all_constant(terms: &[Term]) -> bool
 }
 
 impl Atom {
+    /// Whether a constant may have a term of this atom: a number or a name, not `$` or SEG.
     fn is_constant(self) -> bool
         ensures { result ≡ is_constant_atom self }
     {

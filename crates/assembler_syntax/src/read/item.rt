@@ -14,7 +14,8 @@ use assembler_lexeme::sequence::Sequence;
 use assembler_lexeme::token::Token;
 use std::alloc::Global;
 
-/// The items of a data line: one or more, with commas between them.
+/// Reads what follows DB, DW or DD: one or more items with commas between them, numbers or texts that are placed once
+/// or repeated by DUP.
 #[tactic(auto, unfolding(crate::specs::ItemSteps::items_of))]
 pub(crate) fn read_items(
     alloc: Global,
@@ -32,7 +33,7 @@ pub(crate) fn read_items(
     Ok(items)
 }
 
-/// An item of a data line: pieces that DUP repeats, or one piece.
+/// Reads an item of a data line: `count DUP (pieces)`, or a single piece.
 #[tactic(auto, unfolding(crate::specs::ItemSteps::item_of))]
 fn read_item(alloc: Global, width: DataWidth, tokens: &[Token]) -> Result<Item, SyntaxError>
     ensures { Gives result (item_of width tokens.now) }
@@ -43,6 +44,8 @@ fn read_item(alloc: Global, width: DataWidth, tokens: &[Token]) -> Result<Item, 
     }
 }
 
+/// Reads an item of a data line that DUP repeats, from the tokens before DUP, `count`, and those after it: a constant,
+/// and pieces in parentheses.
 #[tactic(auto, unfolding(crate::specs::ItemSteps::repeated))]
 fn read_repeated(
     alloc: Global,
@@ -60,7 +63,8 @@ fn read_repeated(
     Ok(Item::Repeated(count, pieces))
 }
 
-/// The tokens between parentheses, if the second one is the last token.
+/// The tokens between the parentheses after DUP. `None` if no parenthesis opens, or the one that closes isn't the last
+/// token.
 fn in_parentheses<'a, 'b>(tokens: &'a [Token<'b>]) -> Option<&'a [Token<'b>]>
     ensures { wanted (option_map (λ p. p.now) result) ≡ in_parentheses tokens.now }
 {
@@ -73,6 +77,7 @@ fn in_parentheses<'a, 'b>(tokens: &'a [Token<'b>]) -> Option<&'a [Token<'b>]>
     }
 }
 
+/// Reads what DUP repeats: one or more pieces with commas between them.
 #[tactic(auto, unfolding(crate::specs::ItemSteps::pieces_of))]
 fn read_pieces(
     alloc: Global,
@@ -90,7 +95,8 @@ fn read_pieces(
     Ok(pieces)
 }
 
-/// A piece: an expression, or in DB a quoted text.
+/// Reads a piece of a data line, a number or text that stands by itself or is repeated by DUP: an expression, or in DB
+/// a quoted text.
 #[tactic(auto, unfolding(crate::specs::ItemSteps::piece_of))]
 fn read_piece(alloc: Global, width: DataWidth, tokens: &[Token]) -> Result<Piece, SyntaxError>
     ensures { Gives result (piece_of width tokens.now) }
@@ -101,6 +107,8 @@ fn read_piece(alloc: Global, width: DataWidth, tokens: &[Token]) -> Result<Piece
     }
 }
 
+/// Reads a piece of a data line of one token, `tokens` being only `token`: in DB a quoted text, whose characters are
+/// copied, else an expression.
 fn single_piece(
     alloc: Global,
     width: DataWidth,
@@ -118,6 +126,7 @@ fn single_piece(
     }
 }
 
+/// Reads a piece of a data line that is a number, given by an expression.
 fn value_piece(alloc: Global, tokens: &[Token]) -> Result<Piece, SyntaxError>
     ensures { Gives result (value_piece tokens.now) }
 {

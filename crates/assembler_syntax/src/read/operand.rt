@@ -26,7 +26,7 @@ use std::alloc::Global;
 /// The tokens after the open bracket of an operand in memory, and the segment register before it.
 type Brackets<'a, 'b> = (Option<SegmentRegister>, &'a [Token<'b>]);
 
-/// The operands of an instruction: none, or some with commas between them.
+/// Reads what follows an instruction's mnemonic as its operands: none, or some with commas between them.
 #[tactic(auto, unfolding(crate::specs::OperandSteps::operands_of))]
 pub(crate) fn read_operands(
     alloc: Global,
@@ -41,6 +41,8 @@ pub(crate) fn read_operands(
     }
 }
 
+/// Reads the parts between commas as an instruction's operands, in order; the first one that is no operand makes the
+/// line a bad one.
 fn read_parts(alloc: Global, parts: Parts) -> Result<Sequence<Operand>, SyntaxError>
     ensures { Gives result (all_of operand_of parts.entry) }
 {
@@ -53,6 +55,7 @@ fn read_parts(alloc: Global, parts: Parts) -> Result<Sequence<Operand>, SyntaxEr
     Ok(operands)
 }
 
+/// Reads the tokens between two commas as an operand of an instruction; none at all are a bad line.
 #[tactic(auto, unfolding(crate::specs::OperandSteps::operand_of))]
 fn read_operand(alloc: Global, tokens: &[Token]) -> Result<Operand, SyntaxError>
     ensures { Gives result (operand_of tokens.now) }
@@ -64,6 +67,7 @@ fn read_operand(alloc: Global, tokens: &[Token]) -> Result<Operand, SyntaxError>
     }
 }
 
+/// Reads an operand of one token, `tokens` being only `token`: a register, the `1` of a shift, or else an expression.
 fn single_operand(alloc: Global, token: &Token, tokens: &[Token]) -> Result<Operand, SyntaxError>
     requires { tokens.now ≡ token.now ∷ [] }
     ensures { Gives result (single_operand token.now) }
@@ -75,6 +79,8 @@ fn single_operand(alloc: Global, token: &Token, tokens: &[Token]) -> Result<Oper
     }
 }
 
+/// Reads an operand of two tokens or more, `tokens` being `first` and `rest`, by what leads it: SHORT, BYTE, WORD or
+/// FAR, or else memory without a size, or an expression.
 fn led_operand(
     alloc: Global,
     first: &Token,
@@ -95,7 +101,8 @@ fn led_operand(
     }
 }
 
-/// An operand in memory, from the tokens after its size word.
+/// Reads an operand in memory from the tokens after its size word, BYTE or WORD. A bad line if no bracket follows, with
+/// or without a segment register.
 fn memory_in(alloc: Global, size: Size, tokens: &[Token]) -> Result<Operand, SyntaxError>
     ensures { Gives result (memory_in (Some size) (brackets_of tokens.now)) }
 {
@@ -105,6 +112,8 @@ fn memory_in(alloc: Global, size: Size, tokens: &[Token]) -> Result<Operand, Syn
     }
 }
 
+/// Reads an operand without a leading word: in memory, without a size, if it begins with a bracket or with a segment
+/// register and one; else an expression.
 fn place_or_value(alloc: Global, tokens: &[Token]) -> Result<Operand, SyntaxError>
     ensures { Gives result (place_or_value (brackets_of tokens.now) tokens.now) }
 {
@@ -114,6 +123,7 @@ fn place_or_value(alloc: Global, tokens: &[Token]) -> Result<Operand, SyntaxErro
     }
 }
 
+/// Reads an operand that is an expression: an immediate number, a port or a target.
 #[tactic(auto, unfolding(crate::specs::OperandSteps::value_of))]
 fn read_value(alloc: Global, tokens: &[Token]) -> Result<Operand, SyntaxError>
     ensures { Gives result (value_of tokens.now) }
@@ -121,7 +131,8 @@ fn read_value(alloc: Global, tokens: &[Token]) -> Result<Operand, SyntaxError>
     Ok(Operand::Value(read_expression(alloc, tokens)?))
 }
 
-/// A far operand, from the tokens after FAR: memory, a label, or a segment and an offset.
+/// Reads a far operand from the tokens after FAR: memory that holds a far address, a segment and an offset with a colon
+/// between, or a label.
 #[tactic(auto, unfolding(crate::specs::OperandSteps::far_of))]
 fn read_far(alloc: Global, tokens: &[Token]) -> Result<Operand, SyntaxError>
     ensures { Gives result (far_of tokens.now) }
@@ -135,6 +146,7 @@ fn read_far(alloc: Global, tokens: &[Token]) -> Result<Operand, SyntaxError>
     }
 }
 
+/// Reads the target of a far JMP or CALL that is written as two expressions, `segment` and `offset`.
 fn far_pointer(alloc: Global, segment: &[Token], offset: &[Token]) -> Result<Operand, SyntaxError>
     ensures { Gives result (far_pointer segment.now offset.now) }
 {
@@ -143,6 +155,8 @@ fn far_pointer(alloc: Global, segment: &[Token], offset: &[Token]) -> Result<Ope
     Ok(Operand::FarPointer(segment, offset))
 }
 
+/// Reads the target of a far JMP or CALL that is written as a label, the only token after FAR; any more make the line a
+/// bad one.
 fn far_label(tokens: &[Token]) -> Result<Operand, SyntaxError>
     ensures { Gives result (far_label tokens.now) }
 {
@@ -152,6 +166,7 @@ fn far_label(tokens: &[Token]) -> Result<Operand, SyntaxError>
     }
 }
 
+/// Reads the token after FAR as the label of a far target. A bad line if it is no name of the source's own.
 fn single_label(token: &Token) -> Result<Operand, SyntaxError>
     ensures { Gives result (single_label token.now) }
 {
@@ -161,7 +176,8 @@ fn single_label(token: &Token) -> Result<Operand, SyntaxError>
     }
 }
 
-/// The segment register before an open bracket, if there is one, and the tokens after the bracket.
+/// Recognizes an operand in memory by its front: `[`, or a segment register, `:` and `[`. Returns that register, if
+/// there is one, and the tokens after the bracket; `None` for any other operand.
 #[tactic(auto, unfolding(crate::specs::OperandSteps::brackets_of))]
 fn brackets_of<'a, 'b>(tokens: &'a [Token<'b>]) -> Option<Brackets<'a, 'b>>
     ensures { brackets_view result ≡ brackets_of tokens.now }
@@ -172,6 +188,8 @@ fn brackets_of<'a, 'b>(tokens: &'a [Token<'b>]) -> Option<Brackets<'a, 'b>>
     }
 }
 
+/// Recognizes an operand in memory by its first token, `[` or a segment register, `rest` being the others. Returns the
+/// register, if it is there, and the tokens after the bracket; `None` for any other operand.
 fn brackets_by<'a, 'b>(first: &Token, rest: &'a [Token<'b>]) -> Option<Brackets<'a, 'b>>
     ensures { brackets_view result ≡ brackets_by first.now rest.now }
 {
@@ -182,6 +200,8 @@ fn brackets_by<'a, 'b>(first: &Token, rest: &'a [Token<'b>]) -> Option<Brackets<
     }
 }
 
+/// Recognizes an operand in memory that begins with `register`: it must be a segment register, and `:` and `[` must
+/// follow. Returns it and the tokens after the bracket, else `None`.
 fn after_segment<'a, 'b>(register: Register, rest: &'a [Token<'b>]) -> Option<Brackets<'a, 'b>>
     ensures { brackets_view result ≡ after_segment register rest.now }
 {
@@ -192,7 +212,8 @@ fn after_segment<'a, 'b>(register: Register, rest: &'a [Token<'b>]) -> Option<Br
     }
 }
 
-/// An operand in memory, from the tokens after its open bracket: parts, and the closing bracket.
+/// Reads an operand in memory of this size and segment register from the tokens after its open bracket: registers and
+/// terms with signs between them, and last the closing bracket.
 #[tactic(auto, unfolding(crate::specs::OperandSteps::memory_of))]
 fn read_memory(
     alloc: Global,
@@ -215,6 +236,8 @@ fn read_memory(
     Ok(Operand::Memory(address))
 }
 
+/// Adds to an address all parts that stand in its brackets, registers and terms. A bad line by the first that can't be
+/// there.
 fn with_parts(alloc: Global, address: Address, parts: SignedParts) -> Result<Address, SyntaxError>
     ensures { Gives result (with_parts address parts.entry) }
 {
@@ -226,6 +249,8 @@ fn with_parts(alloc: Global, address: Address, parts: SignedParts) -> Result<Add
     Ok(address)
 }
 
+/// Adds to an address one part of those in its brackets: a register, which may have no minus before it, or a term of
+/// the displacement.
 #[tactic(auto, unfolding(crate::specs::OperandSteps::with_part))]
 fn with_part(
     alloc: Global,
@@ -242,7 +267,7 @@ fn with_part(
     }
 }
 
-/// The register that a part in brackets is, if it is one.
+/// The register that a part in brackets is; `None` if it is a term of the displacement.
 fn register_of(part: &[Token]) -> Option<Register>
     ensures { result ≡ register_of part.now }
 {
@@ -252,6 +277,7 @@ fn register_of(part: &[Token]) -> Option<Register>
     }
 }
 
+/// The register that a token names, for telling a base or index in brackets from a term; `None` if it names none.
 fn single_register(token: &Token) -> Option<Register>
     ensures { result ≡ single_register token.now }
 {
@@ -261,6 +287,8 @@ fn single_register(token: &Token) -> Option<Register>
     }
 }
 
+/// Adds a register in brackets to an address's base. A bad line unless it is BX, BP, SI or DI, and goes with the one
+/// that is there already.
 fn with_register(address: Address, register: Register) -> Result<Address, SyntaxError>
     ensures { Gives result (with_register address register) }
 {
@@ -276,7 +304,8 @@ fn with_register(address: Address, register: Register) -> Result<Address, Syntax
     })
 }
 
-/// The base with one more register: at most one of BX and BP, and at most one of SI and DI.
+/// The base of an address with one more register from its brackets: at most one of BX and BP, and at most one of SI and
+/// DI, in either order; `None` for any other.
 fn base_with(base: Option<Base>, register: WordRegister) -> Option<Base>
     ensures { result ≡ base_with base register }
 {
@@ -297,6 +326,7 @@ fn base_with(base: Option<Base>, register: WordRegister) -> Option<Base>
     }
 }
 
+/// Adds a term in brackets to an address's displacement. Fails only for want of memory.
 fn with_term(alloc: Global, address: Address, term: Term) -> Result<Address, SyntaxError>
     ensures { Gives result (Ok (with_term address term)) }
 {
@@ -315,6 +345,7 @@ fn with_term(alloc: Global, address: Address, term: Term) -> Result<Address, Syn
     })
 }
 
+/// An address's displacement with one more term, or that term alone if there was none. Fails only for want of memory.
 fn terms_with(
     alloc: Global,
     terms: Option<Expression>,

@@ -20,7 +20,8 @@ use isa::form::Prefix;
 use isa::register::SegmentRegister;
 use std::alloc::Global;
 
-/// The statement that tokens are: what a line says after its label.
+/// Reads what stands after a line's label: nothing, `name EQU value`, another directive, or an instruction with its
+/// prefixes.
 #[tactic(auto, unfolding(crate::specs::StatementSteps::statement_of))]
 pub(crate) fn read_statement(alloc: Global, tokens: &[Token]) -> Result<Statement, SyntaxError>
     ensures { Gives result (statement_of tokens.now) }
@@ -32,18 +33,22 @@ pub(crate) fn read_statement(alloc: Global, tokens: &[Token]) -> Result<Statemen
     }
 }
 
+/// Whether the token is AT, which stands between the name of a SEGMENT and its paragraph.
 fn is_at(token: &Token) -> bool
     ensures { result ≡ is_at token.now }
 {
     matches!(token, Token::Word(Meaning::Keyword(Keyword::At)))
 }
 
+/// Whether the token is EQU: as a line's second token it makes the line the definition of a constant.
 fn is_equ(token: &Token) -> bool
     ensures { result ≡ is_equ token.now }
 {
     matches!(token, Token::Word(Meaning::Keyword(Keyword::Equ)))
 }
 
+/// Reads `name EQU value`, from the tokens before and after EQU. A bad line if no name of the source's own stands
+/// before it.
 #[tactic(auto, unfolding(crate::specs::StatementSteps::equ_of))]
 fn read_equ(alloc: Global, first: &Token, value: &[Token]) -> Result<Statement, SyntaxError>
     ensures { Gives result (equ_of first.now value.now) }
@@ -54,7 +59,8 @@ fn read_equ(alloc: Global, first: &Token, value: &[Token]) -> Result<Statement, 
     }
 }
 
-/// A statement with its prefixes, if it has any.
+/// Reads a statement other than EQU: first its prefixes, such as REP or `ES:`, if it has any, and then the word that
+/// leads it.
 #[tactic(auto, unfolding(crate::specs::StatementSteps::prefixed_statement))]
 fn prefixed_statement(alloc: Global, tokens: &[Token]) -> Result<Statement, SyntaxError>
     ensures { Gives result (prefixed_statement tokens.now) }
@@ -68,7 +74,8 @@ fn prefixed_statement(alloc: Global, tokens: &[Token]) -> Result<Statement, Synt
     statement_after(alloc, prefixes, rest)
 }
 
-/// The prefix at the front of tokens, and how many of them it has.
+/// The prefix at the front of a statement's tokens, and how many tokens it takes. `None` once no further prefix comes
+/// before the mnemonic.
 fn prefix_of(tokens: &[Token]) -> Option<(Prefix, usize)>
     ensures some { IfSome result (λ p. prefixes_of tokens.now ≡ onto_prefixes p.0 (prefixes_of (drop p.1 tokens.now))) }
     ensures size { IfSome result (λ p. 0 < p.1) }
@@ -81,6 +88,8 @@ fn prefix_of(tokens: &[Token]) -> Option<(Prefix, usize)>
     }
 }
 
+/// The prefix that begins with the token `first`, before `rest`, and how many tokens it takes: LOCK or a REP takes one,
+/// a segment override two. `None` if it is no prefix.
 fn prefix_by(first: &Token, rest: &[Token]) -> Option<(Prefix, usize)>
     ensures some { IfSome result (λ p. prefixes_of (first.now ∷ rest.now)
         ≡ onto_prefixes p.0 (prefixes_of (drop p.1 (first.now ∷ rest.now)))) }
@@ -95,7 +104,8 @@ fn prefix_by(first: &Token, rest: &[Token]) -> Option<(Prefix, usize)>
     }
 }
 
-/// The override whose register stands before these tokens, and how many tokens it has with that.
+/// The segment override of a register that stands before the tokens `rest`, if they begin with its colon, and the two
+/// tokens that it takes. `None` without the colon.
 fn override_by(segment: SegmentRegister, rest: &[Token]) -> Option<(Prefix, usize)>
     ensures some { IfSome result (λ p. prefixes_of (segment_token segment ∷ rest.now)
         ≡ onto_prefixes p.0 (prefixes_of (drop p.1 (segment_token segment ∷ rest.now)))) }
@@ -110,7 +120,8 @@ fn override_by(segment: SegmentRegister, rest: &[Token]) -> Option<(Prefix, usiz
     }
 }
 
-/// The statement after these prefixes.
+/// Reads a statement after its prefixes, by the word that leads it. A name of the source's own there is an unknown
+/// name; anything else is a bad line.
 #[tactic(auto, unfolding(crate::specs::StatementSteps::statement_after))]
 fn statement_after(
     alloc: Global,
@@ -126,6 +137,8 @@ fn statement_after(
     }
 }
 
+/// Reads a statement after its prefixes and the word that leads it, which means `meaning`: an instruction by a
+/// mnemonic, or by a keyword a directive, which takes no prefixes. Any other word is an unknown name.
 fn word_statement(
     alloc: Global,
     prefixes: Sequence<Prefix>,
@@ -144,7 +157,8 @@ fn word_statement(
     }
 }
 
-/// Whether the keyword begins a statement.
+/// Whether the keyword leads a statement; with prefixes before it the line is a bad one, while any other keyword there
+/// is an unknown name.
 fn is_directive(keyword: Keyword) -> bool
     ensures { result ≡ is_directive keyword }
 {
@@ -154,6 +168,7 @@ fn is_directive(keyword: Keyword) -> bool
     )
 }
 
+/// Reads the operands after an instruction's mnemonic, and puts the instruction together with its prefixes.
 #[tactic(auto, unfolding(crate::specs::StatementSteps::instruction_of))]
 fn read_instruction(
     alloc: Global,
@@ -171,6 +186,8 @@ fn read_instruction(
     }))
 }
 
+/// Reads what follows the keyword that leads a directive: SEGMENT, ENDS, ORG, DB, DW or DD. Any other keyword is an
+/// unknown name as a statement.
 #[tactic(auto, unfolding(crate::specs::StatementSteps::directive_of))]
 fn read_directive(
     alloc: Global,
@@ -190,6 +207,7 @@ fn read_directive(
     }
 }
 
+/// Reads what follows SEGMENT: a name, AT and a paragraph. A bad line if AT isn't there.
 #[tactic(auto, unfolding(crate::specs::StatementSteps::segment_of))]
 fn read_segment(alloc: Global, tokens: &[Token]) -> Result<Statement, SyntaxError>
     ensures { Gives result (segment_of tokens.now) }
@@ -200,6 +218,7 @@ fn read_segment(alloc: Global, tokens: &[Token]) -> Result<Statement, SyntaxErro
     }
 }
 
+/// Reads the SEGMENT of the name in the token `name`. A bad line if the token is no name of the source's own.
 fn segment_by(alloc: Global, name: &Token, paragraph: &[Token]) -> Result<Statement, SyntaxError>
     ensures { Gives result (segment_by name.now paragraph.now) }
 {
@@ -209,12 +228,14 @@ fn segment_by(alloc: Global, name: &Token, paragraph: &[Token]) -> Result<Statem
     }
 }
 
+/// Reads the paragraph of a SEGMENT of this name, which must be a constant.
 fn segment_at(alloc: Global, name: Name, paragraph: &[Token]) -> Result<Statement, SyntaxError>
     ensures { Gives result (segment_at name paragraph.now) }
 {
     Ok(Statement::Segment(name, read_constant(alloc, paragraph)?))
 }
 
+/// Reads what follows ENDS: nothing, or the line is a bad one.
 #[tactic(auto, unfolding(crate::specs::StatementSteps::ends_of))]
 fn read_ends(tokens: &[Token]) -> Result<Statement, SyntaxError>
     ensures { Gives result (ends_of tokens.now) }
@@ -225,6 +246,7 @@ fn read_ends(tokens: &[Token]) -> Result<Statement, SyntaxError>
     }
 }
 
+/// Reads what follows ORG: the offset at which the next line stands, a constant.
 #[tactic(auto, unfolding(crate::specs::StatementSteps::org_of))]
 fn read_org(alloc: Global, tokens: &[Token]) -> Result<Statement, SyntaxError>
     ensures { Gives result (org_of tokens.now) }
@@ -232,6 +254,7 @@ fn read_org(alloc: Global, tokens: &[Token]) -> Result<Statement, SyntaxError>
     Ok(Statement::Org(read_constant(alloc, tokens)?))
 }
 
+/// Reads what follows DB, DW or DD: the items that the line places, as numbers of this width.
 #[tactic(auto, unfolding(crate::specs::StatementSteps::data_of))]
 fn read_data(alloc: Global, width: DataWidth, tokens: &[Token]) -> Result<Statement, SyntaxError>
     ensures { Gives result (data_of width tokens.now) }
