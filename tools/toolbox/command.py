@@ -132,7 +132,8 @@ def silence() -> None:
 
 
 def with_streams() -> None:
-    """In place of a standard stream that the tool was started without stands one that is empty."""
+    """Opens the null device for each of standard input, output and error that the tool was started without, so that reading
+    and printing work."""
     for number, name, mode in ((0, 'stdin', 'r'), (1, 'stdout', 'w'), (2, 'stderr', 'w')):
         if getattr(sys, name) is None:
             os.dup2(os.open(os.devnull, os.O_RDWR), number)
