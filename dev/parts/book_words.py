@@ -63,7 +63,7 @@ WAYS: list[tuple[str, list[Node]]] = [
     ('when an interrupt is taken', [('execute_meaning', 'Boundaries', 'boundary_of'), ('pic8259', 'Pic', 'is_requesting')]),
     ('how it is entered', [('board_plain', 'Plain', 'after_act'), ('execute_meaning', 'Boundaries', 'after_enter')]),
     ('what an instruction does', [('execute_meaning', 'Meaning', 'after_step'), ('execute_meaning', 'Meaning', 'after_operation')]),
-    ('how many clocks it takes', [('isa', 'Clocks', 'clocks_of'), ('isa', 'Words', 'clocks_in')]),
+    ('how many clocks it takes', [('isa', 'Clocks', 'clocks_of'), ('isa', 'WordCounts', 'clocks_in')]),
     ('what a tick of the timer does', [('wiring', 'Wires', 'pit_after_clock'), ('pit8253', 'Counter', 'after_tick')]),
     ('what answers at a port', [('wiring', 'Ports', 'port_at'), ('wiring', 'Ports', 'port_byte'), ('wiring', 'Ports', 'after_port_write')]),
     ('what answers at an address', [('wiring', 'Ports', 'byte_at')]),
@@ -79,9 +79,9 @@ WAYS: list[tuple[str, list[Node]]] = [
         [('debugger_meaning', 'Back', 'GoesBack'), ('debugger_meaning', 'Back', 'GoesBackTo'), ('debugger_meaning', 'Stands', 'StandsAt')],
     ),
     ('when `back` is refused', [('debugger_meaning', 'Back', 'RefusesBack'), ('debugger_meaning', 'Back', 'RefusesBackTo')]),
-    ('what the probe answers', [('probe', 'Probe', 'AnswersStopping'), ('probe', 'Session', 'AnswersProbe')]),
-    ('when a stop on what happens holds', [('probe', 'Stops', 'meets')]),
-    ("where the probe's `go` stops", [('probe', 'Stops', 'EndsAt')]),
+    ('what the probe answers', [('probe', 'Probe', 'AnswersStopping'), ('probe', 'InquirySession', 'AnswersProbe')]),
+    ('when a stop on what happens holds', [('probe', 'ProbeStops', 'meets')]),
+    ("where the probe's `go` stops", [('probe', 'ProbeStops', 'EndsAt')]),
 ]
 # What the kit's library says of its own names, in short. Operators and constructors are in the first chapter.
 KIT: dict[str, str] = {

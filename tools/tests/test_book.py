@@ -231,7 +231,7 @@ class Books(ToolCase):
             clauses = re.findall(r'ensures \w+ \{', file.read().partition('pub fn program_of')[0])
         text = text_of(self.book('program'))
         self.assertEqual(re.findall(r'^    (ensures \w+ \{)', text, re.M), clauses)
-        self.assertIn('/// Does what `words`, those after the program', text)
+        self.assertIn('/// Runs `pcboard`: does what `words`', text)
         self.assertNotIn('ghost view', text)
         self.assertIn('    ghost Value = { List (ℕ × ℕ) };', text_of(self.book('run_image')))
 

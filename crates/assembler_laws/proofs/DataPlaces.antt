@@ -234,8 +234,8 @@ counts_there front row back width items is none item there =
 
 pub data_goes_low_byte_first : DataGoesLowByteFirst
 data_goes_low_byte_first source image gives row width items within is =
-    let names : Names = names_of gives.rows in
-    let split = split_there gives.rows row within in
+    let names : Names = names_of gives.located_lines in
+    let split = split_there gives.located_lines row within in
     let there : CleanThere split.front row =
     clean_there [] (text_lines source) split.front row split.back (subst (AreLocatedLines [] (text_lines source)) split.is gives.are_located_lines) in
     let none : HasNone (names_of split.front) row.location row.line row.form =
@@ -260,5 +260,5 @@ data_goes_low_byte_first source image gives row width items within is =
     (subst (λ (rows : List LocatedLine). FitsAt (names_of rows) row location) split.is fits)))
     (λ k d inside.
     (gives.placed.bytes (address_after location k) (get_or bytes k d)).1
-    (placed_there (placed_by names) gives.rows row (address_after location k, get_or bytes k d) within
+    (placed_there (placed_by names) gives.located_lines row (address_after location k, get_or bytes k d) within
     (subst (λ es. Contains es (address_after location k, get_or bytes k d)) (sym placed) (from_there location 0 bytes k k d inside (omega arith)))))

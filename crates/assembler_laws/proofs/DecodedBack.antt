@@ -81,7 +81,8 @@ row_decodes byte names row i is has fits bytes each =
 
 pub bytes_decode_back : BytesDecodeBack
 bytes_decode_back source image gives byte loaded row i within is =
-    let names : Names = names_of gives.rows in
-    row_decodes byte names row i is (has_place row i is (clean_there (text_lines source) gives.rows row gives.are_located_lines within))
-    (all_there (Fits names) gives.rows row gives.placed.fit within) loaded.bytes
-    (λ address b there. loaded.holds address b ((gives.placed.bytes address b).1 (placed_there (placed_by names) gives.rows row (address, b) within there)))
+    let names : Names = names_of gives.located_lines in
+    row_decodes byte names row i is (has_place row i is (clean_there (text_lines source) gives.located_lines row gives.are_located_lines within))
+    (all_there (Fits names) gives.located_lines row gives.placed.fit within) loaded.bytes
+    (λ address b there.
+    loaded.holds address b ((gives.placed.bytes address b).1 (placed_there (placed_by names) gives.located_lines row (address, b) within there)))

@@ -204,12 +204,12 @@ late_is_late names is_taken has_label (Some location) size content fault is =
 
 row_is_late : (rows : List LocatedLine) (fault : SourceFault) (number : ℕ) → HasLateFault rows fault number → is_early fault ≡ false
 row_is_late rows fault number late =
-    late_is_late (names_of rows) (is_placed (placed_by_all (names_of rows) late.front)) (is_some late.row.line.label) late.row.location late.row.size
-    (content_of late.row.line.statement late.row.form) fault late.found
+    late_is_late (names_of rows) (is_placed (placed_by_all (names_of rows) late.front))
+    (is_some late.located.line.label) late.located.location late.located.size (content_of late.located.line.statement late.located.form) fault late.found
 
 pub faults_come_in_passes : FaultsComeInPasses
 faults_come_in_passes source = record {
-  early = λ fault number is. text_is_early (names_of is.rows) (location_following is.rows) is.text fault is.found;
-  late = λ fault number is. row_is_late is.rows fault number is.found;
+  early = λ fault number is. text_is_early (names_of is.located_lines) (location_following is.located_lines) is.text fault is.found;
+  late = λ fault number is. row_is_late is.located_lines fault number is.found;
   never_both = never_both source;
 }

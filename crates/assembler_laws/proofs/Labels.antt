@@ -205,8 +205,8 @@ pub lines_stand_where_counted : LinesStandWhereCounted
 lines_stand_where_counted source image gives front row back split =
     let texts : List (List ℕ) = text_lines source in
     let are : AreLocatedLines [] texts (front ++ row ∷ back) = subst (AreLocatedLines [] texts) split gives.are_located_lines in
-    let fits : Fits (names_of gives.rows) row =
-    fits_there (names_of gives.rows) front row back (subst (AllByRecursion (Fits (names_of gives.rows))) split gives.placed.fit) in
+    let fits : Fits (names_of gives.located_lines) row =
+    fits_there (names_of gives.located_lines) front row back (subst (AllByRecursion (Fits (names_of gives.located_lines))) split gives.placed.fit) in
     let clean : AreClean front = λ b r a is.
     clean_there [] texts b r (a ++ row ∷ back)
     (subst (AreLocatedLines [] texts)

@@ -33,7 +33,7 @@ clean_to : (texts : List (List ℕ)) (rows : List LocatedLine) (front : List (Li
     → texts ≡ front ++ text ∷ back → AreLocatedLines [] texts rows → (rs : List LocatedLine) × AreLocatedLines [] (front ++ text ∷ []) rs
 clean_to texts rows front text back split are =
     let own : LinesUpTo [] front text = lines_up_to [] front text back rows (subst (λ (ts : List (List ℕ)). AreLocatedLines [] ts rows) split are) in
-    (own.rows ++ own.row ∷ [], are_push [] front own.rows text own.row own.clean own.is_located_line)
+    (own.located_lines ++ own.located ∷ [], are_push [] front own.located_lines text own.located own.clean own.is_located_line)
 
 longer : {X : Type 0} (f : List X) (x : X) (g : List X) → IsLonger f x g → length f < length g
 longer f x g is = let long : length g ≡ length f + suc (length is.0) = ap length is.1 ∙ length-append f (x ∷ is.0) in omega (arith, long)
@@ -50,7 +50,7 @@ clean_before source fault number early front text below (inl same) =
     let at : length front ≡ length early.front = ap length same.0 in
     let counted : length early.front + 1 ≡ number = early.counted in
     absurd (omega (arith, below, at, counted))
-clean_before source fault number early front text below (inr (inl is)) = clean_to early.front early.rows front text is.0 is.1 early.clean
+clean_before source fault number early front text below (inr (inl is)) = clean_to early.front early.located_lines front text is.0 is.1 early.clean
 clean_before source fault number early front text below (inr (inr is)) =
     let at : length early.front < length front = longer early.front early.text front is in
     let counted : length early.front + 1 ≡ number = early.counted in
@@ -65,12 +65,12 @@ first_line source fault number (inl early) = record {
   all = λ late. absurd (let never : true ≡ false = sym ((faults_come_in_passes source).early fault number early) ∙ late in cc);
 }
 first_line source fault number (inr late) =
-    let long : length late.rows ≡ length (text_lines source) = rows_count [] (text_lines source) late.rows late.clean in
-    let at = split_count late.rows late.found.front late.found.row late.found.back number late.found.split late.found.counted in
+    let long : length late.located_lines ≡ length (text_lines source) = rows_count [] (text_lines source) late.located_lines late.clean in
+    let at = split_count late.located_lines late.found.front late.found.located late.found.back number late.found.split late.found.counted in
     record {
       counted = (at.0, subst (λ (n : ℕ). number ≤ n) long at.1);
-      before = λ front text back split below. clean_to (text_lines source) late.rows front text back split late.clean;
-      all = λ is. (late.rows, late.clean);
+      before = λ front text back split below. clean_to (text_lines source) late.located_lines front text back split late.clean;
+      all = λ is. (late.located_lines, late.clean);
     }
 
 pub lines_before_are_clean : LinesBeforeAreClean

@@ -137,10 +137,10 @@ record HasEarly (before : List LocatedLine) (texts : List (List ℕ)) : Type 0 w
   pub text : List ℕ
   pub back : List (List ℕ)
   pub texts_are : texts ≡ front ++ text ∷ back
-  pub rows : List LocatedLine
-  pub clean : AreLocatedLines before front rows
+  pub located_lines : List LocatedLine
+  pub clean : AreLocatedLines before front located_lines
   pub fault : SourceFault
-  pub found : IsTextFault (names_of (before ++ rows)) (location_following (before ++ rows)) text fault
+  pub found : IsTextFault (names_of (before ++ located_lines)) (location_following (before ++ located_lines)) text fault
 
 abbrev HaveOutcome : List LocatedLine → List (List ℕ) → Type 0
 HaveOutcome before texts = ((rows : List LocatedLine) × AreLocatedLines before texts rows) ⊎ HasEarly before texts
@@ -153,11 +153,11 @@ texts_after before text texts row is (inr early) = inr (record {
   text = early.text;
   back = early.back;
   texts_are = ap (λ (ts : List (List ℕ)). text ∷ ts) early.texts_are;
-  rows = row ∷ early.rows;
+  located_lines = row ∷ early.located_lines;
   clean = (is, early.clean);
   fault = early.fault;
   found = subst (λ (rs : List LocatedLine). IsTextFault (names_of rs) (location_following rs) early.text early.fault)
-      (append_assoc before (row ∷ []) early.rows) early.found;
+      (append_assoc before (row ∷ []) early.located_lines) early.found;
 })
 
 fault_first : (before : List LocatedLine) (text : List ℕ) (texts : List (List ℕ)) (fault : SourceFault)
@@ -167,7 +167,7 @@ fault_first before text texts fault found = inr (record {
   text = text;
   back = texts;
   texts_are = refl;
-  rows = [];
+  located_lines = [];
   clean = tt;
   fault = fault;
   found = subst (λ (rs : List LocatedLine). IsTextFault (names_of rs) (location_following rs) text fault) (sym (append-nil before)) found;
@@ -183,12 +183,12 @@ texts_outcome before (text ∷ texts) = elim (text_outcome before text) [
 -- ---- rows can all be placed, or one has the first fault
 record HasLate (names : Names) (before rows : List LocatedLine) : Type 0 where
   pub front : List LocatedLine
-  pub row : LocatedLine
+  pub located : LocatedLine
   pub back : List LocatedLine
-  pub rows_are : rows ≡ front ++ row ∷ back
+  pub rows_are : rows ≡ front ++ located ∷ back
   pub placed : AreFaultless names before front
   pub fault : SourceFault
-  pub found : located_fault names (before ++ front) row ≡ Some fault
+  pub found : located_fault names (before ++ front) located ≡ Some fault
 
 abbrev CanBePlaced : Names → List LocatedLine → List LocatedLine → Type 0
 CanBePlaced names before rows = AreFaultless names before rows ⊎ HasLate names before rows
@@ -198,12 +198,12 @@ rows_after : (names : Names) (before : List LocatedLine) (row : LocatedLine) (ro
 rows_after names before row rows none (inl free) = inl (none, free)
 rows_after names before row rows none (inr late) = inr (record {
   front = row ∷ late.front;
-  row = late.row;
+  located = late.located;
   back = late.back;
   rows_are = ap (λ (rs : List LocatedLine). row ∷ rs) late.rows_are;
   placed = (none, late.placed);
   fault = late.fault;
-  found = ap (λ (rs : List LocatedLine). located_fault names rs late.row) (sym (append_assoc before (row ∷ []) late.front)) ∙ late.found;
+  found = ap (λ (rs : List LocatedLine). located_fault names rs late.located) (sym (append_assoc before (row ∷ []) late.front)) ∙ late.found;
 })
 
 rows_by : (names : Names) (before : List LocatedLine) (row : LocatedLine) (rows : List LocatedLine) (o : Option SourceFault)
@@ -211,7 +211,7 @@ rows_by : (names : Names) (before : List LocatedLine) (row : LocatedLine) (rows 
 rows_by names before row rows None at rest = rows_after names before row rows at rest
 rows_by names before row rows (Some fault) at rest = inr (record {
   front = [];
-  row = row;
+  located = row;
   back = rows;
   rows_are = refl;
   placed = tt;
@@ -243,7 +243,7 @@ gives_image source rows within are free =
     let sized = lines_sized names [] (text_lines source) rows are refl in
     let is_image = image_of_rows names [] rows [] no_entries free sized (all_place_bytes names rows (all_clean [] (text_lines source) rows are)) in (
       with_entries [] (placed_by_all names rows),
-      record { within = within; rows = rows; are_located_lines = are; placed = are_placed names rows free sized refl is_image },
+      record { within = within; located_lines = rows; are_located_lines = are; placed = are_placed names rows free sized refl is_image },
     )
 
 late_outcome : (source : List ℕ) (rows : List LocatedLine) → length source ≤ source_limit
@@ -255,11 +255,11 @@ late_outcome source rows within are (inr late) = inl (
   (
     within,
     inr (record {
-      rows = rows;
+      located_lines = rows;
       clean = are;
       found = record {
         front = late.front;
-        row = late.row;
+        located = late.located;
         back = late.back;
         split = late.rows_are;
         counted = refl;
@@ -283,7 +283,7 @@ early_outcome source within (inr early) = inl (
       back = early.back;
       texts = early.texts_are;
       counted = refl;
-      rows = early.rows;
+      located_lines = early.located_lines;
       clean = early.clean;
       found = early.found;
     }),

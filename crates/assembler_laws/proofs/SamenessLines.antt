@@ -31,7 +31,7 @@ rows_alike law before (line ∷ lines) (other ∷ others) (row ∷ rows) alike a
 pub case_is_nothing : CaseDoesNotCountInLines → CaseDoesNotCount
 case_is_nothing law s t image alike within gives = record {
   within = within;
-  rows = gives.rows;
-  are_located_lines = rows_alike law [] (text_lines s) (text_lines t) gives.rows alike gives.are_located_lines;
+  located_lines = gives.located_lines;
+  are_located_lines = rows_alike law [] (text_lines s) (text_lines t) gives.located_lines alike gives.are_located_lines;
   placed = gives.placed;
 }

@@ -114,7 +114,7 @@ module _ (rename : Name → Name) (once : IsOneToOne rename) where
 pub renaming_is_nothing : RenamingDoesNotCount
 renaming_is_nothing rename once s t image differ within gives = record {
   within = within;
-  rows = map (renamed_row rename) gives.rows;
-  are_located_lines = rows_renamed rename once [] (text_lines s) (text_lines t) gives.rows differ gives.are_located_lines;
-  placed = placed_renamed rename once gives.rows image gives.placed;
+  located_lines = map (renamed_row rename) gives.located_lines;
+  are_located_lines = rows_renamed rename once [] (text_lines s) (text_lines t) gives.located_lines differ gives.are_located_lines;
+  placed = placed_renamed rename once gives.located_lines image gives.placed;
 }

@@ -61,5 +61,6 @@ texts_decode_the_same read source image gives byte loaded row location i within 
     let line : row.line ≡ said_line i location.offset =
     same_line (read_line (instr_text i location.offset)) row.line (said_line i location.offset) reads (read i location.offset is) in
     let statement : row.line.statement ≡ Instruction (said_instruction i location.offset) = ap (λ (l : Line). l.statement) line in
-    row_back byte (names_of gives.rows) row location i is stands statement (clean_there (text_lines source) gives.rows row gives.are_located_lines within)
+    row_back byte (names_of gives.located_lines) row location i is stands statement
+    (clean_there (text_lines source) gives.located_lines row gives.are_located_lines within)
     (bytes_decode_back source image gives byte loaded row (said_instruction i location.offset) within statement)

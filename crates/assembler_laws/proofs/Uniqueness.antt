@@ -85,28 +85,29 @@ none_among : (texts : List (List ℕ)) (rows : List LocatedLine) (front : List (
     → IsTextFault (names_of before) (location_following before) text fault → ⊥
 none_among texts rows front text back before fault split are clean found =
     let own : LinesUpTo [] front text = lines_up_to [] front text back rows (subst (λ (ts : List (List ℕ)). AreLocatedLines [] ts rows) split are) in
-    let same : own.rows ≡ before = one_lines [] front own.rows before own.clean clean in
-    no_text_fault before text own.row fault (subst (λ (rs : List LocatedLine). IsCleanLine rs text own.row) same own.is_located_line) found
+    let same : own.located_lines ≡ before = one_lines [] front own.located_lines before own.clean clean in
+    no_text_fault before text own.located fault (subst (λ (rs : List LocatedLine). IsCleanLine rs text own.located) same own.is_located_line) found
 
 one_early : (source : List ℕ) (a b : SourceFault) (m n : ℕ) (is : IsEarlyFault source a m) (also : IsEarlyFault source b n)
     → IsSame is.front is.text also.front also.text ⊎ (IsLonger is.front is.text also.front ⊎ IsLonger also.front also.text is.front)
     → InLine a m ≡ InLine b n
 one_early source a b m n is also (inl same) =
-    let rows : is.rows ≡ also.rows =
-    one_lines [] also.front is.rows also.rows (subst (λ (ts : List (List ℕ)). AreLocatedLines [] ts is.rows) same.0 is.clean) also.clean in
-    let found : IsTextFault (names_of also.rows) (location_following also.rows) also.text a =
-    subst (λ (t : List ℕ). IsTextFault (names_of also.rows) (location_following also.rows) t a) same.1
+    let rows : is.located_lines ≡ also.located_lines =
+    one_lines [] also.front is.located_lines also.located_lines
+    (subst (λ (ts : List (List ℕ)). AreLocatedLines [] ts is.located_lines) same.0 is.clean) also.clean in
+    let found : IsTextFault (names_of also.located_lines) (location_following also.located_lines) also.text a =
+    subst (λ (t : List ℕ). IsTextFault (names_of also.located_lines) (location_following also.located_lines) t a) same.1
     (subst (λ (rs : List LocatedLine). IsTextFault (names_of rs) (location_following rs) is.text a) rows is.found) in
     let number : m ≡ n = sym is.counted ∙ ap (λ (ts : List (List ℕ)). length ts + 1) same.0 ∙ also.counted in
-    ap₂ InLine (one_text_fault (names_of also.rows) (location_following also.rows) also.text a b found also.found) number
+    ap₂ InLine (one_text_fault (names_of also.located_lines) (location_following also.located_lines) also.text a b found also.found) number
 one_early source a b m n is also (inr (inl longer)) =
-    absurd (none_among also.front also.rows is.front is.text longer.0 is.rows a longer.1 also.clean is.clean is.found)
+    absurd (none_among also.front also.located_lines is.front is.text longer.0 is.located_lines a longer.1 also.clean is.clean is.found)
 one_early source a b m n is also (inr (inr longer)) =
-    absurd (none_among is.front is.rows also.front also.text longer.0 also.rows b longer.1 is.clean also.clean also.found)
+    absurd (none_among is.front is.located_lines also.front also.text longer.0 also.located_lines b longer.1 is.clean also.clean also.found)
 
 pub never_both : (source : List ℕ) (a b : SourceFault) (m n : ℕ) → IsEarlyFault source a m → IsLateFault source b n → ⊥
 never_both source a b m n early late =
-    none_among (text_lines source) late.rows early.front early.text early.back early.rows a early.texts late.clean early.clean early.found
+    none_among (text_lines source) late.located_lines early.front early.text early.back early.located_lines a early.texts late.clean early.clean early.found
 
 -- ---- rows have one fault of placing
 faultless_there : (names : Names) (before front : List LocatedLine) (row : LocatedLine) (back : List LocatedLine)
@@ -117,19 +118,19 @@ faultless_there names before (first ∷ front) row back free =
     ∙ faultless_there names (before ++ first ∷ []) front row back free.1
 
 one_late : (rows : List LocatedLine) (a b : SourceFault) (m n : ℕ) (is : HasLateFault rows a m) (also : HasLateFault rows b n)
-    → IsSame is.front is.row also.front also.row ⊎ (IsLonger is.front is.row also.front ⊎ IsLonger also.front also.row is.front)
+    → IsSame is.front is.located also.front also.located ⊎ (IsLonger is.front is.located also.front ⊎ IsLonger also.front also.located is.front)
     → InLine a m ≡ InLine b n
 one_late rows a b m n is also (inl same) =
-    let found : located_fault (names_of rows) also.front also.row ≡ Some a =
+    let found : located_fault (names_of rows) also.front also.located ≡ Some a =
     sym (ap₂ (λ (rs : List LocatedLine) (r : LocatedLine). located_fault (names_of rows) rs r) same.0 same.1) ∙ is.found in
     let number : m ≡ n = sym is.counted ∙ ap (λ (rs : List LocatedLine). length rs + 1) same.0 ∙ also.counted in
-    ap₂ InLine (some_once (located_fault (names_of rows) also.front also.row) a b found also.found) number
+    ap₂ InLine (some_once (located_fault (names_of rows) also.front also.located) a b found also.found) number
 one_late rows a b m n is also (inr (inl longer)) =
-    absurd (never_found (located_fault (names_of rows) is.front is.row) a
-    (faultless_there (names_of rows) [] is.front is.row longer.0 (subst (AreFaultless (names_of rows) []) longer.1 also.placed)) is.found)
+    absurd (never_found (located_fault (names_of rows) is.front is.located) a
+    (faultless_there (names_of rows) [] is.front is.located longer.0 (subst (AreFaultless (names_of rows) []) longer.1 also.placed)) is.found)
 one_late rows a b m n is also (inr (inr longer)) =
-    absurd (never_found (located_fault (names_of rows) also.front also.row) b
-    (faultless_there (names_of rows) [] also.front also.row longer.0 (subst (AreFaultless (names_of rows) []) longer.1 is.placed)) also.found)
+    absurd (never_found (located_fault (names_of rows) also.front also.located) b
+    (faultless_there (names_of rows) [] also.front also.located longer.0 (subst (AreFaultless (names_of rows) []) longer.1 is.placed)) also.found)
 
 -- ---- the laws
 one_in_line : (source : List ℕ) (a b : SourceFault) (m n : ℕ) → IsEarlyFault source a m ⊎ IsLateFault source a m
@@ -139,10 +140,10 @@ one_in_line source a b m n (inl is) (inl also) =
 one_in_line source a b m n (inl is) (inr also) = absurd (never_both source a b m n is also)
 one_in_line source a b m n (inr is) (inl also) = absurd (never_both source b a n m also is)
 one_in_line source a b m n (inr is) (inr also) =
-    let rows : also.rows ≡ is.rows = one_lines [] (text_lines source) also.rows is.rows also.clean is.clean in
-    let found : HasLateFault is.rows b n = subst (λ (rs : List LocatedLine). HasLateFault rs b n) rows also.found in
-    one_late is.rows a b m n is.found found
-    (parted is.found.front is.found.row is.found.back found.front found.row found.back (sym is.found.split ∙ found.split))
+    let rows : also.located_lines ≡ is.located_lines = one_lines [] (text_lines source) also.located_lines is.located_lines also.clean is.clean in
+    let found : HasLateFault is.located_lines b n = subst (λ (rs : List LocatedLine). HasLateFault rs b n) rows also.found in
+    one_late is.located_lines a b m n is.found found
+    (parted is.found.front is.found.located is.found.back found.front found.located found.back (sym is.found.split ∙ found.split))
 
 pub one_fault_is_first : OneFaultIsFirst
 one_fault_is_first source Memory b one two is also = absurd (one refl)
@@ -172,7 +173,7 @@ later_lines_do_not_count s t fault number early same within =
         texts = sym (take-append-drop number (text_lines t)) ∙ ap (λ (ts : List (List ℕ)). ts ++ drop number (text_lines t)) front
             ∙ append_assoc early.front (early.text ∷ []) (drop number (text_lines t));
         counted = early.counted;
-        rows = early.rows;
+        located_lines = early.located_lines;
         clean = early.clean;
         found = early.found;
       }),

@@ -89,5 +89,5 @@ abbrev pub DataGoesLowByteFirst : Type 0
 DataGoesLowByteFirst =
     (source : List ℕ) (image : List (ℕ × ℕ)) (gives : Gives source image) (row : LocatedLine) (width : DataWidth)
     (items : List Item)
-    → Contains gives.rows row → row.line.statement ≡ Data width items
-    → PlacesData (names_of gives.rows) image row width items
+    → Contains gives.located_lines row → row.line.statement ≡ Data width items
+    → PlacesData (names_of gives.located_lines) image row width items

@@ -40,5 +40,5 @@ pub record DecodesBack (byte : ℕ → ℕ) (names : Names) (row : LocatedLine) 
 abbrev pub BytesDecodeBack : Type 0
 BytesDecodeBack =
     (source : List ℕ) (image : List (ℕ × ℕ)) (gives : Gives source image) (byte : ℕ → ℕ) → HoldsImage byte image
-    → (row : LocatedLine) (i : Written) → Contains gives.rows row → row.line.statement ≡ Instruction i
-    → DecodesBack byte (names_of gives.rows) row i
+    → (row : LocatedLine) (i : Written) → Contains gives.located_lines row → row.line.statement ≡ Instruction i
+    → DecodesBack byte (names_of gives.located_lines) row i

@@ -82,4 +82,4 @@ abbrev pub LinesStandWhereCounted : Type 0
 LinesStandWhereCounted =
     (source : List ℕ) (image : List (ℕ × ℕ)) (gives : Gives source image) (front : List LocatedLine) (row : LocatedLine)
     (back : List LocatedLine)
-    → gives.rows ≡ front ++ row ∷ back → StandsWhereCounted (names_of gives.rows) front row
+    → gives.located_lines ≡ front ++ row ∷ back → StandsWhereCounted (names_of gives.located_lines) front row

@@ -24,6 +24,6 @@ pub record DecodesTheSame (byte : ℕ → ℕ) (location : Location) (size : ℕ
 abbrev pub TextsDecodeTheSame : Type 0
 TextsDecodeTheSame =
     (source : List ℕ) (image : List (ℕ × ℕ)) (gives : Gives source image) (byte : ℕ → ℕ) → HoldsImage byte image
-    → (row : LocatedLine) (location : Location) (i : Instr) → Contains gives.rows row → IsInstr i
+    → (row : LocatedLine) (location : Location) (i : Instr) → Contains gives.located_lines row → IsInstr i
     → row.location ≡ Some location → read_line (instr_text i location.offset) ≡ Ok row.line
     → DecodesTheSame byte location row.size i

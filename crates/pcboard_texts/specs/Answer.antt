@@ -77,7 +77,7 @@ listing_text names texts rows = []
 pub record IsListingOf (source text : List ℕ) : Type 0 where
   pub image : List (ℕ × ℕ)
   pub gives : Gives source image
-  pub is_text : text ≡ listing_text (names_of gives.rows) (text_lines source) gives.rows
+  pub is_text : text ≡ listing_text (names_of gives.located_lines) (text_lines source) gives.located_lines
 
 -- what is printed of an assembled source: its listing, or its HEX text
 abbrev pub IsAssembled : Bool → List ℕ → List ℕ → Type 0

@@ -22,7 +22,7 @@ loop-i-preserved c = λ rows are.
 pub returns-clause-listing : goal.returns-clause-listing
 returns-clause-listing c =
     let texts : List (List _) = text_lines c.args.listing.now.source in
-    let rows : List LocatedLine = c.requires.gives.rows in
+    let rows : List LocatedLine = c.requires.gives.located_lines in
     let shown = shows_all c.args.listing.now.names (names_of rows) texts rows c.loop-i.i (string_bytes c.loop-i.text)
     (c.loop-i.invariant rows c.requires.gives.are_located_lines) in
     let none : listing_text c.args.listing.now.names (drop c.loop-i.i texts) (drop c.loop-i.i rows) ≡ [] =
