@@ -321,37 +321,11 @@ impl<A: Allocator> Board<A> {
         ensures fault { IfErr result (λ fault. fault ≡ BoardFault.Memory) }
     {
         if whole {
-            return self.whole_turn(end, ip_range);
+            if self.quiet_steps(end, ip_range) {
+                return Ok(());
+            }
+            return self.turn(end, end);
         }
-        self.clock_turn(end)
-    }
-
-    /// A turn between two looks for stops that all wait for a free processor, so that an act may have all its clocks,
-    /// and steps of the run's loop may follow each other until one leads to an IP within `ip_range`.
-    #[inline(always)]
-    fn whole_turn(&mut self, end: u64, ip_range: &IpRange) -> Result<(), BoardFault>
-        requires before_end { clock_of self.old.plain < end }
-        requires within { end ≤ 2 ^ 40 }
-        ensures ok { OnOk result (IsTurnBetween true (is_unwatched ip_range.now) end self.old self.new) }
-        ensures err { OnErr result (IsHeldBack self.old self.new) }
-        ensures fault { IfErr result (λ fault. fault ≡ BoardFault.Memory) }
-    {
-        if self.quiet_steps(end, ip_range) {
-            return Ok(());
-        }
-        self.turn(end, end)
-    }
-
-    /// A turn between two looks for stops that may hold in the midst of a step, so an act has its first clock only; a
-    /// leap still goes up to `end`.
-    #[inline(always)]
-    fn clock_turn(&mut self, end: u64) -> Result<(), BoardFault>
-        requires before_end { clock_of self.old.plain < end }
-        requires within { end ≤ 2 ^ 40 }
-        ensures ok { OnOk result (IsTurnOn (clock_of self.old.plain + 1) end self.old self.new) }
-        ensures err { OnErr result (IsHeldBack self.old self.new) }
-        ensures fault { IfErr result (λ fault. fault ≡ BoardFault.Memory) }
-    {
         let next = self.clock().get() + 1;
         if self.quiet_steps(next, &Nothing) {
             return Ok(());

@@ -1,37 +1,64 @@
-use Rattle.std.proofs.Common.{◌<◌, ◌≤◌, ◌++◌, [], ◌∷◌, sym, ap, ◌∙◌, subst}
+use Rattle.std.proofs.Common.{◌≡◌, ◌<◌, ◌++◌, ℕ, List, [], ◌∷◌, sym, ap, ◌∙◌, subst, arith}
 use Rattle.board_types.specs.declared.choice.ClockTable.TheVariants.{C1}
-use Rattle.decode.specs.Decoding.{code_at, decoded_from}
+use Rattle.decode.specs.Decoding.{code_at, decoded_from, size_of}
+use Rattle.decode.specs.declared.decoding.Decoding.{Decoding}
+use Rattle.execute_meaning.specs.Cpu.{CpuState}
+use Rattle.wiring.specs.Chips.{ChipsState}
 use Rattle.wiring.specs.Ports.{byte_at}
-use Rattle.board.specs.TrailEntries.{event_in}
+use Rattle.board.specs.TrailEntries.{event_in, IsCodeOf}
+use Rattle.board.specs.TrailState.{added_by, IsExact}
 use Rattle.board_plain.specs.Plain.{Plain, clock_of}
+use Rattle.board_plain.specs.declared.act.Act.TheVariants.{Instruction}
+use Rattle.board_plain.specs.declared.trail.TrailEntry.{TrailEntry}
 use Rattle.board_plain.specs.Trail.{entry_at, last}
 use Rattle.board_plain.proofs.LastEntries.{nothing_added}
+use Rattle.board.proofs.Coded.{slot_code}
 use Rattle.board.proofs.Entries.{exact_is, keeps_start, may_keep, no_start}
 use Rattle.board.proofs.acts.note.Goals as goal
 
-pub add_instruction-requires-clause-value : goal.add_instruction-requires-clause-value
-add_instruction-requires-clause-value c =
-    exact_is c.args.cpu.now c.args.chips.now c.args.decoded.now c.requires.exact (subst (λ n. 0 < n) c.length.ensures c.if-length-gt0.true)
-    ∙ (λ k. decoded_from (code_at (byte_at c.args.chips.now) (sym c.cs.ensures k) (sym c.ip.ensures k)))
-
-pub add_instruction-requires-clause-kept : goal.add_instruction-requires-clause-kept
-add_instruction-requires-clause-kept c =
-    may_keep c.args.cpu.now c.args.chips.now c.args.decoded.now c.requires.exact (subst (λ n. 0 < n) c.length.ensures c.if-length-gt0.true)
-
-pub returns-then-length-gt0-clause-entries : goal.returns-then-length-gt0-clause-entries
+-- the entry of what was decoded at CS:IP is that of the instruction that begins
+begins : (p : CpuState) (s : ChipsState) (d : Decoding) (clock cs ip : ℕ) (trail : List TrailEntry)
+    → clock ≡ s.clock → cs ≡ p.registers.cs → ip ≡ p.registers.ip → IsExact p s (Instruction d) → 0 < size_of d
+    → last 32 (trail ++ (record { clock = clock; cs = cs; ip = ip; event = event_in d 0 }) ∷ []) ≡ last 32 (trail ++ added_by p s (Instruction d))
 unfolding clock_of
-returns-then-length-gt0-clause-entries c =
-    let s : Plain = record { cpu = c.args.cpu.now; busy = 0; chips = c.args.chips.now; keys = []; clocks = C1 } in
-    c.add_instruction.ensures.entries
-    ∙ ap (λ xs. last 32 (c.args.trail.now ++ xs))
-    ((λ k. record { clock = c.args.chips.now.clock; cs = c.cs.ensures k; ip = c.ip.ensures k; event = event_in c.args.decoded.now 0 } ∷ [])
-    ∙ ap (entry_at s)
-    (sym (keeps_start c.args.cpu.now c.args.chips.now c.args.decoded.now c.requires.exact (subst (λ n. 0 < n) c.length.ensures c.if-length-gt0.true))))
+begins p s d clock cs ip trail at_clock at_cs at_ip exact some =
+    let board : Plain = record { cpu = p; busy = 0; chips = s; keys = []; clocks = C1 } in
+    ap (λ xs. last 32 (trail ++ xs))
+    ((λ k. record { clock = at_clock k; cs = at_cs k; ip = at_ip k; event = event_in d 0 } ∷ [])
+    ∙ ap (entry_at board) (sym (keeps_start p s d exact some)))
 
-pub returns-else-length-gt0-clause-entries : goal.returns-else-length-gt0-clause-entries
-returns-else-length-gt0-clause-entries c =
+pub returns-then-length-eq0 : goal.returns-then-length-eq0
+returns-then-length-eq0 c =
     let s : Plain = record { cpu = c.args.cpu.now; busy = 0; chips = c.args.chips.now; keys = []; clocks = C1 } in
     nothing_added 32 c.args.trail.now c.requires.few
     ∙ ap (λ xs. last 32 (c.args.trail.now ++ xs))
-    (ap (entry_at s)
-    (sym (no_start c.args.cpu.now c.args.chips.now c.args.decoded.now c.requires.exact (subst (λ n. n ≤ 0) c.length.ensures c.if-length-gt0.false))))
+    (ap (entry_at s) (sym (no_start c.args.cpu.now c.args.chips.now c.args.decoded.now c.requires.exact
+    (omega (arith, c.length.ensures, c.if-length-eq0.true)))))
+
+pub returns-in-Some : goal.returns-in-Some
+returns-in-Some c =
+    let p = c.args.cpu.now in
+    let s = c.args.chips.now in
+    let d = c.args.decoded.now in
+    let some : 0 < size_of d = omega (arith, c.length.ensures, c.if-length-eq0.false) in
+    let bytes = code_at (byte_at s) c.cs-cs.result c.ip-ip.result in
+    let code = c.in-Some.slot.now.code in
+    let value : d ≡ decoded_from bytes =
+    exact_is p s d c.requires.exact some ∙ (λ k. decoded_from (code_at (byte_at s) (sym c.cs-cs.ensures k) (sym c.ip-ip.ensures k))) in
+    c.add_code.ensures d
+    (subst (IsCodeOf code) (sym value) (slot_code bytes code (decoded_from bytes) c.in-Some.ensures.code c.in-Some.ensures.exact))
+    ∙ begins p s d c.clock.result c.cs-cs.result c.ip-ip.result c.args.trail.now c.clock.ensures c.cs-cs.ensures c.ip-ip.ensures
+    c.requires.exact some
+
+pub add_begun-requires : goal.add_begun-requires
+add_begun-requires c =
+    may_keep c.args.cpu.now c.args.chips.now c.args.decoded.now c.requires.exact (omega (arith, c.length.ensures, c.if-length-eq0.false))
+
+pub returns-in-None : goal.returns-in-None
+returns-in-None c =
+    let p = c.args.cpu.now in
+    let s = c.args.chips.now in
+    let d = c.args.decoded.now in
+    c.add_begun.ensures
+    ∙ begins p s d c.clock-in-None.result c.cs-cs.result c.ip-ip.result c.args.trail.now c.clock-in-None.ensures c.cs-cs.ensures c.ip-ip.ensures
+    c.requires.exact (omega (arith, c.length.ensures, c.if-length-eq0.false))

@@ -1,5 +1,6 @@
-use Rattle.std.proofs.Common.{◌<◌, sym, subst, arith}
+use Rattle.std.proofs.Common.{◌<◌, ◌≤◌, length, sym, subst, arith}
 use Rattle.board_plain.specs.Board.{BoardState}
+use Rattle.board_plain.proofs.LastEntries.{last_within}
 use Rattle.board_plain.specs.Plain.{after_clock, clock_of}
 use Rattle.events.specs.Accesses.{accesses_next}
 use Rattle.board.specs.UnseenClocks.{PassesOver, WiresStay}
@@ -14,7 +15,7 @@ invariant_of-self g c =
     let some = on.some in
     let within = on.within in
     let turns = c.self.invariant.2 in
-    (omega (arith, within, c.requires.limit), c.act.ensures.few, omega (arith, some, turns))
+    (omega (arith, within, c.requires.limit), subst (λ xs. length xs ≤ 32) (sym c.act.ensures.entries) (last_within 32 _), omega (arith, some, turns))
 
 pub returns-clause-passed : goal.returns-clause-passed
 returns-clause-passed g c =
