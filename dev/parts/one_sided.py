@@ -24,7 +24,7 @@ MET: dict[str, tuple[str, tuple[str, ...]]] = {
             r'(?:[\w ]+ [+*] )?result ≤ .*',
             rf'{PREMISES}\S+ < (?:\w+ \+ )?result → .*',
             r'\(to : ℕ\) → to ≤ result → IsSteady .*',
-            rf'{PREMISES}AreQuietSteps \(?[^()]*\)? result(?:\.turns)? .*',
+            rf'{PREMISES}Are(?:QuietSteps|StepsBetween) \(?[^()]*\)? result(?:\.turns)? .*',
             r'IsBoardQuietAhead result .*',
             r'.* \(\(.*\) \* result\) .*|.* \* result\)|.* \* result ≤ .*',
             r'All .* \(take result .*\)',
