@@ -13,7 +13,7 @@ from toolbox.crates import Crates
 from toolbox.proved import PROGRAMS, out
 
 NOBODY = 65534
-BUILT = ('out', 'target', '__pycache__', 'BUILD.bazel')  # what .gitignore leaves out
+BUILT = ('out', '__pycache__', 'BUILD.bazel')  # what .gitignore leaves out in any folder; at the top it leaves out target, too
 PYTHON = 'import sys; sys.exit(sys.version_info < (3, 10))'
 
 
@@ -24,7 +24,7 @@ def copy(room: str) -> dict[str, Any]:
     top, home = f'{room}/clone', f'{room}/home'
     os.chmod(room, 0o755)
     os.mkdir(home)
-    shutil.copytree(TOP, top, symlinks=True, ignore=shutil.ignore_patterns(*BUILT))
+    shutil.copytree(TOP, top, symlinks=True, ignore=built_in)
     environment = {'PATH': '/usr/bin:/bin', 'HOME': home}
     for name in PROGRAMS:
         built, there = os.path.dirname(out(name)), f'{top}/crates/{name}/out'
@@ -40,6 +40,11 @@ def copy(room: str) -> dict[str, Any]:
         subprocess.run(['chown', '-R', f'{NOBODY}:{NOBODY}', top, home], capture_output=True, check=False)  # else `amiss` tells why
         how |= {'user': NOBODY, 'group': NOBODY, 'extra_groups': []}
     return how
+
+
+def built_in(folder: str, names: list[str]) -> set[str]:
+    """Of the names in a folder of the repository, those of what was built there."""
+    return set(names) & {*BUILT, *(['target'] if folder == TOP else [])}
 
 
 def amiss(how: dict[str, Any]) -> str:
