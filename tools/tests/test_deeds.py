@@ -14,58 +14,25 @@ PROVED = ('decode_cache', 'execute_slots', 'execute')  # those that hold the pla
 VARIANT, CHOICE = (f'crates/decode_cache/src/{stem}.rt' for stem in ('slot', 'slot_for'))
 ROW = 'crates/decode_cache/specs/Slots.antt'
 ARM, STILL = (f'crates/execute/src/{stem}.rt' for stem in ('by_slot', 'still'))
-UNARY = [
-    '        Unary Word Untold: Inc IncW, Dec DecW, Not NotW, Neg NegW;\n',
-    '        Unary Byte Untold: Inc IncB, Dec DecB, Not NotB, Neg NegB;\n',
-    '        Unary WordInMemory Untold: Inc IncMW, Dec DecMW;\n',
-    '        Unary ByteInMemory Untold: Inc IncMB, Dec DecMB;\n',
-]
-CLAUSE = '    ensures { IfSome result (λ deed. (c : JumpCondition) → IsAsked c operation → deed_row c deed ≡ Some (row_of operation first second)) }\n'
-FAMILY = (
-    'fn unary_deed_of(operation: Operation, first: SlotOperand, second: SlotOperand) -> Option<Deed>\n'
-    f'{CLAUSE}{{\n    deeds!(operation, first, second;\n{"".join(UNARY).replace("Dec DecMW", "Dec DecMW, Not NotMW")}    )\n}}\n'
-)
-ASKED = '    if let Operation::Unary(_) = operation {\n        return unary_deed_of(operation, first, second);\n    }\n'
-TABLE = f'{CLAUSE}{{\n    deeds!(operation, first, second;\n'
-# In each place what stands there, and what is to stand there. Since the table of `deed_of` is full, the family gets one of its own.
+# In each place a line, after one that stands there.
 STEPS = (
-    (VARIANT, (('    IncMW,\n', '    IncMW,\n    NotMW,\n'),)),
+    (VARIANT, '    IncMW,\n', '    NotMW,\n'),
     (
         ROW,
-        (
-            (
-                'deed_row condition deeds.IncMW = row (operations.Unary unaries.Inc) WordInMemory Untold\n',
-                'deed_row condition deeds.IncMW = row (operations.Unary unaries.Inc) WordInMemory Untold\n'
-                'deed_row condition deeds.NotMW = row (operations.Unary unaries.Not) WordInMemory Untold\n',
-            ),
-        ),
+        'deed_row condition deeds.IncMW = row (operations.Unary unaries.Inc) WordInMemory Untold\n',
+        'deed_row condition deeds.NotMW = row (operations.Unary unaries.Not) WordInMemory Untold\n',
     ),
     (
         CHOICE,
-        (
-            (''.join(UNARY), ''),
-            (TABLE, TABLE.replace('{\n    deeds!', f'{{\n{ASKED}    deeds!')),
-            ('/// The deed by which the run', f'{FAMILY}\n/// The deed by which the run'),
-        ),
+        '        Unary WordInMemory Untold: Inc IncMW, Dec DecMW;\n',
+        '        Unary WordInMemory Untold: Not NotMW;\n',
     ),
     (
         ARM,
-        (
-            (
-                '        change ByteInMemory: IncMB Inc, DecMB Dec;\n',
-                '        change ByteInMemory: IncMB Inc, DecMB Dec;\n        change WordInMemory: NotMW Not;\n',
-            ),
-        ),
+        '        change ByteInMemory: IncMB Inc, DecMB Dec;\n',
+        '        change WordInMemory: NotMW Not;\n',
     ),
-    (
-        STILL,
-        (
-            (
-                '        StoreW | StoreB | IncMW | DecMW | IncMB | DecMB => false,\n',
-                '        StoreW | StoreB | IncMW | DecMW | IncMB | DecMB => false,\n        NotMW => false,\n',
-            ),
-        ),
-    ),
+    (STILL, '        StoreW | StoreB | IncMW | DecMW | IncMB | DecMB => false,\n', '        NotMW => false,\n'),
 )
 
 
@@ -81,7 +48,7 @@ class Places(ToolCase):
         page = read(f'{TOP}/CONTRIBUTING.md')
         chapter = page[page.index('# Add a deed') : page.index('# Add a family')]
         named = re.findall(r'`(crates/[\w/.]+\.(?:rt|antt))`', chapter)
-        self.assertEqual(named, [path for path, _ in STEPS])
+        self.assertEqual(named, [path for path, _, _ in STEPS])
 
     def test_all_paths_of_the_families_list_are_there(self) -> None:
         page = read(f'{TOP}/CONTRIBUTING.md')
@@ -102,12 +69,10 @@ class MadeUpDeed(ToolCase):
                 shutil.copytree(f'{TOP}/crates/{name}', f'{self.room}/crates/{name}', ignore=shutil.ignore_patterns('out', 'must-fail', 'refused'))
             else:
                 os.symlink(f'{TOP}/crates/{name}', f'{self.room}/crates/{name}')
-        for path, changes in STEPS:
+        for path, before, new in STEPS:
             text = read(f'{self.room}/{path}')
-            for before, after in changes:
-                self.assertEqual(text.count(before), 1, before)
-                text = text.replace(before, after)
-            self.file(path, text)
+            self.assertEqual(text.count(before), 1, before)
+            self.file(path, text.replace(before, before + new))
 
     def test_both_crates_are_proved(self) -> None:
         crates = Crates(self.room)
