@@ -1,11 +1,11 @@
-use Rattle.std.proofs.Common.{◌≡◌, ◌<◌, ◌++◌, ℕ, List, [], ◌∷◌, sym, ap, ◌∙◌, subst, arith}
+use Rattle.std.proofs.Common.{◌≡◌, ◌<◌, ◌++◌, ℕ, List, [], ◌∷◌, refl, sym, ap, ◌∙◌, arith}
 use Rattle.board_types.specs.declared.choice.ClockTable.TheVariants.{C1}
 use Rattle.decode.specs.Decoding.{code_at, decoded_from, size_of}
 use Rattle.decode.specs.declared.decoding.Decoding.{Decoding}
 use Rattle.execute_meaning.specs.Cpu.{CpuState}
 use Rattle.wiring.specs.Chips.{ChipsState}
 use Rattle.wiring.specs.Ports.{byte_at}
-use Rattle.board.specs.TrailEntries.{event_in, IsCodeOf}
+use Rattle.board.specs.TrailEntries.{event_in, spelled_in}
 use Rattle.board.specs.TrailState.{added_by, IsExact}
 use Rattle.board_plain.specs.Plain.{Plain, clock_of}
 use Rattle.board_plain.specs.declared.act.Act.TheVariants.{Instruction}
@@ -13,7 +13,7 @@ use Rattle.board_plain.specs.declared.trail.TrailEntry.{TrailEntry}
 use Rattle.board_plain.specs.Trail.{entry_at, last}
 use Rattle.board_plain.proofs.LastEntries.{nothing_added}
 use Rattle.board.proofs.Coded.{slot_code}
-use Rattle.board.proofs.Entries.{exact_is, keeps_start, may_keep, no_start}
+use Rattle.board.proofs.Entries.{exact_is, keeps_start, no_start}
 use Rattle.board.proofs.acts.note.Goals as goal
 
 -- the entry of what was decoded at CS:IP is that of the instruction that begins
@@ -43,22 +43,23 @@ returns-in-Some c =
     let some : 0 < size_of d = omega (arith, c.length.ensures, c.if-length-eq0.false) in
     let bytes = code_at (byte_at s) c.cs-cs.result c.ip-ip.result in
     let code = c.in-Some.slot.now.code in
-    let value : d ≡ decoded_from bytes =
-    exact_is p s d c.requires.exact some ∙ (λ k. decoded_from (code_at (byte_at s) (sym c.cs-cs.ensures k) (sym c.ip-ip.ensures k))) in
-    c.add_code.ensures d
-    (subst (IsCodeOf code) (sym value) (slot_code bytes code (decoded_from bytes) c.in-Some.ensures.code c.in-Some.ensures.exact))
+    let again : decoded_from (spelled_in code 0) ≡ d =
+    slot_code bytes code (decoded_from bytes) c.in-Some.ensures.code c.in-Some.ensures.exact 0
+    ∙ sym (exact_is p s d c.requires.exact some ∙ (λ k. decoded_from (code_at (byte_at s) (sym c.cs-cs.ensures k) (sym c.ip-ip.ensures k)))) in
+    c.add.ensures
+    ∙ ap (λ e. last 32 (c.args.trail.now ++ e ∷ [])) (c.begun.ensures.entry
+    ∙ ap (λ x. record { clock = c.clock.result; cs = c.cs-cs.result; ip = c.ip-ip.result; event = event_in x 0 }) again)
     ∙ begins p s d c.clock.result c.cs-cs.result c.ip-ip.result c.args.trail.now c.clock.ensures c.cs-cs.ensures c.ip-ip.ensures
     c.requires.exact some
-
-pub add_begun-requires : goal.add_begun-requires
-add_begun-requires c =
-    may_keep c.args.cpu.now c.args.chips.now c.args.decoded.now c.requires.exact (omega (arith, c.length.ensures, c.if-length-eq0.false))
 
 pub returns-in-None : goal.returns-in-None
 returns-in-None c =
     let p = c.args.cpu.now in
     let s = c.args.chips.now in
     let d = c.args.decoded.now in
-    c.add_begun.ensures
-    ∙ begins p s d c.clock-in-None.result c.cs-cs.result c.ip-ip.result c.args.trail.now c.clock-in-None.ensures c.cs-cs.ensures c.ip-ip.ensures
-    c.requires.exact (omega (arith, c.length.ensures, c.if-length-eq0.false))
+    let some : 0 < size_of d = omega (arith, c.length.ensures, c.if-length-eq0.false) in
+    let is = exact_is p s d c.requires.exact some ∙ (λ k. decoded_from (code_at (byte_at s) (sym c.cs-cs.ensures k) (sym c.ip-ip.ensures k))) in
+    c.add-in-None.ensures
+    ∙ ap (λ e. last 32 (c.args.trail.now ++ e ∷ [])) (c.read.ensures.entry
+    ∙ ap (λ x. record { clock = s.clock; cs = c.cs-cs.result; ip = c.ip-ip.result; event = event_in x 0 }) (sym is))
+    ∙ begins p s d s.clock c.cs-cs.result c.ip-ip.result c.args.trail.now refl c.cs-cs.ensures c.ip-ip.ensures c.requires.exact some
