@@ -1,7 +1,7 @@
 //! Keys that reach the keyboard at their clocks.
 ghost use Rattle.std.specs.Prelude.{ℕ, ◌≡◌, ◌+◌, ◌<◌, ◌≤◌, ◌^◌, All, IsTrue, drop, length};
 ghost use Rattle.board_types.specs.Keys.{IsInOrder};
-ghost use Rattle.board.specs.Arrivals.{Awaits, HaveArrived, IsNextStamp};
+ghost use Rattle.board.specs.Arrivals.{Awaits, HaveArrived};
 ghost use Rattle.wiring.specs.Wires.{after_arrivals};
 ghost use Rattle.board.specs.UneventfulClocks.{ComesAfter};
 ghost use Rattle.board_plain.specs.Plain.{chips_after_clock, codes_at};
@@ -22,14 +22,18 @@ pub(crate) fn so_far(keys: &[StampedKey], count: usize) -> Arrived
     requires { IsInOrder keys.now }
     ensures { (clock : ℕ) → Awaits count (clock + 1) keys.now → HaveArrived result (clock + 1) keys.now }
 {
-    Arrived {
-        count,
-        next: next_stamp(keys, count),
+    match keys.get(count) {
+        Some(key) => Arrived {
+            count,
+            next: Some(key.stamp),
+        },
+        None => Arrived { count, next: None },
     }
 }
 
 /// Lets the keys that are stamped `clock` reach the keyboard, `next` keys having arrived before. Answers how many have
-/// arrived then.
+/// arrived then. Kept out of line, since few clocks have a key.
+#[inline(never)]
 pub(crate) fn arrive_at(
     chips: &mut CachedChips,
     keys: &[StampedKey],
@@ -66,19 +70,6 @@ fn let_arrive(chips: &mut CachedChips, keys: &[StampedKey], arrived: &mut Arrive
     if comes_after(clock, arrived.next) {
         return;
     }
-    arrive(chips, keys, arrived, clock);
-}
-
-/// Lets the keys that are stamped `clock` reach the keyboard, if there are any, and finds the next stamp: the rare case
-/// of `let_arrive`, kept out of line.
-#[inline(never)]
-fn arrive(chips: &mut CachedChips, keys: &[StampedKey], arrived: &mut Arrived, clock: u64)
-    requires in_order { IsInOrder keys.now }
-    requires arrived { HaveArrived arrived.old clock keys.now }
-    ensures chips { chips.new ≡ after_arrivals chips.old (codes_at keys.now clock) }
-    ensures clock { chips.new.clock ≡ chips.old.clock }
-    ensures arrived { HaveArrived arrived.new (clock + 1) keys.now }
-{
     let count = arrive_at(chips, keys, arrived.count, clock);
     *arrived = so_far(keys, count);
 }
@@ -109,17 +100,6 @@ pub(crate) fn comes_after(clock: u64, stamp: Option<Clock>) -> bool
     match stamp {
         Some(at) => clock < at.get(),
         None => true,
-    }
-}
-
-/// The stamp of the next key, if the first `next` have arrived; `None` if all have.
-fn next_stamp(keys: &[StampedKey], next: usize) -> Option<Clock>
-    requires { IsInOrder keys.now }
-    ensures { (clock : ℕ) → Awaits next (clock + 1) keys.now → IsNextStamp clock keys.now result }
-{
-    match keys.get(next) {
-        Some(key) => Some(key.stamp),
-        None => None,
     }
 }
 

@@ -34,3 +34,6 @@ returns-then-comes_after-clause-arrived c =
     have_later c.args.arrived.now (c.args.clock - 1) 1 c.args.clock c.args.keys.now
     (subst (λ n. HaveArrived c.args.arrived.now n c.args.keys.now) whole c.requires.arrived)
     (none c.args.arrived.now c.args.clock c.args.keys.now some c.requires.arrived (c.comes_after.ensures c.if-comes_after.true)) whole
+
+pub returns-clause-arrived : goal.returns-clause-arrived
+returns-clause-arrived c = c.so_far.ensures c.args.clock c.arrive_at-count.ensures.awaits
