@@ -1,5 +1,5 @@
 //! Keys that are typed while a board stands at a clock.
-ghost use Rattle.std.specs.Prelude.{◌≡◌, ◌+◌, ◌++◌, ◌∷◌, [], IfOk, OnOk};
+ghost use Rattle.std.specs.Prelude.{◌≡◌, ◌+◌, ◌++◌, IfOk, OnOk};
 ghost use Rattle.std.specs.Result.{IfErr};
 ghost use Rattle.events_laws.specs.WithKey.{inserted};
 
@@ -22,7 +22,7 @@ impl<A: Allocator> Board<A> {
         let place = count_before(older, older.len(), key.stamp.get() + 1);
         let mut keys = Keys::new(alloc);
         push_all(&mut keys, &older[..place])?;
-        push(&mut keys, key)?;
+        push_all(&mut keys, &[key])?;
         push_all(&mut keys, &older[place..])?;
         Ok(keys)
     }
@@ -50,24 +50,15 @@ impl Engine {
     }
 }
 
-/// Adds a key to a list, with a board's fault if that fails, for `keys_with`.
-fn push(keys: &mut Keys, key: StampedKey) -> Result<(), BoardFault>
-    ensures ok { OnOk result (keys.new ≡ keys.old ++ key ∷ []) }
-    ensures fault { IfErr result (λ fault. fault ≡ BoardFault.Memory) }
-{
-    match keys.push(key.stamp, key.code) {
-        Ok(()) => Ok(()),
-        Err(_) => Err(BoardFault::Memory),
-    }
-}
-
 /// Adds keys to a list in their order, for `keys_with`.
 fn push_all(keys: &mut Keys, more: &[StampedKey]) -> Result<(), BoardFault>
     ensures ok { OnOk result (keys.new ≡ keys.old ++ more.now) }
     ensures fault { IfErr result (λ fault. fault ≡ BoardFault.Memory) }
 {
     for key in more {
-        push(keys, *key)?;
+        if keys.push(key.stamp, key.code).is_err() {
+            return Err(BoardFault::Memory);
+        }
     }
     Ok(())
 }

@@ -16,10 +16,10 @@ returns-clause-keys g c =
     subst (λ (n : ℕ). Awaits place (n + 1) older) c.get.ensures.value c.count_before-place.ensures.awaits in
     let first : c.push_all.new.keys ≡ take place older =
     c.in_ok-push_all.ensures.ok ∙ ap (λ (xs : List StampedKey). xs ++ take place older) c.new-keys.ensures in
-    let parts : c.push_all-2.new.keys ≡ take place older ++ (c.args.key ∷ drop place older) =
-    c.in_ok-push_all-2.ensures.ok
-    ∙ ap (λ (xs : List StampedKey). c.push.new.keys ++ xs) (take_rest older place)
-    ∙ ap (λ (xs : List StampedKey). xs ++ drop place older) (c.in_ok-push.ensures.ok ∙ ap (λ (xs : List StampedKey). xs ++ c.args.key ∷ []) first)
+    let parts : c.push_all-3.new.keys ≡ take place older ++ (c.args.key ∷ drop place older) =
+    c.in_ok-push_all-3.ensures.ok
+    ∙ ap (λ (xs : List StampedKey). c.push_all-2.new.keys ++ xs) (take_rest older place)
+    ∙ ap (λ (xs : List StampedKey). xs ++ drop place older) (c.in_ok-push_all-2.ensures.ok ∙ ap (λ (xs : List StampedKey). xs ++ c.args.key ∷ []) first)
     ∙ append_assoc (take place older) (c.args.key ∷ []) (drop place older) in
     let own = c.as_slice-older.ensures.keys ∙ ap (λ (s : Inside g.row.A.Denot). s.engine.keys) c.self-inside.view_is
     ∙ ap (λ (b : BoardState). b.plain.keys) c.self.view_is in
