@@ -15,6 +15,7 @@ use cached_chips::cached::CachedChips;
 
 /// The clock up to which a leap may go that ends by `end`: the last one before the next key's stamp, if that is
 /// earlier.
+#[inline(always)]
 pub(crate) fn before_stamp(stamp: Option<Clock>, end: u64) -> u64
     ensures { result ≡ last_before stamp end }
 {
@@ -33,11 +34,7 @@ pub(crate) fn board_quiet_to(busy: u16, chips: &CachedChips, arrived: &Arrived) 
     if busy != 0 {
         return 0;
     }
-    let unrequested = chips.unrequested_to();
-    match arrived.next {
-        Some(at) => unrequested.min(at.get().saturating_sub(1)),
-        None => unrequested,
-    }
+    before_stamp(arrived.next, chips.unrequested_to())
 }
 
 /// Makes the chips' part of the last step of a run by slots, of `busy` clocks, which leads past the run's bound: up to
