@@ -1,21 +1,10 @@
 //! What is known of stops beforehand: whether they wait for a free processor, and at which IP they may hold.
-ghost use Rattle.std.specs.Prelude.{◌≡◌, IsTrue};
-ghost use Rattle.board.specs.AwaitFree.{awaits_free, AllAwaitFree};
+ghost use Rattle.std.specs.Prelude.{IsTrue};
+ghost use Rattle.board.specs.AwaitFree.{AllAwaitFree};
 ghost use Rattle.board.specs.IpRange.{AllWithin};
 
 use crate::watch::Watch;
 use board_plain::stop::Condition;
-
-/// Whether this condition of a stop can hold only while the processor is free, with no clock of a step left to come,
-/// so that a run needn't check it between the clocks of a step.
-fn awaits_free(condition: Condition) -> bool
-    ensures { result ≡ awaits_free condition }
-{
-    match condition {
-        Condition::Free | Condition::At(..) => true,
-        Condition::Byte(..) | Condition::Sound | Condition::Halted => false,
-    }
-}
 
 /// Whether each of these stops holds only while the processor is free, so that a run needn't look for them between the
 /// clocks of a step.
@@ -23,8 +12,9 @@ pub(crate) fn all_await_free(conditions: &[Condition]) -> bool
     ensures { IsTrue result → AllAwaitFree conditions.now }
 {
     for condition in conditions {
-        if !awaits_free(*condition) {
-            return false;
+        match condition {
+            Condition::Free | Condition::At(..) => {}
+            Condition::Byte(..) | Condition::Sound | Condition::Halted => return false,
         }
     }
     true
