@@ -3,8 +3,7 @@ ghost use Rattle.std.specs.Prelude.{◌≡◌, ◌<◌, ◌≤◌, IfOk, IfSome,
 ghost use Rattle.std.specs.Option.{option_to_list};
 ghost use Rattle.std.specs.Result.{IfErr};
 ghost use Rattle.board_plain.specs.Plain.{clock_of};
-ghost use Rattle.board_plain.specs.Trail.{entry_at, event_of, start_of};
-ghost use Rattle.board_plain.specs.declared.act.Act.TheVariants.{Instruction};
+ghost use Rattle.board_plain.specs.Trail.{entry_at, event_of};
 ghost use Rattle.events.specs.Accesses.{accesses_next};
 ghost use Rattle.board.specs.HeldBack.{IsHeldBack};
 ghost use Rattle.board.specs.TrailState.{IsExact};
@@ -15,7 +14,6 @@ use crate::engine::Engine;
 use board_plain::act::Act;
 use board_plain::fault::BoardFault;
 use board_types::clock::Clock;
-use decode::decoded::Decoded;
 use execute_noted::notes::Notes;
 use std::alloc::Allocator;
 
@@ -43,24 +41,10 @@ impl Engine {
         match next {
             Act::Request => Some(self.begun(Some(self.chips.requested_type()))),
             Act::SingleStep => Some(self.begun(Some(1))),
-            Act::Instruction(decoded) => self.starts(decoded),
+            Act::Instruction(decoded) if decoded.length() > 0 => Some(self.begun(None)),
+            // no row of the encoding table fits the bytes there, and the processor jams
+            Act::Instruction(_) => None,
             Act::Nothing | Act::Iteration => None,
-        }
-    }
-
-    /// The instruction that begins at CS:IP, for `begins`; `None` if no row of the encoding table fits the bytes there
-    /// and the processor jams.
-    #[inline(always)]
-    fn starts(&self, decoded: &Decoded) -> Option<Begun>
-        requires exact { IsExact self.now.cpu self.now.chips (Instruction decoded.now) }
-        ensures begun { option_to_list result
-            ≡ map begun_of (entry_at self.now (start_of self.now.cpu self.now.chips decoded.now)) }
-        ensures clock { IfSome result (λ begun. begun.clock ≡ clock_of self.now) }
-    {
-        if decoded.length() > 0 {
-            Some(self.begun(None))
-        } else {
-            None
         }
     }
 
