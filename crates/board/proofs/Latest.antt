@@ -8,7 +8,7 @@ use Rattle.board_types.proofs.Iterate.{iterate_add, iterate_zero}
 use Rattle.board_plain.specs.declared.stop.Condition.{Condition}
 use Rattle.board.specs.AwaitFree.{AllAwaitFree, IsTurnBetween}
 use Rattle.board_plain.specs.Board.{BoardState}
-use Rattle.board.specs.Found.{found_at, found_before}
+use Rattle.board.specs.Found.{found_at}
 use Rattle.board_plain.specs.Lasts.{IsLastOf}
 use Rattle.board_plain.specs.Plain.{Plain, after_clock, after_clocks, clock_of}
 use Rattle.board_plain.specs.Stops.{holding}
@@ -73,7 +73,7 @@ looked_none stops end s few within =
 
 looked_leap : (stops : List Condition) (end count : ℕ) (s t u : BoardState) (last : Option (ℕ × ℕ)) (here : Option ℕ)
     → count ≤ 1 → Looked stops end s t last → holding stops t.plain ≡ here → clock_of t.plain < end → IsLeapOn end count t u
-    → Looked stops end s u (found_before last here (clock_of u.plain))
+    → Looked stops end s u (found_at last here (clock_of u.plain - 1))
 unfolding so_far_leap
 looked_leap stops end count s t u last here one looked is before on =
     let next = so_far_leap 1 end count s t u one looked.so_far before on in
@@ -86,7 +86,7 @@ looked_leap stops end count s t u last here one looked is before on =
 
 looked_tick : (stops : List Condition) (end : ℕ) (s t u : BoardState) (last : Option (ℕ × ℕ)) (here : Option ℕ)
     → Looked stops end s t last → holding stops t.plain ≡ here → clock_of t.plain < end → IsTickOn t u → 1 ≤ work_next t.plain
-    → Looked stops end s u (found_before last here (clock_of u.plain))
+    → Looked stops end s u (found_at last here (clock_of u.plain - 1))
 unfolding so_far_tick
 looked_tick stops end s t u last here looked is before tick work =
     let next = so_far_tick 1 end s t u looked.so_far before tick work in
@@ -99,7 +99,7 @@ looked_tick stops end s t u last here looked is before tick work =
 
 looked_short : (stops : List Condition) (end : ℕ) (s t u : BoardState) (last : Option (ℕ × ℕ)) (here : Option ℕ)
     → Looked stops end s t last → holding stops t.plain ≡ here → clock_of t.plain < end → IsTurnOn (clock_of t.plain + 1) end t u
-    → Looked stops end s u (found_before last here (clock_of u.plain))
+    → Looked stops end s u (found_at last here (clock_of u.plain - 1))
 looked_short stops end s t u last here looked is before (inl leap) = looked_leap stops end 1 s t u last here (omega arith) looked is before leap
 looked_short stops end s t u last here looked is before (inr act) =
     let tick = act_alone t u act in looked_tick stops end s t u last here looked is before tick.0 tick.1
@@ -147,10 +147,10 @@ looked_whole unwatched stops end s t u last waits none looked is before (inr on)
 pub looked_between : (unwatched : ℕ → Type 0) (stops : List Condition) (end : ℕ)
     (whole : Bool) (s t u : BoardState) (last : Option (ℕ × ℕ)) (here : Option ℕ)
     → (IsTrue whole → AllAwaitFree stops × (here ≡ None)) → StopsNowhere unwatched stops → Looked stops end s t last → holding stops t.plain ≡ here
-    → clock_of t.plain < end → IsTurnBetween whole unwatched end t u → Looked stops end s u (found_before last here (clock_of u.plain))
+    → clock_of t.plain < end → IsTurnBetween whole unwatched end t u → Looked stops end s u (found_at last here (clock_of u.plain - 1))
 looked_between unwatched stops end true s t u last here waits passing looked is before on =
     let none : here ≡ None = (waits refl).1 in
-    subst (λ h. Looked stops end s u (found_before last h (clock_of u.plain))) (sym none)
+    subst (λ h. Looked stops end s u (found_at last h (clock_of u.plain - 1))) (sym none)
     (looked_whole unwatched stops end s t u last (waits refl).0 passing looked (is ∙ none) before on)
 looked_between unwatched stops end false s t u last here waits passing looked is before on = looked_short stops end s t u last here looked is before on
 

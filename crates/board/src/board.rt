@@ -7,7 +7,7 @@ ghost use Rattle.memory.specs.Map.{IsRamSize, FitsRam};
 ghost use Rattle.board_plain.specs.declared.act.Act.TheVariants as acts;
 ghost use Rattle.board_plain.specs.declared.fault.BoardFault.TheVariants.{Memory};
 ghost use Rattle.board_plain.specs.Board.{Ran, StoppedEarly};
-ghost use Rattle.board.specs.UnseenClocks.{PassesOver, WiresStay, WiresStayThen};
+ghost use Rattle.board.specs.UnseenClocks.{WiresStay, WiresStayThen};
 ghost use Rattle.board.specs.HeldBack.{IsHeldBack};
 ghost use Rattle.board.specs.TrailState.{IsExact};
 ghost use Rattle.board.specs.OneTurn.{begun_of};
@@ -15,7 +15,7 @@ ghost use Rattle.board.specs.IpRange.{AllWithin, is_unwatched};
 ghost use Rattle.board_plain.specs.Plain.{act_at, after_clock, after_clocks, byte_of, change_next, changes_in, clock_of, lost_codes, next_act, power_on, registers_of, screen_of, speaker_level, state_of};
 ghost use Rattle.board_plain.specs.Stops.{FitsRoom, HasAddress, IsStopOf, NoStop, holding, holds, run_length};
 ghost use Rattle.board_plain.specs.Lasts.{IsLastOf};
-ghost use Rattle.board.specs.Found.{found_at, found_before};
+ghost use Rattle.board.specs.Found.{found_at};
 ghost use Rattle.board_plain.specs.Trail.{last, trail_in, trail_next};
 ghost use Rattle.board.specs.AwaitFree.{IsTurnBetween};
 ghost use Rattle.board.specs.Turns.{AreStepsOn, IsActOn, IsLeapOn, IsTurnOn};
@@ -267,7 +267,7 @@ impl<A: Allocator> Board<A> {
             // if none holds here, the other clocks of a step pass none that waits for a free processor
             self.turn_between(end, stops_nowhere(whole, here), &ip_range)?;
             // what holds before a turn holds up to the last clock before the turn's end
-            last = later(last, here, self.clock());
+            last = latest(last, here, Clock::new(self.clock().get() - 1).unwrap());
         }
         Ok(latest(last, self.holding(stops, &ip_range), self.clock()))
     }
@@ -351,9 +351,10 @@ impl<A: Allocator> Board<A> {
         Ok(())
     }
 
-    /// A turn at this case of a boundary, for runs and for `run_turn`. Answers what begins; the accesses of its first
-    /// clock are noted. Unless `over_edges`, wires change in its first clock alone. `L` is only a tag: each caller has
-    /// a copy of its own, small enough for LLVM to inline.
+    /// A turn at this case of a boundary, for runs and for `run_turn`: while the processor does nothing, a leap of time,
+    /// or, if this clock has work, as an edge or a key, an act that does nothing. Answers what begins; the accesses of
+    /// its first clock are noted. Unless `over_edges`, wires change in its first clock alone. `L` is only a tag: each
+    /// caller has a copy of its own, small enough for LLVM to inline.
     #[inline(always)]
     pub(crate) fn turn_by<L, N: Notes>(
         &mut self,
@@ -376,7 +377,13 @@ impl<A: Allocator> Board<A> {
         ensures fault { IfErr result (λ fault. fault ≡ BoardFault.Memory) }
     {
         match boundary {
-            Boundary::Nothing => self.pass(notes, over_edges, within, end),
+            Boundary::Nothing => {
+                if self.leap(over_edges, end) {
+                    notes.none();
+                    return Ok(None);
+                }
+                self.act(&Act::Nothing, notes, over_edges, within)
+            }
             Boundary::Instruction => {
                 let next = self.engine.instruction();
                 self.act(&next, notes, over_edges, within)
@@ -385,35 +392,6 @@ impl<A: Allocator> Board<A> {
             Boundary::SingleStep => self.act(&Act::SingleStep, notes, over_edges, within),
             Boundary::Iteration => self.act(&Act::Iteration, notes, over_edges, within),
         }
-    }
-
-    /// A turn in which the processor does nothing: a leap of time, or, if this clock has work, as an edge or a key, an
-    /// act that does nothing. Answers what begins, which is nothing.
-    #[inline(always)]
-    fn pass<N: Notes>(
-        &mut self,
-        notes: &mut N,
-        over_edges: bool,
-        within: u64,
-        end: u64,
-    ) -> Result<Option<Begun>, BoardFault>
-        requires idle { acts.Nothing ≡ next_act self.old.plain }
-        requires before { clock_of self.old.plain < within }
-        requires order { within ≤ end }
-        requires limit { end ≤ 2 ^ 40 }
-        ensures ok { OnOk result (IsTurnOn within end self.old self.new) }
-        ensures steady { ¬ (IsTrue over_edges) → OnOk result (WiresStayThen within self.old.plain self.new.plain) }
-        ensures begun { IfOk result (λ begun. option_to_list begun ≡ map begun_of (trail_next self.old.plain)) }
-        ensures clock { IfOk result (λ begun. IfSome begun (λ b. b.clock ≡ clock_of self.old.plain)) }
-        ensures noted { OnOk result (N.are notes.new (accesses_next self.old.plain)) }
-        ensures err { OnErr result (IsHeldBack self.old self.new) }
-        ensures fault { IfErr result (λ fault. fault ≡ BoardFault.Memory) }
-    {
-        if self.leap(over_edges, end) {
-            notes.none();
-            return Ok(None);
-        }
-        self.act(&Act::Nothing, notes, over_edges, within)
     }
 
     /// Makes a turn of a leap of time, up to `end` at most, while the processor does nothing. Answers whether there was
@@ -462,29 +440,10 @@ impl<A: Allocator> Board<A> {
         let begun = self.engine.begins(next);
         let high = self.engine.is_high_next(next);
         self.list_change(high)?;
-        self.make(next, notes, over_edges, within);
-        Ok(begun)
-    }
-
-    /// Does the act of `act`, after its change of the speaker's level is listed, and counts it as a turn; it can't
-    /// fail.
-    #[inline(always)]
-    fn make<N: Notes>(&mut self, next: &Act, notes: &mut N, over_edges: bool, within: u64)
-        requires next { next.now ≡ next_act self.old.plain }
-        requires exact { IsExact self.old.plain.cpu self.old.plain.chips next.now }
-        requires before { clock_of self.old.plain < within }
-        requires limit { within ≤ 2 ^ 40 }
-        ensures passed { PassesOver within (after_clock self.old.plain) self.new.plain }
-        ensures steady { ¬ (IsTrue over_edges) → WiresStay (after_clock self.old.plain) self.new.plain }
-        ensures trail { self.new.trail ≡ last 32 (self.old.trail ++ trail_next self.old.plain) }
-        ensures noted { N.are notes.new (accesses_next self.old.plain) }
-        ensures changes { self.new.changes ≡ self.old.changes }
-        ensures room { self.new.room ≡ self.old.room }
-        ensures turns { self.new.turns ≡ self.old.turns + 1 }
-    {
         self.engine
             .act(next, &mut self.trail, notes, over_edges, within);
         self.turns += 1;
+        Ok(begun)
     }
 
     /// Makes steps of the run's loop while it is known that nothing comes, up to `end` or an IP that is watched, and
@@ -544,10 +503,8 @@ impl<A: Allocator> Board<A> {
         let level = Line::from_bool(high);
         let clock = Clock::new(self.clock().get() + 1).unwrap();
         self.reserve_speaker(1)?;
-        match self.changes.push(SpeakerChange { clock, level }) {
-            Ok(()) => Ok(()),
-            Err(_) => Err(BoardFault::Memory),
-        }
+        self.changes.push_reserved(SpeakerChange { clock, level });
+        Ok(())
     }
 
     /// The clock at which the board stands, counted from power-on.
@@ -653,20 +610,8 @@ fn stops_nowhere(whole: bool, here: Option<usize>) -> bool
     }
 }
 
-/// What `run_last` has found last after a turn to `clock`: if the stop number `here` held before the turn, it held up
-/// to the clock before `clock`; else `last`, what was found before.
-fn later(last: Option<(Clock, usize)>, here: Option<usize>, clock: Clock) -> Option<(Clock, usize)>
-    requires { 1 ≤ clock }
-    ensures { result ≡ found_before last here clock }
-{
-    match here {
-        Some(number) => Some((Clock::new(clock.get() - 1).unwrap(), number)),
-        None => last,
-    }
-}
-
-/// What `run_last` answers at its end, at `clock`: the stop number `here` if one holds there, else `last`, what was
-/// found before.
+/// What `run_last` has found last: the stop number `here` if one holds up to `clock`, else `last`, what was found
+/// before.
 fn latest(last: Option<(Clock, usize)>, here: Option<usize>, clock: Clock) -> Option<(Clock, usize)>
     ensures { result ≡ found_at last here clock }
 {
