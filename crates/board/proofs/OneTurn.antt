@@ -18,7 +18,7 @@ use Rattle.board_plain.proofs.Clocks.{clock_goes_by}
 use Rattle.board_plain.proofs.Runs.{ran_none}
 use Rattle.events.specs.Events.{unwired_next}
 use Rattle.board.specs.declared.one_turn.Begun.{Begun}
-use Rattle.board.specs.OneTurn.{begun_of, HaveSameWires, IsOneTurn, StartsStill}
+use Rattle.board.specs.OneTurn.{begun_of, HaveSameWires, IsOneTurn}
 use Rattle.board.specs.Turns.{IsLeapOn, IsTickOn, IsTurnOn}
 use Rattle.board.specs.UnseenClocks.{PassesOver, WiresStay, WiresStayThen}
 use Rattle.board.proofs.Ticking.{first_clock, first_seen, first_unseen, ran_more}

@@ -1,6 +1,6 @@
 use Rattle.std.proofs.Common.{◌≡◌, ◌-◌, ◌≤◌, length, map, ap, ◌∙◌, subst}
 use Rattle.std.specs.Option.{option_to_list}
-use Rattle.std.specs.Prelude.{IfOk, IfSome, IsTrue, OnOk}
+use Rattle.std.specs.Prelude.{IfOk, IfSome, OnOk}
 use Rattle.events.specs.Accesses.{accesses_next}
 use Rattle.board.specs.OneTurn.{begun_of}
 use Rattle.board.specs.UnseenClocks.{WiresStayThen}
