@@ -4,7 +4,7 @@ import unittest
 
 from tests.support import ToolCase
 
-LIMITS = 'rt=2.0,antt=2.4'
+LIMITS = 'rt=1.5,antt=2.0'
 SIX = ''.join(f'    let a{n} = b{n};\n' for n in range(6))
 
 
