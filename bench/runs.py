@@ -1,20 +1,28 @@
-"""What bench/count and bench/race share: loops and C programs, their run files, and the processor time of a run."""
+"""What bench/count and bench/race share: what they run, its run files, the processor time of a run, and the tables of pages."""
 from __future__ import annotations
 
 import os
+import re
 import resource
 import signal
 import subprocess
 import sys
 
 HERE = os.path.dirname(os.path.realpath(__file__))
-sys.path[:0] = [f'{os.path.dirname(HERE)}/{folder}' for folder in ('tools', 'dev')]
+TOP = os.path.dirname(HERE)
+sys.path[:0] = [f'{TOP}/{folder}' for folder in ('tools', 'dev')]
 
-from toolbox.command import Sorry
+from toolbox.command import Sorry, read_text, write_text
 from toolbox.program import path as built_program
 from toolbox.runfile import read_run_file, text_of
 
-PROGRAMS = ('sieve', 'sort', 'digits', 'crc', 'matrix', 'life')  # those of bench/programs; any other name is of bench/loops
+# By their folders: C programs, mixes and books. Any other name is of bench/loops.
+GROUPS = {
+    'programs': ('sieve', 'sort', 'digits', 'crc', 'matrix', 'life'),
+    'mixes': tuple('bcd bootish clear conf1000 conf1800 delay dxport intcall latch mulmem scroll search shortrep strings tone tone2'.split()),
+    'books': tuple('boxes bubble collatz formats hexdump book_life primes queens rolls searches book_sieve squares strings13 table teletype words'.split()),
+}
+FOLDERS = {name: group for group, names in GROUPS.items() for name in names}
 
 
 def program(named: str | None) -> str:
@@ -31,14 +39,15 @@ def program(named: str | None) -> str:
 
 
 def source(name: str) -> str:
-    """A loop's source, or a C program's HEX."""
-    return f'{HERE}/programs/{name}.hex' if name in PROGRAMS else f'{HERE}/loops/{name}.asm'
+    """The source of a loop or a mix, or the HEX of a C program or a book."""
+    stem = f'{HERE}/{FOLDERS.get(name, "loops")}/{name}'
+    return f'{stem}.hex' if os.path.exists(f'{stem}.hex') else f'{stem}.asm'
 
 
 def run_file(folder: str, name: str, budget: int) -> str:
-    """The run file of a loop or a C program with another budget, written into the folder."""
+    """The run file of what has this name with another budget, written into the folder."""
     path = f'{folder}/{name}_{budget}.json'
-    own = f'{HERE}/programs/run.json' if name in PROGRAMS else f'{HERE}/loops/{name}.json'
+    own = f'{HERE}/{FOLDERS[name]}/run.json' if name in FOLDERS else f'{HERE}/loops/{name}.json'
     with open(path, 'w', encoding='utf-8') as file:
         file.write(text_of(read_run_file(own) | {'budget': budget}))
     return path
@@ -70,3 +79,12 @@ def processor_time(words: list[str], limit: float, folder: str, changed: dict[st
             return None
     after = resource.getrusage(resource.RUSAGE_CHILDREN)
     return after.ru_utime + after.ru_stime - before.ru_utime - before.ru_stime, printed
+
+
+def fill(page: str, cells: dict[str, list[str]]) -> None:
+    """Writes cells into the tables of a page: they are the last ones of each row that begins with their name."""
+    text = read_text(page)
+    for name, found in cells.items():
+        row = rf'^(\|{re.escape(name)}(?=\|).*?)(?:\|[^|\n]*){{{len(found)}}}\|$'
+        text = re.sub(row, '|'.join((r'\1', *found, '')), text, flags=re.M)
+    write_text(page, text)

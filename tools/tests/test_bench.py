@@ -4,8 +4,10 @@ from __future__ import annotations
 
 import binascii
 import filecmp
+import hashlib
 import io
 import os
+import re
 import shutil
 import subprocess
 import sys
@@ -32,7 +34,7 @@ VALGRIND = '''#!/bin/sh
 shift 2
 for run; do :; done
 budget=${run%.json}
-"$@" && echo "==1== Collected : $((1000 + 60 * ${budget#*_}))" >&2
+"$@" && echo "==1== Collected : $((1000 + 60 * ${budget##*_}))" >&2
 '''
 # Tells the core that its first command sets.
 DOSBOX = '''#!/bin/sh
@@ -74,7 +76,7 @@ class Count(ToolCase):
     def test_a_line(self) -> None:
         line_of = module('count').line_of
         figures = '        64,303,962     130,434'
-        self.assertEqual(line_of('a', figures, 493.0, 'a step'), ('a                64,303,962     130,434           493.0  a step', True))
+        self.assertEqual(line_of('a', figures, 493.0, 'a step'), ('a                  64,303,962     130,434           493.0  a step', True))
         self.assertFalse(line_of('a', figures, 120.1, 'a step', 120.0)[1])
         self.assertTrue(line_of('a', figures, 120.0, 'a step', 120.0)[1])
 
@@ -98,6 +100,17 @@ class Count(ToolCase):
         self.assertEqual([line.split()[0] for line in lines[1:]], ['a', 'sieve', 'sort', 'digits', 'crc', 'matrix', 'life', 'programs'])
         self.assertEqual(lines[-1].split(), ['programs', '794.8', 'a', 'step,', 'the', 'mean', 'of', 'the', 'six'])
         self.assertNotIn('programs', self.count('--only', 'sieve,sort,digits,crc,matrix')[0])
+
+    def test_the_means_of_mixes_and_books(self) -> None:
+        """Of mixes the mean of 24,000,000 by the steps of each; of books 60 for each of 12,687,111 clocks, by 1,105,192 steps."""
+        self.with_valgrind()
+        lines = self.count('--only', 'mixes')[0].splitlines()
+        steps = (32488, 42824, 34303, 59459, 59459, 52234, 51735, 36964, 74287, 14367, 23990, 26200, 32434, 38597, 27809, 27807)
+        self.assertEqual([int(line.split()[2].replace(',', '')) for line in lines[1:-1]], list(steps))
+        self.assertEqual(lines[-1].split(), ['mixes', f'{sum(24e6 / count for count in steps) / 16:,.1f}', *'a step, the mean of the sixteen'.split()])
+        lines = self.count('--limit', 'books=688.8,book_life=643.5', status=1)[0].splitlines()
+        self.assertEqual(lines[6].split(), ['book_life', '90,000,000', '139,842', '643.6', *'a step, at most 643.5: above it'.split()])
+        self.assertEqual(lines[-1].split(), ['books', '688.8', *'a step, all steps of the sixteen, at most 688.8: kept'.split()])
 
     def test_limits(self) -> None:
         self.with_valgrind()
@@ -128,14 +141,28 @@ class Count(ToolCase):
         self.assertRegex(lines[1], r"^sieve +wrong: budget 3000000: ' {4}\.1027 .*, and not ' {5}1027 ")
         self.assertEqual([line.split()[0] for line in lines[2:]], ['sort', 'digits', 'crc', 'matrix', 'life'])
 
+    def test_a_wrong_report_of_a_book(self) -> None:
+        os.chmod(self.file('valgrind', VALGRIND.replace('"$@"', '"$@" | /bin/sed "s/^clock 83782/clock 83783/"')), 0o755)
+        lines = self.count('--only', 'searches,delay', status=1)[0].splitlines()
+        self.assertEqual([line.split()[0] for line in lines[1:]], ['delay', 'searches'])
+        self.assertRegex(lines[2], "^searches +wrong: budget 83782: 'SHA-256 [0-9a-f]{64}', and not 'SHA-256 743ec188[0-9a-f]{56}'$")
+
     def test_steps(self) -> None:
-        out, _ = self.count('--steps', '--only', 'a,sieve')
-        self.assertEqual(out, 'a  [13046, 143480]  as in steps.json\nsieve  [75713, 230285]  as in steps.json\n')
+        out, _ = self.count('--steps', '--only', 'a,sieve,searches')
+        lines = ('a  [13046, 143480]', 'sieve  [75713, 230285]', 'searches  [0, 8429]')
+        self.assertEqual(out.splitlines(), [f'{line}  as in steps.json' for line in lines])
 
     def test_the_steps_of_some_loops_by_their_clocks(self) -> None:
-        """By the table of clocks: a far jump takes 15, MOV of a number 4, ADD and XOR 3, LOOP 17; IN 10, TEST 3, JZ 16; DEC 2."""
-        loops = module('count').known()
-        for name, begun, lengths in (('a', [15, 4, 4, 4, 4], [3, 3, 17]), ('e', [15], [10, 3, 16]), ('w5', [15, 4, 4], [2, 16])):
+        """By the table of clocks: a far jump takes 15, MOV of a number 4, ADD and XOR 3, LOOP 17; IN 10, TEST 3, JZ 16; DEC and INC 2;
+        MOV of registers 2, to memory 15, CALL 19, RET 8, JMP 15."""
+        loops, to_far_away = module('count').known(), [2, 3, 2, 19, 3, 3, 15, 2, 8, 2, 15]
+        for name, begun, lengths in (
+            ('a', [15, 4, 4, 4, 4], [3, 3, 17]),
+            ('e', [15], [10, 3, 16]),
+            ('w5', [15, 4, 4], [2, 16]),
+            ('conf1000', [15, 4], to_far_away),
+            ('conf1800', [15, 4], to_far_away),
+        ):
             for budget, count in zip(loops[name].budgets, loops[name].count, strict=True):
                 budget = min(budget, 1500000)
                 clock, steps = 0, 0
@@ -144,15 +171,53 @@ class Count(ToolCase):
                     steps += 1
                 self.assertEqual(steps, count, f'{name} at {budget}')
 
-    def test_each_loop_and_program_answers_as_is_known(self) -> None:
-        """A loop with its registers and a C program with its report, which other implementations of the board gave."""
+    def test_each_answers_as_is_known(self) -> None:
+        """With registers, a report or its sum, which other implementations of the board gave."""
         count = module('count')
         self.assertEqual(set(count.known()), set(count.NAMES) - {'start', 'go'})
         for name, run in count.known().items():
             for budget, answer in zip(run.budgets, run.answers, strict=True):
                 _, *words = count.command_line('', 'run', count.source(name), count.run_file(self.room, name, budget))
                 lines = self.pcboard(*words).stdout.splitlines()
-                self.assertEqual(lines if name in count.PROGRAMS else lines[1:3], answer, f'{name} at {budget}')
+                self.assertEqual(count.answer_of(name, lines), answer, f'{name} at {budget}')
+
+    def test_the_books_begin_at_reset(self) -> None:
+        """All registers are 0 but CS, FFFFh, and bit 1 of the flags, and so are 25 lines of the screen; the end is another clock of each."""
+        lines = ['clock 0', ' '.join(f'{name}=0000' for name in 'AX BX CX DX SP BP SI DI'.split()), 'CS=FFFF DS=0000 ES=0000 SS=0000 IP=0000 FL=F002']
+        lines += ['state running', 'lost 0', 'sound 0', 'screen', *[' ' * 80] * 25]
+        at_reset = hashlib.sha256('\n'.join([*lines, '']).encode()).hexdigest()
+        known, books = module('count').known(), module('count').GROUPS['books']
+        for name in books:
+            self.assertEqual((known[name].budgets[0], known[name].count[0], known[name].answers[0]), (0, 0, [f'SHA-256 {at_reset}']), name)
+        self.assertEqual(len({answer for name in books for answer in known[name].answers[1]}), 16)
+
+    def test_no_name_is_of_two_groups(self) -> None:
+        count = module('count')
+        self.assertEqual([name for names in count.GROUPS.values() for name in names], list(count.FOLDERS))
+        self.assertEqual([len(names) for names in count.GROUPS.values()], [6, 16, 16])
+
+    def test_the_tables_of_the_page(self) -> None:
+        """Each name has one row, whose last cell is its figure; the means are those of the rows."""
+        count = module('count')
+        with open(f'{TOP}/docs/speed.md', encoding='utf-8') as file:
+            page = file.read()
+        figures = dict[str, float]()
+        for name in (*count.NAMES, *count.GROUPS):
+            (found,) = re.findall(rf'^\|{name}\|.*\|([\d,.]+)\|$', page, re.M)
+            figures[name] = float(found.replace(',', ''))
+        known = count.known()
+        steps = {name: known[name].count[1] - known[name].count[0] if group == 'books' else 1 for name, group in count.FOLDERS.items()}
+        for group, names in count.GROUPS.items():
+            weights = steps if group == 'books' else dict.fromkeys(names, 1)
+            mean = sum(figures[name] * weights[name] for name in names) / sum(weights[name] for name in names)
+            self.assertAlmostEqual(figures[group], mean, delta=0.11, msg=group)
+
+    def test_cells_of_a_page(self) -> None:
+        """The last cells of a row that begins with a name, and of no other row."""
+        page = self.file('page.md', '|a|b|c|\n|-|-|-|\n|a|x, a|1|\n|aa||2|\n|b|3|\nand |a|b|c|\n')
+        module('count').fill(page, {'a': ['9'], 'aa': ['7', '8'], 'b': [], 'c': ['5']})
+        with open(page, encoding='utf-8') as file:
+            self.assertEqual(file.read(), '|a|b|9|\n|-|-|-|\n|a|x, a|9|\n|aa|7|8|\n|b|3|\nand |a|b|c|\n')
 
     def test_what_the_programs_show(self) -> None:
         """The odd primes below 8,192; no two numbers out of order; the sum of 256 bytes, twice; the trace of a product."""
@@ -169,7 +234,7 @@ class Count(ToolCase):
         if not all(is_there(command, 'bench/programs', package) for command, package in wanted.items()):
             return
         room = shutil.copytree(f'{BENCH}/programs', f'{self.room}/programs')
-        names = [f'{program}.hex' for program in module('count').PROGRAMS]
+        names = [f'{program}.hex' for program in module('count').GROUPS['programs']]
         for name in names:
             os.remove(f'{room}/{name}')
         done = subprocess.run(['make', '-s'], cwd=room, capture_output=True, text=True, check=False)
@@ -188,17 +253,18 @@ class Count(ToolCase):
     def test_refusals(self) -> None:
         self.assertIn("valgrind, which counts, isn't there", self.count('--only', 'a', status=2)[1])
         for words, why in (
-            (['--only', 'x'], 'x is neither a loop nor a C program'),
-            (['--only', ''], 'nothing is neither'),
+            (['--only', 'x'], 'x is nothing to count: there are start, a, '),
+            (['--only', ''], 'nothing is nothing to count'),
             (['--limit', 'a'], 'a is no limit'),
             (['--limit', 'a=-1'], 'a=-1 is no limit'),
-            (['--limit', 'x=1'], 'x is neither'),
+            (['--limit', 'x=1'], 'x is nothing to count'),
             (['--limit', 'a=1,a=2'], 'two limits'),
             (['--only', 'b', '--limit', 'a=1'], "a has a limit and isn't counted"),
             (['--only', 'sieve,sort', '--limit', 'programs=1'], "programs has a limit and isn't counted"),
             (['--limit', 'programs=1,programs=2'], 'programs has two limits'),
             (['--steps', '--only', 'f'], '--steps counts'),
-            (['--steps', '--limit', 'a=1'], '--limit goes'),
+            (['--steps', '--limit', 'a=1'], '--limit and --write go'),
+            (['--steps', '--write'], '--limit and --write go'),
             ([f'{TOP}/pcboard'], 'is no built program'),
             (['nowhere'], "can't be read"),
             (['--nonsense'], 'unrecognized'),
