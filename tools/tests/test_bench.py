@@ -3,6 +3,7 @@ another emulator is needed: a script stands for valgrind, and Zebludor's own boa
 from __future__ import annotations
 
 import binascii
+import ctypes.util
 import filecmp
 import hashlib
 import io
@@ -16,9 +17,11 @@ from contextlib import redirect_stdout
 from importlib.machinery import SourceFileLoader
 from importlib.util import module_from_spec, spec_from_loader
 from types import ModuleType
+from typing import Any
 from unittest.mock import patch
 
-from tests.support import TOP, ToolCase, is_there
+from tests.support import TOP, ToolCase, is_there, not_run
+from toolbox import program
 
 BENCH = f'{TOP}/bench'
 CALLGRIND = '''==4711== Callgrind, a call-graph generating cache profiler
@@ -60,8 +63,6 @@ class Count(ToolCase):
 
     def count(self, *words: str, status: int = 0) -> tuple[str, str]:
         """What bench/count prints, where the only commands are those of the case's folder and the shell's."""
-        from toolbox import program
-
         with patch.dict(os.environ, {'PCBOARD': program.path(), 'PATH': self.room}):
             return self.tool('bench/count', *words, status=status)
 
@@ -79,6 +80,10 @@ class Count(ToolCase):
         self.assertEqual(line_of('a', figures, 493.0, 'a step'), ('a                  64,303,962     130,434           493.0  a step', True))
         self.assertFalse(line_of('a', figures, 120.1, 'a step', 120.0)[1])
         self.assertTrue(line_of('a', figures, 120.0, 'a step', 120.0)[1])
+
+    def test_a_cell(self) -> None:
+        cells = [module('count').cell_of(each) for each in (-0.02, 34.216, 999.94, 15885.0, 1862844.0)]
+        self.assertEqual(cells, ['0.0', '34.2', '999.9', '15,880', '1,863,000'])
 
     def test_the_difference_of_two_budgets(self) -> None:
         self.with_valgrind()
@@ -276,6 +281,15 @@ class Count(ToolCase):
 class Race(ToolCase):
     """Processor time for each instruction, against other emulators."""
 
+    def racer(self, *names: str) -> Any:
+        """Zebludor's own racer, with the code of these C programs and mixes."""
+        race, codes = module('race'), dict[str, bytes]()
+        for name in names:
+            path = race.source(name)
+            with open(path, encoding='ascii') as file:
+                codes[name] = race.code_of(file.read() if path.endswith('.hex') else self.pcboard('asm', path).stdout)
+        return race.Zebludor(program.path(), codes, self.room)
+
     def run_code(self, body: bytes, end: bytes) -> dict[str, str]:
         """The registers and the state of Zebludor's board after a boot sector, which a far jump at reset starts."""
         sector = module('race').boot_sector(body, end)[:512]
@@ -292,7 +306,7 @@ class Race(ToolCase):
 
     def code(self, loop: str) -> bytes:
         """A loop's bytes."""
-        return bytes(module('race').segment_main(self.pcboard('asm', f'{BENCH}/loops/{loop}.asm').stdout))
+        return bytes(module('race').code_of(self.pcboard('asm', f'{BENCH}/loops/{loop}.asm').stdout))
 
     def test_loop_a_with_an_end(self) -> None:
         race = module('race')
@@ -321,17 +335,56 @@ class Race(ToolCase):
         self.assertEqual(len(race.boot_sector(code, race.TO_END_8086TINY)), 1474560)
 
     def test_instructions_of_a_round(self) -> None:
-        """As many a clock as steps.json has between its budgets."""
-        loops = module('count').known()
-        for name, (instructions, clocks) in module('race').ROUND.items():
-            between = loops[name].count[1] - loops[name].count[0]
-            self.assertAlmostEqual(instructions / clocks * 1000000, between, delta=50)
+        """Of a and b as many a clock as steps.json has between its budgets, by their rounds' clocks in the table of clocks."""
+        known, rounds = module('count').known(), module('race').ROUND
+        for name, clocks in (('a', 4 + 65535 * 23 - 12 + 18), ('b', 12 + 28 + 63 * 17 + 4 + 32 * 96 - 12 + 18)):
+            self.assertAlmostEqual(rounds[name] / clocks * 1000000, known[name].count[1] - known[name].count[0], delta=50)
 
     def test_instructions_between_two_ticks(self) -> None:
-        """Of c, whose entries are steps and no instructions."""
-        count, (instructions, clocks) = module('count').known()['c'].count, module('race').LOOPS['c']
-        budgets = module('count').known()['c'].budgets
-        self.assertAlmostEqual((instructions + 1) / clocks * (budgets[1] - budgets[0]), count[1] - count[0], delta=50)
+        """Of c, whose entries, one in 300 clocks, are steps and no instructions."""
+        known = module('count').known()['c']
+        between = known.budgets[1] - known.budgets[0]
+        self.assertAlmostEqual((module('race').OF_C + 1 / 300) * between, known.count[1] - known.count[0], delta=50)
+
+    def test_instructions_of_a_mix(self) -> None:
+        """Its rounds between two budgets are those that DX counts; the steps between them are steps.json's. Five more end 65,536 of them."""
+        count, rounds = module('count'), module('race').ROUND
+        for name in ('conf1000', 'search'):
+            turns = []
+            for budget in count.known()[name].budgets:
+                report = self.pcboard('run', count.source(name), count.run_file(self.room, name, budget)).stdout
+                turns.append(int(report.split(' DX=')[1][:4], 16))
+            steps = count.known()[name].count[1] - count.known()[name].count[0]
+            self.assertAlmostEqual((rounds[name] - 5) / 65536 * (turns[1] - turns[0]), steps, delta=(rounds[name] - 5) / 65536)
+
+    def test_c_programs_as_com_files(self) -> None:
+        """They end after so many rounds, which four of them show; another round takes as many instructions as are told. The lines of
+        digits grow with their numbers."""
+        race = module('race')
+        racer = self.racer(*race.GROUPS['programs'])
+        probe = [program.path('pcprobe'), '--hex', f'{self.room}/it.hex', f'{self.room}/it.json']
+        for name, code in racer.codes.items():
+            steps = []
+            for times in (3, 4):
+                racer.once(race.com_file(code, times))
+                counted = subprocess.run(probe, input='counts 20000000\ndump 43800 2\nscreen\n', capture_output=True, text=True, check=True).stdout
+                steps.append(sum(int(found) for found in re.findall(r'^[\dA-F]{4}:[\dA-F]{4} (\d+) \d+$', counted, re.M)))
+                self.assertIn(f'\n43800: {times:02X} 00\n', counted, name)
+                if name in ('sieve', 'sort', 'crc', 'matrix'):
+                    self.assertEqual(counted.splitlines()[-25].split()[-1], str(times), name)
+            self.assertAlmostEqual(steps[1] - steps[0], race.ROUND[name], delta=race.ROUND[name] * (0.3 if name == 'digits' else 0.02), msg=name)
+
+    def test_a_mix_as_a_com_file(self) -> None:
+        """conf1000 ends after 65,536 rounds, each so many times: 11 instructions of 74 clocks, with JNZ's 16 for JMP's 15."""
+        race, clocks = module('race'), []
+        racer = self.racer('conf1000')
+        for times in (1, 3):
+            racer.once(race.com_file(racer.codes['conf1000'], times))
+            done = self.pcboard('debug', '--hex', f'{self.room}/it.hex', f'{self.room}/it.json', given='halted\ngo 1000000000\nregs\n')
+            self.assertIn(' DX=0000 ', done.stdout)
+            clocks.append(int(re.findall(r'(?m)^(?:stop \d+ )?clock (\d+)', done.stdout)[-1]))
+        ends = 4 + 15 + 23 + 18 + 4 + 15  # JNZ that isn't taken; JMP; INC and CMP of a word by SS; JE that isn't taken; JMP
+        self.assertAlmostEqual(clocks[1] - clocks[0], 2 * (65536 * 75 - 16 + ends), delta=20)
 
     def test_loops_moved_for_mame(self) -> None:
         """Their ROM begins where MAME has one, and they do what they did: c counts its ticks in DX, the mode word's and those at 420, 720 and so on."""
@@ -351,14 +404,38 @@ class Race(ToolCase):
         race = module('race')
         os.chmod(self.file('dosbox', DOSBOX), 0o755)
         with patch.dict(os.environ, {'PATH': f'{self.room}:/usr/bin:/bin'}):
-            _, normal = race.Dosbox({'a': self.code('a')}, self.room).run('a')
-            _, dynamic = race.DosboxDynamic({'a': self.code('a')}, self.room).run('a')
+            _, normal = race.Dosbox('', {'a': self.code('a')}, self.room).run('a')
+            _, dynamic = race.DosboxDynamic('', {'a': self.code('a')}, self.room).run('a')
             with open(f'{self.room}/LOOP.COM', 'rb') as file:
                 times = int.from_bytes(file.read(3)[1:], 'little')
             self.assertEqual((times, dynamic, normal), (8, 8 * 500 * (1 + 65535 * 3 + 2), 500 * (1 + 65535 * 3 + 2)))
             self.file('dosbox', DOSBOX.replace('"${core%\\"}"', 'normal'))
-            race.Dosbox({}, self.room).run('')
-            self.assertRaisesRegex(race.Failed, 'by this core', race.DosboxDynamic({}, self.room).run, '')
+            race.Dosbox('', {}, self.room).run('')
+            self.assertRaisesRegex(race.Failed, 'by this core', race.DosboxDynamic('', {}, self.room).run, '')
+
+    def test_bochs_without_its_display_library(self) -> None:
+        """A script stands for Debian's Bochs without the package of its display library, and says what that says."""
+        race = module('race')
+        panic = "00000000000p[      ] >>PANIC<< bochsrc:4: display library 'term' not available"
+        os.chmod(self.file('script', f'#!/bin/sh\necho "{panic}"\n'), 0o755)
+        with patch.dict(os.environ, {'PATH': f'{self.room}:/usr/bin:/bin'}), redirect_stdout(io.StringIO()) as printed:
+            self.assertEqual(race.raced([race.Bochs('', {}, self.room)], 1), ({}, False))
+        self.assertEqual(
+            printed.getvalue(),
+            "Bochs: bochsrc:4: display library 'term' not available. Is all of it there? apt-get install bochs bochs-term bochsbios vgabios bsdutils\n",
+        )
+
+    def test_unicorn(self) -> None:
+        """It goes to the end of the code, and tells another halt."""
+        race = module('race')
+        if not race.Unicorn.is_there():
+            not_run(f'bench/race with Unicorn; {race.Unicorn.wants}')
+            return
+        codes = self.racer('sieve').codes | {'a': self.code('a')}
+        racer = race.Unicorn('', codes, self.room)
+        racer.once(race.com_file(codes['sieve'], 2))
+        racer.once(race.with_an_end(codes['a'], 2, 2))
+        self.assertRaisesRegex(race.Failed, "didn't come to the end", racer.once, b'\xf4')
 
     def test_a_race(self) -> None:
         race = module('race')
@@ -366,7 +443,7 @@ class Race(ToolCase):
         mine, its = Runner('Zebludor', turns, 2.0), Runner('Bochs', turns, 3.0)
         with redirect_stdout(io.StringIO()) as printed:
             each, are_all_done = race.raced([mine, its, Runner('DOSBox', turns, None)], 2)
-        self.assertEqual(printed.getvalue(), 'DOSBox: it stands still\n')
+        self.assertEqual(printed.getvalue(), 'DOSBox: it stands still. Is all of it there? a package\n')
         self.assertEqual(turns, ['Zebludor', 'Bochs', 'DOSBox', 'Zebludor', 'Bochs'])
         self.assertFalse(are_all_done)
         self.assertEqual(
@@ -374,13 +451,45 @@ class Race(ToolCase):
             [['a', 'Zebludor', '2.00', 'ns'], ['a', 'Bochs', '3.00', 'ns', 'Zebludor', 'is', '1.50', 'times', 'as', 'fast']],
         )
 
+    def test_the_pages(self) -> None:
+        """A race's ratios are put into the row of each emulator, and their ranges into README's; nothing of a peer that wasn't there."""
+        race = module('race')
+        each = {('Zebludor', 'a'): 2.0, ('Zebludor', 'sieve'): 4.0, ('Zebludor', 'c'): 8.0, ('MAME', 'a'): 9.0, ('MAME', 'c'): 20.0}
+        each |= {('DOSBox normal', 'a'): 8.0, ('DOSBox dynamic', 'a'): 1.5, ('DOSBox normal', 'sieve'): 10.0, ('DOSBox dynamic', 'sieve'): 3.0}
+        os.mkdir(f'{self.room}/docs')
+        for page in ('README.md', 'docs/speed.md'):
+            shutil.copy(f'{TOP}/{page}', f'{self.room}/{page}')
+        with patch.object(race, 'TOP', self.room):
+            race.write(each)
+        with open(f'{self.room}/docs/speed.md', encoding='utf-8') as file:
+            rows = [line for line in file.read().splitlines() if line.count('|') == 13]
+        row = '|{}|{}||{}|{}|' + '|' * 7
+        self.assertEqual(rows[0], f"|Emulator|{'|'.join(race.NAMES)}|")
+        self.assertEqual(
+            rows[2:],
+            [
+                row.format('Zebludor', '2.00', '8.00', '4.00'),
+                row.format('Bochs', '', '', ''),
+                row.format('DOSBox normal', '4.00', '', '2.50'),
+                row.format('DOSBox dynamic', '0.75', '', '0.75'),
+                row.format('8086tiny', '', '', ''),
+                row.format('Unicorn', '', '', ''),
+                row.format('MAME', '4.50', '2.50', ''),
+            ],
+        )
+        with open(f'{self.room}/README.md', encoding='utf-8') as file:
+            self.assertIn('\n|Zebludor is so many [times as fast](docs/speed.md)|1|0.8 to 4.0||2.5 to 4.5|||\n', file.read())
+
     def test_who_is_not_there(self) -> None:
         race = module('race')
-        with patch.object(shutil, 'which', return_value=None):
-            self.assertFalse(any(peer.is_there() for peer in race.PEERS))
-        with patch.dict(os.environ), patch.object(shutil, 'which', return_value=None):
-            os.environ.pop('MAME', None)
-            self.assertFalse(race.Mame.is_there())
+        with patch.dict(os.environ), patch.object(shutil, 'which', return_value=None), patch.object(ctypes.util, 'find_library', return_value=None):
+            for name in ('MAME', 'UNICORN'):
+                os.environ.pop(name, None)
+            with redirect_stdout(io.StringIO()) as printed:
+                self.assertEqual([runner.name for runner in race.runners_of(program.path(), self.room)], ['Zebludor'])
+        lines = printed.getvalue().splitlines()
+        self.assertEqual(len(lines), 6)
+        self.assertIn("DOSBox dynamic isn't there, or not whole: apt-get install dosbox", lines)
 
     def test_refusals(self) -> None:
         for words, why in (
@@ -396,14 +505,14 @@ class Race(ToolCase):
 class Runner:
     """Takes a second to start, and so many seconds more for 10^9 instructions, one more in its second turn; or fails."""
 
-    loops = ('a', 'b')
+    names, wants = ('a', 'b'), 'a package'
 
     def __init__(self, name: str, turns: list[str], seconds: float | None) -> None:
         self.name, self.turns, self.seconds, self.more = name, turns, seconds, 0.0
 
-    def run(self, loop: str) -> tuple[float, float]:
+    def run(self, name: str) -> tuple[float, float]:
         """Its time and the instructions."""
-        if not loop:
+        if not name:
             self.turns.append(self.name)
             return 1.0, 0
         if self.seconds is None:
