@@ -13,7 +13,7 @@ from collections.abc import Callable
 from dataclasses import replace
 
 from tests.repository import KIT, LOGIC, Repository
-from tests.support import TOP, ToolCase, is_there, not_run
+from tests.support import TOP, ToolCase, is_there, not_run, until
 from toolbox import program, proved
 from toolbox.command import write_text
 from toolbox.crates import Crates
@@ -174,9 +174,9 @@ class Stored(Repository):
         self.assertIn('program stored/pcboard, proved elsewhere\n', self.launch('--version').stdout)
 
     def compared(self, name: str = 'pcboard') -> int:
-        """How many sums a call works out."""
+        """How many sums a run works out."""
         self.file('summed', '')
-        self.assertEqual(self.launch('--version', name=name).returncode, 0)
+        self.assertEqual(self.launch(name=name).returncode, 0)
         with open(f'{self.room}/summed', encoding='utf-8') as file:
             return len(file.read())
 
@@ -202,6 +202,54 @@ class Stored(Repository):
             self.assertGreater(self.compared(), 0)
             self.assertEqual(self.compared(), 0)
         self.assertFalse([name for name in os.listdir(os.path.dirname(note)) if name.startswith('note-')])
+
+    def test_a_note_that_is_damaged_is_dropped(self) -> None:
+        """Whichever byte of what decides it is; so is what is no file in its place. The answer is the right one."""
+        self.store()
+        note = self.note()
+        with open(note, 'rb') as file:
+            whole = file.read()
+        end = len(b'\n'.join(whole.split(b'\n')[:3]))
+        for at in (*range(0, end, 31), end - 1):
+            with open(note, 'wb') as file:
+                file.write(whole[:at] + bytes([whole[at] ^ 1]) + whole[at + 1 :])
+            ran = self.launch(has_rt=False)
+            self.assertEqual((ran.returncode, ran.stdout, ran.stderr), (*AT_ONCE, ''), at)
+            self.note()
+        for make in (os.mkfifo, lambda path: os.symlink('/dev/zero', path)):
+            os.remove(note)
+            make(note)
+            self.assertEqual(self.launch(has_rt=False).stderr, '')
+            self.assertTrue(os.path.isfile(note) and not os.path.islink(note))
+
+    def test_its_version_is_of_its_bytes(self) -> None:
+        """Also on a disk that has changed them and no time; a run then believes its note."""
+        self.store()
+        note = self.note()
+
+        def noted() -> list[str]:
+            with open(note, encoding='utf-8') as file:
+                return file.read().split('\n')
+
+        before = noted()
+        with open(f'{self.stored}/pcboard', 'r+b') as rotten:
+            rotten.write(b'#?')
+        self.assertTrue(until(lambda: self.launch(has_rt=False).returncode == 127 and noted() != before))
+        times = noted()[2:]
+        with open(note, 'w', encoding='utf-8') as file:
+            file.write('\n'.join(before[:2] + times))
+        told = self.launch('--version', has_rt=False)
+        self.assertIn("stored/pcboard isn't taken: it isn't the one of which stored/PROVED tells: its SHA-256 is another", told.stdout)
+        self.assertIn('program none\n', told.stdout)
+        self.assertNotIn("isn't taken", self.launch(has_rt=False).stderr)
+
+    def test_it_ends_on_no_option_of_a_shell(self) -> None:
+        self.store()
+        self.launch()
+        for name, options in (('SHELLOPTS', ('errexit', 'nounset', 'noglob', 'noclobber', 'keyword', 'posix', 'monitor')), ('BASHOPTS', ('failglob', 'nullglob'))):
+            for option in options:
+                ran = self.start('env', f'{name}={option}', f'{self.top}/pcboard', 'run', has_rt=False)
+                self.assertEqual((ran.returncode, ran.stdout, ran.stderr), (*AT_ONCE, ''), option)
 
     def test_each_looks_at_its_own_sources(self) -> None:
         """Those of pcprobe's crates are none of pcboard's, whatever becomes of them."""
