@@ -8,11 +8,12 @@ import signal
 import subprocess
 import sys
 
+LONGEST_PROGRAM = 1 << 30  # bytes of one with all that a debugger wants
 HERE = os.path.dirname(os.path.realpath(__file__))
 TOP = os.path.dirname(HERE)
 sys.path[:0] = [f'{TOP}/{folder}' for folder in ('tools', 'dev')]
 
-from toolbox.command import Sorry, read_text, write_text
+from toolbox.command import Sorry, handed_on, read_text, write_text
 from toolbox.program import path as built_program
 from toolbox.runfile import read_run_file, text_of
 
@@ -29,7 +30,7 @@ def program(named: str | None) -> str:
     """The program that is measured. A script that starts it would be measured with it."""
     found = os.path.abspath(named or built_program())
     try:
-        with open(found, 'rb') as file:
+        with open(handed_on(found, LONGEST_PROGRAM), 'rb') as file:
             head = file.read(4)
     except OSError as error:
         raise Sorry(f"{found} can't be read: {error.strerror}") from None

@@ -235,10 +235,10 @@ def taken(name: str) -> str:
     return f'{TOP}/{path[1]}'
 
 
-def limit_memory(megabytes: int) -> None:
+def limit_memory(megabytes: int | None) -> None:
     """From now on each process of the program that begins here takes so much memory at most: one that wants more refuses, with a
-    fault named Memory."""
-    _limits[:] = [megabytes]
+    fault named Memory. None lifts the limit."""
+    _limits[:] = [] if megabytes is None else [megabytes]
 
 
 _limits: list[int] = []

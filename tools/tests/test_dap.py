@@ -432,6 +432,10 @@ class Sessions(ToolCase):
         self.assertIn("can't be read", client.refused('launch', program='nothing.asm', run=run))
         bad = self.file('bad.json', '{}')
         self.assertIn('bad.json', client.refused('launch', program=example('hello')[0], run=bad))
+        deep, pipe = self.file('deep.json', '{"keys":' + '[' * 1_000_000), f'{self.room}/pipe.asm'
+        os.mkfifo(pipe)
+        self.assertIn('(fault 31, NotJson)', client.refused('launch', program=example('hello')[0], run=deep))
+        self.assertIn('it is a FIFO, and no file', client.refused('launch', program=pipe, run=run))
         self.assertEqual(client.leave(), 0)
 
     def test_pauses_and_new_breakpoints(self) -> None:

@@ -127,6 +127,21 @@ class Files(test_desk.Served):
         self.assertIn('Is a directory', self.keep(LATER, given, over=True)['sorry'])
         self.assertIn('Is a directory', self.given()['note'])
 
+    def test_what_is_no_file_in_its_place(self) -> None:
+        """A FIFO isn't waited for, and once it has gone all is as before."""
+        given = self.given()
+        os.remove(self.source)
+        os.mkfifo(self.source)
+        for over in (False, True):
+            self.assertIn('it is a FIFO, and no file', self.keep(LATER, given, over=over)['sorry'])
+        os.remove(self.source)
+        self.put(self.source, FOREVER.encode())
+        self.assertEqual(self.keep(LATER, given)['kept'], [self.source, self.run_file])
+
+    def test_a_run_file_of_any_depth(self) -> None:
+        self.put(self.run_file, b'{"keys":' + b'[' * 1_000_000)
+        self.assertIn('nested too deep', self.given()['note'])
+
     def test_a_disk_that_fills(self) -> None:
         with full_disk(self.folder.name, 64 << 10) as (folder, fill):
             old = FOREVER.encode() + b'; old\n' * 3700

@@ -7,10 +7,11 @@ import contextlib
 import os
 import signal
 import subprocess
+import sys
 import unittest
 from collections.abc import Callable
 
-from tests.support import EXAMPLES, SECONDS, TOP, ToolCase, until
+from tests.support import EXAMPLES, SECONDS, TOP, ToolCase
 
 FOLDERS = ('tools', 'dev', 'bench')
 # Words with a path, `{}`, beyond those that are tried of each tool: one path, two and three.
@@ -18,6 +19,10 @@ WORDS = (
     'tools/judge --same all {} {}',
     'tools/judge --class {} {}',
     'tools/judge {} - --run {}',
+    'tools/judge --seal it.seal {} {}',
+    'tools/judge --seal it.seal hello.asm {}',
+    'tools/judge --sealed {}',
+    'tools/judge page hello.asm {} --keep it',
     'tools/keys a --run {}',
     'tools/moments {} hello.asm hello.json --key 1E --at 1..9',
     'tools/moments {} {} {} --key 1E --at 1..9',
@@ -27,20 +32,42 @@ WORDS = (
     'tools/sound {}',
     'tools/trace --vcd {} hello.asm hello.json',
     'tools/trace --hex {} hello.json',
+    'tools/trace hello.asm {}',
     'tools/try hello.asm --run {}',
+    'tools/try --com {}',
+    'tools/try --nasm {}',
     'tools/try hello.asm --write {}',
     'tools/why run {} hello.json',
     'tools/why run hello.asm {}',
+    'tools/why run --hex {} hello.json',
+    'tools/why asm {}',
+    'tools/why debug hello.asm {}',
     'tools/why --all {}',
+    'tools/why --lines {}',
     'tools/why fault {}',
     'dev/build --seen {} {}',
     'dev/release --into {}',
     'tools/dbg hello.asm {}',
+    'tools/dbg --hex {} hello.json',
+    'tools/dbg --hex hello.hex hello.json --symbols {}',
+    'tools/gdb hello.asm {}',
+    'tools/place rom {}',
     'tools/desk hello.asm {}',
     'tools/term hello.asm {}',
     'bench/count {} --steps',
 )
 MAY_SUCCEED = {'tools/why fault', 'tools/trace --vcd', 'tools/try hello.asm --write'}
+WRITTEN = ('tools/trace --vcd', 'tools/try hello.asm --write', 'tools/sound')  # there the path is what is written
+MORE_THAN_A_PIPE = 1 << 17
+MOST_SECONDS, MOST_KILOBYTES = 5, 300 * 1024  # of the processor, and of the largest process
+# Runs a tool on these streams, and writes into a file what it took.
+MEASURING = """import resource, subprocess, sys
+status = subprocess.run(sys.argv[2:]).returncode
+used = resource.getrusage(resource.RUSAGE_CHILDREN)
+with open(sys.argv[1], 'w', encoding='ascii') as file:
+    print(used.ru_utime + used.ru_stime, used.ru_maxrss, file=file)
+sys.exit(status)
+"""
 
 
 def tools() -> list[str]:
@@ -56,15 +83,17 @@ class EveryTool(ToolCase):
         super().setUp()
         for name in ('hello.asm', 'hello.json'):
             os.symlink(f'{EXAMPLES}/{name}', f'{self.room}/{name}')
+        self.file('page', 'shows = HI\n')
+        self.file('hello.hex', self.pcboard('asm', f'{EXAMPLES}/hello.asm').stdout)
         from toolbox import program
 
-        self.environment = {'PATH': '/usr/bin:/bin', 'HOME': self.room, 'PCBOARD': program.path()}
+        self.environment = {'PATH': '/usr/bin:/bin', 'HOME': self.room, 'PCBOARD': program.path(), 'PCPROBE': program.path('pcprobe')}
 
-    def begin(self, tool: str, *words: str, out: int = subprocess.PIPE) -> subprocess.Popen[str]:
-        """Starts a tool, whose standard input is empty."""
+    def begin(self, tool: str, *words: str, out: int = subprocess.PIPE, given: int = subprocess.DEVNULL, by: tuple[str, ...] = ()) -> subprocess.Popen[str]:
+        """Starts a tool, whose standard input is empty where nothing is said; by another command, if one is named."""
         return subprocess.Popen(
-            ['env', '--default-signal=INT', f'{TOP}/{tool}', *words],
-            stdin=subprocess.DEVNULL,
+            [*by, 'env', '--default-signal=INT', f'{TOP}/{tool}', *words],
+            stdin=given,
             stdout=out,
             stderr=subprocess.PIPE,
             text=True,
@@ -73,9 +102,9 @@ class EveryTool(ToolCase):
             start_new_session=True,
         )
 
-    def run_tool(self, line: str, out: int = subprocess.PIPE) -> tuple[int, str, str]:
+    def run_tool(self, line: str, out: int = subprocess.PIPE, by: tuple[str, ...] = ()) -> tuple[int, str, str]:
         """Its status and what it prints. It neither ends in a traceback nor begins to prove."""
-        with self.begin(*line.split(), out=out) as process:
+        with self.begin(*line.split(), out=out, by=by) as process:
             try:
                 printed, err = process.communicate(timeout=SECONDS)
             except subprocess.TimeoutExpired:
@@ -149,23 +178,43 @@ class EveryTool(ToolCase):
         lines = [*WORDS, *(f'{tool} {{}} {{}}' for tool in tools())]
         self.each(check, [line.replace('{}', path) for line in lines for path in (f'{self.room}/none/none', self.room)])
 
+    def test_what_is_no_file_or_has_no_end(self) -> None:
+        """A FIFO, a device, a file of 2 GB and brackets a million deep end at once in every tool that takes a file, and cost little."""
+        os.mkfifo(f'{self.room}/fifo')
+        os.symlink('/dev/zero', f'{self.room}/endless')
+        with open(f'{self.room}/long', 'wb') as file:
+            file.truncate(1 << 31)
+        self.file('deep', '{"version":1,"ram":64,"sw1":0,"sw2":0,"budget":1000,"keys":' + '[' * 1_000_000)
+        lines = [*(line for line in WORDS if not line.startswith(WRITTEN)), *(f'{tool} {{}} {{}}' for tool in tools())]
+        self.each(self.ends_at_once, [line.replace('{}', path) for line in lines for path in ('fifo', 'endless', 'long', 'deep')])
+
+    def ends_at_once(self, line: str) -> None:
+        """It refuses in a sentence, with status 2, unless it has read a file whose brackets are its own affair."""
+        took = f'{self.room}/took-{abs(hash(line))}'
+        status, _, err = self.run_tool(line, by=(sys.executable, '-S', '-c', MEASURING, took))
+        with open(took, encoding='ascii') as file:
+            seconds, kilobytes = map(float, file.read().split())
+        self.assertLess(seconds, MOST_SECONDS, line)
+        self.assertLess(kilobytes, MOST_KILOBYTES, line)
+        self.assertIn(status, (1, 2) if 'deep' in line or not line.startswith('tools/') else (2,), f'{line}: {err}')
+        self.assertNotEqual((status, err), (2, ''), line)
+
     def test_control_c(self) -> None:
-        """As the terminal sends it, where a tool waits for a file."""
-        os.mkfifo(f'{self.room}/waits')
+        """As the terminal sends it, where a tool waits for the rest of what is typed: it has read a part, as there is more than a pipe holds."""
         for line in (
-            'tools/judge waits',
-            'tools/keys --read waits',
-            'tools/table waits',
-            'tools/try hello.asm --run waits',
-            'tools/why run waits hello.json',
-            'tools/runfile --from waits',
-            'tools/trace hello.asm waits',
-            'tools/dbg hello.asm waits',
+            'tools/judge page -',
+            'tools/keys -',
+            'tools/table -',
+            'tools/sound it.wav',
+            'tools/picture it.svg',
+            'tools/why fault',
+            'tools/dbg hello.asm hello.json',
         ):
-            with self.subTest(line=line), self.begin(*line.split()) as process:
-                writing = self.opened(process, f'{self.room}/waits')
+            with self.subTest(line=line), self.begin(*line.split(), given=subprocess.PIPE) as process:
+                assert process.stdin
+                process.stdin.write('\n' * MORE_THAN_A_PIPE)
+                process.stdin.flush()
                 err = self.interrupted(process)
-                os.close(writing)
                 self.assertNotIn('Traceback', err, line)
                 self.assertNotEqual(process.returncode, 0, line)
 
@@ -177,21 +226,6 @@ class EveryTool(ToolCase):
                 return process.communicate(timeout=10)[1]
         os.killpg(process.pid, signal.SIGKILL)
         return self.fail(f'control-C ends it not: {process.args!r}')
-
-    def opened(self, process: subprocess.Popen[str], path: str) -> int:
-        """The other end of a pipe, once the tool has opened it."""
-        found = list[int]()
-
-        def is_opened() -> bool:
-            with contextlib.suppress(OSError):
-                found.append(os.open(path, os.O_WRONLY | os.O_NONBLOCK))
-            return bool(found) or process.poll() is not None
-
-        until(is_opened)
-        if not found:
-            process.kill()
-            self.fail(f'it never opened the pipe: {process.args!r}')
-        return found[0]
 
 
 if __name__ == '__main__':

@@ -246,7 +246,10 @@ class Stored(Repository):
     def test_it_ends_on_no_option_of_a_shell(self) -> None:
         self.store()
         self.launch()
-        for name, options in (('SHELLOPTS', ('errexit', 'nounset', 'noglob', 'noclobber', 'keyword', 'posix', 'monitor')), ('BASHOPTS', ('failglob', 'nullglob'))):
+        for name, options in (
+            ('SHELLOPTS', ('errexit', 'nounset', 'noglob', 'noclobber', 'keyword', 'posix', 'monitor')),
+            ('BASHOPTS', ('failglob', 'nullglob')),
+        ):
             for option in options:
                 ran = self.start('env', f'{name}={option}', f'{self.top}/pcboard', 'run', has_rt=False)
                 self.assertEqual((ran.returncode, ran.stdout, ran.stderr), (*AT_ONCE, ''), option)

@@ -9,6 +9,7 @@ import threading
 import time
 from typing import Callable, Iterator
 
+from toolbox import reading
 from toolbox.writing import write_whole
 
 HINT_STATUS = 2
@@ -148,15 +149,40 @@ def state_folder() -> str:
     return os.path.join(state, 'zebludor')
 
 
-def read_text(path: str) -> str:
+def read_text(path: str, most: int = reading.LONGEST) -> str:
     """A file's text, `-` for standard input. Bytes that aren't UTF-8 stay visible as escapes."""
+    octets = read_input(most) if path == '-' else read_bytes(path, most)
+    return octets.decode('utf-8', 'backslashreplace')
+
+
+def read_bytes(path: str, most: int = reading.LONGEST) -> bytes:
+    """A file's bytes, of which there may be so many."""
     try:
-        if path == '-':
-            return sys.stdin.buffer.read().decode('utf-8', 'backslashreplace')
-        with open(path, 'rb') as file:
-            return file.read().decode('utf-8', 'backslashreplace')
+        return reading.read_whole(path, most)
     except OSError as error:
         raise Sorry(f"{path} can't be read: {error.strerror}") from None
+
+
+def read_input(most: int = reading.LONGEST) -> bytes:
+    """The bytes of standard input."""
+    try:
+        octets = sys.stdin.buffer.read(most + 1)
+    except OSError as error:
+        raise Sorry(f"standard input can't be read: {error.strerror}") from None
+    if len(octets) > most:
+        raise Sorry(f'standard input has more than {most:,} bytes')
+    return octets
+
+
+def handed_on(path: str, most: int = reading.LONGEST) -> str:
+    """The path of a file that a program opens. What can't be read at all that program refuses in its own words."""
+    try:
+        reading.check(path, most)
+    except reading.Unfit as error:
+        raise Sorry(f"{path} can't be read: {error.strerror}") from None
+    except OSError:
+        pass
+    return path
 
 
 def write_text(path: str, text: str) -> None:

@@ -8,6 +8,9 @@ import shutil
 import sys
 import tempfile
 
+from toolbox import reading
+from toolbox.command import handed_on, read_bytes
+
 MARK, END_OF_FILE, LAST_PLAIN = b'\xEF\xBB\xBF', b'\x1A', 0x7E
 _copies: dict[tuple[str, int, int], str] = {}
 _told = set[bytes]()
@@ -50,21 +53,18 @@ def text_of(octets: bytes) -> str:
 
 def own_lines(path: str) -> list[str]:
     """A source's lines as its writer has them."""
-    with open(path, 'rb') as file:
-        octets = file.read().removeprefix(MARK)
-    return [text_of(line.rstrip(b'\r')) for line in octets.split(b'\n')]
+    return [text_of(line.rstrip(b'\r')) for line in read_bytes(path).removeprefix(MARK).split(b'\n')]
 
 
 def handed(path: str) -> str:
     """The path of what the program is handed of a source: the file itself where it is plain, or can't be read, else a copy. That
-    it is a copy is told once."""
+    it is a copy is told once. What is no file is refused."""
     try:
         found = os.stat(path)
         key = os.path.realpath(path), found.st_mtime_ns, found.st_size
         if key in _copies:
             return _copies[key]
-        with open(path, 'rb') as file:
-            octets = file.read()
+        octets = reading.read_whole(handed_on(path))
     except (OSError, ValueError):
         return path
     plain = plain_of(octets) if not octets.isascii() or END_OF_FILE in octets[-3:] else octets

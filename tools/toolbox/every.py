@@ -6,7 +6,7 @@ import contextlib
 import re
 from typing import Callable, Iterator
 
-from toolbox.command import Sorry, waiting
+from toolbox.command import Sorry, read_bytes, waiting
 from toolbox.comments import handed
 from toolbox.faults import Fault, fault_in
 from toolbox.hints import STATEMENTS, WORDS
@@ -112,7 +112,6 @@ def refused_in(copy: Copy, say: Callable[[str], None] = lambda _: None) -> Itera
 def refused_lines(path: str, is_told: bool = True) -> Iterator[tuple[Fault, bool]]:
     """Those of a file. How far it is, is told on standard error."""
     tells = waiting(f'why: asking about the lines of {path}') if is_told else contextlib.nullcontext(lambda _: None)
-    with open(handed(path), encoding='utf-8', errors='surrogateescape', newline='') as file:
-        copy = Copy(file.read())
+    copy = Copy(read_bytes(handed(path)).decode('utf-8', 'surrogateescape'))
     with tells as say:
         yield from filter(None, refused_in(copy, say))

@@ -16,6 +16,7 @@ from toolbox.program import LAST_CLOCK, Files, Session
 from toolbox.report import REGISTERS, ROWS, Report, registers_of
 from toolbox.scancodes import BARE, Stroke, stamped, strokes_of
 from toolbox.services import Served, served_of
+from toolbox.shown import clipped
 
 # What a chip's line tells, by its words (docs/probe.md).
 CHIPS = (
@@ -313,7 +314,7 @@ class Expectation:
             came = str(sorry)
         except Sorry as sorry:
             raise Sorry(f'{self.where}: {sorry}') from None
-        return Outcome(self.said(title), None if came is None else f'came {came}', self.weight, has_run(subject.report))
+        return Outcome(self.said(title), None if came is None else f'came {clipped(came)}', self.weight, has_run(subject.report))
 
 
 def has_run(report: Report) -> bool:

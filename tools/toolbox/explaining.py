@@ -7,7 +7,7 @@ import os
 import re
 from typing import Any, Optional
 
-from toolbox import program
+from toolbox import limits, program, reading
 from toolbox.command import tool, waiting
 from toolbox.comments import handed
 from toolbox.faults import Fault, fault_in
@@ -16,9 +16,9 @@ from toolbox.messages import TWICE_DEFINED, first_definition
 from toolbox.nowhere import told_of_end
 from toolbox.report import Report
 from toolbox.runfile import CHOICES, DEFAULTS, FIRST_CHOICES
+from toolbox.shown import LONGEST_LINE, bounded, clipped
 from toolbox.walk import at_end
 
-LONGEST = 160
 FIRST_LOST, LAST_LOST = 0xA0000, 0xF0000
 RANGES = {'version': (1, 2), 'ram': (0, 65535), 'sw1': (0, 255), 'sw2': (0, 31), 'budget': (0, None)}
 TASKS = {'run': 2, 'asm': 1, 'debug': 2}
@@ -31,10 +31,10 @@ class Written(float):
 def lines_of(path: str) -> list[str]:
     """A file's lines, or none where it can't be read."""
     try:
-        with open(path, 'rb') as file:
-            return [line.decode('utf-8', 'replace').rstrip('\r') for line in file.read().split(b'\n')]
+        octets = reading.read_whole(path)
     except OSError:
         return []
+    return [line.decode('utf-8', 'replace').rstrip('\r') for line in octets.split(b'\n')]
 
 
 def of_a_line(path: str, fault: Fault) -> list[str]:
@@ -51,14 +51,14 @@ def of_a_line(path: str, fault: Fault) -> list[str]:
 
 def seen(text: str) -> str:
     """A line as a terminal may show it: other characters as escapes, and no more than its beginning."""
-    plain = ''.join(sign if sign.isprintable() or sign == '\t' else sign.encode('unicode_escape').decode('ascii') for sign in text)
-    return plain if len(plain) <= LONGEST else plain[:LONGEST] + ' ..'
+    shown = ''.join(sign if sign.isprintable() or sign == '\t' else sign.encode('unicode_escape').decode('ascii') for sign in text)
+    return clipped(shown, LONGEST_LINE)
 
 
 def earlier(lines: list[str], fault: Fault) -> list[str]:
     """The line that defines a name first, where it is defined twice."""
     first = first_definition(lines, fault.line) if fault.line and fault.number == TWICE_DEFINED else None
-    return [f'  {first:5} | {lines[first - 1]}   <- and here first'] if first else []
+    return [f'  {first:5} | {seen(lines[first - 1])}   <- and here first'] if first else []
 
 
 def of_a_record(text: str, number: int) -> Optional[str]:
@@ -88,8 +88,7 @@ def no_number(text: str) -> Any:
 
 def fields_of(path: str) -> Any:
     """A run file's value, with numbers that the board doesn't take marked."""
-    with open(path, 'rb') as file:
-        text = file.read().decode('utf-8')
+    text = reading.read_whole(path).decode('utf-8')
     return json.loads(text, parse_int=signed, parse_float=Written, parse_constant=no_number)
 
 
@@ -211,8 +210,7 @@ def of_an_opening(paths: list[str]) -> list[str]:
     """Which file can't be opened or read, and why, in the order in which the program reads them."""
     for path in paths:
         try:
-            with open(path, 'rb') as file:
-                file.read(1)
+            reading.read_whole(path)
         except OSError as error:
             return [f"{path} can't be opened: {error.strerror}"] + similar(path)
     return ['all files can be opened: reading standard input or writing standard output failed']
@@ -243,7 +241,7 @@ def explained(fault: Fault, file: Optional[str], run_file: Optional[str], is_hex
         sentences += of_a_run_file(run_file, number)
     elif number == 36 and file and run_file:
         sentences += of_ram(file, run_file, is_hex)
-    return sentences
+    return bounded(sentences) + (limits.of_memory() if kind.name == 'Memory' else [])
 
 
 def of_json_as_source(file: str, run_file: Optional[str]) -> list[str]:
@@ -257,7 +255,7 @@ def of_json_as_source(file: str, run_file: Optional[str]) -> list[str]:
 def of_a_report(report: Report, files: program.Files, tool: str = 'why') -> list[str]:
     """What isn't as most programs want it."""
     with waiting(f'{tool}: looking at the run'), at_end(files, report) as session:
-        return told_of_end(report, files, session)
+        return bounded(told_of_end(report, files, session))
 
 
 def after_run(words: list[str], status: int, err: str) -> list[str]:

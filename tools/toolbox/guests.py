@@ -13,16 +13,16 @@ from dataclasses import dataclass
 from typing import Any, Iterator
 
 from toolbox import loading
-from toolbox.command import Sorry
+from toolbox.command import Sorry, handed_on, read_bytes
 from toolbox.loading import Loaded, check_ram
-from toolbox.program import Files, is_hex_name
+from toolbox.program import Files, is_hex_name, limited
 from toolbox.runfile import DEFAULTS, read_run_file, text_of, with_run_file
 from toolbox.services import MOST_RAM
 
 BINARIES = ('.com', '.exe', '.bin')
 COMPILERS = {'nasm': ('nasm', 'nasm'), 'bcc': ('bcc', 'bcc elks-libc')}  # the command, and Debian's packages
 FIRST_OF_BCC = 'crt0.o'  # what stands before a program, of bcc's library
-LONGEST = 1 << 20
+LONGEST = 1 << 20  # bytes of a program, which is all that the processor reaches
 
 
 @dataclass(frozen=True)
@@ -69,26 +69,14 @@ def asked(given: argparse.Namespace) -> tuple[Guest, Files]:
     return guest_of(given), Files(given.file, given.run_file or '', given.hex or is_hex_name(given.file), given.symbols)
 
 
-def read_bytes(path: str) -> bytes:
-    """A file's bytes."""
-    try:
-        with open(path, 'rb') as file:
-            octets = file.read(LONGEST + 1)
-    except OSError as error:
-        raise Sorry(f"{path} can't be read: {error.strerror}") from None
-    if len(octets) > LONGEST:
-        raise Sorry(f'{path} has more than {LONGEST:,} bytes, which no memory of a PC holds')
-    return octets
-
-
 def loaded(guest: Guest, ram: int, room: str) -> Loaded:
     """The program with the services in memory."""
     args = guest.args or ''
     if guest.compiler:
-        return of_bytes(guest, read_bytes(compiled(guest, room)), ram, '')
+        return of_bytes(guest, read_bytes(compiled(guest, room), LONGEST), ram, '')
     if guest.is_com or ending(guest.file) in BINARIES:
-        return of_bytes(guest, read_bytes(guest.file), ram, '.com' if guest.is_com else ending(guest.file))
-    read_bytes(guest.file)
+        return of_bytes(guest, read_bytes(guest.file, LONGEST), ram, '.com' if guest.is_com else ending(guest.file))
+    read_bytes(guest.file, LONGEST)
     return loading.source(guest.file, args, ram)
 
 
@@ -110,13 +98,12 @@ def compiled(guest: Guest, room: str) -> str:
     """What NASM or bcc makes of a source. Their messages are shown."""
     assert guest.compiler
     command, package = COMPILERS[guest.compiler]
-    stem, folder = os.path.splitext(os.path.basename(guest.file))[0], os.path.dirname(guest.file) or '.'
+    stem, folder = os.path.splitext(os.path.basename(handed_on(guest.file)))[0], os.path.dirname(guest.file) or '.'
     made = os.path.join(room, f'{stem}.com')
     words = {'nasm': ['-f', 'bin', f'-I{folder}/', '-o', made, guest.file], 'bcc': ['-Md', f'-I{folder}', '-o', made, guest.file]}[guest.compiler]
-    try:
-        ran = subprocess.run([command, *words], stdin=subprocess.DEVNULL, capture_output=True, text=True, errors='replace', check=False)
-    except OSError:
-        raise Sorry(f"{command} isn't there; install it (Debian: apt-get install {package})") from None
+    if not shutil.which(command):
+        raise Sorry(f"{command} isn't there; install it (Debian: apt-get install {package})")
+    ran = subprocess.run(limited([command, *words]), stdin=subprocess.DEVNULL, capture_output=True, text=True, errors='replace', check=False)
     messages = (ran.stdout + ran.stderr).strip()
     if ran.returncode or not os.path.isfile(made):
         if FIRST_OF_BCC in messages:

@@ -6,9 +6,10 @@ import os
 import re
 from dataclasses import replace
 
-from toolbox.command import read_text
+from toolbox.command import Sorry, read_text
 from toolbox.listing import Line, Listing, physical
 
+MOST_LINES = 1 << 20  # of a source that a listing tells
 SOURCES = ('.asm', '.nasm', '.s', '.inc')
 ROW = re.compile(r'\d{5} ([0-9A-F]{4}|    ) (.{36}) ?(.*)')  # of as86: offset, bytes, text
 OF_MODULE = re.compile(r' *(\S+) +(\S+) +0 +([0-9A-Fa-f]{8})')  # of ld86: a name of code
@@ -18,6 +19,8 @@ OF_C, FILE_OF_C, SECTION = re.compile(r'! (\d+) ?(.*)'), re.compile(r'# (\d+) "(
 def filled(lines: list[Line]) -> list[Line]:
     """A file's lines from its first on, those that no listing has blank."""
     known = {one.number: one for one in lines}
+    if max(known, default=0) > MOST_LINES:
+        raise Sorry(f'a listing has the line {max(known):,}, and {MOST_LINES:,} are the most')
     return [known.get(number, Line(number, '', None, b'', lines[0].source)) for number in range(1, max(known, default=0) + 1)]
 
 

@@ -4,17 +4,16 @@ from __future__ import annotations
 import contextlib
 import hashlib
 import os
-import shutil
 import tempfile
 from typing import Any, Iterator
 
 from toolbox import guests
-from toolbox.command import Sorry
+from toolbox.command import Sorry, read_bytes
 from toolbox.comments import handed
 from toolbox.expectations import Outcome, Planned, Subject
 from toolbox.faults import fault_in
 from toolbox.feedback import Feedback
-from toolbox.guests import BINARIES, Guest, ending, prepared, read_bytes
+from toolbox.guests import BINARIES, LONGEST, Guest, ending, prepared
 from toolbox.listing import parts_of
 from toolbox.program import LAST_CLOCK, Files, refusal, run
 from toolbox.report import report_of
@@ -87,7 +86,7 @@ def judge_file(
     page: list[Planned], guest: Guest, run_file: str | None, is_hex: bool, symbols: str | None = None, feedback: Feedback | None = None
 ) -> list[Outcome]:
     """All that a page expects of a file; a student is told of it, if `feedback` is given."""
-    read_bytes(guest.file)
+    read_bytes(guest.file, LONGEST)
     found: list[Outcome] = []
     for number, planned in enumerate(page, 1):
         with files_of(planned, guest, run_file, is_hex, symbols) as files:
@@ -103,7 +102,7 @@ def judge_file(
 
 def sum_of(guest: Guest, is_hex: bool) -> str:
     """A sum of a program's bytes at their addresses, whatever its text is like: empty if it has none, or is refused."""
-    octets = read_bytes(guest.file)
+    octets = read_bytes(guest.file, LONGEST)
     if is_hex or not (guest.is_com or guest.compiler or ending(guest.file) in BINARIES):
         ran = None if is_hex else run(['asm', '--', handed(guest.file)])
         octets = repr(parts_of(image_of(octets.decode('ascii', 'replace') if ran is None else ran.out))).encode()
@@ -122,8 +121,9 @@ def keep(page: list[Planned], guest: Guest, run_file: str | None, is_hex: bool, 
 
 def keep_one(path: str, to: str) -> None:
     """Copies a file to where none is."""
+    octets = read_bytes(path)
     try:
-        with open(path, 'rb') as file, open(to, 'xb') as new:
-            shutil.copyfileobj(file, new)
+        with open(to, 'xb') as new:
+            new.write(octets)
     except OSError as error:
         raise Sorry(f"{to} can't be written: {error.strerror}") from None

@@ -5,11 +5,12 @@ import os
 import re
 from dataclasses import dataclass, field, replace
 
-from toolbox.command import Sorry, read_text
+from toolbox.command import Sorry, read_bytes, read_text
 from toolbox.comments import handed, own_lines
 from toolbox.program import Files, answer_of, given_text
 
 ADDRESS_COLUMNS = 28
+PLACED = re.compile(r'([0-9A-F]{4}):([0-9A-F]{4}) ([0-9A-F]*)\+? ')
 PROBE_NAME = 'PROBE_OF_LABELS'
 
 
@@ -18,7 +19,7 @@ def physical(segment: int, offset: int) -> int:
     return (16 * segment + offset) % (1 << 20)
 
 
-@dataclass(frozen=True)
+@dataclass(frozen=True, slots=True)
 class Line:
     """A line of a source that places bytes, or none (then its address is None). Of Intel HEX it names its file: by the full path, or
     by a bare name if no file has that text."""
@@ -92,10 +93,10 @@ def label_in(line: str) -> str | None:
     return found[1] if found and found[1].upper() not in ('ES', 'CS', 'SS', 'DS') else None
 
 
-def line_of(number: int, row: str) -> Line:
-    """A row of the listing."""
-    found = re.match(r'([0-9A-F]{4}):([0-9A-F]{4}) ([0-9A-F]*)\+? ', row)
-    text = row[ADDRESS_COLUMNS:]
+def line_of(number: int, row: str, own: str | None = None) -> Line:
+    """A row of the listing, with the line as its writer has it, if that is told."""
+    found = PLACED.match(row) if row[4:5] == ':' else None
+    text = row[ADDRESS_COLUMNS:] if own is None else own
     if not found:
         return Line(number, text, None, b'')
     return Line(number, text, (int(found[1], 16), int(found[2], 16)), bytes.fromhex(found[3]))
@@ -135,15 +136,14 @@ def listing_of(files: Files) -> Listing:
     if files.symbols:
         raise Sorry(f'{files.file} is a source, which has its own labels; --symbols goes with --hex')
     rows, own = answer_of(['asm', '--list', '--', handed(files.file)]).split('\n')[:-1], own_lines(files.file)
-    lines = [replace(line_of(number, row), text=own[number - 1]) for number, row in enumerate(rows, 1)]
+    lines = [line_of(number, row, own[number - 1]) for number, row in enumerate(rows, 1)]
     found = Listing(lines)
     for line in lines:
         if line.address:
             found.at.setdefault(physical(*line.address), line)
-    names = [name for name in map(label_in, (each.text for each in lines)) if name]
+    names = [name for name in map(label_in, (each.text for each in lines if ':' in each.text)) if name]
     if names:
-        with open(handed(files.file), encoding='utf-8', errors='surrogateescape', newline='') as file:
-            found.labels.update(probed(file.read(), names))
+        found.labels.update(probed(read_bytes(handed(files.file)).decode('utf-8', 'surrogateescape'), names))
     return found
 
 

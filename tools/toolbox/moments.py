@@ -34,6 +34,7 @@ from toolbox.symbols import path_of
 
 AT_ONCE = 8  # moments that a process is handed
 ASKED_AT_ONCE = 64  # of those that the probe is asked for
+LONGEST_KEPT = 1 << 28  # bytes of the file that keeps what was tried
 
 
 # Each of the many runs is short, where nothing says how long it is.
@@ -193,7 +194,7 @@ class Kept:
         if not os.path.exists(self.path):
             return found
         try:
-            kept = json.loads(read_text(self.path))
+            kept = json.loads(read_text(self.path, LONGEST_KEPT))
             if kept['of'] != self._sum:
                 print(f'moments: {self.path} is of other files, clocks or another program; it begins anew', file=sys.stderr)
                 return found
@@ -202,7 +203,7 @@ class Kept:
             for first, last in kept['tried']:
                 found.is_tried[first:last] = b'\1' * (last - first)
             found.tried = sum(found.is_tried)
-        except (ValueError, KeyError, TypeError):
+        except (ValueError, KeyError, TypeError, RecursionError):
             raise Sorry(f'{self.path} keeps no moments that were tried: remove it, or begin in another folder') from None
         return found
 

@@ -2,7 +2,6 @@
 from __future__ import annotations
 
 import select
-import shutil
 import signal
 import subprocess
 import threading
@@ -10,9 +9,9 @@ from dataclasses import dataclass, replace
 from typing import Any, NoReturn
 
 import zebludor
-from zebludor import LAST_CLOCK, TOP, Ran, Unfit, is_hex_name, limit_memory
+from zebludor import LAST_CLOCK, TOP, Ran, Unfit, is_hex_name, limit_memory, limited
 
-from toolbox.command import Sorry, tool
+from toolbox.command import Sorry, handed_on, read_bytes, tool, write_bytes
 from toolbox.comments import handed
 
 __all__ = [
@@ -28,6 +27,7 @@ __all__ = [
     'given_text',
     'is_hex_name',
     'limit_memory',
+    'limited',
     'path',
     'refusal',
     'run',
@@ -71,16 +71,17 @@ class Files:
 
     def words(self, task: str) -> list[str]:
         """The command line of a task on these files. `--` lets a name begin with a hyphen."""
-        return [task, *(['--hex'] if self.is_hex else []), '--', self.file if self.is_hex else handed(self.file), self.run_file]
+        file, run_file = handed_on(self.file) if self.is_hex else handed(self.file), self.run_file and handed_on(self.run_file)
+        return [task, *(['--hex'] if self.is_hex else []), '--', file, run_file]
 
 
 def copied(files: Files, room: str) -> Files:
     """Copies of the files in a folder: a session that is begun anew is of the same program, whatever is edited meanwhile."""
-    try:
-        handed(files.file)  # which tells by its own name whether it is one with other comments
-        return replace(files, file=shutil.copyfile(files.file, f'{room}/file'), run_file=shutil.copyfile(files.run_file, f'{room}/run'))
-    except OSError as error:
-        raise Sorry(f"{error.filename or files.file} can't be read: {error.strerror or error}") from None
+    handed(files.file)  # which tells by its own name whether it is one with other comments
+    made = replace(files, file=f'{room}/file', run_file=f'{room}/run')
+    for path, to in ((files.file, made.file), (files.run_file, made.run_file)):
+        write_bytes(to, read_bytes(path))
+    return made
 
 
 def answer_of(words: list[str]) -> str:
@@ -113,7 +114,7 @@ class Session(zebludor.Dialogue):
             return super().started(words, **how)
         from toolbox.starting import started  # which a copy of the launcher's own modules doesn't have
 
-        return started(zebludor.limited(words), **how)
+        return started(limited(words), **how)
 
     def __enter__(self) -> Session:
         return self

@@ -23,6 +23,7 @@ __all__ = [
     'add_keys',
     'budget_of',
     'chosen',
+    'fields_in',
     'read_run_file',
     'report_at',
     'text_of',
@@ -33,8 +34,15 @@ __all__ = [
 
 def read_run_file(path: str) -> dict[str, Any]:
     """A run file's fields. What the values may be is judged by the program."""
+    return fields_in(path, read_text(path))
+
+
+def fields_in(path: str, text: str | bytes) -> dict[str, Any]:
+    """The fields in a run file's text."""
     try:
-        fields = json.loads(read_text(path))
+        fields = json.loads(text)
+    except RecursionError:
+        raise Sorry(f'{path} is no run file: its brackets are nested too deep') from None
     except ValueError as error:
         raise Sorry(f'{path} is no JSON: {error} ({tool("why")} tells more)') from None
     if not isinstance(fields, dict):

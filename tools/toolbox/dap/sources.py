@@ -7,6 +7,7 @@ from urllib.parse import quote, unquote
 
 from toolbox.hex_lines import is_of, text_of_lines
 from toolbox.listing import Listing
+from toolbox.reading import read_whole
 
 Fields = dict[str, Any]
 Kept = tuple[int, int, bytes]  # a file's time, size and bytes
@@ -20,9 +21,8 @@ def path_in(text: str) -> str:
 def kept(path: str) -> Kept | None:
     """A file as it is, or None if it can't be read."""
     try:
-        with open(path, 'rb') as file:
-            at = os.fstat(file.fileno())
-            return at.st_mtime_ns, at.st_size, file.read()
+        at = os.stat(path)
+        return at.st_mtime_ns, at.st_size, read_whole(path)
     except OSError:
         return None
 

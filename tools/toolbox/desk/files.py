@@ -4,14 +4,15 @@ from __future__ import annotations
 
 import difflib
 import hashlib
-import json
 import os
 import re
 import threading
 from dataclasses import dataclass
 from typing import Any
 
-from toolbox.command import Sorry, tool
+from toolbox import runfile
+from toolbox.command import Sorry
+from toolbox.reading import read_whole
 from toolbox.runfile import DEFAULTS, text_of
 from toolbox.writing import write_whole
 
@@ -32,8 +33,7 @@ class Given:
 def octets_of(path: str) -> bytes | None:
     """A file's bytes, or None where there is none."""
     try:
-        with open(path, 'rb') as file:
-            return file.read()
+        return read_whole(path)
     except FileNotFoundError:
         return None
     except OSError as error:
@@ -83,15 +83,7 @@ def difference(before: str, after: str, names: tuple[str, str]) -> list[str]:
 
 def fields_in(path: str, octets: bytes | None) -> Fields:
     """A run file's fields; of no file the usual ones."""
-    if octets is None:
-        return dict(DEFAULTS)
-    try:
-        fields = json.loads(octets)
-    except ValueError as error:
-        raise Sorry(f'{path} is no JSON: {error} ({tool("why")} tells more)') from None
-    if not isinstance(fields, dict):
-        raise Sorry(f'{path} is no run file: it is no JSON object')
-    return fields
+    return dict(DEFAULTS) if octets is None else runfile.fields_in(path, octets)
 
 
 def wrong_field(fields: Fields) -> str | None:
@@ -192,6 +184,6 @@ class Kept:
 def is_same(octets: bytes, fields: Fields) -> bool:
     """Whether a run file says the same, however it is laid out."""
     try:
-        return bool(json.loads(octets) == fields)
-    except ValueError:
+        return runfile.fields_in('', octets) == fields
+    except Sorry:
         return False

@@ -10,6 +10,7 @@ from toolbox.lsp.documents import Document
 from toolbox.lsp.lines import CONSTANT, LABEL, SEGMENT
 from toolbox.lsp.source import Definition, Source, Span
 from toolbox.lsp.text import Fields, Text
+from toolbox.reading import read_whole
 
 NAMESPACE, FUNCTION, VARIABLE, CONSTANT_SYMBOL = 3, 12, 13, 14
 MOST_FILES, LONGEST_FILE, MOST_FOUND = 500, 1 << 20, 1000
@@ -79,11 +80,9 @@ def sources_below(folders: Iterable[str]) -> Iterator[str]:
 def read(path: str) -> Source | None:
     """A file's source, or None if it can't be read or is too long."""
     try:
-        with open(path, 'rb') as file:
-            octets = file.read(LONGEST_FILE + 1)
+        return Source(Text.of(read_whole(path, LONGEST_FILE).decode('utf-8', 'replace')))
     except OSError:
         return None
-    return Source(Text.of(octets.decode('utf-8', 'replace'))) if len(octets) <= LONGEST_FILE else None
 
 
 def workspace_symbols(documents: Iterable[Document], folders: list[str], query: str) -> list[Fields]:
