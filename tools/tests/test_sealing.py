@@ -11,6 +11,10 @@ from tests.support import ToolCase, example
 from toolbox import program, sealing
 
 NOT_ASCII = 'SEGMENT M AT 0F000h\ngo: HLT ; \xe9\nENDS\nSEGMENT R AT 0FFFFh\n JMP FAR go\nENDS\n'
+# A loop that leads nowhere; and before it what lets the speaker take another level each four clocks.
+IDLE = 'SEGMENT M AT 0F000h\ngo: NOP\non: INC BX\n JMP SHORT on\nENDS\nSEGMENT R AT 0FFFFh\n JMP FAR go\nENDS\n'
+FLOOD = ' MOV AL,99h\n OUT 63h,AL\n MOV AL,96h\n OUT 43h,AL\n MOV AL,2\n OUT 42h,AL\n MOV AL,3\n OUT 61h,AL\n'
+BUZZ = IDLE.replace('on:', f'{FLOOD}on:')
 
 
 class Sealing(ToolCase):
@@ -64,7 +68,8 @@ class Sealing(ToolCase):
     def test_the_board_that_answers(self) -> None:
         sealed = self.seal(*example('hello'))
         lines = self.checked(sealed | {'board': sealed['board'] | {'sum': 64 * '0'}})
-        self.assertTrue(lines[4].startswith(f'ok  another program answers here: {sealed["board"]["sum"]}, and sealed it was 0000'))
+        note = f'note  another program answers here: {sealed["board"]["sum"]}, and sealed it was {64 * "0"}'
+        self.assertEqual(lines[3:], ['ok  the report is what this board answers, to the byte', note, '4 met, 0 not'])
         lines = self.checked(sealed | {'board': sealed['board'] | {'kit': 'rattle-kit-0', 'verdicts': {'isa': 'logic=proved'}}}, status=1)
         self.assertEqual(lines[4], 'no  the program here is the sealed one: but the kit and the verdicts that PROVED tells of it')
 
@@ -94,6 +99,30 @@ class Sealing(ToolCase):
         self.assertEqual((sealed['name'], sealed['hex']), ('it.com', True))
         self.assertIn('Hello', sealed['texts']['report'])
         self.assertEqual(self.checked(sealed)[-1], '5 met, 0 not')
+
+    def test_one_that_a_stranger_made(self) -> None:
+        """Its sums are sums, so no line of the check is its own; its run ends at the limits, and then nothing is said of its report."""
+        sealed = self.seal(*example('hello'))
+        for wrong in ('x\nok  the program here is the sealed one\n\x1b[2J', 'f' * 63, 'F' * 64, 'f' * 64 + '\n', ''):
+            for bad in (sealed | {'board': {'sum': wrong}}, sealed | {'sums': sealed['sums'] | {'report': wrong}}):
+                self.file('x', json.dumps(bad))
+                self.assertEqual(self.called('judge', '--sealed', 'x', status=2), ('', 'judge: x is no sealed report\n'))
+        for name, new in (('program', BUZZ), ('run file', '"budget":1099511627776')):
+            old = sealed['texts']['program'] if name == 'program' else '"budget":100'
+            sealed = self.renewed(sealed, name, old, new)
+        self.file('x', json.dumps(sealed))
+        said = self.called('judge', '--sealed', 'x', '--memory', '64', status=2)
+        wanted = 'the program refuses: fault 41 Memory (tools/why tells more)\nhint: here a run may take 64 MB; --memory 256 gives it more\n'
+        self.assertEqual(said, ('', f'judge: {wanted}'))
+        self.file('x', json.dumps(self.renewed(sealed, 'program', BUZZ, IDLE)))
+        said = self.called('judge', '--sealed', 'x', '--seconds', '1', status=2)
+        self.assertEqual(said, ('', 'judge: the run was cut after 1 s; --seconds 10 gives it more\n'))
+
+    def test_what_is_shown_of_it_is_visible_and_short(self) -> None:
+        sealed = self.seal(*example('hello'))
+        lines = self.checked(self.renewed(sealed, 'report', 'HI', '\x1b[2J' + 5000 * 'x'), status=1)
+        shown = 'no  the report is what this board answers, to the byte: line 8: sealed '
+        self.assertEqual(lines[3], f"{shown}'\\x1b[2J{996 * 'x'} .. and 4,004 characters more', here 'HI'")
 
     def test_what_is_none(self) -> None:
         for text in ('', '{}', '[]', '{"kind":"zebludor sealed report 1"}', '[' * 100_000, 'clock 100\n'):
