@@ -222,6 +222,44 @@ class Strangers(ToolCase):
         self.assertIn('(fault 3, BadLine)', self.called('why', '--all', 'told/refused/refused.asm', status=1)[0])
         self.assertIn('has files already', self.called('judge', '--class', page, 'empty.asm', '--feedback', 'told', status=2)[1])
 
+    def test_no_link_is_followed(self) -> None:
+        """Neither of a submission nor of its folder, and what is no file isn't waited for; each has its row and its text."""
+        page, source = self.file('page', 'shows = HI\n'), example('hello')[0]
+        for folder in ('class/anna', 'class/bert', 'teacher'):
+            os.makedirs(f'{self.room}/{folder}')
+        shutil.copy(source, f'{self.room}/teacher/it.asm')
+        shutil.copy(source, f'{self.room}/class/bert/it.asm')
+        os.symlink('../../teacher/it.asm', f'{self.room}/class/anna/it.asm')
+        os.symlink('../teacher', f'{self.room}/class/carl')
+        os.mkfifo(f'{self.room}/class/bert/pipe.asm')
+        os.symlink('class', f'{self.room}/mine')
+        files = [f'mine/{each}' for each in ('anna/it.asm', 'bert/it.asm', 'carl/it.asm', 'bert/pipe.asm')]
+        out, err = self.called('judge', '--class', page, *files, '--feedback', 'told', status=1)
+        rows = [row.split('\t') for row in out.splitlines()[1:]]
+        why = ["it is a link, which isn't followed", '', "its folder carl is a link, which isn't followed", 'it is a FIFO, and no file']
+        self.assertEqual([row[3] for row in rows], [text and f"{file} can't be read: {text}" for file, text in zip(files, why)])
+        self.assertEqual(([row[1] for row in rows], err), (['0', '1', '0', '0'], ''))
+        kept = {folder: sorted(os.listdir(f'{self.room}/told/{folder}')) for folder in os.listdir(f'{self.room}/told')}
+        self.assertEqual(kept, {'it': ['feedback.txt'], 'bert-it': ['feedback.txt', 'it.asm'], 'carl-it': ['feedback.txt'], 'pipe': ['feedback.txt']})
+        self.assertIn("Not judged: it.asm can't be read: its folder carl is a link", self.feedback('carl-it'))
+        out, _ = self.called('judge', '--class', page, 'class/carl/it.asm', status=1)
+        self.assertIn('its folder carl is a link', out)
+
+    def test_what_is_judged_is_what_is_handed_back(self) -> None:
+        """Though the file changes while it is judged."""
+        page, source = self.file('page', 'shows = HI\n'), self.file('it.asm', 'x')
+        with open(example('hello')[0], encoding='ascii') as file:
+            right = file.read()
+        self.file('it.asm', right)
+        self.file('report', self.pcboard('run', *example('hello')).stdout)
+        changing = self.file('changing', f'#!/bin/sh\necho changed > {source}\ncat {self.room}/report\n')
+        os.chmod(changing, 0o755)
+        with mock.patch.dict(os.environ, {'PCBOARD': changing}):
+            out, _ = self.called('judge', '--class', page, source, '--feedback', 'told')
+        self.assertEqual(out.splitlines()[1].split('\t')[1:3], ['1', 'ok'])
+        with open(f'{self.room}/told/it/it.asm', encoding='ascii') as file, open(source, encoding='ascii') as now:
+            self.assertEqual((file.read(), now.read()), (right, 'changed\n'))
+
     def repeats(self, text: str, wanted: str) -> None:
         """Types the commands of a text in a folder where the student's has been copied."""
         there = f'{self.room}/home'

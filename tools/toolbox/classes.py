@@ -8,20 +8,20 @@ import os
 import signal
 import subprocess
 import sys
+import tempfile
 from concurrent.futures import ThreadPoolExecutor
-from dataclasses import dataclass, field
+from dataclasses import dataclass, field, replace
 from itertools import zip_longest
 from typing import Any, Iterator
 
-from toolbox import feedback
-from toolbox.command import PYTHON, waiting, write_text
+from toolbox import feedback, limits, submissions
+from toolbox.command import PYTHON, waiting, write_bytes, write_text
 from toolbox.expectations import Outcome, Planned
 from toolbox.marks import Row, as_csv, as_junit, cell, line_of, tell_copies
 from toolbox.program import path as program_path
 from toolbox.starting import started
 
 HIDDEN = argparse.SUPPRESS
-MEMORY = 256  # megabytes that a run may take, where nothing is said
 JUDGE = os.path.join(os.path.dirname(os.path.dirname(os.path.realpath(__file__))), 'judge')
 
 
@@ -32,6 +32,7 @@ class Class:
     page: str
     planned: list[Planned]
     given: argparse.Namespace
+    folder: str  # below which all files stand
     at_work: set[subprocess.Popen[Any]] = field(default_factory=set)
     is_over: bool = False
 
@@ -41,10 +42,36 @@ class Class:
         return [Outcome(one.said(planned.title), '', one.weight, False) for planned in self.planned for one in planned.expectations]
 
     def row(self, file: str, folder: str | None) -> Row:
-        """A file's row. Its judge hears no Control-C, so that what is done stays done, and is ended with this process."""
+        """A file's row. What is judged, summed and handed back is one copy of it."""
+        with tempfile.TemporaryDirectory(prefix='zebludor-', ignore_cleanup_errors=True) as room:
+            copy = os.path.join(room, os.path.basename(file))
+            try:
+                octets = submissions.octets_of(file, self.folder)
+            except OSError as error:
+                answer: dict[str, Any] = {'why': f"{file} can't be read: {error.strerror}"}
+            else:
+                write_bytes(copy, octets)
+                answer = self.answer(copy, folder)
+            row = self.row_of(file, copy, answer)
+            if folder:
+                feedback.close(folder, row, words_of(self.given), copy)
+        return row
+
+    def row_of(self, file: str, copy: str, answer: dict[str, Any]) -> Row:
+        """The row of what was answered of a copy, in which the file has its own name."""
+
+        def own(text: str) -> str:
+            return text.replace(copy, file)
+
+        them = [Outcome(*fields) for fields in answer['outcomes']] if 'outcomes' in answer else self.outcomes
+        outcomes = [replace(each, but=own(each.but)) if each.but else each for each in them]
+        return Row(file, outcomes, own(answer.get('why', '')), answer.get('image', ''))
+
+    def answer(self, copy: str, folder: str | None) -> dict[str, Any]:
+        """What the judge of a copy answers. It hears no Control-C, so that what is done stays done, and is ended with this process."""
         given = self.given
         words = [*words_of(given), *([f'--feedback={folder}'] if folder else [])]
-        words = [PYTHON, '-S', JUDGE, '--json', *words, '--', self.page, file, *([given.run] if given.run else [])]
+        words = [PYTHON, '-S', JUDGE, '--json', *words, '--', self.page, copy, *([given.run] if given.run else [])]
         streams: dict[str, Any] = {'stdin': subprocess.DEVNULL, 'stdout': subprocess.PIPE, 'stderr': subprocess.PIPE}
         process = started(words, **streams, text=True, errors='replace', start_new_session=True)
         self.at_work.add(process)
@@ -52,7 +79,7 @@ class Class:
             end(process)
         try:
             out, err = process.communicate(timeout=given.seconds)
-            answer = json.loads(out) if process.returncode == 0 else {'why': why_not(process.returncode, err)}
+            answer: dict[str, Any] = json.loads(out) if process.returncode == 0 else {'why': why_not(process.returncode, err)}
         except subprocess.TimeoutExpired:
             end(process)
             process.communicate()
@@ -61,12 +88,7 @@ class Class:
             self.at_work.discard(process)
         if self.is_over and process.returncode:
             raise BrokenOff
-        row = Row(
-            file, [Outcome(*fields) for fields in answer['outcomes']] if 'outcomes' in answer else self.outcomes, answer.get('why', ''), answer.get('image', '')
-        )
-        if folder:
-            feedback.close(folder, row, words_of(given))
-        return row
+        return answer
 
     def stop(self) -> None:
         """Ends what is at work, and what begins from now on."""
@@ -97,7 +119,7 @@ def why_not(status: int, err: str) -> str:
 def words_of(given: argparse.Namespace) -> list[str]:
     """The words that each file's judge is given too."""
     words = [f'--{option}' for option in ('hex', 'services', 'com') if getattr(given, option)]
-    return words + ([f'--args={given.args}'] if given.args is not None else []) + [f'--memory={given.memory or MEMORY}']
+    return words + ([f'--args={given.args}'] if given.args is not None else []) + [f'--memory={given.memory or limits.MEMORY}']
 
 
 def rows_of(them: Class, files: list[str], folders: list[str]) -> Iterator[Row]:
@@ -123,7 +145,8 @@ def rows_of(them: Class, files: list[str], folders: list[str]) -> Iterator[Row]:
 def table(page: str, planned: list[Planned], files: list[str], given: argparse.Namespace) -> int:
     """Prints a row for each file, writes what else is asked for, and returns the exit status."""
     program_path()
-    them, folders = Class(page, planned, given), feedback.folders_of(files, given.feedback) if given.feedback else []
+    them = Class(page, planned, given, submissions.folder_of(files))
+    folders = feedback.folders_of(files, given.feedback) if given.feedback else []
     said, rows = [outcome.said for outcome in them.outcomes], list[Row]()
     has_marks = any(outcome.weight > 1 for outcome in them.outcomes)
     is_shown = '-' not in (given.csv, given.junit)

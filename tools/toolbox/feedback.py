@@ -19,9 +19,7 @@ from toolbox.marks import Row, visible
 from toolbox.program import TOP, Files
 
 TEXT = 'feedback.txt'
-MOST_COPIED = 1 << 24  # bytes of a submission that is refused before it runs
 HEAD = "Type the commands below in Zebludor's folder, with this folder copied into it."
-LINK = 'The submission is a link, which is not followed: neither the file nor lines of it are here.'
 
 
 def folders_of(files: list[str], into: str) -> list[str]:
@@ -63,9 +61,8 @@ class Feedback:
 
     def __init__(self, folder: str, guest: Guest, words: list[str], is_hex: bool) -> None:
         self.folder, self.guest, self.words, self.is_hex = folder, guest, words, is_hex
-        self.name, self.is_link = plain_name(guest.file), os.path.islink(guest.file)
-        self._known = set[tuple[str, ...]]()
-        tell(folder, [self.name, '', LINK if self.is_link else HEAD, ''])
+        self.name, self._known = plain_name(guest.file), set[tuple[str, ...]]()
+        tell(folder, [self.name, '', HEAD, ''])
 
     def tell(self, lines: list[str]) -> None:
         """Adds lines to the text."""
@@ -76,10 +73,10 @@ class Feedback:
         return os.path.join(self.folder, name)
 
     def begins(self, number: int, planned: Planned, files: Files) -> None:
-        """Before a run: its files. A submission that is a link may lead to any file of the teacher's, so it isn't followed."""
-        if number == 1 and not self.is_link:
+        """Before a run: its files."""
+        if number == 1:
             shutil.copyfile(self.guest.file, self.path(self.name))
-        if planned.is_hidden or self.is_link:
+        if planned.is_hidden:
             return
         shutil.copyfile(files.run_file, self.path(f'{number}.json'))
         with open(self.path(f'{number}.page'), 'w', encoding='utf-8', errors='surrogateescape') as file:
@@ -103,7 +100,7 @@ class Feedback:
             self.tell([] if is_met or is_refused else commands(self.folder, self.name, words, number))
         if is_met or is_refused:
             drop(self.folder, number)
-        if not is_met and not self.is_link and (is_refused or not planned.is_hidden):
+        if not is_met and (is_refused or not planned.is_hidden):
             self.explain(files, subject, fault)
         self.tell([''])
 
@@ -152,23 +149,24 @@ def tell(folder: str, lines: list[str]) -> None:
         file.writelines(f'{line}\n' for line in lines)
 
 
-def close(folder: str, row: Row, words: list[str]) -> None:
-    """The text's end: why the file's judge was ended, with the run at which that was, and the mark."""
+def close(folder: str, row: Row, words: list[str], copy: str) -> None:
+    """The text's end: why the file's judge was ended, with the run at which that was, and the mark. Of a file that couldn't be read there
+    is no copy, and its text begins here."""
+    if not os.path.isdir(folder):
+        tell(folder, [plain_name(row.file), ''])
     if row.why:
         at = max((int(name[:-5]) for name in os.listdir(folder) if re.fullmatch('[0-9]+[.]json', name)), default=0) if os.path.isdir(folder) else 0
-        again = commands(folder, plain_name(row.file), words, at) or not_begun(folder, row.file)
+        again = commands(folder, plain_name(row.file), words, at) or not_begun(folder, copy)
         tell(folder, [f'Not judged: {scrubbed(row.why, row.file)}', *again, ''])
     tell(folder, [f'Mark: {row.mark} of {row.of}'])
 
 
-def not_begun(folder: str, file: str) -> list[str]:
-    """The command that repeats the refusal of a file of which no run began, with a copy of it; of a link, of what is no file and of a
-    very large one none."""
-    name = plain_name(file)
-    is_plain = os.path.isfile(file) and not os.path.islink(file) and os.path.getsize(file) <= MOST_COPIED
-    if not is_plain or os.path.exists(os.path.join(folder, name)):
+def not_begun(folder: str, copy: str) -> list[str]:
+    """The command that repeats the refusal of a file of which no run began, with the file itself, if it could be read."""
+    name = plain_name(copy)
+    if not os.path.isfile(copy) or os.path.exists(os.path.join(folder, name)):
         return []
     with contextlib.suppress(OSError):
-        shutil.copyfile(file, os.path.join(folder, name))
+        shutil.copyfile(copy, os.path.join(folder, name))
         return [f'  {tool("try")} {os.path.basename(folder)}/{name}']
     return []
