@@ -57,6 +57,8 @@ INNER = {
     'way_back MOST_PIECE',
     'way_back MOST_SECONDS',
 }
+# What reads files of the repository or of the tools' own: pages, sums, drafts, locks.
+OWN = {'command', 'crates', 'desk.drafts', 'desk.pages', 'manual', 'proved', 'sources', 'tools/desk', 'tools/test'}
 UNITS = {'MB': 1 << 20, 'KB': 1 << 10}
 
 
@@ -77,6 +79,12 @@ def path_of(module: str) -> str:
     if module.startswith('tools/'):
         return f'{TOP}/{module}'
     return f'{TOP}/crates/{module.replace("/", "/src/")}.rt' if '/' in module else f'{TOOLS}/toolbox/{module.replace(".", "/")}.py'
+
+
+def modules() -> dict[str, str]:
+    """The files of the tools, with what each is called here."""
+    found = {path: path[len(f'{TOOLS}/toolbox/') : -3].replace('/', '.') for path in glob.glob(f'{TOOLS}/toolbox/**/*.py', recursive=True)}
+    return found | {path: f'tools/{os.path.basename(path)}' for path in glob.glob(f'{TOOLS}/*') if os.path.isfile(path)}
 
 
 def value_of(module: str, name: str) -> int:
@@ -115,9 +123,7 @@ class Page(unittest.TestCase):
 
     def test_each_limit_of_the_tools_is_there(self) -> None:
         told = {f'{held.partition(" ")[0]} {name}' for _, _, held in self.rows() for name in held.partition(' ')[2].split(', ')}
-        modules = {path: path[len(f'{TOOLS}/toolbox/') : -3].replace('/', '.') for path in glob.glob(f'{TOOLS}/toolbox/**/*.py', recursive=True)}
-        modules |= {path: f'tools/{os.path.basename(path)}' for path in glob.glob(f'{TOOLS}/*') if os.path.isfile(path)}
-        found = {f'{module} {name}' for path, module in modules.items() for name in assigned(path) if re.match('MOST|LONGEST', name)}
+        found = {f'{module} {name}' for path, module in modules().items() for name in assigned(path) if re.match('MOST|LONGEST', name)}
         self.assertEqual(sorted(found - told - INNER), [])
         self.assertEqual(sorted((INNER & told) | (INNER - found)), [])
 
@@ -215,6 +221,16 @@ class Files(ToolCase):
             read_whole('/proc/self/environ', 9)  # a file that says it has none
         with self.assertRaises(IsADirectoryError):
             read_whole(self.room)
+
+    def test_no_other_function_reads_a_file(self) -> None:
+        """But for files of Zebludor's own."""
+        found = set[str]()
+        for path, module in modules().items():
+            with open(path, encoding='utf-8') as file:
+                calls = [each for each in ast.walk(ast.parse(file.read())) if isinstance(each, ast.Call) and ast.unparse(each.func) == 'open']
+            modes = [ast.unparse(each.args[1]) if len(each.args) > 1 else "'r'" for each in calls]
+            found |= {module} if any(not set(mode) & set('wxa+') for mode in modes) else set()
+        self.assertEqual(found - OWN, {'reading'})
 
     def test_lines_of_a_listing(self) -> None:
         """A listing that tells a line's number makes no file of as many lines."""
