@@ -3,6 +3,7 @@ from __future__ import annotations
 
 import os
 import re
+import shutil
 import subprocess
 import unittest
 
@@ -106,7 +107,7 @@ class Pages(ToolCase):
 
     def setUp(self) -> None:
         super().setUp()
-        os.symlink(EXAMPLES, f'{self.room}/examples')
+        shutil.copytree(EXAMPLES, f'{self.room}/examples')
         os.symlink(TOOLS, f'{self.room}/tools')
         from toolbox import program
 
