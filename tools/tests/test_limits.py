@@ -142,6 +142,15 @@ class Runs(ToolCase):
         with mock.patch.dict(os.environ, {'PATH': f'{self.room}/bin:/usr/bin:/bin'}):
             self.assertEqual(self.called('try', files[0], '--nasm', '--seconds', '1', status=2), ('', f'try: {cut}'))
 
+    def test_what_a_compiler_says(self) -> None:
+        """Its first hundred lines, and how many more there are."""
+        os.mkdir(f'{self.room}/bin')
+        os.chmod(self.file('bin/nasm', '#!/bin/sh\nseq 1 500 >&2\nexit 1\n'), 0o755)
+        with mock.patch.dict(os.environ, {'PATH': f'{self.room}/bin:/usr/bin:/bin'}):
+            source = example('hello')[0]
+            err = self.called('try', source, '--nasm', status=2)[1]
+        self.assertEqual(err, f'try: nasm refuses {source}:\n' + ''.join(f'{each}\n' for each in range(1, 101)) + '.. and 400 lines more\n')
+
     def test_memory(self) -> None:
         files = self.program(FLOOD, 100_000_000)
         more = 'hint: here a run may take 32 MB; --memory 128 gives it more\n'

@@ -18,6 +18,7 @@ from toolbox.loading import Loaded, check_ram
 from toolbox.program import Files, is_hex_name, limited
 from toolbox.runfile import DEFAULTS, read_run_file, text_of, with_run_file
 from toolbox.services import MOST_RAM
+from toolbox.shown import bounded
 
 BINARIES = ('.com', '.exe', '.bin')
 COMPILERS = {'nasm': ('nasm', 'nasm'), 'bcc': ('bcc', 'bcc elks-libc')}  # the command, and Debian's packages
@@ -104,7 +105,7 @@ def compiled(guest: Guest, room: str) -> str:
     if not shutil.which(command):
         raise Sorry(f"{command} isn't there; install it (Debian: apt-get install {package})")
     ran = subprocess.run(limited([command, *words]), stdin=subprocess.DEVNULL, capture_output=True, text=True, errors='replace', check=False)
-    messages = (ran.stdout + ran.stderr).strip()
+    messages = '\n'.join(bounded((ran.stdout + ran.stderr).strip().split('\n')))
     if ran.returncode or not os.path.isfile(made):
         if FIRST_OF_BCC in messages:
             raise Sorry(f'{command} has no library to link programs with; install it (Debian: apt-get install {package})')
