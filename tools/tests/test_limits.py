@@ -31,6 +31,7 @@ INNER = {
     'data_labels MOST_BYTES',
     'desk.board MOST_LISTED',
     'desk.board MOST_MARKS',
+    'desk.http SECONDS_OF_A_REFUSAL',
     'desk.sound MOST_SAMPLES',
     'disassembly LONGEST',
     'disassembly MOST_LISTED',
@@ -123,7 +124,7 @@ class Page(unittest.TestCase):
 
     def test_each_limit_of_the_tools_is_there(self) -> None:
         told = {f'{held.partition(" ")[0]} {name}' for _, _, held in self.rows() for name in held.partition(' ')[2].split(', ')}
-        found = {f'{module} {name}' for path, module in modules().items() for name in assigned(path) if re.match('MOST|LONGEST', name)}
+        found = {f'{module} {name}' for path, module in modules().items() for name in assigned(path) if re.match('MOST|LONGEST|SECONDS', name)}
         self.assertEqual(sorted(found - told - INNER), [])
         self.assertEqual(sorted((INNER & told) | (INNER - found)), [])
 
