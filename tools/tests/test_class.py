@@ -163,7 +163,9 @@ class Texts(ToolCase):
         os.mkdir(folder)
         for name in ('1.json', '12.json', 'x.json', '12.page'):
             self.file(f'it/{name}', '')
-        close(folder, Row(f'{self.room}/odd name.asm', [Outcome('x', '', 4, False)], f'over 60 s, {self.room}/odd name.asm'), ['--args=a b'])
+        close(
+            folder, Row(f'{self.room}/odd name.asm', [Outcome('x', '', 4, False)], f'over 60 s, {self.room}/odd name.asm'), ['--args=a b'], f'{self.room}/gone'
+        )
         with open(f'{folder}/feedback.txt', encoding='utf-8') as file:
             lines = file.read().splitlines()
         self.assertEqual(lines[0], 'Not judged: over 60 s, odd_name.asm')
