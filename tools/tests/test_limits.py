@@ -207,6 +207,12 @@ class Shown(ToolCase):
                 out, err = self.called('why', option, path, status=1)
                 self.assertEqual((out.count(told), 'there are more: mend these, and ask again' in out + err), (100, is_cut))
 
+    def test_doubtful_lines(self) -> None:
+        path = self.program(' INT 21\n' * 130)[0]
+        for option, told in (('--all', ', line '), ('--lines', ': warning: ')):
+            out, err = self.called('why', option, path)
+            self.assertEqual((out.count(told), (out + err).count('why: .. and 30 lines more')), (100, 1))
+
     def test_a_run_file_with_many_mistakes(self) -> None:
         run = self.file('it.json', '{"version":1,"ram":64,"sw1":0,"sw2":0,"budget":1000,"keys":[' + ','.join(['"x"'] * 5000) + ']}')
         err = self.called('why', 'run', example('hello')[0], run, status=1)[1]

@@ -16,8 +16,12 @@ def clipped(text: str, most: int = LONGEST) -> str:
 
 def bounded(lines: list[str]) -> list[str]:
     """Lines, or the first of them, if they are many."""
-    more = [f'.. and {len(lines) - MOST:,} lines more'] if len(lines) > MOST else []
-    return [*map(clipped, lines[:MOST]), *more]
+    return [*map(clipped, lines[:MOST]), *more(len(lines))]
+
+
+def more(count: int) -> list[str]:
+    """What is said behind the first of so many lines, if not all are shown."""
+    return [f'.. and {count - MOST:,} lines more'] if count > MOST else []
 
 
 def report_of(text: str) -> str:
@@ -25,8 +29,8 @@ def report_of(text: str) -> str:
     head, _, screen = text.partition('\nscreen\n')
     lines = head.split('\n')
     first = next((at for at, line in enumerate(lines, 1) if line.startswith('sound ')), len(lines))
-    more = len(lines) - first - MOST_CHANGES
-    if more <= 0:
+    left_out = len(lines) - first - MOST_CHANGES
+    if left_out <= 0:
         return text
-    told = f'.. and {more:,} changes more, which {named("./pcboard run")} prints'
+    told = f'.. and {left_out:,} changes more, which {named("./pcboard run")} prints'
     return '\n'.join([*lines[: first + MOST_CHANGES], told, 'screen', screen])
