@@ -54,7 +54,9 @@ COPY {package} /
 RUN apt-get update \\
  && apt-get install -y --no-install-recommends /{package} gdb \\
  && rm -rf /{package} /var/lib/apt/lists/* \\
- && mkdir -m 1777 /work
+ && mkdir -m 1777 /work \\
+ && useradd --uid 1000 --home-dir /work zebludor
+USER 1000:1000
 ENV HOME=/work
 WORKDIR /work
 EXPOSE 8800

@@ -438,6 +438,8 @@ class Container(Unpacked):
         text = self.octets('Containerfile').decode()
         self.assertEqual(set(re.findall(r'zebludor_[\w.]+\.deb', text)), {PACKAGE})
         self.assertRegex(text, r'(?m)^FROM docker\.io/library/debian:bookworm-slim$')
+        # What runs in it is no root, once the package is installed and the user is made.
+        self.assertRegex(text, r'(?s)apt-get install.*\n && useradd --uid 1000 .*\nUSER 1000:1000\n(?!.*\n(RUN|USER) )')
         not_run('an image of the Containerfile, which wants podman or docker and the network')
 
 
