@@ -71,6 +71,11 @@ def not_run(what: str) -> None:
         print(f'not run: {what}', flush=True)
 
 
+def rooms_in(folder: str) -> list[str]:
+    """The rooms of tools that had this folder for $XDG_RUNTIME_DIR."""
+    return os.listdir(f'{folder}/zebludor') if os.path.isdir(f'{folder}/zebludor') else []
+
+
 def is_there(command: str, what: str, package: str) -> bool:
     """Whether a command is there. If it isn't, what it is wanted for is told as not run."""
     found = shutil.which(command) is not None

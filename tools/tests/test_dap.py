@@ -16,7 +16,7 @@ import unittest.mock
 from typing import Any
 
 from tests.protocol import types
-from tests.support import SECONDS, SLOW, TOOLS, ToolCase, example, not_run
+from tests.support import SECONDS, SLOW, TOOLS, ToolCase, example, not_run, rooms_in
 
 from toolbox.dap.values import number_in
 from toolbox.framing import Broken, Reader
@@ -33,14 +33,13 @@ class Client:
     adapter sends, and each request that it answers with success."""
 
     def __init__(self, room: str) -> None:
-        os.makedirs(f'{room}/tmp', exist_ok=True)
         self.adapter = subprocess.Popen(
             [sys.executable, '-S', f'{TOOLS}/dap'],
             stdin=subprocess.PIPE,
             stdout=subprocess.PIPE,
             stderr=subprocess.PIPE,
             cwd=room,
-            env=os.environ | {'TMPDIR': f'{room}/tmp'},
+            env=os.environ | {'XDG_RUNTIME_DIR': room},
         )
         self.count, self.events, self.requests = 0, list[Fields](), dict[int, Fields]()
         self.is_held = True  # whether requests are; none is that is wrong on purpose
@@ -257,7 +256,7 @@ class Sessions(ToolCase):
         self.assertEqual(clocks[:5], [('breakpoint', 1009), ('breakpoint', 1397), ('breakpoint', 1009), ('step', 948), ('step', 1009)])
         self.assertEqual(clocks[6], ('breakpoint', 1397))
         self.assertEqual(client.leave(), 0)
-        self.assertEqual(os.listdir(f'{self.room}/tmp'), [])
+        self.assertEqual(rooms_in(self.room), [])
 
     def test_random_walks(self) -> None:
         """Forty moves forth and back each; at some of them the board is held against a session that goes there directly."""
@@ -470,7 +469,7 @@ class Sessions(ToolCase):
         self.assertEqual(client.event('stopped')['text'], 'clock 5000: paused')
         client.ask('reverseContinue', threadId=1)
         self.assertEqual(client.end(), 0)  # one that goes on the way
-        self.assertEqual(os.listdir(f'{self.room}/tmp'), [])
+        self.assertEqual(rooms_in(self.room), [])
 
     def test_keys_of_the_console(self) -> None:
         """They come at their stamps; a label of this name is none."""
@@ -627,7 +626,7 @@ class Sessions(ToolCase):
             time.sleep(0.05)
         self.assertTrue(client.response(7000)['success'])
         self.assertEqual(client.end(), 0)
-        self.assertEqual(os.listdir(f'{self.room}/tmp'), [])
+        self.assertEqual(rooms_in(self.room), [])
 
     def test_nothing_is_left(self) -> None:
         for number in (signal.SIGTERM, signal.SIGINT, None):
@@ -638,7 +637,7 @@ class Sessions(ToolCase):
                 client.adapter.send_signal(number)
             self.assertIn(client.end(), (0, 130))
             self.assertEqual(client.complaints, '')
-            self.assertEqual(os.listdir(f'{self.room}/tmp'), [])
+            self.assertEqual(rooms_in(self.room), [])
 
     def test_a_board_that_dies(self) -> None:
         pid = f'{self.room}/pid'

@@ -14,7 +14,6 @@ from toolbox.command import handed_on, read_bytes
 MARK, END_OF_FILE, LAST_PLAIN = b'\xEF\xBB\xBF', b'\x1A', 0x7E
 _copies: dict[tuple[str, int, int], str] = {}
 _told = set[bytes]()
-_room: list[str] = []
 
 
 def plain_of(octets: bytes) -> bytes:
@@ -77,10 +76,8 @@ def handed(path: str) -> str:
 
 def copy_of(path: str, octets: bytes) -> str:
     """A copy in a folder that goes with this process."""
-    if not _room:
-        _room.append(tempfile.mkdtemp(prefix='zebludor-'))
-        atexit.register(shutil.rmtree, _room[0], ignore_errors=True)
-    folder = tempfile.mkdtemp(dir=_room[0])
+    folder = tempfile.mkdtemp(prefix='zebludor-')
+    atexit.register(shutil.rmtree, folder, ignore_errors=True)
     with open(os.path.join(folder, os.path.basename(path)), 'wb') as file:
         file.write(octets)
     return file.name
