@@ -1,6 +1,8 @@
 """tools/gdb: by a client of the tests' own, by hostile ones, and by gdb itself where it is installed."""
 from __future__ import annotations
 
+import contextlib
+import io
 import os
 import random
 import re
@@ -12,14 +14,16 @@ import sys
 import unittest
 import unittest.mock
 
-from tests.support import SECONDS, SLOW, STORED, TOOLS, TOP, ToolCase, children, example, is_at_work, name_of, not_run, processor_seconds, until
+from tests.support import SECONDS, SLOW, STORED, TOOLS, TOP, ToolCase, children, example, is_at_work, name_of, not_run, processor_seconds, rooms_in, until
 
+from toolbox.command import Sorry
+from toolbox.gdb import door
 from toolbox.gdb.board import far_of_address
 from toolbox.gdb.elf import is_call, sleb, uleb
 from toolbox.gdb.flow import goes_on, outermost, target_of
 from toolbox.gdb.frames import pushed_by
 from toolbox.gdb.stub import NAMES
-from toolbox.gdb.wire import framed, unescaped
+from toolbox.gdb.wire import Gone, framed, unescaped
 from toolbox.listing import Line, Listing, listing_of
 from toolbox.places import event_of
 from toolbox.program import Files, Session
@@ -187,6 +191,72 @@ class Client:
         return [int.from_bytes(text[at : at + 4], 'little') for at in range(0, len(text), 4)]
 
 
+class Doors(ToolCase):
+    """Who is let in, by the listener alone."""
+
+    def door(self, of_room: bool = False) -> door.Door:
+        """One at a port of the system's choice, or in the test's folder."""
+        found = door.in_room(self.room) if of_room else door.at_port(0)
+        self.addCleanup(found.close)
+        return found
+
+    def comes(self, to: door.Door, family: int = socket.AF_INET) -> socket.socket:
+        """A client that has come to a door."""
+        line = socket.socket(family)
+        self.addCleanup(line.close)
+        places = {socket.AF_INET: '127.0.0.1', socket.AF_INET6: '::ffff:127.0.0.1'}
+        line.connect(to.target if family == socket.AF_UNIX else (places[family], to.listener.getsockname()[1]))
+        return line
+
+    def test_whose_connection_it_is(self) -> None:
+        """By the kernel's tables, also of a client that speaks the newer protocol; of one that is ending they tell no user."""
+        entrance = self.door()
+        for family in (socket.AF_INET, *((socket.AF_INET6,) if os.path.exists('/proc/net/tcp6') else ())):
+            line = self.comes(entrance, family)
+            connection = entrance.listener.accept()[0]
+            self.addCleanup(connection.close)
+            self.assertEqual(door.user_of(connection), os.geteuid())
+            line.shutdown(socket.SHUT_WR)
+            self.assertIsNone(door.user_of(connection))
+            line.close()
+            self.assertIsNone(door.user_of(connection))
+        with unittest.mock.patch.multiple(door, TABLE='/proc/none', SECOND_TABLE='/proc/none'):
+            line = self.comes(entrance)
+            with contextlib.redirect_stderr(io.StringIO()) as printed:
+                entrance.take(is_busy=False)  # where there is no table nobody is let in
+            self.assertEqual((line.recv(1), printed.getvalue()), (b'', 'gdb: a client whose user is unknown was sent away\n'))
+            with self.assertRaisesRegex(Sorry, "can't be served"):
+                door.at_port(0)
+
+    def test_a_client_that_keeps_silent(self) -> None:
+        """Who comes meanwhile has to wait, and is served once it is let go; so many may."""
+        for family in (socket.AF_INET, socket.AF_UNIX):
+            entrance = self.door(family == socket.AF_UNIX)
+            silent, *others = [self.comes(entrance, family) for _ in range(2)]
+            first = entrance.next(None)
+            assert first
+            self.addCleanup(first.close)
+            with unittest.mock.patch.object(door, 'SECONDS_TO_SPEAK', 0):
+                wire = door.Heard(first, entrance)
+                others[0].sendall(framed('g'))
+                entrance.take(is_busy=False)
+                others += [self.comes(entrance, family) for _ in range(door.MOST_WAITING)]
+                for _ in range(door.MOST_WAITING):
+                    entrance.take(is_busy=False)
+                self.assertEqual(others[-1].recv(1), b'')
+                with self.assertRaises(Gone):
+                    wire.receive()
+            second = entrance.next(None)
+            assert second
+            self.addCleanup(second.close)
+            self.assertEqual(door.Heard(second, entrance).receive(), 'g')
+            silent.close()
+
+    def test_one_that_has_gone(self) -> None:
+        """Nobody stands before the door: it isn't waited for."""
+        self.door().take(is_busy=False)
+
+
 def told_as(lines: list[str]) -> list[int]:
     """The registers of a session as gdb is told them, but for FS and GS, which it hasn't."""
     found = registers_of(lines)
@@ -200,13 +270,12 @@ class Served(ToolCase):
 
     def serve(self, file: str, run: str, *words: str) -> tuple[subprocess.Popen[str], int]:
         """The tool as it serves, with its port."""
-        os.makedirs(f'{self.room}/tmp', exist_ok=True)
         tool = subprocess.Popen(
             [sys.executable, '-S', f'{TOOLS}/gdb', '--serve', file, run, *words],
             stdout=subprocess.PIPE,
             stderr=subprocess.PIPE,
             text=True,
-            env=os.environ | {'TMPDIR': f'{self.room}/tmp'},
+            env=os.environ | {'XDG_RUNTIME_DIR': self.room},
         )
         self.addCleanup(self.leave, tool)
         assert tool.stdout
@@ -249,7 +318,7 @@ class Served(ToolCase):
     def assert_nothing_left(self, status: int = 0) -> None:
         """That the tool ends, with its board, and leaves no file."""
         self.assertEqual(self.tool_process.wait(SECONDS), status)
-        self.assertEqual(os.listdir(f'{self.room}/tmp'), [])
+        self.assertEqual(rooms_in(self.room), [])
 
     def board_of(self) -> int:
         """The board's process."""
@@ -421,8 +490,10 @@ class Served(ToolCase):
         for request in ('c100', 's100', 'cc', 'C05;1'):
             client.ask(request)
         self.assertEqual(client.registers(), wanted)
-        with self.assertRaises(OSError):
-            Client(self.port)
+        other = Client(self.port)  # which is sent away
+        self.addCleanup(other.close)
+        self.assertEqual(other.socket.recv(1), b'')
+        self.assertEqual(client.registers(), wanted)
         client.socket.sendall(b'$g')  # half a packet, and gone
         client.close()
         self.leaves(self.next_client())
@@ -590,7 +661,6 @@ class Gdb(ToolCase):
 
     def started(self, *commands: str) -> subprocess.Popen[str]:
         """gdb on a run that lasts, in a group of its own, as at a terminal."""
-        os.makedirs(f'{self.room}/tmp')
         given = [word for command in (*commands, 'echo ready\\n', 'continue', 'monitor go 0') for word in ('-ex', command)]
         files = self.program(BUSY)[0], self.file('long.json', LONG)
         tool = subprocess.Popen(
@@ -599,7 +669,7 @@ class Gdb(ToolCase):
             stderr=subprocess.STDOUT,
             text=True,
             start_new_session=True,
-            env=os.environ | {'TMPDIR': f'{self.room}/tmp'},
+            env=os.environ | {'XDG_RUNTIME_DIR': self.room},
         )
         self.addCleanup(Served.leave, tool)
         assert tool.stdout
@@ -607,6 +677,26 @@ class Gdb(ToolCase):
             self.assertIsNone(tool.poll())
         self.assertTrue(is_at_work(tool.pid))
         return tool
+
+    def test_a_board_that_was_ended(self) -> None:
+        """Nobody is there any more, which is told at once."""
+        if not GDB:
+            return
+        files = self.program(BUSY)
+        tool = subprocess.Popen(
+            [sys.executable, '-S', f'{TOOLS}/gdb', *files, '-nx', '-q', '-ex', 'monitor exit', '-ex', 'echo ready\n'],
+            stdin=subprocess.PIPE,
+            stdout=subprocess.PIPE,
+            stderr=subprocess.STDOUT,
+            text=True,
+            env=os.environ | {'XDG_RUNTIME_DIR': self.room},
+        )
+        self.addCleanup(Served.leave, tool)
+        assert tool.stdout
+        while 'ready' not in tool.stdout.readline():
+            self.assertIsNone(tool.poll())
+        printed, _ = tool.communicate(f'disconnect\ntarget extended-remote {self.room}/zebludor/{rooms_in(self.room)[0]}/gdb\n', timeout=SECONDS)
+        self.assertIn('Connection refused', printed)
 
     def test_control_c(self) -> None:
         if not GDB:
@@ -616,7 +706,7 @@ class Gdb(ToolCase):
         printed, _ = tool.communicate(timeout=SECONDS)
         for wanted in ('interrupted; the processor is running', 'Program received signal SIGINT', 'clock '):
             self.assertIn(wanted, printed)
-        self.assertEqual((tool.returncode, os.listdir(f'{self.room}/tmp')), (0, []))
+        self.assertEqual((tool.returncode, rooms_in(self.room)), (0, []))
 
     def test_nothing_is_left(self) -> None:
         """Whichever of the two others is killed."""
@@ -626,8 +716,7 @@ class Gdb(ToolCase):
                 theirs = {name_of(process): process for process in children(tool.pid)}
                 os.kill(next(process for whose, process in theirs.items() if whose.startswith(name)), signal.SIGKILL)
                 tool.communicate(timeout=SECONDS)
-                self.assertEqual(os.listdir(f'{self.room}/tmp'), [])
-                os.rmdir(f'{self.room}/tmp')
+                self.assertEqual(rooms_in(self.room), [])
                 self.assertTrue(until(lambda: not any(os.path.exists(f'/proc/{process}') for process in theirs.values())))
 
     def test_each_answer(self) -> None:

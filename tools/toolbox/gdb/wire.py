@@ -31,8 +31,8 @@ class Wire:
     def __init__(self, connection: socket.socket) -> None:
         self._connection, self._held, self._sent = connection, b'', b''
         self._is_dropping, self.has_acknowledgements = False, True
-        # An answer behind an acknowledgement would else wait for one of the client's.
-        connection.setsockopt(socket.IPPROTO_TCP, socket.TCP_NODELAY, 1)
+        if connection.family == socket.AF_INET:  # an answer behind an acknowledgement would else wait for one of the client's
+            connection.setsockopt(socket.IPPROTO_TCP, socket.TCP_NODELAY, 1)
 
     def _more(self) -> None:
         """Waits for the client's next bytes."""
