@@ -42,7 +42,7 @@ def path() -> str | None:
 
 
 class Browser:
-    """One browser, with one tab."""
+    """One browser, of which one tab is looked at."""
 
     def __init__(self, room: str) -> None:
         to_browser, self._write = os.pipe()
@@ -78,6 +78,11 @@ class Browser:
         self._kept, self._count = b'', 0
         self._session: str | None = None
         self.events = list[dict[str, Any]]()
+        self.tab()
+
+    def tab(self) -> None:
+        """A new tab, to which all goes from now on."""
+        self._session = None
         target = self.call('Target.createTarget', url='about:blank')['targetId']
         self._session = self.call('Target.attachToTarget', targetId=target, flatten=True)['sessionId']
         for domain in ('Page', 'Runtime', 'Network', 'Log'):

@@ -20,7 +20,7 @@ import unittest.mock
 from typing import Any
 from unittest import mock
 
-from tests.support import EXAMPLES, SECONDS, TOOLS, TOP, ToolCase, children, example, is_running, processor_seconds, until
+from tests.support import EXAMPLES, SECONDS, TOOLS, TOP, ToolCase, children, example, is_running, processor_seconds, rooms_in, until
 from tests.test_symbols import NASM, ROM, hex_of
 
 from toolbox.chips import chip_lines
@@ -129,11 +129,22 @@ class Client:
     def __init__(self, address: str) -> None:
         found = re.fullmatch(r'http://(127\.0\.0\.1:(\d+))/([\w-]+)/', address)
         assert found, address
-        self.host, self.port, self.token = found[1], int(found[2]), found[3]
+        self.host, self.port, self.token, self.cookie = found[1], int(found[2]), found[3], ''
+        self.enter()
+
+    def enter(self) -> None:
+        """Opens the address, as a browser does, and keeps its cookie."""
+        status, text, answer = self.request('GET', f'/{self.token}/')
+        assert status == 200, text
+        self.cookie = (answer.getheader('Set-Cookie') or '').partition(';')[0]
+
+    def head(self, method: str, path: str) -> bytes:
+        """How a request begins."""
+        return f'{method} {path} HTTP/1.1\r\nHost: {self.host}\r\nCookie: {self.cookie}\r\n'.encode()
 
     def request(self, method: str, path: str, body: bytes | None = None, **headers: str | None) -> tuple[int, str, http.client.HTTPResponse]:
         """A request with the headers of the page's own, as far as none is given: status, body, response."""
-        own: dict[str, str | None] = {'Host': self.host}
+        own: dict[str, str | None] = {'Host': self.host, 'Cookie': self.cookie or None}
         if method == 'POST':
             own |= {'Origin': f'http://{self.host}', 'Content-Type': 'application/json'}
         own |= {name.replace('_', '-'): content for name, content in headers.items()}
@@ -362,7 +373,7 @@ class Hostile(Served):
     def test_half_a_request(self) -> None:
         """It is cut off, and so is one that comes byte by byte; others are answered meanwhile."""
         self.server.seconds_of_a_request, self.server.seconds_of_a_stranger = 0.3, SECONDS
-        head = f'POST /{self.client.token}/do HTTP/1.1\r\nHost: {self.client.host}\r\n'.encode()
+        head = self.client.head('POST', f'/{self.client.token}/do')
         lines = self.lines(10)
         for at, line in enumerate(lines):
             line.sendall(head[:2] if at % 2 else head)
@@ -387,7 +398,7 @@ class Hostile(Served):
         self.server.seconds_of_a_stranger = 0
         line = self.lines(1)[0]
         for _ in range(2):
-            line.sendall(f'GET /{self.client.token}/ HTTP/1.1\r\nHost: {self.client.host}\r\n\r\n'.encode())
+            line.sendall(self.client.head('GET', f'/{self.client.token}/') + b'\r\n')
             self.assertTrue(line.recv(5000).startswith(b'HTTP/1.1 200'))
             self.server.cut_off()
 
@@ -395,7 +406,7 @@ class Hostile(Served):
         """Each that stays has its answer before the next comes. Those for whom there is no room are told so; once all are gone,
         there is room for others."""
         self.server.seconds_of_silence = SECONDS
-        request = f'GET /{self.client.token}/ HTTP/1.1\r\nHost: {self.client.host}\r\n\r\n'.encode()
+        request = self.client.head('GET', f'/{self.client.token}/') + b'\r\n'
         lines, seen = list[socket.socket](), list[bytes]()
         for _ in range(100):
             lines += self.lines(1)
@@ -861,9 +872,9 @@ class Boards(Served):
             elif turn % 3 == 1:
                 # Most of them run for an instant, and some as long as a page asks for.
                 body = json.dumps({'do': 'run', 'ms': 200 if turn % 10 == 1 else 20, 'board': board}).encode()
-                head = f'POST {path} HTTP/1.1\r\nHost: {self.client.host}\r\nOrigin: http://{self.client.host}\r\nContent-Type: application/json\r\n'
+                head = self.client.head('POST', path) + f'Origin: http://{self.client.host}\r\nContent-Type: application/json\r\n'.encode()
                 with socket.create_connection(('127.0.0.1', self.client.port)) as line:
-                    line.sendall(f'{head}Content-Length: {len(body)}\r\n\r\n'.encode() + body)
+                    line.sendall(head + f'Content-Length: {len(body)}\r\n\r\n'.encode() + body)
             self.assertLessEqual(len(os.listdir(self.room)), MOST_BOARDS + 1)
         self.desk.idle_seconds = 0
 
@@ -1069,7 +1080,7 @@ class Begun(ToolCase):
             stderr=subprocess.PIPE,
             text=True,
             cwd=self.room,
-            env=os.environ | {'TMPDIR': self.room, 'XDG_STATE_HOME': f'{self.room}/state'},
+            env=os.environ | {'XDG_RUNTIME_DIR': self.room, 'XDG_STATE_HOME': f'{self.room}/state'},
         )
         self.addCleanup(process.kill)
         assert process.stdout
@@ -1083,7 +1094,7 @@ class Begun(ToolCase):
         _, err = process.communicate(timeout=SECONDS)
         self.assertNotIn('Traceback', err)
         self.assertTrue(until(lambda: not any(map(is_running, started))))
-        self.assertEqual([name for name in os.listdir(self.room) if name.startswith('desk')], [])
+        self.assertEqual(rooms_in(self.room), [])
 
 
 class Started(Begun):
@@ -1113,13 +1124,13 @@ class Started(Begun):
         process.communicate(timeout=SECONDS)
         asking.join(SECONDS)
         self.assertTrue(until(lambda: not any(map(is_running, started))))
-        left = [name for name in os.listdir(self.room) if name.startswith('desk')]
+        left = rooms_in(self.room)
         self.assertEqual(len(left), 1)
         process, client = self.begin()
         client.open('hello')
-        self.assertNotIn(left[0], os.listdir(self.room))
+        self.assertNotIn(left[0], rooms_in(self.room))
         live, _ = self.begin()  # which leaves the live one's alone
-        self.assertEqual(len([name for name in os.listdir(self.room) if name.startswith('desk')]), 2)
+        self.assertEqual(len(rooms_in(self.room)), 2)
         live.send_signal(signal.SIGINT)
         live.communicate(timeout=SECONDS)
         self.ended(process, signal.SIGINT)
@@ -1158,7 +1169,7 @@ class Started(Begun):
             (report.clock, report.registers['AX']),
             (500, (0x10000 - report_of(self.pcboard('run', self.file('it.asm', FOREVER), f'{self.room}/mine.json').stdout).registers['AX']) % 0x10000),
         )
-        self.assertEqual({name for name in os.listdir(self.room) if not name.startswith('desk')}, {'mine.asm', 'mine.json', 'it.asm'})
+        self.assertEqual(set(os.listdir(self.room)) - {'zebludor'}, {'mine.asm', 'mine.json', 'it.asm'})
         self.ended(process, signal.SIGINT)
 
     def test_words(self) -> None:

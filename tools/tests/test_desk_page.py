@@ -52,7 +52,7 @@ class Page:
             stdout=subprocess.PIPE,
             text=True,
             cwd=self.room,
-            env=os.environ | {'TMPDIR': self.room, 'XDG_STATE_HOME': f'{self.room}/state'},
+            env=os.environ | {'XDG_RUNTIME_DIR': self.room, 'XDG_STATE_HOME': f'{self.room}/state'},
         )
         assert self.desk.stdout
         self.address = self.desk.stdout.readline().split()[1]

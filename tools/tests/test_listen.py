@@ -15,7 +15,7 @@ import unittest
 from typing import Any
 
 from tests.support import SECONDS, TOOLS, ToolCase, not_run
-from toolbox.desk.http import Server
+from toolbox.desk.http import COOKIE, Server
 
 # Asks for a page from within a namespace, and prints its status.
 FETCH = 'import sys, urllib.request; print(urllib.request.urlopen(sys.argv[1], timeout=60).status)'
@@ -38,7 +38,8 @@ class Listening(unittest.TestCase):
         """The status of a request to an address, which names a host, and its policy."""
         line = http.client.HTTPConnection(at, server.server_address[1], timeout=SECONDS)
         try:
-            heads = {'Host': host} | ({'Content-Type': 'application/json'} if method == 'POST' else {}) | ({'Origin': origin} if origin else {})
+            heads = {'Host': host, 'Cookie': f'x=y; {COOKIE}={server.cookie}'}
+            heads |= ({'Content-Type': 'application/json'} if method == 'POST' else {}) | ({'Origin': origin} if origin else {})
             line.request(method, f'/{server.token}/' + ('do' if method == 'POST' else ''), b'{"do":"it"}' if method == 'POST' else None, heads)
             answer = line.getresponse()
             answer.read()
@@ -84,12 +85,10 @@ class Listening(unittest.TestCase):
 
     def test_no_token(self) -> None:
         server = self.serve('0.0.0.0')
-        server.token, token = 'x' * 32, server.token
-        self.assertEqual(self.asked(server, '127.0.0.1', f'localhost:{server.server_address[1]}')[0], 200)
-        line = http.client.HTTPConnection('127.0.0.1', server.server_address[1], timeout=SECONDS)
-        line.request('GET', f'/{token}/', headers={'Host': f'localhost:{server.server_address[1]}'})
-        self.assertEqual(line.getresponse().status, 403)
-        line.close()
+        host = f'localhost:{server.server_address[1]}'
+        self.assertEqual(self.asked(server, '127.0.0.1', host)[0], 200)
+        server.token = 'x' * 32
+        self.assertEqual(self.asked(server, '127.0.0.1', host)[0], 403)
 
 
 class Started(ToolCase):
@@ -103,7 +102,7 @@ class Started(ToolCase):
             stderr=subprocess.PIPE,
             text=True,
             cwd=self.room,
-            env=os.environ | {'TMPDIR': self.room, 'XDG_STATE_HOME': f'{self.room}/state'},
+            env=os.environ | {'XDG_RUNTIME_DIR': self.room, 'XDG_STATE_HOME': f'{self.room}/state'},
         )
         self.addCleanup(process.kill)
         assert process.stdout
@@ -115,12 +114,15 @@ class Started(ToolCase):
         return process.communicate(timeout=SECONDS)[1]
 
     def test_who_can_reach_it_is_told(self) -> None:
-        for words, is_told in (((), False), (('--listen', '127.0.0.2'), False), (('--listen', '0.0.0.0'), True)):
+        for words, wanted in (
+            ((), r'\A\Z'),
+            (('--listen', '127.0.0.2'), r'\Adesk: 127\.0\.0\.2, port \d+, is reached from this machine alone\n\Z'),
+            (('--listen', '0.0.0.0'), r'\Adesk: every machine that reaches an address of this one, port \d+, is served: .* nothing is encrypted\n\Z'),
+        ):
             process, address = self.begin(*words)
             status = subprocess.run([sys.executable, '-c', FETCH, address], capture_output=True, text=True, check=True).stdout
-            said = self.end(process)
+            self.assertRegex(self.end(process), wanted)
             self.assertEqual(status, '200\n')
-            self.assertEqual('desk: who reaches 0.0.0.0, port ' in said, is_told, said)
 
     def test_what_is_no_address(self) -> None:
         for word in ('localhost', 'evil.example', '', '1.2.3', '127.0.0.1:80'):

@@ -95,9 +95,10 @@ class Installed(Unpacked):
             address = re.search(r'http://\S+', process.stdout.readline())
             try:
                 assert address
-                with urllib.request.urlopen(address[0], timeout=SECONDS) as page:
+                browser = urllib.request.build_opener(urllib.request.HTTPCookieProcessor())
+                with browser.open(address[0], timeout=SECONDS) as page:
                     self.assertIn(b'<html', page.read())
-                with urllib.request.urlopen(f'{address[0]}asking.js', timeout=SECONDS) as module:
+                with browser.open(f'{address[0]}asking.js', timeout=SECONDS) as module:
                     self.assertIn(b'start zebludor desk again', module.read())
             finally:
                 process.send_signal(signal.SIGINT)
@@ -428,7 +429,7 @@ class Package(Installed):
             self.command('sh', '-c', 'mkdir /tmp/t && cd /tmp/t && cat > test_it.py && pytest-3 -q -p no:cacheprovider; rm -r /tmp/t', given=test)
         words = 'zebludor desk --no-open --port 8807 > /tmp/said & sleep 1; until grep -q http /tmp/said; do sleep 1; done; '
         fetch = 'import re, urllib.request; print(urllib.request.urlopen(re.search(r"http://\\S+", open("/tmp/said").read())[0]).status)'
-        self.assertEqual(self.command('sh', '-c', f"{words} python3 -c '{fetch}'; kill -INT $!; kill $!; wait; rm /tmp/said; rm -rf /tmp/desk*"), '200\n')
+        self.assertEqual(self.command('sh', '-c', f"{words} python3 -c '{fetch}'; kill -INT $!; kill $!; wait; rm /tmp/said"), '200\n')
 
 
 class Container(Unpacked):

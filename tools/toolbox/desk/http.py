@@ -1,5 +1,6 @@
-"""The server of tools/desk: one page with its modules and one place to ask, on 127.0.0.1 alone unless another address is said, for who
-has the token. What isn't the page's own request is refused: another host or origin, no token, any other path, too much at once."""
+"""The server of tools/desk: one page with its modules and one place to ask, on 127.0.0.1 alone unless another address is said, for the
+browser that first opens an address with a token, and has a cookie from then on. What isn't the page's own request is refused: another
+host or origin, no token, no cookie, any other path, too much at once."""
 from __future__ import annotations
 
 import base64
@@ -13,10 +14,10 @@ import secrets
 import socket
 import threading
 import time
-from typing import Any, Callable
+from typing import Any, Callable, Iterable
 
 Fields = dict[str, Any]
-HOST = '127.0.0.1'
+HOST, COOKIE = '127.0.0.1', 'desk'
 # A source of 1,048,576 bytes, written as JSON, fits twice.
 LONGEST_BODY, MOST_CONNECTIONS = 4 << 20, 32
 SECONDS_OF_A_REQUEST, SECONDS_OF_SILENCE, SECONDS_OF_A_REFUSAL = 10, 60, 1
@@ -57,10 +58,19 @@ class Server(http.server.ThreadingHTTPServer):
 
     daemon_threads, block_on_close, request_queue_size = True, False, 128
 
-    def __init__(self, page: str, modules: dict[str, str], answer: Callable[[Fields], Fields], port: int = 0, host: str = HOST) -> None:
-        self.answer, self.host, self.page, self.modules = answer, host, page, tuple(modules)
+    def __init__(
+        self,
+        page: str,
+        modules: dict[str, str],
+        answer: Callable[[Fields], Fields],
+        port: int = 0,
+        host: str = HOST,
+        tell: Callable[[str], None] = lambda _: None,
+    ) -> None:
+        self.answer, self.host, self.page, self.modules, self.tell = answer, host, page, tuple(modules), tell
         self.address_family = socket.AF_INET6 if ':' in host else socket.AF_INET
-        self.token = secrets.token_urlsafe(24)
+        self.token, self.cookie = secrets.token_urlsafe(24), secrets.token_urlsafe(24)
+        self._tokens, self._unused = [self.token], {self.token}
         self.seconds_of_a_request, self.seconds_of_silence = float(SECONDS_OF_A_REQUEST), float(SECONDS_OF_SILENCE)
         self.seconds_of_a_stranger, self.seconds_of_a_refusal = float(SECONDS_OF_A_STRANGER), float(SECONDS_OF_A_REFUSAL)
         self._lock, self._reading = threading.Lock(), dict[Any, float]()
@@ -86,16 +96,21 @@ class Server(http.server.ThreadingHTTPServer):
 
     @property
     def address(self) -> str:
-        """The page's address, with the token."""
-        return self.address_at(self.own_host)
+        """The page's address, with the last token."""
+        return f'http://{self.own_host}/{self.token}/'
 
-    def address_at(self, host: str) -> str:
-        """The page's address at one of its hosts."""
-        return f'http://{host}/{self.token}/'
+    @property
+    def is_used(self) -> bool:
+        """Whether a browser has opened this address."""
+        return self.token not in self._unused
 
-    def policy(self, host: str) -> str:
+    def knows(self, token: str) -> bool:
+        """Whether it is one of the desk's tokens."""
+        return any([hmac.compare_digest(token.encode(), own.encode()) for own in tuple(self._tokens)])
+
+    def policy(self, host: str, token: str) -> str:
         """The page's policy, where it was asked for at this host."""
-        return policy_of(self.page, [self.address_at(host) + name for name in self.modules])
+        return policy_of(self.page, [f'http://{host}/{token}/{name}' for name in self.modules])
 
     def process_request(self, request: Any, client_address: Any) -> None:
         """Begins a connection's thread. Until it shows the token it is a stranger, and makes room for others."""
@@ -115,6 +130,36 @@ class Server(http.server.ThreadingHTTPServer):
             with self._lock:
                 self._strangers.pop(request, None)
                 self._known.discard(request)
+
+    def admit(self, connection: Any, token: str, has_cookie: bool, is_page: bool) -> None:
+        """Takes in a connection with one of the tokens: it shows the cookie too, or is the first that asks for the page by this one.
+        Who comes later without the cookie needs another token, which is told the user."""
+        with self._lock:
+            is_unused = token in self._unused
+            is_first = is_unused and is_page and not has_cookie
+            if is_first:
+                self._unused.remove(token)
+        if not has_cookie and is_unused and not is_first:
+            raise Refused(403, 'open the address that desk has printed')
+        if not has_cookie and not is_first:
+            self._tell_another()
+            raise Refused(403, 'this address was good once, and was opened in another browser: desk has printed another one')
+        try:
+            self.shows_token(connection)
+        except Refused:
+            if is_first:
+                self._unused.add(token)
+            raise
+
+    def _tell_another(self) -> None:
+        """Tells another address, once the last one has been used."""
+        with self._lock:
+            if not self.is_used:
+                return
+            self.token = secrets.token_urlsafe(24)
+            self._tokens.append(self.token)
+            self._unused.add(self.token)
+        self.tell(self.address)
 
     def shows_token(self, connection: Any) -> None:
         """A connection has shown the token. There may be so many of them; a stranger that has made room, and is being shut, isn't
@@ -194,13 +239,16 @@ class Handler(http.server.BaseHTTPRequestHandler):
     def do_GET(self) -> None:  # pylint: disable=invalid-name
         """The page, or one of its modules."""
         try:
-            name = self._checked(is_asking=False)
+            token, name = self._checked(is_asking=False)
         except Refused as refused:
             self._refuse(refused)
             return
         self.server.reads(self.connection, False)
         kind, text = self.server.parts[name]
-        self._reply(200, f'{kind}; charset=utf-8', text, (('Content-Security-Policy', self.server.policy(self.headers['Host'])),))
+        more = [('Content-Security-Policy', self.server.policy(self.headers['Host'], token))]
+        if not name:
+            more.append(('Set-Cookie', f'{COOKIE}={self.server.cookie}; Path=/{token}/; HttpOnly; SameSite=Lax'))
+        self._reply(200, f'{kind}; charset=utf-8', text, more)
 
     def do_POST(self) -> None:  # pylint: disable=invalid-name
         """A question."""
@@ -217,8 +265,8 @@ class Handler(http.server.BaseHTTPRequestHandler):
             return
         self._reply(200, 'application/json', answer)
 
-    def _checked(self, is_asking: bool) -> str:
-        """What is asked for, behind the token. What isn't the page's own request is refused."""
+    def _checked(self, is_asking: bool) -> tuple[str, str]:
+        """The token, and what is asked for behind it. What isn't the page's own request is refused."""
         server, hosts = self.server, self.headers.get_all('Host') or []
         if len(hosts) != 1 or hosts[0] not in server.hosts(self.connection.getsockname()[0]):
             raise Refused(403, 'another host')
@@ -226,13 +274,18 @@ class Handler(http.server.BaseHTTPRequestHandler):
         if origins != [f'http://{hosts[0]}'] and (is_asking or origins):
             raise Refused(403, 'another origin')
         _, token, *_ = f'{self.requestline.split()[1]}/'.split('/', 2)  # of which the standard library takes slashes
-        if not hmac.compare_digest(token.encode(), server.token.encode()):
+        if not server.knows(token):
             raise Refused(403, 'no token: open the address that desk has printed')
-        server.shows_token(self.connection)
-        name = self.path.removeprefix(f'/{server.token}/')
+        name = self.path.removeprefix(f'/{token}/')
         if name not in (('do',) if is_asking else server.parts):
             raise Refused(404, 'nothing is there')
-        return name
+        server.admit(self.connection, token, self._has_cookie(), is_page=not name)
+        return token, name
+
+    def _has_cookie(self) -> bool:
+        """Whether the request comes from a browser that has opened an address of the desk."""
+        cookies = [each.strip().partition('=') for each in ';'.join(self.headers.get_all('Cookie') or []).split(';')]
+        return any([name == COOKIE and hmac.compare_digest(value.encode(), self.server.cookie.encode()) for name, _, value in cookies])
 
     def _question(self) -> Fields:
         """The body, a JSON object."""
@@ -273,7 +326,7 @@ class Handler(http.server.BaseHTTPRequestHandler):
         """What the standard library refuses by itself: a request that is none, or another method."""
         self._refuse(Refused(code, message or 'no such request'))
 
-    def _reply(self, status: int, kind: str, body: bytes, more: tuple[tuple[str, str], ...] = ()) -> None:
+    def _reply(self, status: int, kind: str, body: bytes, more: Iterable[tuple[str, str]] = ()) -> None:
         """An answer, in one piece."""
         head = [f'HTTP/1.1 {status} {self.responses.get(status, ("", ""))[0]}']
         head += [f'{name}: {value}' for name, value in (*HEADERS, *more, ('Content-Type', kind), ('Content-Length', str(len(body))))]
