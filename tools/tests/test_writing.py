@@ -3,12 +3,14 @@ from __future__ import annotations
 
 import contextlib
 import errno
+import fcntl
 import os
 import stat
+import struct
 import subprocess
 import threading
 import unittest
-from typing import Callable, Iterator
+from typing import Any, Callable, Iterator
 from unittest import mock
 
 from tests.support import ToolCase, example, not_run
@@ -16,6 +18,11 @@ from tests.support import ToolCase, example, not_run
 from toolbox import writing
 from toolbox.command import Sorry, write_text
 from toolbox.writing import write_whole
+
+# The access list of a file of mode 644 that user 65534 may read, in the kernel's form.
+ACCESS = struct.pack('<I', 2) + b''.join(
+    struct.pack('<HHI', *entry) for entry in ((1, 6, 0xFFFFFFFF), (2, 4, 65534), (4, 4, 0xFFFFFFFF), (0x10, 4, 0xFFFFFFFF), (0x20, 4, 0xFFFFFFFF))
+)
 
 
 @contextlib.contextmanager
@@ -67,6 +74,23 @@ def as_nobody(work: Callable[[], None]) -> str:
         found = answer.read().decode()
     os.waitpid(child, 0)
     return found
+
+
+def raised(error: Exception) -> None:
+    """Raises it."""
+    raise error
+
+
+def ended_within(work: Callable[[], None], name: str, stand_in: Callable[..., None]) -> int:
+    """The status with which a process of its own ends that does something, with another function in a place of the module."""
+    child = os.fork()
+    if child == 0:
+        try:
+            with mock.patch(f'toolbox.writing.{name}', stand_in):
+                work()
+        finally:
+            os._exit(1)
+    return os.waitstatus_to_exitcode(os.waitpid(child, 0)[1])
 
 
 class Whole(ToolCase):
@@ -147,6 +171,124 @@ class Whole(ToolCase):
         with mock.patch.object(writing.os, 'fsync', side_effect=KeyboardInterrupt), self.assertRaises(KeyboardInterrupt):
             write_whole(path, b'new')
         self.assertEqual((self.content(path), os.listdir(self.room)), (b'old', ['it.asm']))
+
+    def test_other_names_and_attributes_stay(self) -> None:
+        """A hard link has the new text too, also where the old one was longer; attributes and the access list are those of before."""
+        path, other = self.file('it.asm', 'old' * 1000), f'{self.room}/other.asm'
+        os.link(path, other)
+        with mock.patch.dict(os.environ, XDG_STATE_HOME=f'{self.room}/state'):
+            for octets in (b'new', b'newer' * 1000):
+                write_whole(path, octets)
+                self.assertEqual((self.content(other), os.path.samefile(path, other)), (octets, True))
+            self.assertEqual(os.listdir(f'{self.room}/state/zebludor/unfinished'), [])
+        os.remove(other)
+        self.assertEqual(sorted(os.listdir(self.room)), ['it.asm', 'state'])
+        attributes = {'user.mine': b'1', 'system.posix_acl_access': ACCESS}
+        try:
+            for name, octets in attributes.items():
+                os.setxattr(path, name, octets)
+        except OSError as error:
+            not_run(f'attributes of a file that is written; {error.strerror}')
+            return
+        mode = os.stat(path).st_mode
+        write_whole(path, b'last')
+        self.assertEqual((self.content(path), os.stat(path).st_mode), (b'last', mode))
+        self.assertEqual({name: os.getxattr(path, name) for name in os.listxattr(path)}, attributes)
+
+    def test_a_file_that_is_mounted_by_itself(self) -> None:
+        """As into a container: nothing can be renamed over it."""
+        path, outside = self.file('it.asm', 'old'), self.file('outside.asm', 'old')
+        if subprocess.run(['mount', '--bind', outside, path], capture_output=True, check=False).returncode:
+            not_run('writing to a file that is mounted by itself; nothing can be mounted')
+            return
+        self.addCleanup(subprocess.run, ['umount', path], check=True)
+        with mock.patch.dict(os.environ, XDG_STATE_HOME=f'{self.room}/state'):
+            write_whole(path, b'new')
+        self.assertEqual(self.content(outside), b'new')
+        self.assertEqual(sorted(os.listdir(self.room)), ['it.asm', 'outside.asm', 'state'])
+
+    def test_in_place_is_finished_or_undone(self) -> None:
+        """A writer that is killed within it: the next one to look finishes it, but writes over nothing that came since. One that fails
+        brings the old text back."""
+        path, old, new = self.file('it.asm', 'old' * 1000), b'old' * 1000, b'newer' * 1000
+        os.link(path, f'{self.room}/other.asm')
+
+        def half(target: str, octets: bytes) -> None:
+            writing.write_all(os.open(target, os.O_WRONLY), octets[: len(octets) // 3])
+            os._exit(9)
+
+        with mock.patch.dict(os.environ, XDG_STATE_HOME=f'{self.room}/state'):
+            for since, found in ((None, new), (b'by another hand', b'by another hand'), (old, old)):
+                self.file('it.asm', 'old' * 1000)
+                self.assertEqual(ended_within(lambda: write_whole(path, new), '_put', half), 9)
+                self.assertEqual(self.content(path), new[:1666] + old[1666:])
+                if since is not None:
+                    self.file('it.asm', since.decode())
+                writing.finish(path)
+                self.assertEqual(self.content(path), found)
+            self.file('it.asm', 'old' * 1000)
+            real, broken = os.ftruncate, [OSError(errno.EIO, 'broken')]
+            with mock.patch.object(writing.os, 'ftruncate', lambda *words: real(*words) if not broken else raised(broken.pop())):
+                with self.assertRaisesRegex(OSError, 'broken'):
+                    write_whole(path, new)
+            self.assertEqual((self.content(path), os.listdir(f'{self.room}/state/zebludor/unfinished')), (old, []))
+
+    def test_nothing_is_left_by_a_killed_writer(self) -> None:
+        """Also where it was killed between naming the new file and renaming it, once the next one writes; a file that is somebody's own
+        under such a name stays, and so does one that a writer holds."""
+        path = self.file('it.asm', 'old')
+
+        def killed(*_: Any, **__: Any) -> None:
+            os._exit(9)
+
+        for name, left in (('link', 0), ('replace', 1)):
+            self.assertEqual(ended_within(lambda: write_whole(path, b'new'), f'os.{name}', killed), 9)
+            self.assertEqual((self.content(path), len(os.listdir(self.room))), (b'old', 1 + left))
+        new = next(name for name in os.listdir(self.room) if name != 'it.asm')
+        write_whole(path, b'new')
+        self.assertEqual((self.content(path), os.listdir(self.room)), (b'new', ['it.asm']))
+        with open(f'{self.room}/{new}', 'wb') as held:
+            fcntl.flock(held, fcntl.LOCK_EX)
+            write_whole(path, b'newer')
+            self.assertEqual(sorted(os.listdir(self.room)), sorted(['it.asm', new]))
+        os.remove(f'{self.room}/{new}')
+        os.symlink('it.asm', f'{self.room}/{new}')
+        write_whole(path, b'newest')
+        self.assertEqual((self.content(path), os.readlink(f'{self.room}/{new}')), (b'newest', 'it.asm'))
+
+    def test_a_file_system_without_files_without_names(self) -> None:
+        path, real = self.file('it.asm', 'old'), os.open
+
+        def opened(name: str, how: int, *more: Any) -> int:
+            if how & os.O_TMPFILE == os.O_TMPFILE:
+                raise OSError(errno.EOPNOTSUPP, 'none')
+            return real(name, how, *more)
+
+        with mock.patch.object(writing.os, 'open', opened):
+            write_whole(path, b'new')
+            self.assertEqual((self.content(path), os.listdir(self.room)), (b'new', ['it.asm']))
+            with mock.patch.object(writing.os, 'fsync', side_effect=OSError(errno.EIO, 'broken')), self.assertRaisesRegex(OSError, 'broken'):
+                write_whole(path, b'newer')
+        self.assertEqual((self.content(path), os.listdir(self.room)), (b'new', ['it.asm']))
+
+    def test_the_last_look(self) -> None:
+        """It comes when nothing but the rename is left, and what it raises leaves the file alone; so in place, too."""
+        path = self.file('it.asm', 'old')
+
+        def look() -> None:
+            raise Sorry('changed')
+
+        with mock.patch.dict(os.environ, XDG_STATE_HOME=f'{self.room}/state'):
+            with self.assertRaisesRegex(Sorry, 'changed'):
+                write_whole(path, b'new', look)
+            self.assertEqual((self.content(path), os.listdir(self.room)), (b'old', ['it.asm']))
+            with mock.patch.object(writing.os, 'replace', side_effect=os.replace) as renamed:
+                write_whole(path, b'new', lambda: self.assertEqual((renamed.call_count, len(os.listdir(self.room))), (0, 2)))
+                self.assertEqual(renamed.call_count, 1)
+            os.link(path, f'{self.room}/other.asm')
+            with self.assertRaisesRegex(Sorry, 'changed'):
+                write_whole(path, b'newer', look)
+            self.assertEqual(self.content(path), b'new')
 
     def test_the_tools_write_so(self) -> None:
         """A picture and a sound that a full disk can't take leave the old ones."""

@@ -1,54 +1,174 @@
-"""Files that are written whole: there is always the old one or the new one, also where the disk fills or the power fails."""
+"""Files that are written whole: there is always the old one or the new one, also where the disk fills or the power fails, and nothing
+beside it of a writer that was killed."""
 from __future__ import annotations
 
 import contextlib
 import errno
+import fcntl
+import hashlib
+import json
 import os
 import secrets
 import stat
+from typing import Callable
 
 STREAMS = ('/dev/', '/proc/')
+OPEN_FILES = '/proc/self/fd'
+# What is said by a file system that has no files without a name.
+NAMED_ONLY = (errno.EOPNOTSUPP, errno.EISDIR, errno.EINVAL)
+MOST_SECONDS = 60  # a file that was touched so long after its copy was kept is another hand's
+Look = Callable[[], None]
 
 
-def write_whole(path: str, octets: bytes) -> None:
-    """Writes a file beside the old one, flushes it to the disk and renames it over it; mode and, where that may be, owner stay,
-    and a link leads where it led. A stream, as a FIFO or a device, is written as it is. OSError tells why nothing was written."""
+class InPlace(Exception):
+    """A new file can't take the old one's place with all that the old one has."""
+
+
+def write_whole(path: str, octets: bytes, look: Look = lambda: None) -> None:
+    """Writes a new file, flushes it to the disk and renames it over the old one; mode, owner and attributes stay, and a link leads
+    where it led. A file with other names, or with what a new one can't have, is written in place. A stream, as a FIFO or a device, is
+    written as it is. `look` is called last before anything changes, and may raise. OSError tells why nothing was written."""
     try:
         old = os.stat(path)
     except FileNotFoundError:
         old = None
     if path.startswith(STREAMS) or old and not stat.S_ISREG(old.st_mode):
+        look()
         with open(path, 'wb') as stream:
             stream.write(octets)
         return
     if old and (not old.st_mode & 0o222 or not os.access(path, os.W_OK)):
         raise PermissionError(errno.EACCES, 'it is read-only', path)
     target = os.path.realpath(path)
-    beside = os.path.join(os.path.dirname(target), f'.{secrets.token_hex(8)}.new')
     try:
-        _write_new(beside, octets, old)
-        os.replace(beside, target)
+        if old and old.st_nlink > 1:
+            raise InPlace
+        _replace(target, octets, old, look)
+    except InPlace:
+        _write_over(target, octets, look)
+
+
+def write_all(handle: int, octets: bytes) -> None:
+    """Writes to an open file, however little of it is taken at a time."""
+    left = memoryview(octets)
+    while left:
+        left = left[os.write(handle, left) :]
+
+
+def own_folder(path: str) -> None:
+    """Makes a folder if it isn't there, and sees to it that nobody else reads in it."""
+    os.makedirs(path, mode=0o700, exist_ok=True)
+    found = os.stat(path)
+    if found.st_uid != os.geteuid():
+        raise PermissionError(0, 'it belongs to another user')
+    if stat.S_IMODE(found.st_mode) != 0o700:
+        os.chmod(path, 0o700)
+
+
+def _replace(target: str, octets: bytes, old: os.stat_result | None, look: Look) -> None:
+    """Writes a new file down to the disk, and renames it over the old one."""
+    handle, beside = _new(target, 0o600 if old else 0o666)
+    try:
+        with contextlib.suppress(OSError):  # while this is held, no other writer takes the file for a left one
+            fcntl.flock(handle, fcntl.LOCK_EX | fcntl.LOCK_NB)
+        if old:
+            _carry_over(target, handle, old)
+        write_all(handle, octets)
+        os.fsync(handle)
+        if not beside:
+            beside = _place_beside(target)
+            os.link(f'{OPEN_FILES}/{handle}', beside, src_dir_fd=handle, follow_symlinks=True)  # with a folder it follows, as Linux wants
+        look()
+        _rename(beside, target)
     except BaseException:
         with contextlib.suppress(OSError):
             os.remove(beside)
         raise
+    finally:
+        os.close(handle)
     _flush_folder(os.path.dirname(target))
 
 
-def _write_new(path: str, octets: bytes, old: os.stat_result | None) -> None:
-    """Writes a file that isn't there yet down to the disk, with the old one's owner and mode."""
+def _new(target: str, mode: int) -> tuple[int, str]:
+    """Opens a new file: without a name, so that nothing of it is left if this process is killed; if there can be none such, with the
+    name that it returns."""
     try:
-        handle = os.open(path, os.O_WRONLY | os.O_CREAT | os.O_EXCL | os.O_CLOEXEC, 0o600 if old else 0o666)
+        if os.path.isdir(OPEN_FILES):
+            return _opened(os.path.dirname(target), os.O_TMPFILE, mode), ''
+    except OSError as error:
+        if error.errno not in NAMED_ONLY:
+            raise
+    beside = _place_beside(target)
+    return _opened(beside, os.O_CREAT | os.O_EXCL, mode), beside
+
+
+def _opened(path: str, how: int, mode: int) -> int:
+    """Opens a new file to write to it."""
+    try:
+        return os.open(path, how | os.O_WRONLY | os.O_CLOEXEC, mode)
     except PermissionError as error:
         raise PermissionError(error.errno, f"its folder can't be written ({error.strerror})", path) from None
-    with open(handle, 'wb') as file:
-        if old:
-            with contextlib.suppress(OSError):  # who may not give it away keeps it
-                os.chown(handle, old.st_uid, old.st_gid)
-            os.chmod(handle, stat.S_IMODE(old.st_mode))
-        file.write(octets)
-        file.flush()
-        os.fsync(handle)
+
+
+def _place_beside(target: str) -> str:
+    """A name beside a file, always the same one, so that what a killed writer has left there goes. While that is in use, or where
+    anybody may make files, another one."""
+    folder, fresh = os.path.dirname(target), f'.{secrets.token_hex(8)}.new'
+    if os.stat(folder).st_mode & stat.S_IWOTH:
+        return os.path.join(folder, fresh)
+    mine = hashlib.sha256(f'{os.geteuid()} {target}'.encode('utf-8', 'surrogateescape')).hexdigest()[:16]
+    path = os.path.join(folder, f'.{mine}.new')
+    _remove_left(path, {os.geteuid(), os.stat(target if os.path.exists(target) else folder).st_uid})
+    return path if not os.path.lexists(path) else os.path.join(folder, fresh)
+
+
+def _remove_left(path: str, owners: set[int]) -> None:
+    """Removes a file of this name that no writer holds, if it is of one of these users."""
+    with contextlib.suppress(OSError):
+        handle = os.open(path, os.O_RDONLY | os.O_NOFOLLOW | os.O_NONBLOCK | os.O_CLOEXEC)
+        try:
+            found = os.fstat(handle)
+            if stat.S_ISREG(found.st_mode) and found.st_uid in owners:
+                fcntl.flock(handle, fcntl.LOCK_EX | fcntl.LOCK_NB)
+                os.remove(path)
+        finally:
+            os.close(handle)
+
+
+def _attributes(file: str | int) -> dict[str, bytes]:
+    """A file's extended attributes, its access list among them."""
+    try:
+        return {name: os.getxattr(file, name) for name in os.listxattr(file)}
+    except OSError as error:
+        if error.errno == errno.ENOTSUP:
+            return {}
+        raise
+
+
+def _carry_over(target: str, handle: int, old: os.stat_result) -> None:
+    """Gives a new file the old one's owner, attributes and mode."""
+    try:
+        new = os.fstat(handle)
+        if (new.st_uid, new.st_gid) != (old.st_uid, old.st_gid):
+            os.chown(handle, old.st_uid, old.st_gid)
+        wanted, has = _attributes(target), _attributes(handle)
+        for name in has.keys() - wanted.keys():
+            os.removexattr(handle, name)
+        for name in (each for each in wanted if wanted[each] != has.get(each)):
+            os.setxattr(handle, name, wanted[name])
+        os.chmod(handle, stat.S_IMODE(old.st_mode))
+    except OSError:
+        raise InPlace from None
+
+
+def _rename(beside: str, target: str) -> None:
+    """Puts a new file into the old one's place, which can't be where the old one is mounted by itself, as into a container."""
+    try:
+        os.replace(beside, target)
+    except OSError as error:
+        if error.errno == errno.EBUSY:
+            raise InPlace from None
+        raise
 
 
 def _flush_folder(path: str) -> None:
@@ -59,3 +179,86 @@ def _flush_folder(path: str) -> None:
             os.fsync(handle)
         finally:
             os.close(handle)
+
+
+# In place
+
+
+def _kept_for(target: str) -> str:
+    """Where both contents of a file lie while it is written in place."""
+    from toolbox.command import state_folder  # which stands on this module
+
+    return os.path.join(state_folder(), 'unfinished', f'{hashlib.sha256(os.fsencode(target)).hexdigest()}.json')
+
+
+def is_unfinished(path: str) -> bool:
+    """Whether a file is being written in place, or was when its writer was killed."""
+    return os.path.exists(_kept_for(os.path.realpath(path)))
+
+
+def _octets_in(path: str) -> bytes:
+    """A file's bytes."""
+    with open(path, 'rb') as file:
+        return file.read()
+
+
+def _write_over(target: str, octets: bytes, look: Look) -> None:
+    """Writes into the old file itself. A copy of both contents is kept until that is done; a failure brings the old one back."""
+    finish(target)
+    old, kept = _octets_in(target), _kept_for(target)
+    try:
+        own_folder(os.path.dirname(kept))
+        text = json.dumps({'old': old.decode('latin-1'), 'new': octets.decode('latin-1')})
+        write_whole(kept, text.encode('ascii'))
+    except OSError as error:
+        raise OSError(error.errno, f'it has to be written in place, and no copy can be kept in {os.path.dirname(kept)} ({error.strerror})') from None
+    try:
+        look()
+    except BaseException:
+        _forget(kept)
+        raise
+    try:
+        _put(target, octets)
+    except BaseException:
+        _put(target, old)
+        _forget(kept)
+        raise
+    _forget(kept)
+
+
+def _forget(kept: str) -> None:
+    """Removes a copy that is no longer wanted. If one stays, `finish` finds nothing to do."""
+    with contextlib.suppress(OSError):
+        os.remove(kept)
+
+
+def _put(target: str, octets: bytes) -> None:
+    """Writes into a file, down to the disk."""
+    handle = os.open(target, os.O_WRONLY | os.O_CLOEXEC)
+    try:
+        write_all(handle, octets)
+        os.ftruncate(handle, len(octets))
+        os.fsync(handle)
+    finally:
+        os.close(handle)
+
+
+def finish(path: str) -> None:
+    """Finishes what a writer that was killed has begun in a file, if nobody has written to it since. OSError tells why not."""
+    target = os.path.realpath(path)
+    kept = _kept_for(target)
+    try:
+        both = json.loads(_octets_in(kept))
+        old, new = (both[name].encode('latin-1') for name in ('old', 'new'))
+    except FileNotFoundError:
+        return
+    except (ValueError, KeyError, TypeError, AttributeError):
+        _forget(kept)  # of a copy that isn't whole, nothing was written yet
+        return
+    now, is_fresh = _octets_in(target), os.stat(target).st_mtime < os.stat(kept).st_mtime + MOST_SECONDS
+    done = len(os.path.commonprefix([now, new]))
+    if is_fresh and now[done:] == old[done:] and now != old:
+        _put(target, new)
+        now = new
+    if now in (old, new) or not is_fresh:
+        _forget(kept)
