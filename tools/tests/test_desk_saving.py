@@ -2,6 +2,9 @@
 draft until then. By requests, and in headless Chromium; without that its part isn't run, and says so."""
 from __future__ import annotations
 
+import concurrent.futures as futures
+import fcntl
+import glob
 import json
 import os
 import signal
@@ -9,17 +12,21 @@ import stat
 import tempfile
 import time
 import unittest
-from typing import Any
+from typing import Any, Callable
+from unittest import mock
 
 from tests import test_desk
 from tests.browser import CONTROL, Browser, path
-from tests.support import SECONDS, ToolCase, not_run
+from tests.support import SECONDS, ToolCase, not_run, until
 from tests.test_desk import FOREVER, RUN, Fields
 from tests.test_desk_page import Page
 from tests.test_writing import full_disk
 
+from toolbox import writing
+from toolbox.desk import drafts, files
 from toolbox.desk.drafts import MOST_DRAFTS
 from toolbox.desk.files import Given, Kept, with_ends
+from toolbox.desk.words import Desk
 from toolbox.report import report_of
 from toolbox.runfile import text_of
 
@@ -162,6 +169,80 @@ class Files(test_desk.Served):
         self.assertEqual(self.keep(FOREVER, one)['changed'], [self.source])
         self.assertEqual(octets_in(self.source), BROKEN.encode())
 
+    def test_another_hand_at_the_same_moment(self) -> None:
+        """An editor that writes between the desk's look and the rename: its text stays, and the page is told; so of a run file that
+        changes once the source is written."""
+        given, put = self.given(), files.write_whole
+        for name, text in ((self.source, b'; by another editor\n'), (self.run_file, b'{"ram": 128}')):
+
+            def meanwhile(target: str, octets: bytes, look: Callable[[], None], name: str = name, text: bytes = text) -> None:
+                def late() -> None:
+                    if target == name:
+                        self.put(name, text)
+                    look()
+
+                put(target, octets, late)
+
+            with mock.patch.object(files, 'write_whole', meanwhile):
+                answer = self.keep(LATER, given, RUN | {'ram': 256})
+            self.assertEqual(octets_in(name), text)
+            if name == self.source:
+                self.assertEqual((answer['changed'], '-; by another editor' in answer['difference']), ([name], True))
+                self.put(self.source, FOREVER.encode())
+        self.assertEqual((answer['kept'], 'another hand' in answer['sorry'], octets_in(self.source)), ([self.source], True, LATER.encode()))
+        self.assertEqual(self.keep(LATER, {**given, **answer}, RUN)['changed'], [self.run_file])
+
+    def test_another_hand_that_writes_on(self) -> None:
+        """One that has opened the file before the rename, and writes to it afterwards."""
+        given, put = self.given(), files.write_whole
+
+        def meanwhile(target: str, octets: bytes, look: Callable[[], None]) -> None:
+            with open(target, 'r+b') as theirs:
+                put(target, octets, look)
+                theirs.write(b'; by another editor\n')
+                theirs.truncate()
+
+        with mock.patch.object(files, 'write_whole') as written:
+            written.side_effect = lambda *words: (meanwhile if written.call_count == 1 else put)(*words)
+            self.assertEqual(self.keep(LATER, given)['changed'], [self.source])
+        self.assertEqual(octets_in(self.source), b'; by another editor\n')
+
+    def test_two_desks_take_turns(self) -> None:
+        """Of two that save at one moment one has saved, and the other is told."""
+        other = Desk(self.room, Given(self.source, self.run_file), drafts.Drafts(self.drafts))
+        self.addCleanup(other.close)
+        self.desk.files = Kept(self.desk.given, self.drafts)
+        for at in range(20):
+            asked = {'do': 'keep', 'run': RUN, 'sums': self.given()['sums']}
+            with futures.ThreadPoolExecutor() as pool:
+                them = [pool.submit(desk.answer, {**asked, 'source': f'; {number} {at}\n'}) for number, desk in enumerate((self.desk, other))]
+            answers = [each.result() for each in them]
+            self.assertEqual(sorted('kept' in answer for answer in answers), [False, True], answers)
+            saved = next(number for number, answer in enumerate(answers) if 'kept' in answer)
+            self.assertEqual((octets_in(self.source), answers[1 - saved]['changed']), (f'; {saved} {at}\n'.encode(), [self.source]))
+
+    def test_a_desk_that_never_ends_its_turn(self) -> None:
+        self.desk.files = Kept(self.desk.given, self.drafts)
+        given = self.given()
+        os.makedirs(self.drafts)
+        with open(f'{self.drafts}/{files.LOCK}', 'wb') as held, mock.patch.object(files, 'SECONDS_OF_A_TURN', 0):
+            fcntl.flock(held, fcntl.LOCK_EX)
+            self.assertIn('another desk has been writing', self.keep(LATER, given)['sorry'])
+        self.assertEqual(octets_in(self.source), FOREVER.encode())
+        self.assertEqual(self.keep(LATER, given)['kept'], [self.source, self.run_file])
+
+    def test_a_write_in_place_that_was_broken_off(self) -> None:
+        """What a killed desk has begun in a file with two names is there, whole, once another desk opens it."""
+        os.link(self.source, f'{self.folder.name}/other.asm')
+        with mock.patch.dict(os.environ, XDG_STATE_HOME=self.room):
+            with mock.patch.object(writing, '_put', side_effect=lambda path, octets: self.put(path, octets[:100])), mock.patch.object(writing, '_forget'):
+                self.keep(LATER, self.given())
+            self.assertEqual(octets_in(self.source), LATER.encode()[:100])
+            with open(self.source, 'ab') as file:
+                file.write(FOREVER.encode()[100:])
+            self.assertEqual(self.given()['source'], LATER)
+        self.assertEqual(octets_in(f'{self.folder.name}/other.asm'), LATER.encode())
+
     def test_ends_of_lines_stay(self) -> None:
         """All, or each its own where they are mixed; those of lines that are new are as most."""
         self.put(self.source, FOREVER.replace('\n', '\r\n').encode())
@@ -217,6 +298,48 @@ class Drafts(test_desk.Served):
         self.assertEqual((self.client.ask('hello')['drafts'], os.listdir(self.drafts)), ([], []))
         self.assertIn('no longer there', self.client.ask('draft', id='page-one-1', given=False, source='')['sorry'])
 
+    def test_what_has_changed_is_enough(self) -> None:
+        """A message says what stands in place of how many signs; of 16 bits each, so that one sign of two words may be parted. Those
+        that come late, and those on a text that isn't at hand, change nothing."""
+
+        def source() -> str:
+            return self.client.ask('draft', id='page-one-1', given=False, source='')['source']
+
+        self.assertEqual(self.draft('page-one-1', number=1, source='; \U0001F600 one\n'), {})
+        for number, base, at, drop, text, found in (
+            (2, 1, 5, 3, 'two', '; \U0001F600 two\n'),
+            (3, 1, 3, 1, '\ude01', '; \U0001F601 one\n'),
+            (5, 3, 0, 9, '', ''),
+            (7, 3, 9, 0, 'x' * 70000, '; \U0001F601 one\n' + 'x' * 70000),
+        ):
+            self.assertEqual(self.draft('page-one-1', number=number, base=base, at=at, drop=drop, source=text), {})
+            self.assertEqual(source(), found)
+        self.assertEqual(self.draft('page-one-1', number=6, base=3, at=0, drop=9, source='late'), {'again': 7})
+        self.assertEqual(self.draft('page-one-1', number=8, base=4, source='on a text that is not there'), {'again': 7})
+        self.assertEqual(source(), '; \U0001F601 one\n' + 'x' * 70000)
+        self.assertEqual(self.draft('page-one-1', number=9, base=6, at=4, drop=70000, source='!'), {})
+        self.assertEqual(source(), 'late!')
+        # Another desk has the last text alone.
+        self.desk.drafts = drafts.Drafts(self.drafts)
+        self.assertEqual(self.draft('page-one-1', number=10, base=7, source='x'), {'again': 9})
+        self.assertEqual(self.draft('page-one-1', number=10, base=9, at=4, drop=1, source=''), {})
+        self.assertEqual(source(), 'late')
+        self.client.ask('drop draft', id='page-one-1', given=False, number=9)
+        self.assertEqual(source(), 'late')
+        self.client.ask('drop draft', id='page-one-1', given=False, number=11)
+        self.assertEqual(self.draft('page-one-1', number=10, base=9, source='late'), {'again': 11})
+        self.assertEqual(os.listdir(self.drafts), [])
+
+    def test_a_draft_that_was_not_kept_is_sent_again(self) -> None:
+        """What can't be written isn't taken for what the desk has."""
+        self.assertEqual(self.draft('page-one-1', number=1), {})
+        with mock.patch.object(drafts, 'write_whole', side_effect=OSError(28, 'No space left on device')):
+            self.assertIn("can't be kept", self.draft('page-one-1', number=2, base=1, source='; two\n')['sorry'])
+        self.assertEqual(self.draft('page-one-1', number=2, base=1, source='; two\n'), {})
+        for wrong in ({'number': -1}, {'number': 1.5}, {'number': 2**60}, {'base': 'x'}, {'at': None}):
+            fields = {'do': 'keep draft', 'id': 'page-one-1', 'given': False, 'name': '', 'source': '', 'hex': False, 'run': {}, 'stops': []} | wrong
+            self.assertEqual(self.client.request('POST', f'/{self.client.token}/do', json.dumps(fields).encode())[0], 400, wrong)
+
     def test_it_is_of_its_file(self) -> None:
         """By the file's full path, however it is named; a draft of another file isn't offered."""
         files = [self.file(f'{stem}.asm', FOREVER) for stem in 'ab']
@@ -236,7 +359,7 @@ class Drafts(test_desk.Served):
         self.draft('page-of-a1', given=True, run={**self.client.ask('hello')['given']['run']})
         for _ in range(2):
             answer = self.client.ask('hello')
-            self.assertEqual((answer['drafts'], answer['given']['settled']), ([], {'id': 'page-of-a1', 'stops': [':3']}))
+            self.assertEqual((answer['drafts'], answer['given']['settled']), ([], {'id': 'page-of-a1', 'number': 0, 'stops': [':3']}))
 
     def test_the_oldest_go(self) -> None:
         for at in range(MOST_DRAFTS + 5):
@@ -323,6 +446,10 @@ class OnThePage(ToolCase):
         page.browser.run("$('kept').textContent=''")
         page.browser.press('s', CONTROL)
         page.browser.until(f"$('kept').textContent.startsWith({json.dumps(shown)})")
+
+    def draft_texts(self) -> list[str]:
+        """The texts of all drafts."""
+        return [json.loads(octets_in(name))['source'] for name in glob.glob(f'{self.room}/state/zebludor/desk/*.json')]
 
     def asks(self, page: Page) -> bool:
         """Whether the browser asks before the page is left."""
@@ -487,6 +614,42 @@ class OnThePage(ToolCase):
         browser.run("$('differing').close()")
         page.click('#offer-take', f"$('source').value==={json.dumps(FOREVER + '; one')}")
         self.assertEqual(octets_in(self.source), FOREVER.encode())
+
+    def test_a_tab_that_closes(self) -> None:
+        """At the next moment: what was typed is a draft, however long the text is."""
+        page = self.opened()
+        if page is None:
+            return
+        for size in (2_000, 70_000, 200_000):
+            text = FOREVER + ('; more' * 16 + '\n') * (size // 97)
+            self.file('k.asm', text)
+            page.open()
+            page.browser.run("$('source').focus();$('source').setSelectionRange(0,0)")
+            page.browser.call('Input.insertText', text='; typed last\n')
+            page.browser.run('onbeforeunload=null')
+            page.browser.call('Page.navigate', url='about:blank')
+            self.assertTrue(until(lambda: '; typed last\n' + text in self.draft_texts()), size)  # pylint: disable=cell-var-from-loop
+
+    def test_a_tab_that_crashes(self) -> None:
+        """With more than any browser sends for a tab that is gone, and a desk that hasn't answered: it lies in the browser until the
+        page is opened again, and no longer."""
+        page = self.opened()
+        if page is None:
+            return
+        browser = page.browser
+        pasted = ('; pasted' * 100 + '\n') * 200
+        browser.run("window.fetch=()=>new Promise(()=>0);navigator.sendBeacon=()=>false;0")
+        browser.run(f"$('source').setRangeText({json.dumps(pasted)},{len(FOREVER)},{len(FOREVER)});$('source').dispatchEvent(new Event('input'));0")
+        browser.until("Object.keys(localStorage).length===1")
+        page.open()
+        browser.until("!$('offer').hidden")
+        self.assertEqual(browser.run("Object.keys(localStorage).length"), 0)
+        page.click('#offer-take', "$('offer').hidden")
+        self.assertEqual(browser.run("$('source').value"), FOREVER + pasted)
+        # While the desk answers, nothing stays there.
+        self.type(page, '; and more\n')
+        self.drafted(page)
+        browser.until("Object.keys(localStorage).length===0")
 
     def test_drafts_of_no_file(self) -> None:
         """An example that was changed comes back in another desk; discarded, it is gone."""

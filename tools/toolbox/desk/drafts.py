@@ -6,15 +6,33 @@ import hashlib
 import json
 import os
 import re
-import stat
+import threading
 import time
+from dataclasses import dataclass
 from typing import Any
 
 from toolbox.command import Sorry, state_folder
-from toolbox.writing import write_whole
+from toolbox.writing import own_folder, write_whole
 
 Fields = dict[str, Any]
-MOST_DRAFTS = 50
+# Of so many drafts the last texts are at hand, so many of each.
+MOST_DRAFTS, MOST_AT_HAND, MOST_TEXTS = 50, 16, 8
+
+
+@dataclass(frozen=True)
+class Change:
+    """How a page's text comes from its text with the number `base`, of 0 from nothing: other signs stand in place of the `drop` ones
+    `at` a place. Signs are counted as pages do, in words of 16 bits."""
+
+    number: int = 0
+    base: int = 0
+    at: int = 0
+    drop: int = 0
+
+    def made(self, before: str, text: str) -> str:
+        """The text that comes of one before, and of what is new."""
+        old, new = (each.encode('utf-16-le', 'surrogatepass') for each in (before, text))
+        return (old[: 2 * self.at] + new + old[2 * (self.at + self.drop) :]).decode('utf-16-le', 'surrogatepass')
 
 
 def folder_of_drafts() -> str:
@@ -27,6 +45,7 @@ class Drafts:
 
     def __init__(self, folder: str) -> None:
         self.folder, self.begun = folder, time.time()
+        self._lock, self._texts = threading.Lock(), dict[str, dict[int, str]]()
 
     def _path(self, of: str | None, page: str) -> str:
         """A draft's file."""
@@ -35,34 +54,59 @@ class Drafts:
         whose = hashlib.sha256(os.path.realpath(of).encode('utf-8', 'surrogateescape')).hexdigest() if of else 'none'
         return os.path.join(self.folder, f'{whose}.{page}.json')
 
-    def _open_folder(self) -> None:
-        """Makes the folder where it isn't there, and sees to it that nobody else reads in it."""
-        os.makedirs(self.folder, mode=0o700, exist_ok=True)
-        found = os.stat(self.folder)
-        if found.st_uid != os.geteuid():
-            raise PermissionError(0, 'it belongs to another user')
-        if stat.S_IMODE(found.st_mode) != 0o700:
-            os.chmod(self.folder, 0o700)
+    def _at_hand(self, path: str) -> dict[int, str]:
+        """The last texts of a draft, by their numbers; the last one is what the page has said last."""
+        texts = self._texts.pop(path, None)
+        if texts is None:
+            draft = self._read(path)
+            texts = {draft['number']: draft['source']} if draft else {0: ''}
+        self._texts[path] = texts
+        for old in list(self._texts)[:-MOST_AT_HAND]:
+            del self._texts[old]
+        return texts
 
-    def keep(self, of: str | None, page: str, draft: Fields) -> None:
-        """Keeps a page's draft in the place of its last one. The oldest of too many go."""
+    def keep(self, of: str | None, page: str, draft: Fields, change: Change = Change()) -> int | None:
+        """Keeps a page's draft in the place of its last one. Its source says what is new in the text. The oldest of too many go. If
+        a later message was here before, or the text from which this one comes isn't at hand, it returns the last number that is, and
+        the page sends all of it."""
         path = self._path(of, page)
+        with self._lock:
+            texts = self._at_hand(path)
+            last, before = max(texts), texts.get(change.base) if change.base else ''
+            if before is None:
+                return last
+            source, is_late = change.made(before, draft['source']), 0 < change.number <= last
+            if not is_late:
+                self._write(path, draft | {'of': of, 'source': source, 'number': change.number, 'time': time.time()})
+            texts[change.number] = source
+            for old in [number for number in sorted(texts) if number < change.base or number not in sorted(texts)[-MOST_TEXTS:]]:
+                del texts[old]
+            return last if is_late else None
+
+    def _write(self, path: str, draft: Fields) -> None:
+        """Writes a draft, and removes the oldest of too many."""
         try:
-            self._open_folder()
-            write_whole(path, json.dumps(draft | {'of': of, 'time': time.time()}).encode('utf-8', 'surrogatepass'))
+            own_folder(self.folder)
+            write_whole(path, json.dumps(draft).encode('utf-8', 'surrogatepass'))
             for old in self._all('')[MOST_DRAFTS:]:
                 os.remove(old)
         except OSError as error:
             raise Sorry(f"drafts can't be kept in {self.folder}: {error.strerror}; save often") from None
 
-    def drop(self, of: str | None, page: str) -> None:
-        """Forgets a page's draft, if there is one."""
-        try:
-            os.remove(self._path(of, page))
-        except FileNotFoundError:
-            pass
-        except OSError as error:
-            raise Sorry(f"the draft can't be removed: {error.strerror}") from None
+    def drop(self, of: str | None, page: str, number: int = 0) -> None:
+        """Forgets a page's draft, if there is one that hasn't come after this number."""
+        path = self._path(of, page)
+        with self._lock:
+            last = max(self._at_hand(path))
+            if number and number < last:
+                return
+            self._texts[path] = {max(number, last): ''}
+            try:
+                os.remove(path)
+            except FileNotFoundError:
+                pass
+            except OSError as error:
+                raise Sorry(f"the draft can't be removed: {error.strerror}") from None
 
     def one(self, of: str | None, page: str) -> Fields:
         """A draft."""
@@ -91,7 +135,7 @@ class Drafts:
             if draft['source'] == source.replace('\r\n', '\n') and fields | draft['run'] == fields:
                 if found:
                     self.drop(of, page)
-                found = found or {'id': page, 'stops': [stop for stop in draft['stops'] if isinstance(stop, str)]}
+                found = found or {'id': page, 'number': draft['number'], 'stops': [stop for stop in draft['stops'] if isinstance(stop, str)]}
         return found
 
     def _all(self, start: str) -> list[str]:
@@ -113,6 +157,6 @@ class Drafts:
                 draft = json.loads(file.read().decode('utf-8', 'surrogatepass'))
         except (OSError, ValueError):
             return None
-        wanted = {'name': str, 'source': str, 'hex': bool, 'run': dict, 'stops': list, 'time': float}
-        is_whole = isinstance(draft, dict) and all(isinstance(draft.get(name), kind) for name, kind in wanted.items())
-        return draft if is_whole else None
+        wanted = {'name': str, 'source': str, 'hex': bool, 'run': dict, 'stops': list, 'time': float, 'number': int}
+        draft = {'number': 0} | draft if isinstance(draft, dict) else {}
+        return draft if all(isinstance(draft.get(name), kind) for name, kind in wanted.items()) else None

@@ -2,22 +2,30 @@
 over what another hand has written meanwhile."""
 from __future__ import annotations
 
+import contextlib
 import difflib
+import fcntl
 import hashlib
 import os
 import re
 import threading
+import time
 from dataclasses import dataclass
-from typing import Any
+from typing import Any, Callable, Iterator
 
 from toolbox import runfile
 from toolbox.command import Sorry
 from toolbox.reading import read_whole
 from toolbox.runfile import DEFAULTS, text_of
-from toolbox.writing import write_whole
+from toolbox.writing import finish, is_unfinished, own_folder, write_whole
 
 Fields = dict[str, Any]
 LONGEST_DIFFERENCE = 2000  # lines
+SECONDS_OF_A_TURN, LOCK = 10, 'lock'
+
+
+class Changed(Exception):
+    """Another hand has written to a file since it was read."""
 
 
 @dataclass(frozen=True)
@@ -38,6 +46,60 @@ def octets_of(path: str) -> bytes | None:
         return None
     except OSError as error:
         raise Sorry(f"{path} can't be read: {error.strerror}") from None
+
+
+def still(path: str, octets: bytes | None) -> Callable[[], None]:
+    """What raises Changed once a file hasn't these bytes any more; its last look takes no time."""
+
+    def stamp() -> tuple[int, ...]:
+        with contextlib.suppress(FileNotFoundError):
+            found = os.stat(path)
+            return found.st_dev, found.st_ino, found.st_size, found.st_mtime_ns
+        return ()
+
+    def look() -> None:
+        before = stamp()
+        if octets_of(path) != octets or stamp() != before:
+            raise Changed
+
+    return look
+
+
+def put_over(path: str, octets: bytes, old: bytes | None) -> None:
+    """Writes a file that has the old bytes. What another hand writes into these at that moment takes their place again, and raises
+    Changed."""
+    with contextlib.ExitStack() as stack:
+        held = old is not None and stack.enter_context(open(path, 'rb', opener=lambda name, how: os.open(name, how | os.O_NONBLOCK)))
+        write_whole(path, octets, still(path, old))
+        if held and not os.path.samestat(os.fstat(held.fileno()), os.stat(path)) and (theirs := held.read()) != old:
+            write_whole(path, theirs, still(path, octets))
+            raise Changed
+
+
+@contextlib.contextmanager
+def turn(folder: str | None) -> Iterator[None]:
+    """Waits until no other desk of this user writes, as far as such a folder can be had."""
+    with contextlib.ExitStack() as stack:
+        if folder:
+            with contextlib.suppress(OSError):
+                own_folder(folder)
+                handle = os.open(os.path.join(folder, LOCK), os.O_RDWR | os.O_CREAT | os.O_NOFOLLOW | os.O_CLOEXEC, 0o600)
+                stack.callback(os.close, handle)
+                wait_for(handle)
+        yield
+
+
+def wait_for(handle: int) -> None:
+    """Waits for a lock, but not for ever."""
+    end = time.monotonic() + SECONDS_OF_A_TURN
+    while True:
+        try:
+            fcntl.flock(handle, fcntl.LOCK_EX | fcntl.LOCK_NB)
+            return
+        except BlockingIOError:
+            if time.monotonic() > end:
+                raise Sorry(f'another desk has been writing for {SECONDS_OF_A_TURN} seconds; nothing was written, try again') from None
+            time.sleep(0.01)
 
 
 def sum_of(octets: bytes | None) -> str | None:
@@ -95,10 +157,10 @@ def wrong_field(fields: Fields) -> str | None:
 
 
 class Kept:
-    """The command's files, and how they are written."""
+    """The command's files, and how they are written. In the folder desks take turns."""
 
-    def __init__(self, given: Given) -> None:
-        self.given, self._lock = given, threading.Lock()
+    def __init__(self, given: Given, folder: str | None = None) -> None:
+        self.given, self._folder, self._lock = given, folder, threading.Lock()
 
     def read(self) -> Fields:
         """What a page begins with: texts, fields, and the sums by which it names what it has read. Of files that can't be read,
@@ -107,6 +169,7 @@ class Kept:
         sums: list[str | None] = [None, None]
         assert given.file
         try:
+            self._finish()
             octets = octets_of(given.file)
             if octets is None:
                 raise Sorry(f"{given.file} can't be read: it isn't there")
@@ -127,12 +190,21 @@ class Kept:
             'note': note,
         }
 
+    def _finish(self) -> None:
+        """Finishes what a desk that was killed has begun to write."""
+        for path in filter(is_unfinished, self._paths()):
+            try:
+                with self._lock, turn(self._folder):
+                    finish(path)
+            except OSError as error:
+                raise Sorry(f"{path} was written by half, which can't be finished: {error.strerror}") from None
+
     def write(self, source: str, fields: Fields, sums: list[Any], is_over: bool) -> Fields:
         """Writes a page's text to FILE, and its fields to RUN, if neither has changed since they had these sums, or it is to be
         overwritten. It answers what has changed; else what was written, with the sums of now, and what wasn't and why."""
         if not self.given.file:
             raise Sorry('desk was started without FILE: save the files from the page')
-        with self._lock:
+        with self._lock, turn(self._folder):
             paths, there = self._there()
             changed = self._changed(source, sums, paths, there)
             if changed and not is_over:
@@ -147,6 +219,9 @@ class Kept:
                     found['sums'][at] = self._put(path, text, octets, fields if at else None)
                 except OSError as error:
                     return found | {'sorry': f"{path} can't be written: {error.strerror}"}
+                except Changed:
+                    changed = {} if found['kept'] else self._changed(source, sums, *self._there())
+                    return changed or found | {'sorry': f"{path} isn't written: another hand wrote to it at that moment; save again"}
                 found['kept'].append(path)
             return found
 
@@ -158,14 +233,17 @@ class Kept:
         """Writes one file, unless it says that already, and gives its sum."""
         octets = text.encode('utf-8', 'surrogatepass')
         if octets != old and not (fields is not None and old is not None and is_same(old, fields)):
-            write_whole(path, octets)
+            put_over(path, octets, old)
             return sum_of(octets)
         return sum_of(old)
 
+    def _paths(self) -> list[str]:
+        """The files."""
+        return [path for path in (self.given.file, self.given.run_file) if path]
+
     def _there(self) -> tuple[list[str], list[bytes | None]]:
         """The files, and what they hold now."""
-        paths = [path for path in (self.given.file, self.given.run_file) if path]
-        return paths, [octets_of(path) for path in paths]
+        return self._paths(), [octets_of(path) for path in self._paths()]
 
     def changed(self, source: str, sums: list[Any]) -> Fields:
         """What another hand has changed since the files had these sums, as `write` tells it; nothing where none has."""

@@ -12,7 +12,7 @@ from typing import Any, Callable
 
 from toolbox.command import Sorry, read_text
 from toolbox.desk.board import Board
-from toolbox.desk.drafts import Drafts
+from toolbox.desk.drafts import Change, Drafts
 from toolbox.desk.files import Given, Kept, difference
 from toolbox.desk.http import Refused
 from toolbox.desk.language import Language
@@ -29,7 +29,7 @@ from toolbox.symbols import image_of
 MOST_BOARDS, IDLE_SECONDS = 8, 900
 # A board that was asked for nothing for so long doesn't run: the page asks for the pieces of a run more often.
 LEAST_IDLE = 2.0
-LONGEST_SOURCE, MOST_MESSAGES, MESSAGES_SECONDS = 1 << 20, 20, 2.0
+LONGEST_SOURCE, MOST_MESSAGES, MESSAGES_SECONDS, LAST_NUMBER = 1 << 20, 20, 2.0, 1 << 53
 # So long an answer is waited for; what takes longer is told of, and asked for again.
 PATIENCE = 0.25
 HOLD, PAUSE, MOST_TYPED = 500, 1500, 1000
@@ -64,7 +64,7 @@ class Desk:
     def __init__(self, room: str, given: Given, drafts: Drafts) -> None:
         self.room, self.given, self.drafts = room, given, drafts
         self.idle_seconds, self.least_idle = float(IDLE_SECONDS), LEAST_IDLE
-        self.files, self.language = Kept(given), Language()
+        self.files, self.language = Kept(given, drafts.folder), Language()
         self._lock, self._boards = threading.Lock(), dict[str, Board | None]()
 
     def close(self) -> None:
@@ -231,14 +231,16 @@ class Desk:
         return self.given.file if want(fields, 'given', bool) else None
 
     def _keep_draft(self, fields: Fields) -> Fields:
-        """Keeps what a page holds until it is saved."""
+        """Keeps what a page holds until it is saved. `again`: the page has to send all of it, with a later number than this."""
         kinds = {'name': str, 'source': str, 'hex': bool, 'run': dict, 'stops': list}
-        self.drafts.keep(self._of(fields), want(fields, 'id', str), {name: want(fields, name, kind) for name, kind in kinds.items()})
-        return {}
+        counts = [want(fields, name, int, 0) for name in ('number', 'base', 'at', 'drop')]
+        draft = {name: want(fields, name, kind) for name, kind in kinds.items()}
+        last = self.drafts.keep(self._of(fields), want(fields, 'id', str), draft, Change(*numbers(counts, 0, LAST_NUMBER)))
+        return {} if last is None else {'again': last}
 
     def _drop_draft(self, fields: Fields) -> Fields:
         """Forgets a draft."""
-        self.drafts.drop(self._of(fields), want(fields, 'id', str))
+        self.drafts.drop(self._of(fields), want(fields, 'id', str), want(fields, 'number', int, 0))
         return {}
 
     def _draft(self, fields: Fields) -> Fields:

@@ -3,19 +3,21 @@ import {$, ask, say} from './asking.js';
 import {acts, begin, board, forget_run, view} from './board.js';
 import {show_code} from './code.js';
 import {note_grammar} from './editor.js';
-import {may_leave, note_given, offer, settle, touched} from './saving.js';
+import {send_left} from './keeping.js';
+import {leave_draft, may_leave, note_given, offer, settle, touched} from './saving.js';
 import {show_page} from './tabs.js';
 export let isHex = false, isGiven = false, runFile = {}, given = null, pages = {}, ends = '\n';
 export function note_run(fields) { runFile = fields; }
 /* A source in the editor. It may be the command's own FILE, and have stops from before. */
 export function put_file(name, text, fields, hex, more = {}) {
+  leave_draft();
   $('name').textContent = name; $('source').value = text; isHex = hex; isGiven = Boolean(more.given);
   ends = text.includes('\r\n') ? '\r\n' : '\n';
   $('source').scrollTop = 0; $('source').setSelectionRange(0, 0);
   put_fields(fields);
   forget_run((more.stops || []).map(place => ({place})));
   if (!isGiven && !more.example) $('example').value = '';
-  settle(more.id);
+  settle(more.id, more.number);
   show_code();
 }
 function put_fields(fields) {
@@ -92,6 +94,7 @@ $('example').onchange = () => {
 /* The page's beginning: the command's files, or an example. */
 export async function first() {
   pages = await ask('hello');
+  if (await send_left(pages.given?.file)) pages = await ask('hello');
   $('example').replaceChildren(...(pages.given ? [new Option(`your file, ${pages.given.name}`, OWN)] : [new Option('choose one', '')]), ...pages.examples.map(it => { const one = new Option(it.name, it.name); one.title = it.shows; return one; }));
   note_grammar(pages.grammar);
   if (pages.given) { await take_given(pages); return; }

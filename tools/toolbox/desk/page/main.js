@@ -47,7 +47,11 @@ document.addEventListener('keydown', event => {
   if (id) { event.preventDefault(); $(id).click(); }
   if (pressed === 'F9' && document.activeElement === $('source')) { event.preventDefault(); toggle_stop($('source').value.slice(0, $('source').selectionStart).split('\n').length); }
 });
-addEventListener('pagehide', () => { send_last_words(); leave(); });
+/* A phone may end a page once it is hidden. One that is left is hidden too, when its board and the keys typed there are gone. */
+let isLeft = false;
+addEventListener('visibilitychange', () => { if (document.hidden && !isLeft) send_last_words(); });
+addEventListener('pagehide', () => { send_last_words(); isLeft = true; leave(); });
+addEventListener('pageshow', () => { isLeft = false; });
 
 draw_screen(Array(25).fill([[' '.repeat(80), 0]]));
 draw_screen_keys();

@@ -3,6 +3,7 @@
 import {$, ask, counted, say, yes} from './asking.js';
 import {act, acts, begin, stops, view} from './board.js';
 import {ends, fields_now, given, isGiven, isHex, put_file, take_given} from './files.js';
+import {begin_draft, forget_copy, keep_copy, next_number, note_answer, send_anew, send_by_beacon, told} from './keeping.js';
 const SOON = 500, LATEST = 3000;  // so long after a change, and at most after the first one, its draft is sent
 export let draftId = new_id(), kept = '', home = {}, fileHome = {}, sums = [null, null], offers = [];
 export let soon = 0, since = 0, drafting = Promise.resolve(), noticed = '', writing = 0;
@@ -12,9 +13,12 @@ export function held() {
   return {given: isGiven, name: $('name').textContent, hex: isHex, source: $('source').value, run: fields_now(), stops: stops.map(it => it.place)};
 }
 const said = run => JSON.stringify(run);
+/* Until it is settled, what the page holds belongs to no draft. */
+export function leave_draft() { draftId = ''; }
 /* What the page holds is what the desk has just given it. A draft that was taken is of its file, and of none it is new. */
-export function settle(id) {
+export function settle(id, number) {
   draftId = id || new_id(); kept = id ? said(held()) : '';
+  begin_draft(number);
   if (isGiven && fileHome.source !== undefined) home = fileHome;
   else home = {source: $('source').value, run: said(fields_now())};
   if (isGiven) fileHome = home;
@@ -30,27 +34,43 @@ export function is_changed() {
 }
 /* Called at each change: of the text, the run file's fields, keys and stops. */
 export function touched() {
-  const isText = is_changed() && $('source').value !== home.source, isRun = is_changed() && !isText;
+  const isChanged = is_changed(), isText = isChanged && $('source').value !== home.source, isRun = isChanged && !isText;
   $('unsaved').textContent = isText ? 'not saved' : isRun ? 'run file not saved' : '';
   document.title = `${isText || isRun ? '\u25cf ' : ''}${$('name').textContent} - Zebludor desk`;
   clearTimeout(soon);
-  const now = performance.now();
+  const now = performance.now(), isNew = draftId !== '' && isChanged && !is_kept(), isShort = !isNew || keep_copy(file_of(), told(draftId, held()));
+  if (!isNew) forget_copy(draftId);
   since = since || now;
-  soon = setTimeout(send_draft, Math.max(0, Math.min(SOON, since + LATEST - now)));
+  soon = setTimeout(send_draft, isShort ? Math.max(0, Math.min(SOON, since + LATEST - now)) : 0);
 }
+const file_of = () => isGiven ? given.file : null;
 /* Sends what isn't saved, and forgets the draft of what is. */
 function send_draft() {
   clearTimeout(soon);
   since = 0;
   return drafting = drafting.then(async () => {
-    const now = held(), text = said(now), isWanted = is_changed() || now.stops.length > 0;
+    const id = draftId, now = held(), text = said(now), isWanted = is_changed() || now.stops.length > 0;
     if (isWanted ? text === kept : !kept) return;
     try {
-      const answer = isWanted ? await ask('keep draft', {id: draftId, ...now}) : await ask('drop draft', {id: draftId, given: now.given});
-      if (answer.sorry) { say(answer.sorry); return; }
+      const sorry = isWanted ? await send(id, now) : (await ask('drop draft', {id, given: now.given, number: next_number()})).sorry;
+      if (sorry) { say(sorry); return; }
+      if (id !== draftId) return;
+      if (!isWanted) send_anew(0);
       kept = isWanted ? text : '';
+      if (said(held()) === text) forget_copy(draftId);
     } catch (error) { say(`${error.message}; Save gives you what you wrote`); }
   });
+}
+/* Sends what has changed, or all of it, if the desk hasn't what it changed from. */
+async function send(id, now) {
+  let message = told(id, now), answer = await ask('keep draft', message);
+  if (answer.again !== undefined && id === draftId) {
+    send_anew(answer.again);
+    message = told(id, now);
+    answer = await ask('keep draft', message);
+  }
+  if (!answer.sorry && id === draftId) note_answer(message, now.source);
+  return answer.sorry;
 }
 export const is_kept = () => kept !== '' && said(held()) === kept;
 /* Whether what was written may be left; it stays as a draft. */
@@ -60,10 +80,10 @@ export async function may_leave() {
   return yes(is_kept() ? 'Your changes are not saved. Leave them? They stay as a draft.' : 'Your changes are not saved, and no draft of them is kept. Discard them?');
 }
 onbeforeunload = event => { if (is_changed() && (isGiven || !is_kept())) event.preventDefault(); };
-/* The last half second goes with the page. */
+/* The last half second goes with the page; what is too long for that stays in the browser. */
 export function send_last_words() {
   const now = held();
-  if (is_changed() && said(now) !== kept) navigator.sendBeacon('do', new Blob([JSON.stringify({do: 'keep draft', id: draftId, ...now})], {type: 'application/json'}));
+  if (is_changed() && said(now) !== kept) send_by_beacon(told(draftId, now));
 }
 
 /* Drafts that are offered, the latest first. */
@@ -80,7 +100,7 @@ async function take_draft() {
   const one = offers[0], draft = await draft_of(one);
   if (draft.sorry) { say(draft.sorry); offer(offers.slice(1)); return; }
   if (is_changed()) await send_draft();
-  put_file(draft.name, draft.source, draft.run, draft.hex, {given: one.given, stops: draft.stops, id: one.id});
+  put_file(draft.name, draft.source, draft.run, draft.hex, {given: one.given, stops: draft.stops, id: one.id, number: draft.number});
   if (!one.given) home = {source: null, run: null};
   offer(offers.slice(1));
   await begin(draft.run);
