@@ -1169,7 +1169,7 @@ class Started(Begun):
             (report.clock, report.registers['AX']),
             (500, (0x10000 - report_of(self.pcboard('run', self.file('it.asm', FOREVER), f'{self.room}/mine.json').stdout).registers['AX']) % 0x10000),
         )
-        self.assertEqual(set(os.listdir(self.room)) - {'zebludor'}, {'mine.asm', 'mine.json', 'it.asm'})
+        self.assertEqual(set(os.listdir(self.room)) - {'zebludor', 'state'}, {'mine.asm', 'mine.json', 'it.asm'})
         self.ended(process, signal.SIGINT)
 
     def test_words(self) -> None:
