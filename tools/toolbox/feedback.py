@@ -6,17 +6,17 @@ import contextlib
 import os
 import re
 import shlex
-import shutil
 import tempfile
 from typing import Iterator
 
-from toolbox.command import Sorry, tool
+from toolbox.command import Sorry, read_bytes, tool
 from toolbox.expectations import Outcome, Planned, Subject
 from toolbox.explaining import explained, of_a_report
 from toolbox.faults import Fault, fault_in
 from toolbox.guests import Guest
 from toolbox.marks import Row, visible
 from toolbox.program import TOP, Files
+from toolbox.writing import write_all, write_whole
 
 TEXT = 'feedback.txt'
 HEAD = "Type the commands below in Zebludor's folder, with this folder copied into it."
@@ -75,12 +75,12 @@ class Feedback:
     def begins(self, number: int, planned: Planned, files: Files) -> None:
         """Before a run: its files."""
         if number == 1:
-            shutil.copyfile(self.guest.file, self.path(self.name))
+            copy_whole(self.guest.file, self.path(self.name))
         if planned.is_hidden:
             return
-        shutil.copyfile(files.run_file, self.path(f'{number}.json'))
-        with open(self.path(f'{number}.page'), 'w', encoding='utf-8', errors='surrogateescape') as file:
-            file.writelines(f'{expectation.said()}\n' for expectation in planned.expectations)
+        copy_whole(files.run_file, self.path(f'{number}.json'))
+        page = ''.join(f'{expectation.said()}\n' for expectation in planned.expectations)
+        write_whole(self.path(f'{number}.page'), page.encode('utf-8', 'surrogateescape'))
 
     def ends(self, number: int, planned: Planned, files: Files, subject: Subject | str, outcomes: list[Outcome]) -> None:
         """Behind a run: what was expected and what came; and of one that failed how it is repeated, and why it went wrong."""
@@ -142,11 +142,23 @@ def scrubbed(line: str, file: str) -> str:
     return visible(line)
 
 
+def copy_whole(path: str, to: str) -> None:
+    """Copies a file: all of it, or none."""
+    write_whole(to, read_bytes(path))
+
+
 def tell(folder: str, lines: list[str]) -> None:
-    """Adds lines to a folder's text, which is there then."""
+    """Adds lines to a folder's text, which is there then: all of them, or none."""
     os.makedirs(folder, exist_ok=True)
-    with open(os.path.join(folder, TEXT), 'a', encoding='utf-8') as file:
-        file.writelines(f'{line}\n' for line in lines)
+    handle = os.open(os.path.join(folder, TEXT), os.O_WRONLY | os.O_CREAT | os.O_APPEND | os.O_CLOEXEC, 0o666)
+    before = os.fstat(handle).st_size
+    try:
+        write_all(handle, ''.join(f'{line}\n' for line in lines).encode())
+    except OSError:
+        os.ftruncate(handle, before)
+        raise
+    finally:
+        os.close(handle)
 
 
 def close(folder: str, row: Row, words: list[str], copy: str) -> None:
@@ -167,6 +179,6 @@ def not_begun(folder: str, copy: str) -> list[str]:
     if not os.path.isfile(copy) or os.path.exists(os.path.join(folder, name)):
         return []
     with contextlib.suppress(OSError):
-        shutil.copyfile(copy, os.path.join(folder, name))
+        copy_whole(copy, os.path.join(folder, name))
         return [f'  {tool("try")} {os.path.basename(folder)}/{name}']
     return []

@@ -5,7 +5,6 @@ from __future__ import annotations
 import argparse
 import contextlib
 import os
-import shutil
 import subprocess
 import sys
 import tempfile
@@ -13,7 +12,7 @@ from dataclasses import dataclass
 from typing import Any, Iterator
 
 from toolbox import loading
-from toolbox.command import Sorry, handed_on, read_bytes
+from toolbox.command import Sorry, handed_on, read_bytes, write_bytes
 from toolbox.loading import Loaded, check_ram
 from toolbox.program import Files, is_hex_name, limited
 from toolbox.runfile import DEFAULTS, read_run_file, text_of, with_run_file
@@ -143,10 +142,7 @@ def kept(guest: Guest, run_file: str | None, symbols: str | None, name: str | No
     with prepared(guest, Files(guest.file, run_file or '')) as made:
         assert made.symbols
         for path, to in zip((made.file, made.run_file, made.symbols), paths):
-            try:
-                shutil.copyfile(path, to)
-            except OSError as error:
-                raise Sorry(f"{to} can't be written: {error.strerror}") from None
+            write_bytes(to, read_bytes(path))
     return paths[0], paths[1], symbols or paths[2]
 
 

@@ -11,7 +11,7 @@ from typing import Any, Iterator
 
 from zebludor import CHOICES, DEFAULTS, FIRST_CHOICES, run_file as text_of
 
-from toolbox.command import Sorry, read_text, tool
+from toolbox.command import Sorry, read_text, tool, write_text
 from toolbox.program import Files, answer_of
 from toolbox.report import Report, report_of
 
@@ -87,9 +87,7 @@ def add_keys(path: str, keys: list[tuple[int, int]]) -> None:
     """Puts keys that were typed, stamps and codes, into a run file: each behind those of its stamp that are there."""
     fields = read_run_file(path)
     fields['keys'] = sorted([*fields['keys'], *keys], key=lambda key: key[0])
-    with open(f'{path}.new', 'w', encoding='utf-8') as file:
-        file.write(text_of(fields))
-    os.replace(file.name, path)
+    write_text(path, text_of(fields))
 
 
 def report_at(files: Files, clock: int) -> Report:
