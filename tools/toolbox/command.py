@@ -2,6 +2,7 @@
 tool, and status 2."""
 import argparse
 import contextlib
+import io
 import os
 import re
 import sys
@@ -134,11 +135,13 @@ def silence() -> None:
 
 def with_streams() -> None:
     """Opens the null device for each of standard input, output and error that the tool was started without, so that reading
-    and printing work."""
+    and printing work. Bytes of standard input that aren't UTF-8 stay visible as escapes."""
     for number, name, mode in ((0, 'stdin', 'r'), (1, 'stdout', 'w'), (2, 'stderr', 'w')):
         if getattr(sys, name) is None:
             os.dup2(os.open(os.devnull, os.O_RDWR), number)
             setattr(sys, name, open(number, mode, encoding='utf-8'))  # pylint: disable=consider-using-with
+    if isinstance(sys.stdin, io.TextIOWrapper):
+        sys.stdin.reconfigure(encoding='utf-8', errors='backslashreplace')
 
 
 def state_folder() -> str:
