@@ -25,7 +25,7 @@ from toolbox.sources import sum_of, sum_of_sources
 
 PLATFORM = 'x86_64-linux'
 STORED_FILES = tuple(f'stored/{program}' for program in PROGRAMS)
-FILES = ('CHANGELOG.md', 'CONTRIBUTING.md', 'LICENSE-APACHE', 'LICENSE-MIT', 'README.md', 'VERSION', *PROGRAMS, *STORED_FILES, 'stored/PROVED')
+FILES = ('CHANGELOG.md', 'CONTRIBUTING.md', 'SECURITY.md', 'LICENSE-APACHE', 'LICENSE-MIT', 'README.md', 'VERSION', *PROGRAMS, *STORED_FILES, 'stored/PROVED')
 FOLDERS = ('c', 'docs', 'editors', 'examples', 'python', 'services', 'tools')
 LEFT_OUT = ('tools/test', 'tools/tests', 'editors/grammar')  # which want the sources
 LIBRARIES = {

@@ -80,6 +80,7 @@ class Links(unittest.TestCase):
             'README.md',
             'CHANGELOG.md',
             'CONTRIBUTING.md',
+            'SECURITY.md',
             'editors/README.md',
             *(f'docs/{name}' for name in sorted(os.listdir(f'{TOP}/docs')) if name.endswith('.md')),
         ]
@@ -96,6 +97,15 @@ class Links(unittest.TestCase):
     def test_readme_is_read_in_ten_minutes(self) -> None:
         with open(f'{TOP}/README.md', encoding='utf-8') as file:
             self.assertLessEqual(len(file.read().split()), 2300)
+
+    def test_security_is_read_in_three_minutes(self) -> None:
+        """It says what is promised, what isn't, and where to report; README leads to it."""
+        with open(f'{TOP}/SECURITY.md', encoding='utf-8') as file:
+            text = file.read()
+        self.assertLessEqual(len(text.split()), 600)
+        self.assertEqual(re.findall('^# (.*)$', text, re.M), ['Security', 'What is promised', "What isn't", 'Where to report'])
+        with open(f'{TOP}/README.md', encoding='utf-8') as file:
+            self.assertIn('](SECURITY.md)', file.read())
 
     def test_names_are_in_lower_case(self) -> None:
         for name in os.listdir(f'{TOP}/docs'):
