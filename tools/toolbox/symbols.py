@@ -59,7 +59,7 @@ def symbols_of(given: str, image: dict[int, int]) -> Listing:
     filled = [row for row in rows if row]
     if any(row.startswith('- NASM Map file') for row in filled[:1]):
         found = of_a_map(rows, far, ram)
-    elif filled and all(re.match(r' *\d+ ', row) for row in filled):
+    elif filled and all(re.match(r' *\d{1,7} ', row) for row in filled):
         found = with_source(of_nasm(filled, far, ram), path)
     elif filled and all(re.match(OURS, row) for row in filled):
         found = with_source(of_ours(rows), path)
