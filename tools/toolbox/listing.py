@@ -10,7 +10,7 @@ from toolbox.comments import handed, own_lines
 from toolbox.program import Files, answer_of, given_text
 
 ADDRESS_COLUMNS = 28
-PLACED = re.compile(r'([0-9A-F]{4}):([0-9A-F]{4}) ([0-9A-F]*)\+? ')
+PLACED = re.compile(r'([0-9A-F]{4}):([0-9A-F]{4}) ((?:[0-9A-F]{2})*)\+? ')
 PROBE_NAME = 'PROBE_OF_LABELS'
 
 

@@ -158,7 +158,8 @@ def of_nasm(rows: list[str], far: tuple[int, int], ram: int | None) -> Listing:
 
 def octets_of(text: str, times: str | None) -> bytes:
     """The bytes of a row, up to the first that is still to be placed, which stands in brackets."""
-    octets = bytes.fromhex(re.split(r'[\[(]', text)[0])
+    digits = re.split(r'[\[(]', text)[0].strip()
+    octets = bytes.fromhex(digits[: len(digits) // 2 * 2])
     return octets * min(int(times, 16), 8) if times else octets
 
 
