@@ -19,7 +19,7 @@ from typing import Callable
 
 TOP = os.path.dirname(os.path.dirname(os.path.dirname(os.path.realpath(__file__))))
 MOST_MEMORY = 2 << 30  # bytes of addresses, by which a run that takes all there is ends
-HANGS = 120  # seconds after which a run that takes no processor time is ended
+HANGS = 60  # seconds after which a run that takes no processor time is ended
 
 
 @dataclass(frozen=True)

@@ -7,7 +7,7 @@ import unittest
 from tests.support import TOP, not_run
 from tests.test_faults import Planted
 
-FRAMING, HTTP = 'tools/toolbox/framing.py', 'tools/toolbox/desk/http.py'
+FRAMING, HTTP, RUN_FILE = 'tools/toolbox/framing.py', 'tools/toolbox/desk/http.py', 'tools/toolbox/runfile.py'
 GOOD_ONCE = '                self._unused.remove(token)\n'
 
 
@@ -35,9 +35,16 @@ class Fuzz(Planted):
         self.plant(top, HTTP)
         self.plant(top, FRAMING, ('LONGEST_BODY, LONGEST_HEADER = 1 << 23,', 'LONGEST_BODY, LONGEST_HEADER = (1 << 23) + 1,'))
         self.assertIn('a message of 8388609 bytes', self.finds(top, 'dev/fuzz', '--kind', 'edges'))
-        self.plant(top, FRAMING, ('        except (ValueError, RecursionError):\n', '        except RecursionError:\n'))
-        self.assertIn('JSONDecodeError', self.finds(top, 'dev/fuzz', '--kind', 'lsp', '--seconds', '2'))
         self.plant(top, FRAMING)
+        self.plant(
+            top,
+            RUN_FILE,
+            (
+                "    except ValueError as error:\n        raise Sorry(f'{path} is no JSON",
+                "    except KeyError as error:\n        raise Sorry(f'{path} is no JSON",
+            ),
+        )
+        self.assertIn('JSONDecodeError', self.finds(top, 'dev/fuzz', '--kind', 'run', '--seconds', '2'))
         with open(f'{TOP}/{HTTP}', encoding='utf-8') as file:
             if GOOD_ONCE not in file.read():
                 not_run("dev/fuzz with a token that is good twice, since the desk's is good as long as it runs")
