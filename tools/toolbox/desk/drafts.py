@@ -45,6 +45,7 @@ class Drafts:
 
     def __init__(self, folder: str) -> None:
         self.folder, self.begun = folder, time.time()
+        self.amiss: str | None = None  # why drafts that are there weren't read
         self._lock, self._texts = threading.Lock(), dict[str, dict[int, str]]()
 
     def _path(self, of: str | None, page: str) -> str:
@@ -147,15 +148,25 @@ class Drafts:
                 if entry.name.startswith(start) and entry.name.endswith('.json') and not entry.name.startswith('.')
             ]
             return sorted(paths, key=os.path.getmtime, reverse=True)
-        except OSError:
+        except (FileNotFoundError, NotADirectoryError):
             return []
+        except OSError as error:
+            self._miss(error)
+            return []
+
+    def _miss(self, error: OSError) -> None:
+        """Notes that what is there can't be read."""
+        self.amiss = f"drafts can't be read in {self.folder}: {error.strerror}"
 
     def _read(self, path: str) -> Fields | None:
         """A draft's fields; None where it is none."""
         try:
             with open(path, 'rb') as file:
                 draft = json.loads(file.read().decode('utf-8', 'surrogatepass'))
-        except (OSError, ValueError):
+        except (FileNotFoundError, ValueError):
+            return None
+        except OSError as error:
+            self._miss(error)
             return None
         wanted = {'name': str, 'source': str, 'hex': bool, 'run': dict, 'stops': list, 'time': float, 'number': int}
         draft = {'number': 0} | draft if isinstance(draft, dict) else {}

@@ -145,14 +145,15 @@ class Desk:
         """What the page begins with. It is offered the drafts of FILE, and those of no file that were written since this desk began;
         without FILE all of no file."""
         found = {'examples': [asdict(example) for example in examples()], 'defaults': DEFAULTS, 'grammar': grammar(), 'given': None}
+        self.drafts.amiss = None
         free = self.drafts.of_file(None)
         if not self.given.file:
-            return found | {'drafts': free}
+            return found | {'drafts': free, 'amiss': self.drafts.amiss}
         given = self.files.read()
         settled = self.drafts.settled(self.given.file, given['source'], DEFAULTS | given['run'])
         drafts = [draft for draft in self.drafts.of_file(self.given.file) if not settled or draft['id'] != settled['id']]
         drafts += [draft for draft in free if draft['time'] >= self.drafts.begun]
-        return found | {'given': given | {'settled': settled}, 'drafts': drafts}
+        return found | {'given': given | {'settled': settled}, 'drafts': drafts, 'amiss': self.drafts.amiss}
 
     def _example(self, fields: Fields) -> Fields:
         """An example's files."""

@@ -52,7 +52,7 @@ export async function take_given(answer) {
   $('example').value = OWN;
   offer(answer.drafts);
   await begin(given.run);
-  if (given.note) say(given.note);
+  if (given.note || answer.amiss) say(given.note || answer.amiss);
 }
 const OWN = '/own';
 
@@ -101,4 +101,5 @@ export async function first() {
   offer(pages.drafts);
   $('example').value = 'first';
   await take_example('first');
+  if (pages.amiss) say(pages.amiss);
 }
