@@ -13,7 +13,8 @@ from unittest import mock
 
 from tests.support import EXAMPLES, MEASURED, RESET, SECONDS, TOP, ToolCase, children, processor_seconds, until
 
-from toolbox.calls import Calls, Following, Tally, Times
+from toolbox.calls import Calls, Following
+from toolbox.following import Tally
 from toolbox.events import events
 from toolbox.listing import physical
 from toolbox.places import Event
@@ -165,6 +166,7 @@ class Call:
     segment: int
     pointer: int
     returned: int | None = None
+    has_left: bool = False
 
 
 @dataclass
@@ -192,6 +194,10 @@ class Stepped:
                 self.strays += call is None
                 if call:
                     call.returned = number
+            elif event.text == 'JMP BX':
+                call = next((each for each in reversed(self.calls) if each.returned is None and each.pointer == (before['SP'] - 2) % 0x10000), None)
+                if call:
+                    call.has_left = True
             elif event.entry is not None or word in ('CALL', 'INT') or word in ('INTO', 'DIV') and sunk == 6:
                 type_ = event.entry if event.entry is not None else {'CALL': None, 'INTO': 4, 'DIV': 0}.get(word, event.octets[-1])
                 place = physical(after['SS'], after['SP'])
@@ -225,10 +231,10 @@ class Stepped:
         return (at['SP'] or 0x10000) - min(lows)
 
     def is_passed(self, call: Call) -> bool:
-        """Whether something was called from above its return address, or the stack is above it at the end."""
+        """Whether it jumped back by a register, something was called from above its return address, or the stack is above it at the end."""
         last = self.registers[-1]
         later = any(each.segment == call.segment and each.pointer >= call.pointer for each in self.calls if each.at > call.at)
-        return later or last['SS'] == call.segment and (last['SP'] or 0x10000) > call.pointer
+        return call.has_left or later or last['SS'] == call.segment and (last['SP'] or 0x10000) > call.pointer
 
     def expected(self) -> dict[object, list[object]]:
         """Of each that is reached what is told of it: all calls, the averaged clocks, with their stack, and those apart."""
@@ -296,7 +302,7 @@ class Steps(CallsCase):
         return stepped
 
     def lines(self, stepped: Stepped, files: Files) -> list[list[object]]:
-        """Of IR0 and IR1 the latencies, and the clocks at which they fell before they were taken or met a request that waited."""
+        """Of IR0 and IR1 the latencies, and how long those stood that fell before they were taken."""
         words = [path('pcprobe'), *files.words('')[1:]]
         shown = subprocess.run(words, input=f'signals {CLOCKS}\n', capture_output=True, text=True, check=True).stdout
         happens = [(int(each[0]), 0, each[1], int(each[2])) for each in map(str.split, shown.splitlines()) if each[1] in ('IR0', 'IR1')]
@@ -312,17 +318,17 @@ class Steps(CallsCase):
 
     def fate(self, stepped: Stepped, happens: list[tuple[int, int, str, int]]) -> list[object]:
         """Of one line: 0 is its level, 1 an entry with the number of the handler's first event, 2 that its rise is forgotten."""
-        waits, taken, fell, met = None, list[tuple[int, int, int]](), list[int](), list[int]()
+        waits, taken, fell = None, list[tuple[int, int, int]](), list[tuple[int, int, int]]()
         for clock, kind, _, value in happens:
-            if kind == 0 and waits is not None:
-                (met if value else fell).append(clock)
-            elif kind == 0 and value:
-                waits = clock
-            elif kind > 0:
+            if kind == 0:
+                if waits is not None and not value:
+                    fell.append((len(fell), clock - waits, clock))
+                waits = clock if value else None
+            else:
                 if kind == 1 and waits is not None and value >= 0:
                     taken.append((value, stepped.clock(value) - waits, waits))
                 waits = None
-        return [tally_of(taken), *(Times(len(each), (each or [0])[0]) for each in (fell, met))]
+        return [tally_of(taken), tally_of(fell), min((clock for *_, clock in fell), default=0)]
 
     def test_random_programs(self) -> None:
         """A hundred of them: calls, stack, interrupts inside, latencies, and stretches with interrupts off."""
@@ -336,7 +342,7 @@ class Steps(CallsCase):
             }
             self.assertEqual(shown, stepped.expected(), seed)
             lines = calls.requests.lines[:2]
-            self.assertEqual([[listed(each.taken), each.fell, each.met] for each in lines], self.lines(stepped, files), seed)
+            self.assertEqual([[listed(each.taken), listed(each.fell), each.fell.first] for each in lines], self.lines(stepped, files), seed)
             self.off(stepped, calls, seed)
             for name, count in self.counted(stepped, calls).items():
                 seen[name] = seen.get(name, 0) + count
@@ -362,8 +368,7 @@ class Steps(CallsCase):
             'interrupted': sum(each.took.sum != each.own.sum for each in routines),
             'recursive': sum(a.target == b.target and a.at < b.at < (a.returned or 0) for a in done for b in done),
             'strays': stepped.strays,
-            'fell': sum(each.fell.count for each in calls.requests.lines),
-            'met': sum(each.met.count for each in calls.requests.lines),
+            'fell': sum(each.fell.times for each in calls.requests.lines),
         }
 
 
@@ -437,8 +442,7 @@ class Told(CallsCase):
         self.assertIn('leaves: left otherwise than by its return once, and not averaged; first called at', out)
         self.assertIn('interrupts off from the beginning to the end', out)
         out, _ = self.called('trace', '--calls', f'{EXAMPLES}/poll.asm', f'{EXAMPLES}/poll.json')
-        self.assertIn('IR1: fell again before it was taken 4 times, first at 1033\n', out)
-        self.assertIn('IR1: rose while a request waited already 3 times, first at 1200\n', out)
+        self.assertIn('IR1: fell again before it was taken 4 times, first at 1033; it had stood for 30 to 49 clocks\n', out)
 
     def test_from_the_midst_of_a_run(self) -> None:
         """The same calls are counted, and requests that rose before aren't averaged."""

@@ -19,11 +19,11 @@ from tests.protocol import types
 from tests.support import SECONDS, SLOW, TOOLS, ToolCase, example, not_run, rooms_in
 
 from toolbox.dap.values import number_in
+from toolbox.effects import ends_with_call
 from toolbox.framing import Broken, Reader
 from toolbox.places import is_repeated, operation_of
 from toolbox.program import Files, Session, path
 from toolbox.report import registers_of
-from toolbox.returns import ends_with_call
 
 Fields = dict[str, Any]
 

@@ -20,7 +20,8 @@ from toolbox.command import Sorry
 from toolbox.gdb import door
 from toolbox.gdb.board import far_of_address
 from toolbox.gdb.elf import is_call, sleb, uleb
-from toolbox.gdb.flow import goes_on, outermost, target_of
+from toolbox.effects import goes_on, target_of
+from toolbox.gdb.flow import outermost
 from toolbox.gdb.frames import pushed_by
 from toolbox.gdb.stub import NAMES
 from toolbox.gdb.wire import Gone, framed, unescaped

@@ -9,11 +9,12 @@ import unittest
 from tests.support import ToolCase, children, processor_seconds
 
 from toolbox.dap.board import Machine
+from toolbox.effects import ends_with_call
 from toolbox.listing import listing_of
 from toolbox.places import event_of
 from toolbox.program import Files, Session
 from toolbox.report import registers_of
-from toolbox.returns import ends_with_call, places_on_stack
+from toolbox.returns import places_on_stack
 from toolbox.runfile import DEFAULTS, text_of
 from toolbox.session_board import Paused, break_at
 

@@ -4,8 +4,9 @@ from __future__ import annotations
 from dataclasses import dataclass
 from typing import Iterator
 
-from toolbox.calls import Calls, Entry, Far, Line, Routine, Start, Tally, What
-from toolbox.effects import Does
+from toolbox.calls import Calls, Routine
+from toolbox.effects import Does, Far
+from toolbox.following import Entry, Line, Start, Tally, What
 from toolbox.listing import Listing, code_of, physical
 
 Key = tuple['int | None', bool, Far]
@@ -13,7 +14,7 @@ SHORT = {
     Does.CLEARS_IF: 'CLI',
     Does.SETS_IF: 'STI',
     Does.RETURNS_WITH_FLAGS: 'IRET',
-    Does.LOADS: 'POPF',
+    Does.LOADS_FLAGS: 'POPF',
     Does.TRAPS: 'INT',
     Does.MAY_TRAP: 'divide error or INTO',
 }
@@ -107,9 +108,9 @@ class CallsTable:
     @staticmethod
     def _fate(name: str, line: Line) -> Iterator[str]:
         """What became of requests that weren't simply taken."""
-        for each, what in ((line.fell, 'fell again before it was taken'), (line.met, 'rose while a request waited already')):
-            if each.count:
-                yield f'{name}: {what} {times(each.count)}, first at {each.first}'
+        if line.fell.times:
+            stood = f'{line.fell.least} to {line.fell.most}' if line.fell.least < line.fell.most else line.fell.most
+            yield f'{name}: fell again before it was taken {times(line.fell.times)}, first at {line.fell.first}; it had stood for {stood} clocks'
         if line.unseen:
             yield f'{name}: entered without a rise in these clocks {times(line.unseen)}'
         if line.polled:

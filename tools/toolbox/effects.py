@@ -1,23 +1,27 @@
-"""What an instruction's bytes tell of stack and flow: whether it calls, returns, or moves SP, and by how much."""
+"""What an instruction's bytes tell of stack and flow, in one table: whether it calls, returns or jumps, whereto, and by how much it moves SP;
+and what may have called a place."""
 from __future__ import annotations
 
 from enum import Enum, auto
 from typing import NamedTuple
 
+Far = tuple[int, int]
 PREFIXES = b'\x26\x2E\x36\x3E\xF0\xF2\xF3'
-SP, SS = 4, 2  # their numbers in an instruction's bytes
+SP, SS, BP = 4, 2, 5  # their numbers in an instruction's bytes
 
 
 class Does(Enum):
     """What there is to follow in an event."""
 
     MOVES = auto()  # SP, by so many bytes
-    LOADS = auto()  # SP, SS or the flags, with values that its bytes don't tell
+    LOADS = auto()  # SP or SS, with values that its bytes don't tell
+    LOADS_FLAGS = auto()
     CALLS = auto()
     TRAPS = auto()  # by INT
     MAY_TRAP = auto()  # by INTO or a division
     RETURNS = auto()
     RETURNS_WITH_FLAGS = auto()
+    JUMPS = auto()  # to where a word register says
     CLEARS_IF = auto()
     SETS_IF = auto()
 
@@ -36,7 +40,8 @@ PLAIN = {
     **{each: Effect(Does.MOVES, 2) for each in (0x07, 0x1F, *range(0x58, 0x60))},
     0x44: Effect(Does.MOVES, 1),
     0x4C: Effect(Does.MOVES, -1),
-    **{each: LOADS for each in (0x17, 0x5C, 0x94, 0x9D, 0xBC)},  # POP SS, POP SP, XCHG AX,SP, POPF, MOV SP
+    **{each: LOADS for each in (0x17, 0x5C, 0x94, 0xBC)},  # POP SS, POP SP, XCHG AX,SP, MOV SP
+    0x9D: Effect(Does.LOADS_FLAGS, 2),
     0xE8: Effect(Does.CALLS, -2),
     0x9A: Effect(Does.CALLS, -4),
     0xC3: Effect(Does.RETURNS, 2),
@@ -50,6 +55,10 @@ PLAIN = {
 TO_REGISTER = {*(8 * each + 3 for each in range(7)), 0x87, 0x8B, 0x8D, 0xC4, 0xC5}  # ADD r,r/m to XOR r,r/m, XCHG, MOV, LEA, LES, LDS
 TO_OPERAND = {*(8 * each + 1 for each in range(7)), 0x87, 0x89, 0x8C, 0xC7, 0xD1, 0xD3}  # ADD r/m,r to XOR r/m,r, XCHG, MOV, shifts
 DIVIDE_ERROR = Effect(Does.MAY_TRAP, -6, 0)
+POPS = range(0x58, 0x60)  # POP of a word register
+SHORT = {*range(0x70, 0x80), *range(0xE0, 0xE4), 0xEB}  # jumps with a displacement of a byte
+# After these the next instruction isn't come to: jumps without a condition, and returns.
+ENDS = {0xEB, 0xE9, 0xEA, 0xC2, 0xC3, 0xCA, 0xCB, 0xCF}
 
 
 def signed(value: int) -> int:
@@ -74,6 +83,8 @@ def effect_of(octets: bytes) -> Effect | None:
         return DIVIDE_ERROR
     if first == 0xFF and digit in (2, 3, 6):
         return Effect(Does.MOVES if digit == 6 else Does.CALLS, -4 if digit == 3 else -2)
+    if first == 0xFF and digit == 4 and is_register:
+        return Effect(Does.JUMPS)
     if first == 0x8E:
         return LOADS if digit % 4 == SS else None
     if first in TO_REGISTER and digit == SP:
@@ -92,3 +103,44 @@ def of_operand(first: int, digit: int, code: bytes) -> Effect | None:
     if first == 0xFF and digit < 2:
         return Effect(Does.MOVES, 1 - 2 * digit)
     return LOADS if first in TO_OPERAND or first == 0xF7 and digit in (2, 3) else None
+
+
+def is_by_frame(octets: bytes) -> bool:
+    """Whether what loads SP takes it from BP, as the end of a routine with a frame does: MOV SP,BP, or LEA SP with BP."""
+    code = octets.lstrip(PREFIXES)
+    return code[:2] in (b'\x8B\xE5', b'\x89\xEC') or code[:1] == b'\x8D' and code[1] & 7 in (2, 3, 6) and code[1] >> 6 > (code[1] & 7 == 6) - 1
+
+
+def target_of(octets: bytes, at: Far) -> Far | None:
+    """The place that a jump or call at another has in its own bytes, if it is one."""
+    plain = octets.lstrip(PREFIXES)
+    opcode, length = plain[0] if plain else 0x90, len(octets) - len(plain)
+    if opcode in SHORT and len(plain) > 1:
+        return at[0], (at[1] + length + 2 + int.from_bytes(plain[1:2], 'little', signed=True)) % 0x10000
+    if opcode in (0xE8, 0xE9) and len(plain) > 2:
+        return at[0], (at[1] + length + 3 + int.from_bytes(plain[1:3], 'little')) % 0x10000
+    if opcode in (0xEA, 0x9A) and len(plain) > 4:
+        return int.from_bytes(plain[3:5], 'little'), int.from_bytes(plain[1:3], 'little')
+    return None
+
+
+def goes_on(octets: bytes) -> bool:
+    """Whether an instruction may lead on to the next one."""
+    plain = octets.lstrip(PREFIXES) + b'\x90\x90'
+    return plain[0] not in ENDS and not (plain[0] == 0xFF and plain[1] >> 3 & 7 in (4, 5))
+
+
+def ends_with_call(octets: bytes, is_far: bool = False) -> bool:
+    """Whether bytes end with a CALL: near, E8 and a word; far, 9A and two; or FF with 2 or 3 in reg and the displacement that mod
+    asks for."""
+    if octets[-5:-4] == b'\x9A' if is_far else octets[-3:-2] == b'\xE8':
+        return True
+    for length in (2, 3, 4):
+        if length > len(octets):
+            return False
+        opcode, form = octets[-length], octets[1 - length]
+        mode, digit, memory = form >> 6, form >> 3 & 7, form & 7
+        wanted = 4 if mode == 2 or mode == 0 and memory == 6 else 3 if mode == 1 else 2
+        if opcode == 0xFF and digit == (3 if is_far else 2) and length == wanted and not (is_far and mode == 3):
+            return True
+    return False

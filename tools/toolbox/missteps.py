@@ -7,10 +7,10 @@ from itertools import takewhile
 from typing import Iterator
 
 from toolbox.doubts import name_in_byte
+from toolbox.effects import ends_with_call
 from toolbox.listing import Line, code_of, physical
 from toolbox.places import Event, line_at
 from toolbox.program import Session
-from toolbox.returns import ends_with_call
 from toolbox.scancodes import names
 from toolbox.walk import DATA, TEXT, TEXT_END, Access, Run, accesses_of, mnemonic, parts_of_text, statement_of, trail_at
 

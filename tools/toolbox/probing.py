@@ -8,11 +8,12 @@ import re
 import select
 import signal
 import subprocess
-from typing import Iterator, NamedTuple, NoReturn, TypeVar
+from typing import Iterator, NoReturn, TypeVar
 
 import zebludor
 
 from toolbox.command import Sorry
+from toolbox.following import State
 from toolbox.places import Event, event_of
 from toolbox.program import Files, path, refusal
 
@@ -156,15 +157,6 @@ def wire_changes(files: Files, end: int) -> Iterator[tuple[int, str, int]]:
                 yield int(at), wire, int(level)
             clock, piece = clock + clocks, min(10 * piece, PIECE)
             yield clock, '', 0
-
-
-class State(NamedTuple):
-    """SS, SP, the flags, and CS with IP."""
-
-    segment: int
-    pointer: int
-    flags: int
-    place: tuple[int, int]
 
 
 class Happenings(Probe):

@@ -3,29 +3,13 @@ from __future__ import annotations
 
 from typing import Callable
 
+from toolbox.effects import Far, ends_with_call
 from toolbox.listing import physical
 
-Far = tuple[int, int]
 # So many words are looked at from SS:SP on; the first few count also with no CALL before the place that they name.
 WORDS, FIRST_WORDS = 48, 3
 # Of pushed flags an 8088 has these set, and those clear.
 FLAGS_SET, FLAGS_CLEAR = 0xF002, 0x0028
-
-
-def ends_with_call(octets: bytes, is_far: bool = False) -> bool:
-    """Whether bytes end with a CALL: near, E8 and a word; far, 9A and two; or FF with 2 or 3 in reg and the displacement that mod
-    asks for."""
-    if octets[-5:-4] == b'\x9A' if is_far else octets[-3:-2] == b'\xE8':
-        return True
-    for length in (2, 3, 4):
-        if length > len(octets):
-            return False
-        opcode, form = octets[-length], octets[1 - length]
-        mode, digit, memory = form >> 6, form >> 3 & 7, form & 7
-        wanted = 4 if mode == 2 or mode == 0 and memory == 6 else 3 if mode == 1 else 2
-        if opcode == 0xFF and digit == (3 if is_far else 2) and length == wanted and not (is_far and mode == 3):
-            return True
-    return False
 
 
 def places_on_stack(registers: dict[str, int], dump: Callable[[int, int], bytes]) -> list[Far]:

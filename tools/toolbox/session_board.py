@@ -8,12 +8,12 @@ from dataclasses import dataclass, replace
 from typing import TYPE_CHECKING, Callable, Collection, Iterable, Iterator, TypeVar
 
 from toolbox.command import Sorry
+from toolbox.effects import Far
 from toolbox.listing import physical
 from toolbox.places import Event, event_of, operation_of
 from toolbox.faults import fault_in
 from toolbox.program import CLOCKS_OF_A_TRAIL, LAST_CLOCK, Files, ProbeSession
 from toolbox.report import registers_of
-from toolbox.returns import Far
 from toolbox.runfile import add_keys
 from toolbox.way_back import last_stop, paced
 

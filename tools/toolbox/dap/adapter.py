@@ -16,12 +16,12 @@ from toolbox.dap.sources import Sources, path_in
 from toolbox.dap.values import Disassembly, Expression, is_code
 from toolbox.dap.variables import Variables
 from toolbox.data_labels import labels_of_data
+from toolbox.effects import Far
 from toolbox.framing import Broken, Read
 from toolbox.keying import key_lines, type_words
 from toolbox.listing import Line, Listing, listing_of, physical
 from toolbox.places import far_of
 from toolbox.program import LAST_CLOCK, TOP, Files, copied, is_hex_name
-from toolbox.returns import Far
 from toolbox.runfile import DEFAULTS, budget_of, text_of
 from toolbox.scancodes import stamped, strokes_of
 from toolbox.session_board import Gone, Left, Paused, SessionBoard, break_at, place_of

@@ -5,10 +5,11 @@ from __future__ import annotations
 from typing import Callable, Collection
 
 from toolbox.command import Sorry
+from toolbox.effects import Far, ends_with_call
 from toolbox.listing import Listing, physical
 from toolbox.places import Event, is_repeated, operation_of
 from toolbox.program import LAST_CLOCK, Files
-from toolbox.returns import Far, ends_with_call, places_on_stack
+from toolbox.returns import places_on_stack
 from toolbox.session_board import BEFORE_START, MOST_STOPS, SessionBoard, break_at, place_of
 
 MOST_BREAKPOINTS = MOST_STOPS - 1  # one is left for the place behind a call

@@ -17,13 +17,13 @@ from toolbox.data_labels import Datum, labels_of_data, values_of
 from toolbox.desk.sound import MOST_SAMPLES, Speaker
 from toolbox.desk.work import Fields, Helpers, Job
 from toolbox.disassembly import instructions
+from toolbox.effects import Far
 from toolbox.events import commands
 from toolbox.listing import labels_alone, listing_of, physical
 from toolbox.nowhere import told_of_end
 from toolbox.places import address_of, event_of, far_of, is_repeated, line_at, number_of
 from toolbox.program import LAST_CLOCK, Files, path
 from toolbox.report import REGISTERS, Report, report_of
-from toolbox.returns import Far
 from toolbox.runfile import text_of, with_budget
 from toolbox.scancodes import names
 from toolbox.session_board import Paused, break_at, place_of

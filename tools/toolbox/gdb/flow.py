@@ -4,33 +4,11 @@ from __future__ import annotations
 
 from bisect import bisect_right
 
+from toolbox.effects import PREFIXES, goes_on, target_of
 from toolbox.listing import Line, Listing, physical
 
-Far = tuple[int, int]
 RESET = 0xFFFF0
-PREFIXES = b'\x26\x2E\x36\x3E\xF0\xF2\xF3'
-SHORT, NEAR, CALLS = {*range(0x70, 0x80), *range(0xE0, 0xE4), 0xEB}, (0xE8, 0xE9), (b'\xE8', b'\x9A')
-# After these the next instruction isn't come to: jumps, and returns.
-ENDS = {0xEB, 0xE9, 0xEA, 0xC2, 0xC3, 0xCA, 0xCB, 0xCF}
-
-
-def target_of(octets: bytes, at: Far) -> Far | None:
-    """The place that a jump or call at another has in its own bytes, if it is one."""
-    plain = octets.lstrip(PREFIXES)
-    opcode, length = plain[0] if plain else 0x90, len(octets) - len(plain)
-    if opcode in SHORT and len(plain) > 1:
-        return at[0], (at[1] + length + 2 + int.from_bytes(plain[1:2], 'little', signed=True)) % 0x10000
-    if opcode in NEAR and len(plain) > 2:
-        return at[0], (at[1] + length + 3 + int.from_bytes(plain[1:3], 'little')) % 0x10000
-    if opcode in (0xEA, 0x9A) and len(plain) > 4:
-        return int.from_bytes(plain[3:5], 'little'), int.from_bytes(plain[1:3], 'little')
-    return None
-
-
-def goes_on(octets: bytes) -> bool:
-    """Whether an instruction may lead on to the next one."""
-    plain = octets.lstrip(PREFIXES) + b'\x90\x90'
-    return plain[0] not in ENDS and not (plain[0] == 0xFF and plain[1] >> 3 & 7 in (4, 5))
+CALLS = (b'\xE8', b'\x9A')
 
 
 def reached(lines: dict[int, Line], order: list[int], begun: set[int]) -> set[int]:

@@ -6,11 +6,11 @@ import struct
 from dataclasses import dataclass
 from typing import Callable
 
-from toolbox.gdb.flow import Flow, target_of
+from toolbox.effects import Far, target_of
+from toolbox.gdb.flow import Flow
 from toolbox.listing import Listing, physical
 from toolbox.places import Event, operation_of
 
-Far = tuple[int, int]
 TRAPS = ('INT', 'INT3', 'INTO', 'DIV', 'IDIV', 'AAM')
 RETURNS, WORDS = ('RET', 'RETF', 'IRET'), 48  # so many words of the stack are looked at for a return address
 RECORDS, RECORD, MOST_FRAMES = 0xF0000000, 16, 64  # where records stand, beyond memory, and a record's bytes

@@ -1,0 +1,453 @@
+"""Follows a run by the lines of the probe's `events` (docs/probe.md): when an instruction begins, which return ends which call, how long a
+request waits, and who wrote a byte last. It starts nothing: lines go in, and, for what no line tells, the registers at some clocks.
+
+`begin_in(lines, place)` is the clock at which the instruction at a place begins; not where the processor is merely free there, halted, or
+enters an interrupt. `writer_in(lines, address)` is what began last before the last write of a byte, of lines of `starts`, `entries` and
+`writes`.
+
+`Marks().of(lines)` reads lines of `starts` and `entries`, of `wires` and `ports=20-21` if they are wanted, as marks: what there is to
+follow. A mark whose `asks_for_stack()` is true gets its `state`, the registers one clock after it, before it is followed; with
+`asks()` also where flags and targets are wanted.
+
+`Follower(state)` takes the marks from a clock on, whose registers `state` has. Its `nest` are the calls under way that it has seen, the
+innermost last, each a `Frame`; what was called before isn't known. `Out(follower, frame).ends(mark)` follows a mark and says whether it ends
+that frame's call: by the return that takes its address from where the call has put it, also a string's behind that address if
+the routine has taken it by POP and puts another one there, or jumps there by a register; or by a return from above it, if the
+address was dropped. Interrupts, calls on the way, other tasks' stacks and words that were pushed to be jumped to don't count. Without a frame
+it is the routine that runs at the state: a return ends it that takes its address from at or above SP, where nothing has been
+pushed since. `Requests(chips)` takes wires and ports, and tells each request's rise, fall and acceptance.
+
+The cases in tests/following, which any other implementation can be held against, are lines and answers."""
+from __future__ import annotations
+
+from bisect import bisect_left
+from dataclasses import dataclass, field
+from typing import Iterable, NamedTuple
+
+from toolbox.chips import Chips
+from toolbox.effects import POPS, Does, Effect, Far, effect_of, is_by_frame, signed
+from toolbox.listing import physical
+
+LEVELS = {'IR0': 0, 'IR1': 1}
+OF_AN_INTERRUPT = 6  # bytes that it pushes
+
+
+class State(NamedTuple):
+    """SS, SP, the flags, and CS with IP."""
+
+    segment: int
+    pointer: int
+    flags: int
+    place: Far
+
+
+class Start(NamedTuple):
+    """An instruction begins that there is something to follow in."""
+
+    place: Far
+    octets: bytes
+    effect: Effect
+
+
+class Entry(NamedTuple):
+    """An interrupt is entered between two instructions."""
+
+    type: int
+
+
+class Wire(NamedTuple):
+    """A request line takes a level."""
+
+    level: int
+    is_high: bool
+
+
+class Port(NamedTuple):
+    """A port of the interrupt controller is read or written."""
+
+    number: int
+    value: int
+    is_write: bool
+
+
+What = Start | Entry | Wire | Port
+FOR_STACK, RETURNING = (Does.LOADS, Does.MAY_TRAP), (Does.RETURNS, Does.RETURNS_WITH_FLAGS)
+FOR_FLAGS, CALLING = (Does.LOADS_FLAGS, Does.RETURNS_WITH_FLAGS), (Does.CALLS, Does.TRAPS)
+
+
+class Mark:
+    """A line in which there is something to follow; what begins next, an instruction with its place or an entry without one; and
+    the registers after it, if nothing else tells them."""
+
+    __slots__ = 'clock', 'what', 'next', 'state'
+
+    def __init__(self, clock: int, what: What) -> None:
+        self.clock, self.what = clock, what
+        self.next: tuple[int, Far | None] | None = None
+        self.state: State | None = None
+
+    @property
+    def does(self) -> Does | None:
+        """What an instruction does; an entry is as INT."""
+        return self.what.effect.does if type(self.what) is Start else Does.TRAPS if type(self.what) is Entry else None
+
+    def asks_for_stack(self) -> bool:
+        """Whether SS and SP after it are wanted, which its bytes don't tell."""
+        return self.does in FOR_STACK
+
+    def asks(self) -> bool:
+        """Whether the registers after it are wanted: SS, SP and the flags, or where a call leads if an interrupt is entered there first."""
+        does = self.does
+        if does is Does.MOVES:
+            return False
+        return does in FOR_STACK or does in FOR_FLAGS or does in CALLING and (self.next is None or self.next[1] is None)
+
+    def target(self) -> Far | None:
+        """Where a call leads, if that is known."""
+        return self.next[1] if self.next and self.next[1] else self.state.place if self.state else None
+
+
+def far_in(text: bytes) -> Far:
+    """A place SSSS:OOOO."""
+    return int(text[:4], 16), int(text[5:9], 16)
+
+
+def what_in(rest: bytes) -> What | Far | None:
+    """What a line tells after its clock; a place if an instruction begins in which there is nothing to follow."""
+    words = rest.split()
+    if words[0] == b'start':
+        octets = bytes.fromhex(words[2].decode('ascii'))
+        effect = effect_of(octets)
+        return Start(far_in(words[1]), octets, effect) if effect else far_in(words[1])
+    if words[0] == b'entry':
+        return Entry(int(words[1], 16))
+    if words[0] == b'wire':
+        name = words[1].decode('ascii')
+        return Wire(LEVELS[name], words[2] == b'1') if name in LEVELS else None
+    return Port(int(words[1], 16), int(words[2], 16), words[0] == b'out') if words[0] in (b'in', b'out') else None
+
+
+NEW = Wire(-1, False)  # in place of a line that isn't known yet
+
+
+class Marks:
+    """The marks of a run's lines, each once what begins next is known."""
+
+    def __init__(self) -> None:
+        self._known: dict[bytes, What | Far | None] = {}
+        self._held: list[Mark] = []
+        self._waits: Mark | None = None
+
+    def of(self, lines: list[bytes]) -> list[Mark]:
+        """Those of the next lines, and of lines before that waited for what begins next."""
+        known, marks, waits = self._known, self._held, self._waits
+        first, get = 0, known.get
+        for line in lines:
+            cut = line.index(b' ')
+            what = get(line[cut:], NEW)
+            if what is NEW:
+                what = known[line[cut:]] = what_in(line[cut:])
+            if type(what) is tuple:
+                if waits:
+                    waits.next, waits = (int(line[:cut]), what), None
+                continue
+            if what is None:
+                continue
+            mark = Mark(int(line[:cut]), what)
+            if type(what) is Start or type(what) is Entry:
+                if waits:
+                    waits.next = mark.clock, what.place if type(what) is Start else None
+                waits, first = mark, len(marks)
+            marks.append(mark)
+        self._waits, self._held = waits, marks[first:] if waits else []
+        return marks[:first] if waits else marks
+
+    def rest(self) -> list[Mark]:
+        """Those after which nothing begins any more."""
+        held, self._held, self._waits = self._held, [], None
+        return held
+
+
+def begin_in(lines: Iterable[bytes], place: Far) -> int | None:
+    """The clock at which the instruction at a place first begins, of lines of `starts`."""
+    wanted = b' start %04X:%04X ' % place
+    return next((int(line[: line.index(b' ')]) for line in lines if wanted in line), None)
+
+
+def writer_in(lines: Iterable[bytes], address: int) -> tuple[int, bytes] | None:
+    """What wrote a byte last: the clock of the write, and the line of the instruction or entry that began last by then."""
+    wanted, began, found = b' write %05X ' % address, b'', None
+    for line in lines:
+        if b' start ' in line or b' entry ' in line:
+            began = line
+        elif wanted in line:
+            found = int(line[: line.index(b' ')]), began
+    return found
+
+
+class Frame:
+    """A call under way: when it began, what called, where it leads, its type if it is an interrupt's, where its return address lies, its
+    length, and the stack before it. It is lifted once the routine has taken its address by POP, passed once the routine has jumped to that,
+    or something was called from above it. If it is an interrupt that was entered before a call's first instruction, that call is under it."""
+
+    __slots__ = 'clock', 'what', 'target', 'type', 'line', 'rise', 'place', 'segment', 'level', 'above', 'pushed', 'under', 'is_lifted', 'is_passed'
+
+    def __init__(self, mark: Mark, stack: Stack, moves: int) -> None:
+        assert isinstance(mark.what, (Start, Entry))
+        self.clock, self.what, self.target = mark.clock, mark.what, mark.target()
+        self.type = mark.what.effect.type if isinstance(mark.what, Start) else mark.what.type
+        self.above, self.pushed = stack.level, -moves
+        stack.move(mark.clock, moves)
+        self.place, self.segment, self.level = stack.place, stack.segment, stack.level
+        self.line: Line | None = None
+        self.rise: int | None = None
+        self.under: Frame | None = None
+        self.is_lifted = self.is_passed = False
+
+    @property
+    def is_entry(self) -> bool:
+        """Whether it is an interrupt that was entered between two instructions."""
+        return type(self.what) is Entry
+
+
+class Stack:
+    """SS and SP. Of each segment SP is kept as a number that goes on below 0 and above 65,535, and how low it came since when."""
+
+    def __init__(self, segment: int, pointer: int) -> None:
+        self.segment, self.level = segment, pointer
+        self._levels, self._lows = dict[int, int](), dict[int, tuple[list[int], list[int]]]()
+
+    @property
+    def place(self) -> int:
+        """The address of the word on top."""
+        return physical(self.segment, self.level % 0x10000)
+
+    def move(self, clock: int, by: int) -> None:
+        """SP goes up, or down, by so many bytes."""
+        self.level += by
+        if by < 0:
+            self._is_low(clock)
+
+    def load(self, clock: int, segment: int, pointer: int) -> None:
+        """Both have these values."""
+        self._levels[self.segment] = self.level
+        near = self._levels.get(segment, pointer)
+        self.segment, self.level = segment, near + signed(pointer - near)
+        self._is_low(clock)
+
+    def _is_low(self, clock: int) -> None:
+        clocks, lows = self._lows.setdefault(self.segment, ([], []))
+        while lows and lows[-1] >= self.level:
+            clocks.pop()
+            lows.pop()
+        clocks.append(clock)
+        lows.append(self.level)
+
+    def lowest(self, segment: int, since: int) -> int:
+        """How low SP came in a segment since a clock at which it was noted."""
+        clocks, lows = self._lows[segment]
+        return lows[bisect_left(clocks, since)]
+
+
+class Follower:
+    """The calls under way on the present stack, `nest`, and the one that the last mark has ended, `ended`, if it has."""
+
+    def __init__(self, state: State) -> None:
+        self.stack = Stack(state.segment, state.pointer)
+        self.nest = list[Frame]()
+        self.ended: Frame | None = None
+        self._open = dict[int, list[Frame]]()  # by where their return addresses lie
+        self._left = dict[Far, list[Frame]]()  # the nests of other stacks, by SS and SP as they were left
+
+    def follow(self, mark: Mark) -> None:
+        """The next mark."""
+        what, self.ended = mark.what, None
+        if type(what) is Start:
+            self._start(mark, what, what.effect)
+        elif type(what) is Entry:
+            self._call(mark, -OF_AN_INTERRUPT)
+
+    def _start(self, mark: Mark, what: Start, effect: Effect) -> None:
+        """An instruction."""
+        does, moves = effect.does, effect.moves
+        if does is Does.MOVES or does is Does.LOADS_FLAGS:
+            if moves == 2 and what.octets[0] in POPS and self.nest and self.nest[-1].level == self.stack.level:
+                self.nest[-1].is_lifted = self.nest[-1].pushed == 2
+            self.stack.move(mark.clock, moves)
+        elif does in CALLING:
+            self._call(mark, moves)
+        elif does in RETURNING:
+            self._return(mark, moves)
+        elif does is Does.JUMPS:
+            self._jump()
+        elif does is Does.LOADS and mark.state:
+            self._load(mark.clock, what.octets, mark.state)
+        elif does is Does.MAY_TRAP and mark.state and signed(mark.state.pointer - self.stack.level) == moves:
+            self._call(mark, moves)
+
+    def _call(self, mark: Mark, moves: int) -> None:
+        """A call, or an interrupt, whose return address is on the stack."""
+        frame, nest = Frame(mark, self.stack, moves), self.nest
+        self._open.setdefault(frame.place, []).append(frame)
+        while nest and nest[-1].level <= frame.level:
+            nest.pop()
+        nest.append(frame)
+        self.called(frame, mark)
+
+    def _return(self, mark: Mark, moves: int) -> None:
+        """A return, which takes its address from the top of the stack."""
+        frames, nest, level = self._open.get(self.stack.place), self.nest, self.stack.level
+        frame = self.ended = frames.pop() if frames else None
+        while nest and nest[-1].level <= level:
+            nest.pop()
+        if frames and frames[-1].is_lifted and frame:  # a call from where the address was taken that lay there before
+            nest.append(frames[-1])
+        self.returned(frame, mark)
+        self.stack.move(mark.clock, moves)
+
+    def _jump(self) -> None:
+        """A jump to where a register says: a return, if the routine has taken its address by POP."""
+        if self.nest and self.nest[-1].is_lifted and self.stack.level == self.nest[-1].level + 2:
+            self.ended = self.nest.pop()
+            self.ended.is_passed, self.ended.is_lifted = True, False
+
+    def _load(self, clock: int, octets: bytes, state: State) -> None:
+        """SS or SP is loaded: within a routine's frame; to another task's stack, or back to one; or to where nothing is known."""
+        stack, nest, here = self.stack, self.nest, (self.stack.segment, self.stack.level % 0x10000)
+        stack.load(clock, state.segment, state.pointer)
+        if (state.segment, state.pointer) == here or state.segment == here[0] and is_by_frame(octets):
+            return
+        self._left[here] = nest
+        back = self._left.pop((state.segment, state.pointer), None)
+        is_near = state.segment == here[0] and nest and stack.level >= stack.lowest(stack.segment, nest[0].clock)
+        self.nest = back if back is not None else [frame for frame in nest if is_near and frame.level >= stack.level]
+
+    def called(self, frame: Frame, mark: Mark) -> None:
+        """A call was followed."""
+
+    def returned(self, frame: Frame | None, mark: Mark) -> None:
+        """A return was followed: of this call, or of none that is known. The stack is as it was before."""
+
+
+class Out:
+    """The way out of a call that the follower has in its nest, or without a frame out of the routine that runs."""
+
+    def __init__(self, follower: Follower, frame: Frame | None = None) -> None:
+        self.follower, self.frame = follower, frame
+        self._nest, self._callers = follower.nest, [each for each in follower.nest if each is not frame]
+        self.intact = follower.stack.level  # from there on upwards nothing has been pushed since
+
+    def ends(self, mark: Mark) -> bool:
+        """Follows a mark, and tells whether it ends the call."""
+        follower, frame, does = self.follower, self.frame, mark.does
+        level, is_own = follower.stack.level, follower.nest is self._nest
+        follower.follow(mark)
+        if follower.ended and (follower.ended is frame or follower.ended in self._callers):
+            return True
+        if does in RETURNING:
+            return is_own and level >= self.intact and (frame is None or level > frame.level)
+        if is_own and follower.stack.level < level:
+            self.intact = max(self.intact, level)
+        return False
+
+
+@dataclass
+class Tally:
+    """How often something was measured: the least and the most, the sum, the clock of the most, the first of equals, and the first clock."""
+
+    times: int = 0
+    least: int = 0
+    most: int = -1
+    sum: int = 0
+    at: int = 0
+    first: int = 0
+
+    def add(self, value: int, clock: int) -> None:
+        """One more."""
+        self.least = min(self.least, value) if self.times else value
+        self.first = self.first if self.times else clock
+        if value > self.most:
+            self.most, self.at = value, clock
+        self.times += 1
+        self.sum += value
+
+
+@dataclass
+class Line:
+    """A request line: since when a request waits, the latencies of those that were taken, how long those stood that fell before they
+    were taken, how many were taken by a poll or forgotten at an initialisation, and entries that no rise was seen of."""
+
+    waits: int | None = None
+    taken: Tally = field(default_factory=Tally)
+    fell: Tally = field(default_factory=Tally)
+    polled: int = 0
+    forgotten: int = 0
+    unseen: int = 0
+
+    @property
+    def has_come(self) -> bool:
+        """Whether it ever rose, or was taken."""
+        return bool(self.waits is not None or self.taken.times or self.fell.times or self.polled or self.forgotten or self.unseen)
+
+    def is_taken(self, clock: int, rise: int | None) -> None:
+        """The handler begins of a request, which is as old as its rise."""
+        if rise is None:
+            self.unseen += 1
+        else:
+            self.taken.add(clock - rise, rise)
+
+
+class Requests:
+    """The interrupt controller as far as it remembers requests. One whose line falls isn't remembered."""
+
+    def __init__(self, chips: Chips) -> None:
+        self.lines = [Line() for _ in range(8)]
+        controller = chips.lines['controller']
+        self.base = int(controller['vector'], 16) & 0xF8
+        self._awaits, self._is_polled = controller['awaits'], controller['P'] == '1'
+        self._icw1 = 0
+
+    def wire(self, clock: int, wire: Wire) -> None:
+        """A line takes a level."""
+        line = self.lines[wire.level]
+        if not wire.is_high and line.waits is not None:
+            line.fell.add(clock - line.waits, clock)
+        line.waits = clock if wire.is_high else None
+
+    def line_of(self, type_: int) -> Line | None:
+        """The line that enters this type, or none."""
+        level = type_ - self.base
+        return self.lines[level] if 0 <= level < 8 and (type_ != 1 or self.lines[level].waits is not None) else None
+
+    def port(self, port: Port) -> None:
+        """A port is read or written."""
+        if not port.is_write:
+            self._read(port.value)
+        elif port.number == 0x21:
+            self._word(port.value)
+        elif port.value & 0x10:
+            self._initialise(port.value)
+        elif port.value & 0x08 and self._awaits == 'none':
+            self._is_polled = bool(port.value & 0x04)
+
+    def _initialise(self, value: int) -> None:
+        self._icw1, self._awaits, self._is_polled = value, 'ICW2', False
+        for line in self.lines:
+            line.forgotten += line.waits is not None
+            line.waits = None
+
+    def _word(self, value: int) -> None:
+        if self._awaits == 'ICW2':
+            self.base = value & 0xF8
+            self._awaits = 'ICW3' if not self._icw1 & 2 else 'ICW4' if self._icw1 & 1 else 'none'
+        elif self._awaits == 'ICW3':
+            self._awaits = 'ICW4' if self._icw1 & 1 else 'none'
+        else:
+            self._awaits = 'none'
+
+    def _read(self, value: int) -> None:
+        if self._is_polled and value & 0x80:
+            line = self.lines[value & 7]
+            line.polled += 1
+            line.waits = None
+        self._is_polled = False
