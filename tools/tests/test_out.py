@@ -7,14 +7,14 @@ import time
 import unittest
 
 from tests.support import ToolCase, children, processor_seconds
+from tests.test_calls import Stepped
 
 from toolbox.dap.board import Machine
 from toolbox.effects import ends_with_call
+from toolbox.events import events
 from toolbox.listing import listing_of
-from toolbox.places import event_of
 from toolbox.program import Files, Session
 from toolbox.report import registers_of
-from toolbox.returns import places_on_stack
 from toolbox.runfile import DEFAULTS, text_of
 from toolbox.session_board import Paused, break_at
 
@@ -126,18 +126,23 @@ def program(seed: int) -> str:
     return HEAD.format(**numbers) + ''.join(routine(number, dice) for number in range(ROUTINES)) + TAIL.format(**numbers)
 
 
-def by_steps(session: Session, end: int) -> tuple[int, str]:
-    """Where single steps come out of the routine, and how that is called; `end` is the budget."""
-    before = registers_of(session.many('regs'))
-    while session.clock < end:
-        here = session.clock
-        session.one('step')
-        now = registers_of(session.many('regs'))
-        if now['SS'] != before['SS'] or now['SP'] > before['SP']:
-            last = event_of(session.many('trail')[-1])
-            if last.clock >= here and last.entry is None and last.text.split()[0] in ('RET', 'RETF', 'IRET'):
-                return session.clock, 'returned'
-    return end, 'far'
+def stepped_of(machine: Machine, budget: int) -> Stepped:
+    """The run of a board's files by single steps, with its calls."""
+    found = list(events(machine.files, 0, budget))
+    clocks = [*(each.clock for each in found), budget]
+    steps = [b - a for a, b in zip([0, *clocks], clocks)]
+    with Session(machine.files) as session:
+        answers = [each for at in range(0, len(steps), 24) for each in session.trails(steps[at : at + 24], 'regs')]
+    stepped = Stepped(found, [registers_of([line.decode() for line in each[:2]]) for each in answers], budget)
+    stepped.follow()
+    return stepped
+
+
+def end_of(stepped: Stepped, clock: int) -> tuple[int, str]:
+    """Where the routine that runs at a clock has returned: the innermost call whose return address lies on the stack."""
+    is_open = (each for each in reversed(stepped.calls) if stepped.clock(each.at) < clock)
+    call = next((each for each in is_open if each.returned is None or stepped.clock(each.returned) >= clock), None)
+    return (stepped.end, 'far') if call is None or call.returned is None else (stepped.clock(call.returned + 1), 'returned')
 
 
 class Out(ToolCase):
@@ -151,20 +156,19 @@ class Out(ToolCase):
         return made
 
     def test_it_ends_where_steps_do(self) -> None:
-        """Twelve programs, eight clocks each, from the midst of whatever runs there."""
+        """Twelve programs, 24 clocks each, from the midst of whatever runs there."""
         how = dict[str, int]()
         for seed in range(12):
             machine, dice = self.machine(program(seed), BUDGET), random.Random(-seed)
-            with Session(machine.files) as session:
-                for _ in range(8):
-                    clock = dice.randrange(400, BUDGET - 20_000)
-                    for board in (session, machine):
-                        board.go_to(clock)
-                    wanted = by_steps(session, BUDGET)
-                    machine.out(set())
-                    self.assertEqual((min(machine.clock, BUDGET), machine.why), wanted, (seed, clock))  # a step may end behind the budget
-                    how[machine.why] = how.get(machine.why, 0) + 1
-        self.assertGreater(how['returned'], 80, how)
+            stepped = stepped_of(machine, BUDGET)
+            for _ in range(24):
+                clock = dice.randrange(400, BUDGET - 20_000)
+                machine.go_to(clock)
+                machine.out(set())
+                wanted = end_of(stepped, clock)
+                self.assertEqual((min(machine.clock, BUDGET), machine.why), wanted, (seed, clock))  # a step may end behind the budget
+                how[machine.why] = how.get(machine.why, 0) + 1
+        self.assertGreater(how['returned'], 200, how)
 
     def test_a_stop_on_the_way(self) -> None:
         """It is met first, also where the routine would return to it later."""
@@ -198,11 +202,11 @@ class Out(ToolCase):
         self.assertLess(spent() - before, 1.5)  # with the start of Python, the assembly and the listing
 
     def test_it_can_be_paused(self) -> None:
-        """Also if a place to which it may return, or the one behind a call, is met again and again, and no piece of a run ends."""
+        """Between the pieces of a way."""
         start = 'SEGMENT MAIN AT 0F000h\nstart:  MOV SP,0FFF0h\n{}ENDS\nSEGMENT RESET AT 0FFFFh\n        JMP FAR start\nENDS\n'
         deep = '        MOV CX,20000\n        CALL deep\n        JMP SHORT start\ndeep:   DEC CX\n        JZ over\nagain:  CALL deep\nover:   RET\n'
         for body, way in (('again:  MOV SP,0\n        JMP SHORT start\n', 'out'), (deep, 'next')):
-            machine, left = self.machine(start.format(body), 100_000_000), [400]
+            machine, left = self.machine(start.format(body), 100_000_000), [8]
             machine.run([break_at(machine.listing.labels['again'])], 1000)
 
             def poll(left: list[int] = left) -> None:
@@ -213,7 +217,7 @@ class Out(ToolCase):
             machine.poll = poll
             with self.assertRaises(Paused):
                 getattr(machine, way)(set())
-            self.assertLess(machine.clock, 5_000_000, way)
+            self.assertLess(machine.clock, 500_000, way)
 
     def test_what_ends_it_before(self) -> None:
         """A jam, a halt for good and the budget: there, and it is said, by tools/dbg too."""
@@ -237,8 +241,8 @@ class Out(ToolCase):
                 self.assertIn(f'clock {machine.clock}', out)
 
 
-class Places(unittest.TestCase):
-    """What a stack names."""
+class Bytes(unittest.TestCase):
+    """What stands before a return address."""
 
     def test_calls(self) -> None:
         """Near and far, with each displacement; nothing else."""
@@ -255,18 +259,6 @@ class Places(unittest.TestCase):
         ):
             code = bytes.fromhex(octets)
             self.assertEqual((ends_with_call(code), ends_with_call(code, is_far=True)), (is_near, is_far), octets)
-
-    def test_places(self) -> None:
-        """A return address behind others, a far one, and the frame of an interrupt; in their order."""
-        memory = bytearray(1 << 20)
-        memory[0xF0100 - 3 : 0xF0100] = b'\xE8\x00\x00'
-        memory[0xF8200 - 5 : 0xF8200] = b'\x9A\x00\x00\x00\xF8'
-        words = [0x1111, 0x2222, 0x3333, 0x4444, 0x0100, 0x0200, 0xF800, 0x0300, 0xF000, 0xF246, 0, 0]
-        for at, word in enumerate(words):
-            memory[0x1700 + 2 * at : 0x1702 + 2 * at] = word.to_bytes(2, 'little')
-        found = places_on_stack({'CS': 0xF000, 'SS': 0x100, 'SP': 0x700}, lambda at, count: bytes(memory[at : at + count]))
-        self.assertEqual(found[:3], [(0xF000, offset) for offset in words[:3]])
-        self.assertEqual(found[3:], [(0xF000, 0x100), (0xF800, 0x200), (0xF000, 0x300)])
 
 
 if __name__ == '__main__':

@@ -9,7 +9,7 @@ from typing import Iterator
 
 from toolbox.chips import Chips
 from toolbox.effects import Does, Effect, Far
-from toolbox.following import Entry, Follower, Frame, Mark, Marks, Port, Requests, Start, State, Tally, What, Wire
+from toolbox.following import Follower, Frame, Mark, Marks, Port, Requests, Start, State, Tally, What, Wire
 from toolbox.probing import Happenings
 from toolbox.program import Files
 
@@ -79,7 +79,7 @@ class Calls(Follower):
     def __init__(self, first: int, state: State, chips: Chips) -> None:
         super().__init__(state)
         self.routines: dict[tuple[int | None, bool, Far], Routine] = {}
-        self.requests, self.spans = Requests(chips), Spans()
+        self.requests, self.spans = Requests(chips.lines['controller']), Spans()
         self.off = Off(None if state.flags & INTERRUPT_FLAG else (first, None))
         self.strays = 0
         self._fresh: Frame | None = None

@@ -15,6 +15,7 @@ class Does(Enum):
 
     MOVES = auto()  # SP, by so many bytes
     LOADS = auto()  # SP or SS, with values that its bytes don't tell
+    SETS_SP = auto()  # to a number
     LOADS_FLAGS = auto()
     CALLS = auto()
     TRAPS = auto()  # by INT
@@ -27,7 +28,7 @@ class Does(Enum):
 
 
 class Effect(NamedTuple):
-    """What an instruction does, by how many bytes it moves SP, and the type of interrupt that INT, INTO and divisions enter."""
+    """What an instruction does, by how many bytes it moves SP, or to which number it sets it, and the type of interrupt that INT, INTO and divisions enter."""
 
     does: Does
     moves: int = 0
@@ -40,7 +41,7 @@ PLAIN = {
     **{each: Effect(Does.MOVES, 2) for each in (0x07, 0x1F, *range(0x58, 0x60))},
     0x44: Effect(Does.MOVES, 1),
     0x4C: Effect(Does.MOVES, -1),
-    **{each: LOADS for each in (0x17, 0x5C, 0x94, 0xBC)},  # POP SS, POP SP, XCHG AX,SP, MOV SP
+    **{each: LOADS for each in (0x17, 0x5C, 0x94)},  # POP SS, POP SP, XCHG AX,SP
     0x9D: Effect(Does.LOADS_FLAGS, 2),
     0xE8: Effect(Does.CALLS, -2),
     0x9A: Effect(Does.CALLS, -4),
@@ -72,6 +73,8 @@ def effect_of(octets: bytes) -> Effect | None:
     first, form = code[0], code[1] if len(code) > 1 else 0
     if first in PLAIN:
         return PLAIN[first]
+    if first == 0xBC:
+        return Effect(Does.SETS_SP, int.from_bytes(code[1:3], 'little'))
     if first == 0xCD:
         return Effect(Does.TRAPS, -6, form)
     if first in (0xC2, 0xCA):

@@ -15,16 +15,16 @@ that frame's call: by the return that takes its address from where the call has 
 the routine has taken it by POP and puts another one there, or jumps there by a register; or by a return from above it, if the
 address was dropped. Interrupts, calls on the way, other tasks' stacks and words that were pushed to be jumped to don't count. Without a frame
 it is the routine that runs at the state: a return ends it that takes its address from at or above SP, where nothing has been
-pushed since. `Requests(chips)` takes wires and ports, and tells each request's rise, fall and acceptance.
+pushed since. `Requests(controller)` takes wires and ports, and tells each request's rise, fall and acceptance.
 
 The cases in tests/following, which any other implementation can be held against, are lines and answers."""
 from __future__ import annotations
 
+import re
 from bisect import bisect_left
 from dataclasses import dataclass, field
 from typing import Iterable, NamedTuple
 
-from toolbox.chips import Chips
 from toolbox.effects import POPS, Does, Effect, Far, effect_of, is_by_frame, signed
 from toolbox.listing import physical
 
@@ -39,6 +39,15 @@ class State(NamedTuple):
     pointer: int
     flags: int
     place: Far
+
+
+STATE = re.compile(rb'SP=(....) .*\nCS=(....) .* SS=(....) IP=(....) FL=(....)')
+
+
+def states_in(octets: bytes) -> list[State]:
+    """The registers of answers to `regs`."""
+    numbers = ([int(each, 16) for each in words] for words in STATE.findall(octets))
+    return [State(segment, pointer, flags, (code, offset)) for pointer, code, segment, offset, flags in numbers]
 
 
 class Start(NamedTuple):
@@ -280,8 +289,10 @@ class Follower:
             self._return(mark, moves)
         elif does is Does.JUMPS:
             self._jump()
+        elif does is Does.SETS_SP:
+            self._load(mark.clock, what.octets, self.stack.segment, moves)
         elif does is Does.LOADS and mark.state:
-            self._load(mark.clock, what.octets, mark.state)
+            self._load(mark.clock, what.octets, mark.state.segment, mark.state.pointer)
         elif does is Does.MAY_TRAP and mark.state and signed(mark.state.pointer - self.stack.level) == moves:
             self._call(mark, moves)
 
@@ -311,15 +322,15 @@ class Follower:
             self.ended = self.nest.pop()
             self.ended.is_passed, self.ended.is_lifted = True, False
 
-    def _load(self, clock: int, octets: bytes, state: State) -> None:
+    def _load(self, clock: int, octets: bytes, segment: int, pointer: int) -> None:
         """SS or SP is loaded: within a routine's frame; to another task's stack, or back to one; or to where nothing is known."""
         stack, nest, here = self.stack, self.nest, (self.stack.segment, self.stack.level % 0x10000)
-        stack.load(clock, state.segment, state.pointer)
-        if (state.segment, state.pointer) == here or state.segment == here[0] and is_by_frame(octets):
+        stack.load(clock, segment, pointer)
+        if (segment, pointer) == here or segment == here[0] and is_by_frame(octets):
             return
         self._left[here] = nest
-        back = self._left.pop((state.segment, state.pointer), None)
-        is_near = state.segment == here[0] and nest and stack.level >= stack.lowest(stack.segment, nest[0].clock)
+        back = self._left.pop((segment, pointer), None)
+        is_near = segment == here[0] and nest and stack.level >= stack.lowest(stack.segment, nest[0].clock)
         self.nest = back if back is not None else [frame for frame in nest if is_near and frame.level >= stack.level]
 
     def called(self, frame: Frame, mark: Mark) -> None:
@@ -337,10 +348,15 @@ class Out:
         self._nest, self._callers = follower.nest, [each for each in follower.nest if each is not frame]
         self.intact = follower.stack.level  # from there on upwards nothing has been pushed since
 
+    @property
+    def is_own(self) -> bool:
+        """Whether the stack is the one on which it began."""
+        return self.follower.nest is self._nest
+
     def ends(self, mark: Mark) -> bool:
         """Follows a mark, and tells whether it ends the call."""
         follower, frame, does = self.follower, self.frame, mark.does
-        level, is_own = follower.stack.level, follower.nest is self._nest
+        level, is_own = follower.stack.level, self.is_own
         follower.follow(mark)
         if follower.ended and (follower.ended is frame or follower.ended in self._callers):
             return True
@@ -398,11 +414,11 @@ class Line:
 
 
 class Requests:
-    """The interrupt controller as far as it remembers requests. One whose line falls isn't remembered."""
+    """The interrupt controller as far as it remembers requests. One whose line falls isn't remembered. `controller` has the words of its
+    line of `chips`."""
 
-    def __init__(self, chips: Chips) -> None:
+    def __init__(self, controller: dict[str, str]) -> None:
         self.lines = [Line() for _ in range(8)]
-        controller = chips.lines['controller']
         self.base = int(controller['vector'], 16) & 0xF8
         self._awaits, self._is_polled = controller['awaits'], controller['P'] == '1'
         self._icw1 = 0

@@ -4,7 +4,6 @@ from __future__ import annotations
 
 import contextlib
 import itertools
-import re
 import select
 import signal
 import subprocess
@@ -13,16 +12,14 @@ from typing import Iterator, NoReturn, TypeVar
 import zebludor
 
 from toolbox.command import Sorry
-from toolbox.following import State
+from toolbox.following import State, states_in
 from toolbox.places import Event, event_of
-from toolbox.program import Files, path, refusal
+from toolbox.program import ENDED, NO_COMMAND, Files, path, refusal
 
 PIECE = 20_000_000  # clocks that are made at once: an interrupt is seen behind them
 FIRST = 10_000
 LISTED = 200  # instructions that are listed at once
 ASKED = 2000  # questions that are asked at once: their commands fit in the pipe
-NO_COMMAND, ENDED = '?', b'fault 51 BadCommand\n'  # a line that ends an answer of any length
-STATE = re.compile(rb'SP=(....) .*\nCS=(....) .* SS=(....) IP=(....) FL=(....)')
 
 P = TypeVar('P', bound='Probe')
 
@@ -183,7 +180,5 @@ class Happenings(Probe):
             for clock in clocks[at : at + ASKED]:
                 commands += f'go {clock - self.clock}', 'regs'
                 self.clock = clock
-            for words in STATE.findall(self.answered(commands)):
-                pointer, code, segment, offset, flags = (int(each, 16) for each in words)
-                found.append(State(segment, pointer, flags, (code, offset)))
+            found += states_in(self.answered(commands))
         return found

@@ -35,6 +35,8 @@ __all__ = [
 # An instruction takes two clocks or more, so no more than 31 begin in so many clocks, and the trail of 32 has them all.
 CLOCKS_OF_A_TRAIL = 60
 MOST_READ = 1 << 26  # bytes of an answer
+ASKED = 200  # questions that are asked at once: their answers fit in the pipe
+NO_COMMAND, ENDED = '?', b'fault 51 BadCommand\n'  # a line that ends an answer of any length
 
 
 def path(name: str = 'pcboard') -> str:
@@ -150,3 +152,33 @@ class ProbeSession(Session):
     """A session of pcprobe, which also takes typed keys and tells what the chips hold."""
 
     name, task = 'pcprobe', []
+
+    def lines(self, clocks: int, kinds: str) -> list[bytes]:
+        """What happens in so many clocks, past all stops, of these kinds: lines as `events` prints them."""
+        found = self._answered([f'events {clocks} {kinds}'])
+        self.clock += clocks
+        return found.split(b'\n')[:-2]
+
+    def registers_at(self, clocks: list[int], end: int) -> bytes:
+        """The answers to `regs` at these clocks, which rise; past all stops, and on to an end."""
+        found = b''
+        for at in range(0, len(clocks), ASKED):
+            here, some = self.clock, clocks[at : at + ASKED]
+            found += self._answered([f'events {b - a} keys\nregs' for a, b in zip([here, *some], some)])
+            self.clock = some[-1]
+        self.lines(end - self.clock, 'keys')
+        return found
+
+    def _answered(self, commands: list[str]) -> bytes:
+        """What commands are answered, of which the last one ends with its clock."""
+        self._send('\n'.join([*commands, NO_COMMAND, '']))
+        octets = bytearray()
+        while not octets.endswith(ENDED):
+            piece = self._out.read1(1 << 16)
+            if not piece:
+                self._ended()
+            octets += piece
+        self.is_idle, octets = True, octets[: -len(ENDED)]
+        if b'fault' in octets:
+            raise Sorry(f'the probe refuses: {octets[octets.index(b"fault") :].splitlines()[0].decode("ascii")}')
+        return bytes(octets)

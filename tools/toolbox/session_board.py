@@ -24,6 +24,7 @@ MOST_STOPS = 16
 MOST_PASSED = 64  # stops that nobody wants any more, before a session without them is begun
 FIRST_PIECE = 1 << 16
 LOGGED_AT_ONCE = 100_000  # clocks
+PASSED_AT_ONCE = 1 << 20  # clocks that are gone past stops without a new session
 TRIED_AT_ONCE = 100  # clocks of a key
 BEFORE_START = 'fault 54 BeforeStart'
 T = TypeVar('T')
@@ -203,6 +204,10 @@ class SessionBoard:
             yield from lines
             self.poll()
 
+    def lines(self, clocks: int, kinds: str) -> list[bytes]:
+        """What happens in so many clocks, past all stops, as lines of the probe's events."""
+        return self._talk(lambda: self._session.lines(clocks, kinds)) if clocks else []
+
     def end_instruction(self) -> None:
         """Ends what is under way, so that a step makes the next instruction."""
         if self.is_within:
@@ -347,8 +352,10 @@ class SessionBoard:
         """The board at this clock, earlier or later, past all stops."""
         if clock < self.clock:
             self.one(f'back {self.clock - clock}')
-        elif clock > self.clock and self._stops:
+        elif clock > self.clock and self._stops and clock - self.clock > PASSED_AT_ONCE:
             self.begin_anew(self._stops, clock)
+        elif clock > self.clock and self._stops:
+            self.lines(clock - self.clock, 'keys')
         else:
             self.go_on(clock)
 

@@ -585,12 +585,14 @@ class Adapter:
 
     def on_stackTrace(self, given: Fields) -> Fields:
         board = self.board()
-        frames = [self.frame(number, place) for number, place in enumerate([board.place(), *(caller for caller, _ in board.callers())], 1)]
+        frames = [self.frame(number, place) for number, place in enumerate([board.place(), *board.callers()], 1)]
         first, count = field(given, 'startFrame', int, 0), field(given, 'levels', int, 0)
         return {'stackFrames': frames[first : first + count if count else None], 'totalFrames': len(frames)}
 
-    def frame(self, number: int, place: Far) -> Fields:
-        """A frame: the label, and the source line that placed what stands there."""
+    def frame(self, number: int, place: Far | None) -> Fields:
+        """A frame: the label, and the source line that placed what stands there; or that callers aren't known."""
+        if place is None:
+            return {'id': number, 'name': 'unknown', 'line': 0, 'column': 0, 'presentationHint': 'label'}
         listing, address = self.board().listing, physical(*place)
         name = listing.label_before(*place) or '{:04X}:{:04X}'.format(*place)
         frame: Fields = {'id': number, 'name': name, 'line': 0, 'column': 0, 'instructionPointerReference': f'0x{address:05X}'}

@@ -2,32 +2,43 @@
 nothing: each place is that of a session of pcprobe."""
 from __future__ import annotations
 
-from typing import Callable, Collection
+import time
+from typing import Callable, Collection, Iterator
 
 from toolbox.command import Sorry
-from toolbox.effects import Far, ends_with_call
+from toolbox.effects import Does, Far, effect_of, signed
+from toolbox.events import clock_of
+from toolbox.following import CALLING, Follower, Frame, Mark, Marks, Out, Start, State, states_in
 from toolbox.listing import Listing, physical
-from toolbox.places import Event, is_repeated, operation_of
-from toolbox.program import LAST_CLOCK, Files
-from toolbox.returns import places_on_stack
-from toolbox.session_board import BEFORE_START, MOST_STOPS, SessionBoard, break_at, place_of
+from toolbox.places import Event, is_repeated
+from toolbox.program import Files
+from toolbox.session_board import BEFORE_START, MOST_STOPS, SessionBoard
+from toolbox.watches import MEMORY, watch_of
+from toolbox.way_back import paced
 
-MOST_BREAKPOINTS = MOST_STOPS - 1  # one is left for the place behind a call
-SHORT_WALK = 200
+MOST_BREAKPOINTS = MOST_STOPS - 1  # one is left for a long way out of a call
+STACKED = 'starts entries'  # what calls and returns are followed by
+LOOKED_BACK = 200_000  # clocks in which calls that are under way are looked for
+FIRST_PIECE, MOST_PIECE = 1000, 1 << 20  # clocks that are followed at once
 # What ends a way out of a routine before it returns.
 ENDS = {'jammed': 'the processor has jammed, and nothing returned', 'halted for good': 'halted with interrupts off, and nothing returned'}
-RETURNS, IF = ('RET', 'RETF', 'IRET'), 0x200
+IF = 0x200
 FLAG_BITS = {'OF': 11, 'DF': 10, 'IF': 9, 'TF': 8, 'SF': 7, 'ZF': 6, 'AF': 4, 'PF': 2, 'CF': 0}
 
 
 class Machine(SessionBoard):
-    """The board with its listing. Of the stops that ways over and out of routines are to end at, those are met that are places."""
+    """The board with its listing."""
 
     def __init__(self, files: Files, listing: Listing, budget: int, poll: Callable[[], None] = lambda: None) -> None:
         super().__init__(files, budget, poll)
-        self.listing = listing
+        self.listing, self._reader = listing, Marks()
         self.known: dict[int, Event] = {}
         self.why = ''  # why the last way over or out of a routine ended: 'returned', 'stop', 'far', or as `_ended` tells
+
+    def _forget(self) -> None:
+        super()._forget()
+        self._known: tuple[int, Follower | None] = (-1, None)  # the calls under way at a clock
+        self._is_whole = False  # whether they were followed from power-on on
 
     def trail(self) -> list[Event]:
         """The last instruction starts and entries. What they tell of instructions is kept for disassembly."""
@@ -53,116 +64,149 @@ class Machine(SessionBoard):
             raise Sorry('this is the start of the run')
 
     def next(self, wanted: Collection[str]) -> str | None:
-        """Makes one instruction with all that it calls, an interrupt that comes first, and all its repeats. Returns the one
-        of these places that was met before its end."""
-        start = self.clock
-        while True:
-            self.why, before = 'returned', self.registers()
-            begun = self.step()
-            if begun is None:
-                self.why = 'far' if self.clock >= self.budget else self.why
-                return None
-            if begun.entry is not None:
-                target = (begun.segment, begun.offset)
-            elif operation_of(begun.text) in ('CALL', 'INT', 'INT3', 'INTO') or is_repeated(begun.text):
-                target = (begun.segment, (begun.offset + len(begun.octets)) % 0x10000)
-            else:
-                return None
-            met = self._run_over(target, before, wanted)
-            if met:
-                self.why = 'stop'
-            elif self.clock >= self.budget:
-                self.why = self._ended(start)
-            if met or begun.entry is None or self.why != 'returned':
-                return met
-
-    def _run_over(self, target: Far, before: dict[str, int], wanted: Collection[str]) -> str | None:
-        """Goes on to a place with the stack as it was, first by single steps, which need no stop."""
-
-        def is_there() -> bool:
-            now = self.registers()
-            return (now['CS'], now['IP']) == target and (now['SS'] != before['SS'] or now['SP'] >= before['SP'])
-
-        for _ in range(SHORT_WALK):
-            if is_there():
-                return None
-            if (here := break_at(self.place())) in wanted and self.is_met(here, self.clock):
-                return here
-            if self.clock >= self.budget or self.is_halted:
-                break
-            self.one('step')
-        behind = break_at(target)
-        while not is_there():
-            self.poll()
-            met = self.run({*wanted, behind}, self.budget, (behind,))
-            if met is None or met != behind or met in wanted and not is_there() and self.is_met(met, self.clock):
-                return met
-        return None
-
-    def to_stops(self, way: Callable[[], str | None], wanted: Collection[str]) -> str | None:
-        """A way that ends at places, at most to one of these stops: for those that aren't places it is gone once more."""
-        here, met, others = self.clock, way(), [stop for stop in wanted if not place_of(stop)]
-        if others and (there := self.clock) > here:
-            self.go_to(here)
-            found = self.run(others, there)
-            self.why, met = ('stop', found) if found else (self.why, met)
-        return met
+        """Makes one instruction with all that it calls, an interrupt that comes first, and all its repeats, at most to one of these
+        stops, which it returns."""
+        return self.to_stops(self._over, wanted)
 
     def out(self, wanted: Collection[str]) -> str | None:
-        """Runs to where the routine has returned: behind a RET or IRET that leaves the stack above where it is now; or to one of
-        these places, to a jam, a halt for good, or the budget. First by steps; then to the places to which the trail or the stack
-        lets it return; by steps again where neither names one."""
-        here, before = self.clock, self.registers()
-        places = [place for place, _ in self.callers()[:1]]
-        met = self._step_out(wanted, before, SHORT_WALK)
-        if self.why == 'on':
-            found = dict.fromkeys([*places, *places_on_stack(before, self.dump)])
-            room = list(map(break_at, found))[: max(0, MOST_STOPS - len(wanted))]
-            met = self._run_out(wanted, room, before) if room else self._step_out(wanted, before, LAST_CLOCK)
-        if self.why == 'far':
-            self.why = self._ended(here)
-        return met
+        """Runs to where the routine has returned, or dropped its address; at most to one of these stops, to a jam, a halt for good, or
+        the budget."""
+        return self.to_stops(self._out, wanted)
 
-    def _step_out(self, wanted: Collection[str], before: dict[str, int], most: int) -> str | None:
-        """Out of the routine by at most so many steps; `why` tells whether it goes on."""
-        for _ in range(most):
-            if self.clock >= self.budget:
-                break
-            self.poll()
-            here = self.clock
-            begun = self.step()
-            if self._has_returned(begun, before):
-                self.why = 'returned'
-                return None
-            if (place := break_at(self.place())) in wanted and self.is_met(place, self.clock):
-                self.why = 'stop'
-                return place
-            if begun is None and self.clock == here + 1 and self.state() == 'jammed':
-                self.why = 'far'
-                return None
-        self.why = 'on' if self.clock < self.budget else 'far'
-        return None
-
-    def _run_out(self, wanted: Collection[str], places: list[str], before: dict[str, int]) -> str | None:
-        """Out of the routine by runs to places to which it may return."""
-        while self.clock < self.budget:
-            self.poll()
-            met = self.run({*wanted, *places}, self.budget, places)
-            if met and self._has_returned(self.trail()[-1], before):
-                self.why = 'returned'
-                return None
-            if met in wanted and (met not in places or self.is_met(met, self.clock)):
+    def to_stops(self, way: Callable[[], object], wanted: Collection[str]) -> str | None:
+        """A way, at most to one of these stops: to find them, it is gone once more."""
+        here, _ = self.clock, way()
+        if wanted and (there := self.clock) > here:
+            self.go_to(here)
+            if met := self.run(wanted, there):
                 self.why = 'stop'
                 return met
-        self.why = 'far'
         return None
 
-    def _has_returned(self, last: Event | None, before: dict[str, int]) -> bool:
-        """Whether what has just been made is a return that leaves the stack above where it was."""
-        if last is None or last.entry is not None or operation_of(last.text) not in RETURNS:
-            return False
+    def _over(self) -> None:
+        """Over the next instruction."""
+        here, self.why = self.clock, 'returned'
+        while begun := self.step():
+            self.over(begun)
+            if begun.entry is None or self.why != 'returned':
+                break
+        if self.why == 'far' or not begun and self.clock >= self.budget:
+            self.why = self._ended(here)
+
+    def over(self, begun: Event) -> None:
+        """Over all that an instruction or entry does which has just been made: what it calls, and its repeats."""
+        self.why, effect = 'returned', None if begun.entry is not None else effect_of(begun.octets)
+        if begun.entry is not None or effect and effect.does in (*CALLING, Does.MAY_TRAP):
+            self._over_call(begun.clock)
+        elif is_repeated(begun.text):
+            self._over_repeats(begun)
+
+    def _over_call(self, begun: int) -> None:
+        """Over what an instruction or entry that began at a clock has called, if it has called something."""
+        after = self.clock
+        self.go_to(begun)
+        follower = self._beginning()
+        self._follow(follower, after)
+        if follower.nest:
+            self._end(Out(follower, follower.nest[-1]))
+
+    def _over_repeats(self, begun: Event) -> None:
+        """To where another instruction begins than a repeat, over interrupts that come first."""
+        repeats = b' %04X:%04X ' % (begun.segment, begun.offset)
+        while found := next((line for lines in self._pieces(self.budget) for line in lines if repeats not in line), None):
+            self.go_to(clock_of(found))
+            if b' entry ' not in found:
+                return
+            self.one('step')
+            self._over_call(clock_of(found))
+            if self.why != 'returned':
+                return
+        self.why = 'far'
+
+    def _out(self) -> None:
+        """Out of the routine."""
+        here, follower = self.clock, self.follower()
+        self._known = (-1, None)
+        self._end(Out(follower, follower.nest[-1] if follower.nest else None))
+        if self.why == 'returned':
+            self._known = self.clock, follower
+        else:
+            self.why = self._ended(here)
+
+    # Calls
+
+    def _beginning(self) -> Follower:
+        """A follower from here on."""
         now = self.registers()
-        return now['SS'] != before['SS'] or now['SP'] > before['SP']
+        return Follower(State(now['SS'], now['SP'], now['FL'], (now['CS'], now['IP'])))
+
+    def _marks(self, lines: list[bytes]) -> list[Mark]:
+        """The marks of lines that tell what led to here, with the registers that their bytes don't tell."""
+        marks = self._reader.of(lines) + self._reader.rest()
+        if asking := [mark for mark in marks if mark.asks_for_stack()]:
+            here = self.clock
+            self.go_to(asking[0].clock + 1)
+            octets = self._talk(lambda: self._session.registers_at([mark.clock + 1 for mark in asking], here))
+            for mark, state in zip(asking, states_in(octets)):
+                mark.state = state
+        return marks
+
+    def _follow(self, follower: Follower, end: int) -> None:
+        """Follows the calls up to a clock, to which the board goes past all stops."""
+        for mark in self._marks(self.lines(end - self.clock, STACKED)):
+            follower.follow(mark)
+
+    def follower(self) -> Follower:
+        """The calls under way, as the last clocks before this one tell them, or from power-on on."""
+        here = self.clock
+        known, follower = self._known if 0 <= here - self._known[0] <= LOOKED_BACK else (-1, None)
+        if follower is None:
+            known = max(0, here - LOOKED_BACK)
+            self._is_whole = not known
+        self.go_to(known)
+        follower = follower or self._beginning()
+        self._follow(follower, here)
+        self._known = here, follower
+        return follower
+
+    def _pieces(self, end: int) -> Iterator[list[bytes]]:
+        """What begins up to a clock, to which the board goes past all stops, piece by piece."""
+        length = FIRST_PIECE
+        while self.clock < end:
+            begun = time.monotonic()
+            yield self.lines(min(length, end - self.clock), STACKED)
+            self.poll()
+            length = min(paced(length, time.monotonic() - begun), MOST_PIECE)
+
+    def _end(self, out: Out) -> None:
+        """Goes on to where a call has ended, at most to the budget."""
+        self.why, here = 'returned', self.clock
+        for lines in self._pieces(self.budget):
+            ended = next((mark.clock for mark in self._marks(lines) if out.ends(mark)), None)
+            if ended is not None:
+                self.go_to(ended)
+                self.one('step')
+                return
+            if self.clock - here > MOST_PIECE:
+                self._skip(out)
+        self.why = 'far'
+
+    def _skip(self, out: Out) -> None:
+        """Goes on as long as no return can have ended a call: nothing is pushed to where its address lies, and SP isn't above that."""
+        stack, level = out.follower.stack, out.frame.level if out.frame else out.intact
+        place = physical(stack.segment, level % 0x10000)
+        stop = watch_of(place, 2, is_each_write=True) if out.is_own and place + 1 < MEMORY else ''
+        while stop and self.clock < self.budget:
+            self.want([stop])
+            here, end, met = self.clock, min(self.clock + MOST_PIECE, self.budget), None
+            while self.clock < end and met != stop:
+                met = self.go_on(end)
+            now = self.registers()
+            if met == stop or now['SS'] != stack.segment or signed(now['SP'] - level) > 0:
+                self.go_to(here)
+                return
+            stack.level = level + signed(now['SP'] - level)
+            self.poll()
 
     def _ended(self, here: int) -> str:
         """What ended a way that led from a clock to no return: `jammed` and `halted for good` at the clock at which that began,
@@ -177,31 +221,16 @@ class Machine(SessionBoard):
             self.one('step')
         return kind
 
-    def callers(self) -> list[tuple[Far, str]]:
-        """The places to which the present routine and those above it return: by the trail, as far as it goes, else by the
-        chain of BP, as far as a CALL stands before each return address; and none where neither tells."""
-        found, depth = list[tuple[Far, str]](), 0
-        for event in reversed(self.trail()):
-            operation = operation_of(event.text) if event.entry is None else 'entry'
-            if operation in RETURNS:
-                depth += 1
-            elif operation in ('CALL', 'INT', 'INT3', 'entry'):
-                if depth == 0:
-                    found.append(((event.segment, (event.offset + len(event.octets)) % 0x10000), 'trail'))
-                depth = max(0, depth - 1)
-        return found or self._chain()
+    def callers(self) -> list[Far | None]:
+        """The places to which the present routine and those above it return; None at the end, if calls before those aren't known."""
+        found: list[Far | None] = [self._caller(frame) for frame in reversed(self.follower().nest)]
+        return found if self._is_whole else [*found, None]
 
-    def _chain(self) -> list[tuple[Far, str]]:
-        """The chain of BP, within the stack's segment and upwards."""
-        registers, found = self.registers(), list[tuple[Far, str]]()
-        frame, code = registers['BP'], registers['CS']
-        while registers['SP'] <= frame < 0xFFFC and len(found) < 64:
-            octets = self.dump(physical(registers['SS'], frame), 4)
-            above, back = (int.from_bytes(octets[at : at + 2], 'little') for at in (0, 2))
-            if len(octets) < 4 or back < 4 or not ends_with_call(self.dump(physical(code, back - 4), 4)):
-                break
-            found.append(((code, back), 'BP'))
-            if above <= frame:
-                break
-            frame = above
-        return found
+    def _caller(self, frame: Frame) -> Far:
+        """Where a call returns to: as its address stands on the stack, or behind it, if the routine has taken that."""
+        octets = self.dump(frame.place, 4)
+        offset, segment = int.from_bytes(octets[:2], 'little'), int.from_bytes(octets[2:], 'little')
+        if isinstance(frame.what, Start):
+            segment = segment if frame.pushed > 2 else frame.what.place[0]
+            offset = (frame.what.place[1] + len(frame.what.octets)) % 0x10000 if frame.is_lifted else offset
+        return segment, offset

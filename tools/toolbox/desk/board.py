@@ -386,10 +386,13 @@ class Board:
         ]
 
     def _callers(self) -> list[list[Any]]:
-        """Where the present routine and those above it return to, as far as the trail or the chain of BP tells it: address, label
-        and source line."""
-        lines = [(place, self.listing.at.get(physical(*place))) for place, _ in self.machine.callers()]
-        return [['%04X:%04X' % place, self.listing.label_before(*place), line.number if line else None] for place, line in lines]
+        """Where the present routine and those above it return to: address, label and source line; or that it isn't known."""
+        return [self._caller(place) if place else ['unknown', '', None] for place in self.machine.callers()]
+
+    def _caller(self, place: Far) -> list[Any]:
+        """A place to which a routine returns."""
+        line = self.listing.at.get(physical(*place))
+        return ['%04X:%04X' % place, self.listing.label_before(*place), line.number if line else None]
 
     def _stack(self, registers: dict[str, int]) -> list[list[Any]]:
         """The words from SS:SP on, with the label of one that leads to a line of the source, or to bytes of Intel HEX."""

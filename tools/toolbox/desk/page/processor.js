@@ -41,7 +41,7 @@ export function draw_callers() {
     if (line) { one.title = `line ${line}`; one.onclick = () => to_line(line); }
     return one;
   }));
-  if (!view.callers.length) $('callers').textContent = 'Neither the last 32 events nor the chain of BP show a caller.';
+  if (!view.callers.length) $('callers').textContent = 'Nothing has called what runs here.';
 }
 /* The trail is one stop of Tab; arrow keys go along it. */
 export function draw_trail() {
