@@ -99,7 +99,7 @@ class Sessions(ToolCase):
         )
 
     def test_a_session_goes_back_by_itself(self) -> None:
-        """It is begun anew where a stop is cleared, and for a later clock past stops."""
+        """It is begun anew where a stop is cleared, and for a much later clock past stops."""
         count = self.file('count', '')
         counted = self.file('pcprobe', f'#!/bin/sh\necho >> {count}\nexec {path("pcprobe")} "$@"\n')
         os.chmod(counted, 0o755)
@@ -107,7 +107,8 @@ class Sessions(ToolCase):
             for commands, wanted in (
                 (('to 1797', 'back', 'to 3', 'back 9'), 1),
                 (('break tick', 'go', 'go', 'last', 'back', 'to 3'), 1),
-                (('halted', 'to 1797'), 2),
+                (('halted', 'to 1797'), 1),
+                (('halted', 'to 2000000'), 2),
                 (('halted', 'go', 'clear 1', 'clear all'), 2),
             ):
                 self.file('count', '')

@@ -3,7 +3,7 @@ request waits, and who wrote a byte last. It starts nothing: lines go in, and, f
 
 `begin_in(lines, place)` is the clock at which the instruction at a place begins; not where the processor is merely free there, halted, or
 enters an interrupt. `writer_in(lines, address)` is what began last before the last write of a byte, of lines of `starts`, `entries` and
-`writes`.
+`writes`. `lost_in(lines, lost_before)` are the clocks at which codes of keys were lost.
 
 `Marks().of(lines)` reads lines of `starts` and `entries`, of `wires` and `ports=20-21` if they are wanted, as marks: what there is to
 follow. A mark whose `asks_for_stack()` is true gets its `state`, the registers one clock after it, before it is followed; with
@@ -194,6 +194,12 @@ def writer_in(lines: Iterable[bytes], address: int) -> tuple[int, bytes] | None:
     return found
 
 
+def lost_in(lines: Iterable[bytes], lost_before: int = 0) -> list[int]:
+    """The clocks at which codes of keys were lost, of lines of `keys` from power-on on: no line tells of those stamped 0, which the
+    keyboard has counted there already."""
+    return [0] * lost_before + [int(line[: line.index(b' ')]) for line in lines if line.endswith(b' lost')]
+
+
 class Frame:
     """A call under way: when it began, what called, where it leads, its type if it is an interrupt's, where its return address lies, its
     length, and the stack before it. It is lifted once the routine has taken its address by POP, passed once the routine has jumped to that,
@@ -328,9 +334,11 @@ class Follower:
         stack.load(clock, segment, pointer)
         if (segment, pointer) == here or segment == here[0] and is_by_frame(octets):
             return
+        is_near = segment == here[0] and nest and stack.level >= stack.lowest(segment, nest[0].clock)
+        if is_near and stack.level <= nest[-1].level:
+            return
         self._left[here] = nest
         back = self._left.pop((segment, pointer), None)
-        is_near = segment == here[0] and nest and stack.level >= stack.lowest(stack.segment, nest[0].clock)
         self.nest = back if back is not None else [frame for frame in nest if is_near and frame.level >= stack.level]
 
     def called(self, frame: Frame, mark: Mark) -> None:
@@ -345,7 +353,7 @@ class Out:
 
     def __init__(self, follower: Follower, frame: Frame | None = None) -> None:
         self.follower, self.frame = follower, frame
-        self._nest, self._callers = follower.nest, [each for each in follower.nest if each is not frame]
+        self._nest = follower.nest
         self.intact = follower.stack.level  # from there on upwards nothing has been pushed since
 
     @property
@@ -358,7 +366,7 @@ class Out:
         follower, frame, does = self.follower, self.frame, mark.does
         level, is_own = follower.stack.level, self.is_own
         follower.follow(mark)
-        if follower.ended and (follower.ended is frame or follower.ended in self._callers):
+        if frame and follower.ended is frame:
             return True
         if does in RETURNING:
             return is_own and level >= self.intact and (frame is None or level > frame.level)

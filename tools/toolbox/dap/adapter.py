@@ -491,19 +491,16 @@ class Adapter:
         self.unless_ended()
         return {'allThreadsContinued': True}, self.run_on
 
-    def by_lines(self, given: Fields, step: Callable[[], str | None]) -> str | None:
-        """Steps on until another line of several files, as those of C, begins; else, or if instructions are asked for, makes one.
-        Returns the breakpoint that was met."""
+    def by_lines(self, given: Fields, step: Callable[[], object]) -> None:
+        """Steps on until another line of several files, as those of C, begins; else, or if instructions are asked for, makes one."""
         board, line = self.board(), self.line_here()
-        met = step()
-        while line and given.get('granularity') != 'instruction' and met is None and board.clock < board.budget and board.why not in ENDS:
+        step()
+        while line and given.get('granularity') != 'instruction' and board.clock < board.budget and board.why not in ENDS:
             here = self.line_here()
             if here is None or (here.number, here.source) != (line.number, line.source):
                 break
             self.poll()
-            place = break_at(board.place())
-            met = place if place in self.wanted() and board.is_met(place, board.clock) else step()
-        return met
+            step()
 
     def line_here(self) -> Line | None:
         """The line of several files to which the next instruction belongs."""
@@ -511,7 +508,7 @@ class Adapter:
 
     def on_next(self, given: Fields) -> tuple[Fields, Callable[[], tuple[str, str]]]:
         board = self.board()
-        return {}, lambda: self.told_of_a_way(self.way(lambda places: self.by_lines(given, lambda: board.next(places))), 'step')
+        return {}, lambda: self.told_of_a_way(self.way(lambda: self.by_lines(given, lambda: board.next(()))), 'step')
 
     def on_stepIn(self, given: Fields) -> tuple[Fields, Callable[[], tuple[str, str]]]:
         board = self.board()
@@ -520,17 +517,17 @@ class Adapter:
             board.why = 'returned'
             board.step()
 
-        return {}, lambda: self.why_stopped(self.way(lambda _: self.by_lines(given, step)), 'step', 'step')
+        return {}, lambda: self.why_stopped(self.way(lambda: self.by_lines(given, step)), 'step', 'step')
 
     def on_stepOut(self, _: Fields) -> tuple[Fields, Callable[[], tuple[str, str]]]:
         board = self.unless_ended()
-        return {}, lambda: self.told_of_a_way(self.way(board.out), 'step out')
+        return {}, lambda: self.told_of_a_way(self.way(lambda: board.out(())), 'step out')
 
-    def way(self, way: Callable[[list[str]], str | None]) -> str | None:
+    def way(self, way: Callable[[], object]) -> str | None:
         """A way by instructions, at most to a breakpoint. An instruction that is under way, as at data that has changed, ends first."""
-        board, wanted = self.board(), self.wanted()
+        board = self.board()
         board.end_instruction()
-        return board.to_stops(lambda: way([stop for stop in wanted if place_of(stop)]), wanted)
+        return board.to_stops(way, self.wanted())
 
     def on_stepBack(self, _: Fields) -> tuple[Fields, Callable[[], tuple[str, str]]]:
         board = self.board()

@@ -12,7 +12,7 @@ from toolbox.following import CALLING, Follower, Frame, Mark, Marks, Out, Start,
 from toolbox.listing import Listing, physical
 from toolbox.places import Event, is_repeated
 from toolbox.program import Files
-from toolbox.session_board import BEFORE_START, MOST_STOPS, SessionBoard
+from toolbox.session_board import BEFORE_START, MOST_STOPS, SessionBoard, place_of
 from toolbox.watches import MEMORY, watch_of
 from toolbox.way_back import paced
 
@@ -74,11 +74,12 @@ class Machine(SessionBoard):
         return self.to_stops(self._out, wanted)
 
     def to_stops(self, way: Callable[[], object], wanted: Collection[str]) -> str | None:
-        """A way, at most to one of these stops: to find them, it is gone once more."""
+        """A way, at most to one of these stops: to find them, it is gone once more. A place at its end is no stop before it."""
         here, _ = self.clock, way()
         if wanted and (there := self.clock) > here:
             self.go_to(here)
-            if met := self.run(wanted, there):
+            met = self.run(wanted, there)
+            if met and not (place_of(met) and self.clock == there):
                 self.why = 'stop'
                 return met
         return None

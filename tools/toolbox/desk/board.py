@@ -250,14 +250,14 @@ class Board:
         """Runs to where the routine has returned."""
         return self._moved(lambda: self._way(self.machine.out), seen)
 
-    def _way(self, way: Callable[[list[str]], str | None]) -> str | None:
-        """A way over or out of a routine, at most to a stop. It ends at places; so for the others it is gone once more."""
-        here, places = self.clock, list(filter(place_of, self.stops))
-        met = way(places)
-        if there := self.clock if places != self.stops and self.clock > here else 0:
-            self.machine.go_to(here)
-            met = self._run_to_a_stop(there) or met
-        return met
+    def _way(self, way: Callable[[tuple[()]], object]) -> str | None:
+        """A way over or out of a routine, at most to a stop: to find them, it is gone once more. A place at its end is no stop before it."""
+        here, _ = self.clock, way(())
+        if not self.stops or (there := self.clock) == here:
+            return None
+        self.machine.go_to(here)
+        met = self._run_to_a_stop(there)
+        return None if met and place_of(met) and self.clock == there else met
 
     def _from_a_halt(self, seen: int) -> Fields | None:
         """A step of a halted processor: into the interrupt that ends the halt; where none can, a clock. None of one that runs."""
