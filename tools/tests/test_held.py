@@ -8,10 +8,9 @@ from dataclasses import dataclass
 
 from tests.support import ToolCase
 
-from toolbox.expectations import Subject, first_start
-from toolbox.judging import subject_of
+from toolbox.events import first_start
 from toolbox.listing import listing_of, physical
-from toolbox.program import Files
+from toolbox.program import Files, ProbeSession
 from toolbox.report import NANOSECONDS
 from toolbox.runfile import DEFAULTS, text_of
 
@@ -110,6 +109,9 @@ class Stepped(ToolCase):
         return self.kept[seed, address, count]
 
 
+UNKNOWN = -1  # the value of a signal that isn't known yet
+
+
 class Held(ToolCase):
     """Some programs, of which the same things are asked in two ways."""
 
@@ -127,11 +129,11 @@ class Held(ToolCase):
         """A signal of a waveform, at each clock."""
         sign = next(declaration.split()[3] for declaration in text.splitlines() if declaration.startswith('$var') and declaration.split()[4] == name)
         found, level = list[int](), 0
-        for line in text.partition('$end\n#')[2].splitlines():
-            if line.isdecimal() or line.startswith('#'):
+        for line in text.partition('$dumpvars\n')[2].splitlines():
+            if line.startswith('#'):
                 found += [level] * (int(line.strip('#')) // NANOSECONDS - len(found))
             elif line[1:] == sign:
-                level = int(line[0])
+                level = UNKNOWN if line[0] == 'x' else int(line[0])
         return found
 
     def test_waveforms(self) -> None:
@@ -142,7 +144,8 @@ class Held(ToolCase):
             text, _ = self.called('trace', '--vcd', '-', '--from', str(first), files.file, files.run_file)
             for name, stop in (('halted', 'halted'), ('speaker', 'sound')):
                 held = self.holding(files, stop)
-                self.assertEqual(self.levels(text, name)[first:], held[first:], (seed, name))
+                unseen = [UNKNOWN] * first if name == 'halted' else held[:first]
+                self.assertEqual(self.levels(text, name), unseen + held[first:], (seed, name))
                 halts += name == 'halted' and sum(a < b for a, b in zip(held, held[1:]))
         self.assertGreater(halts, 30)
 
@@ -150,11 +153,11 @@ class Held(ToolCase):
         """A signal of many bits of a waveform, at each clock."""
         sign = next(each.split()[3] for each in text.splitlines() if each.startswith('$var') and each.split()[4] == name)
         found, value = list[int](), 0
-        for line in text.partition('$end\n#')[2].splitlines():
-            if line.isdecimal() or line.startswith('#'):
+        for line in text.partition('$dumpvars\n')[2].splitlines():
+            if line.startswith('#'):
                 found += [value] * (int(line.strip('#')) // NANOSECONDS - len(found))
             elif line.startswith('b') and line.split()[1] == sign:
-                value = int(line.split()[0][1:], 2)
+                value = UNKNOWN if line.startswith('bx') else int(line.split()[0][1:], 2)
         return found
 
     def test_watched_memory(self) -> None:
@@ -171,7 +174,7 @@ class Held(ToolCase):
             dumped = [int.from_bytes(bytes.fromhex(each.partition(':')[2]), 'little') for each in rows]
             for number, name in enumerate(places):
                 held = dumped[number :: len(places)]
-                self.assertEqual(self.words(text, name.partition(',')[0])[first:], held[first:], (seed, name))
+                self.assertEqual(self.words(text, name.partition(',')[0]), [UNKNOWN] * first + held[first:], (seed, name))
                 changes += sum(a != b for a, b in zip(held, held[1:]))
         self.assertGreater(changes, 40)
 
@@ -194,12 +197,12 @@ class Held(ToolCase):
         """Where an instruction first began, as tools/judge looks for it: as single steps meet it, at the reset's place too."""
         for seed in range(4):
             files = self.files(seed)
-            began, subject = self.began(files), subject_of(files)
-            assert isinstance(subject, Subject)
+            began = self.began(files)
             lines = [line.address for line in listing_of(files).lines if line.address and line.address[0] > 0x50]
             dice = random.Random(seed)
             for place in [(0xFFFF, 0), *dice.sample(lines, 12)]:
-                self.assertEqual(first_start(subject, *place), began.get(place), (seed, place))
+                with ProbeSession(files) as session:
+                    self.assertEqual(first_start(session, place, CLOCKS), began.get(place), (seed, place))
 
 
 if __name__ == '__main__':

@@ -9,8 +9,10 @@ from typing import Iterable, Iterator
 from zebludor import Fault
 
 from toolbox.command import Sorry
+from toolbox.effects import Far
+from toolbox.following import begin_in
 from toolbox.places import Event, event_of
-from toolbox.program import CLOCKS_OF_A_TRAIL, Files, Session
+from toolbox.program import CLOCKS_OF_A_TRAIL, Files, ProbeSession, Session
 
 TRAIL = 32
 WANTED = 24  # events that a trail brings, as far as those before tell
@@ -100,6 +102,22 @@ class Pace:
         if most < WANTED * 3 // 4:
             self.clocks = min(self.clocks * min(WANTED, 4 * max(most, 1)) // max(most, 1), LONGEST)
             self.together = AT_FIRST
+
+
+def first_start(session: ProbeSession, place: Far, end: int) -> int | None:
+    """The clock, from the present one on and before an end, at which the instruction at a place first begins: the session goes to
+    where the processor is free there, and looks what begins, in a halt or an interrupt's entry up to where something does."""
+    session.stop('break {:X}:{:X}'.format(*place))
+    length = 1
+    while session.clock < end:
+        lines = session.lines(min(length, end - session.clock), 'starts')
+        found = begin_in(lines, place)
+        if found is not None:
+            return found
+        length = 1 if lines else min(2 * length, LONGEST)
+        if lines and not session.go(end - session.clock).startswith('stop'):
+            break
+    return None
 
 
 def commands(first: int, end: int) -> Iterator[str]:

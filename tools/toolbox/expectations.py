@@ -9,11 +9,11 @@ from zebludor import FLAGS
 
 from toolbox.chips import Chips, chip_lines
 from toolbox.command import Sorry, read_text, tool
-from toolbox.events import events
+from toolbox.events import first_start
 from toolbox.listing import Listing, listing_of
 from toolbox.places import address_of, far_of, number_of
-from toolbox.program import LAST_CLOCK, Files, Session
-from toolbox.report import REGISTERS, ROWS, Report, registers_of
+from toolbox.program import LAST_CLOCK, Files, ProbeSession, Session
+from toolbox.report import REGISTERS, ROWS, Report
 from toolbox.scancodes import BARE, Stroke, stamped, strokes_of
 from toolbox.services import Served, served_of
 from toolbox.shown import clipped
@@ -233,30 +233,12 @@ def judge_halt(subject: Subject, name: str, wanted: str) -> str | None:
 
 def judge_runs(subject: Subject, name: str, wanted: str) -> str | None:
     """Whether the instruction at a place ever began."""
-    segment, offset = subject.place(far_of, wanted)
-    clock = first_start(subject, segment, offset)
+    place = subject.place(far_of, wanted)
+    with ProbeSession(subject.ran()) as session:
+        clock = first_start(session, place, subject.report.clock)
     if name == 'runs':
         return None if clock is not None else 'never'
     return None if clock is None else f'clock {clock}'
-
-
-def first_start(subject: Subject, segment: int, offset: int) -> int | None:
-    """The clock at which the instruction at a place first begins, or None."""
-    end, files = subject.report.clock, subject.ran()
-    with Session(files) as session:
-        session.stop(f'break {segment:X}:{offset:X}')
-        registers = registers_of(session.many('regs'))
-        # A stop is met at clocks behind the present one, and the first instruction begins at clock 0.
-        is_first = end > 0 and (registers['CS'], registers['IP']) == (segment, offset)
-        if not is_first and (not session.go(end).startswith('stop') or session.clock >= end):
-            return None
-        clock = session.clock
-        session.one('step')
-        trail = session.many('trail')
-    if trail and trail[-1].startswith(f'{clock} {segment:04X}:{offset:04X} ') and ' entry ' not in trail[-1]:
-        return clock
-    # Free there, but halted, or an interrupt came first: so each instruction behind is looked at.
-    return next((event.clock for event in events(files, clock, end) if (event.segment, event.offset, event.entry) == (segment, offset, None)), None)
 
 
 def span(text: str) -> tuple[int, int]:

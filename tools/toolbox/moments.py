@@ -22,20 +22,18 @@ from typing import Any, Iterator, Sequence
 
 from toolbox.comments import handed
 from toolbox.command import PYTHON, Sorry, read_text, tool, write_text
+from toolbox.events import first_start
 from toolbox.expectations import Planned, page_of
 from toolbox.judging import fields_of, outcomes_of, subject_of
 from toolbox.listing import Listing, code_of, label_in, listing_of
 from toolbox.places import event_of, far_of, line_at
 from toolbox.poking import Count
-from toolbox.probing import Probe
-from toolbox.program import Files, path as program_path, refusal, run
+from toolbox.program import LAST_CLOCK, Files, ProbeSession, path as program_path, run
 from toolbox.runfile import DEFAULTS, text_of
 from toolbox.symbols import path_of
 
 AT_ONCE = 8  # moments that a process is handed
-ASKED_AT_ONCE = 64  # of those that the probe is asked for
 LONGEST_KEPT = 1 << 28  # bytes of the file that keeps what was tried
-
 
 # Each of the many runs is short, where nothing says how long it is.
 SHORT = DEFAULTS | {'budget': 100_000}
@@ -74,11 +72,6 @@ class Plan:
             raise Sorry(f'--sample {sample}: there are {total} moments')
         self.moments: Sequence[int] = sorted(random.Random(seed).sample(range(total), sample)) if sample else range(total)
         self._run = {id(planned): fields_of(planned, files.run_file or None, SHORT) for planned in self.runs}
-
-    @property
-    def is_asked(self) -> bool:
-        """Whether the probe tells what is measured: the clocks from one key."""
-        return self.asked.place is not None and len(self.keys) == 1 and self.count is None
 
     def values(self, moment: int) -> tuple[int, ...]:
         """The count, if there is one to try, and the clocks of the moment of this number."""
@@ -250,52 +243,12 @@ def clocks_of(plan: Plan, files: Files, moment: int, place: str) -> int:
     """The clocks of a moment from its last key's stamp, or from the run's beginning, until the place begins next."""
     write_run(plan, plan.runs[0], files.run_file, moment)
     plan.listing = plan.listing or listing_of(files)
-    far, stamp = far_of(plan.listing, place), (0, *plan.stamps(moment))[-1]
-    rest = plan.fields(plan.runs[0])['budget'] - stamp
-    ran = run(files.words('debug'), f'go {stamp}\nbreak {far[0]:X}:{far[1]:X}\ngo {rest}\n'.encode())
-    lines = ran.out.splitlines()
-    if ran.status or len(lines) != 3:
-        raise Sorry(refusal(ran.status, ran.err))
-    return int(lines[2].split()[-1]) - stamp if lines[2].startswith('stop') else NEVER
-
-
-def runs_of(plan: Plan, moments: list[int]) -> Iterator[list[int]]:
-    """Of one key's moments those at neighbouring clocks, the first ones first. The probe has no key at clock 0."""
-    run_of: list[int] = []
-    for moment in moments:
-        (stamp,) = plan.stamps(moment)
-        if run_of and stamp != plan.stamps(run_of[-1])[0] + 1:
-            yield run_of
-            run_of = []
-        if stamp:
-            run_of.append(moment)
-    if run_of:
-        yield run_of
-
-
-def probed(plan: Plan, files: Files, moments: list[int], place: str) -> dict[int, int]:
-    """The clocks from the key's stamp until the place begins next, as the probe tells them: of moments at neighbouring clocks, in one
-    session that goes from one to the next. One whose clock is that of the place isn't among them."""
-    write_run(plan, plan.runs[0], files.run_file, None)
-    plan.listing = plan.listing or listing_of(files)
-    (segment, offset), (first, *_) = far_of(plan.listing, place), plan.stamps(moments[0])
-    budget, code = plan.fields(plan.runs[0])['budget'], plan.keys[0].code
-    commands = [f'go {first - 1}', f'break {segment:X}:{offset:X}']
-    for stamp in range(first, first + len(moments)):
-        commands += [f'moments {code:02X} {stamp} {stamp} {budget - stamp + 1}', 'go 1']
-    with Probe(files) as probe:
-        lines = probe.answers(commands)[2::2]
-    ends = {moment: line.split()[2:] for moment, line in zip(moments, lines, strict=True)}
-    clocks = {moment: int(end[-1]) - plan.stamps(moment)[0] if end[0] == 'stop' else NEVER for moment, end in ends.items()}
-    return {moment: clock for moment, clock in clocks.items() if clock}
-
-
-def measured(plan: Plan, files: Files, moments: list[int], place: str) -> dict[int, int]:
-    """What the probe tells of one key's moments."""
-    found = dict[int, int]()
-    for run_of in runs_of(plan, moments):
-        found |= probed(plan, files, run_of, place)
-    return found
+    stamp = (0, *plan.stamps(moment))[-1]
+    with ProbeSession(files) as session:
+        session.go_to(stamp + 1)
+        end = plan.fields(plan.runs[0])['budget'] + 1  # what begins at the last clock counts
+        clock = first_start(session, far_of(plan.listing, place), min(end, LAST_CLOCK))
+    return NEVER if clock is None else clock - stamp
 
 
 def lines_at(plan: Plan, moments: list[int], failed: dict[int, Failure]) -> dict[int, str]:
@@ -340,18 +293,10 @@ def work(plan: Plan, room: str) -> int:
     """A process that tries moments: their numbers come in lines, and each is answered by a line, until the input ends."""
     place = plan.asked.place
     for line in sys.stdin:
-        moments = json.loads(line)
-        known: dict[int, int] | Sorry
-        try:
-            known = measured(plan, replace(plan.files, run_file=f'{room}/{os.getpid()}.json'), moments, place) if place and plan.is_asked else {}
-        except Sorry as sorry:
-            known = sorry
-        for moment in moments:
+        for moment in json.loads(line):
             try:
-                if isinstance(known, Sorry):
-                    raise known
                 files = replace(plan.files_of(moment, room), run_file=f'{room}/{os.getpid()}.json')
-                found = known.get(moment) or (clocks_of(plan, files, moment, place) if place else failure_of(plan, files, moment))
+                found = clocks_of(plan, files, moment, place) if place else failure_of(plan, files, moment)
                 answer: Any = [found.run, found.said, found.but] if isinstance(found, Failure) else found
             except Sorry as sorry:
                 answer = str(sorry)
@@ -388,12 +333,12 @@ class Worker:
         self._process.wait()
 
 
-def chunks(found: Found, most: int) -> Iterator[list[int]]:
-    """The moments that aren't tried yet, at most so many at once."""
+def chunks(found: Found) -> Iterator[list[int]]:
+    """The moments that aren't tried yet, AT_ONCE at most."""
     at = found.is_tried.find(0)
     while at >= 0:
         chunk = [at]
-        while len(chunk) < most and (at := found.is_tried.find(0, at + 1)) >= 0:
+        while len(chunk) < AT_ONCE and (at := found.is_tried.find(0, at + 1)) >= 0:
             chunk.append(at)
         yield chunk
         at = found.is_tried.find(0, chunk[-1] + 1)
@@ -405,9 +350,8 @@ class Feeder:
     def __init__(self, plan: Plan, found: Found, jobs: int, room: str) -> None:
         # A simple one, which an interrupt that is raised within `get` leaves whole.
         self.answers: queue.SimpleQueue[tuple[int, Outcome] | Exception | None] = queue.SimpleQueue()
-        most = ASKED_AT_ONCE if plan.is_asked else AT_ONCE
-        self._todo, self._lock = chunks(found, most), threading.Lock()
-        self.workers = [Worker(plan.words(room)) for _ in range(min(jobs, math.ceil(found.is_tried.count(0) / most)))]
+        self._todo, self._lock = chunks(found), threading.Lock()
+        self.workers = [Worker(plan.words(room)) for _ in range(min(jobs, math.ceil(found.is_tried.count(0) / AT_ONCE)))]
         for worker in self.workers:
             threading.Thread(target=self._feed, args=(worker,), daemon=True).start()
 

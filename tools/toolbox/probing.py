@@ -14,7 +14,7 @@ import zebludor
 from toolbox.command import Sorry
 from toolbox.following import State, states_in
 from toolbox.places import Event, event_of
-from toolbox.program import ENDED, NO_COMMAND, Files, path, refusal
+from toolbox.program import ENDED, ENDING, Files, path, refusal
 
 PIECE = 20_000_000  # clocks that are made at once: an interrupt is seen behind them
 FIRST = 10_000
@@ -61,7 +61,7 @@ class Probe:
 
     def answered(self, commands: list[str]) -> bytes:
         """What these are answered. An answer that an interrupt kept from being read comes before it."""
-        self._ask('\n'.join([*commands, NO_COMMAND, '']).encode())
+        self._ask('\n'.join([*commands, ENDING, '']).encode())
         while not (self._heard.endswith(ENDED) and self._heard.count(ENDED) == self._owed):
             self._hear()
         octets = bytes(self._heard).split(ENDED)[self._owed - 1]

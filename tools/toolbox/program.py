@@ -36,7 +36,7 @@ __all__ = [
 CLOCKS_OF_A_TRAIL = 60
 MOST_READ = 1 << 26  # bytes of an answer
 ASKED = 200  # questions that are asked at once: their answers fit in the pipe
-NO_COMMAND, ENDED = '?', b'fault 51 BadCommand\n'  # a line that ends an answer of any length
+ENDING, ENDED = f'back {LAST_CLOCK + 1}', b'fault 54 BeforeStart\n'  # ends an answer of any length, as nothing else is answered
 
 
 def path(name: str = 'pcboard') -> str:
@@ -171,7 +171,7 @@ class ProbeSession(Session):
 
     def _answered(self, commands: list[str]) -> bytes:
         """What commands are answered, of which the last one ends with its clock."""
-        self._send('\n'.join([*commands, NO_COMMAND, '']))
+        self._send('\n'.join([*commands, ENDING, '']))
         octets = bytearray()
         while not octets.endswith(ENDED):
             piece = self._out.read1(1 << 16)

@@ -104,8 +104,9 @@ class SessionBoard:
             self._session.close()
             raise
 
-    def _forget(self) -> None:
-        """The registers and the trail are asked for once at each clock: what a board holds there is determined, until keys change."""
+    def _forget(self, is_other: bool = True) -> None:
+        """The registers and the trail are asked for once at each clock: what a board holds there is determined, until keys change, or
+        it is of other files."""
         self._registers, self._trail = (-1, dict[str, int]()), (-1, list[Event]())
 
     @property
@@ -243,7 +244,7 @@ class SessionBoard:
         stamp = int(refused(answer).split()[2])
         with self._typing:
             self._typed.append((stamp, code))
-        self._forget()
+        self._forget(is_other=False)
         return stamp
 
     def type_all(self, keys: list[tuple[int, int]]) -> list[tuple[int, int]]:
@@ -287,7 +288,7 @@ class SessionBoard:
         there, so that none is met on the way. Until it stands there, the old one stays; if the way is ended beyond that one's clock, it
         is the new one's."""
         to, them, ended = self.clock if clock is None else clock, list(stops), None
-        files = files or self.files
+        is_other, files = files is not None, files or self.files
         session = ProbeSession(files)
         try:
             try:
@@ -304,7 +305,7 @@ class SessionBoard:
             session.close()
             raise
         old, self._session, self._stops, self._files = self._session, session, them, files
-        self._forget()
+        self._forget(is_other)
         old.close()
         if ended:
             raise ended

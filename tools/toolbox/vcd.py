@@ -2,28 +2,31 @@
 from __future__ import annotations
 
 import io
-from typing import IO
+from typing import IO, Container
 
 from toolbox.report import NANOSECONDS
 
 
 Changes = tuple[tuple[int, int], ...]
+Values = tuple[int | None, ...]
 MOST_KNOWN = 1 << 14
 
 
 class Wave:
-    """A waveform that is written as its changes come, in the order of their clocks. Each signal begins as 0."""
+    """A waveform that is written as its changes come, in the order of their clocks. Each signal begins as 0, or as x, if its number is
+    among the unknown ones."""
 
-    def __init__(self, file: IO[str], signals: list[tuple[str, int]]) -> None:
-        self._file, self._values, self._clock = file, (0,) * len(signals), -1
-        self._known: dict[tuple[tuple[int, ...], Changes], tuple[str, tuple[int, ...]]] = {}
+    def __init__(self, file: IO[str], signals: list[tuple[str, int]], unknown: Container[int] = ()) -> None:
+        self._file, self._clock = file, -1
+        self._values: Values = tuple(None if place in unknown else 0 for place in range(len(signals)))
+        self._known: dict[tuple[Values, Changes], tuple[str, Values]] = {}
         signs = [chr(ord('!') + place) for place in range(len(signals))]
-        self._bits = {place for place, (_, width) in enumerate(signals) if width == 1}
-        self._forms = [f'%d{sign}\n' if place in self._bits else f' {sign}\n' for place, sign in enumerate(signs)]
+        self._forms = [('', f'{sign}\n') if width == 1 else ('b', f' {sign}\n') for sign, (_, width) in zip(signs, signals)]
         lines = ['$timescale 1 ns $end', '$scope module board $end']
         lines += [f'$var wire {width} {sign} {name} $end' for sign, (name, width) in zip(signs, signals)]
         lines += ['$upscope $end', '$enddefinitions $end', '#0', '$dumpvars']
-        file.write('\n'.join(lines) + '\n' + ''.join(form % 0 if place in self._bits else f'b0{form}' for place, form in enumerate(self._forms)) + '$end\n')
+        shown = (str('x' if value is None else value).join(form) for form, value in zip(self._forms, self._values))
+        file.write('\n'.join(lines) + '\n' + ''.join(shown) + '$end\n')
 
     def write(self, clock: int, changes: Changes) -> None:
         """Writes a clock's changes, signals with their values; what stays as it was is none."""
@@ -33,12 +36,12 @@ class Wave:
             self._file.write(text if clock == self._clock else f'#{clock * NANOSECONDS}\n{text}')
             self._clock = clock
 
-    def _text(self, changes: Changes) -> tuple[str, tuple[int, ...]]:
+    def _text(self, changes: Changes) -> tuple[str, Values]:
         """The text of changes, and the values behind them, kept for the next time: loops have the same ones again and again."""
         text, values = '', list(self._values)
         for signal, value in changes:
             if value != values[signal]:
-                text += self._forms[signal] % value if signal in self._bits else f'b{value:b}{self._forms[signal]}'
+                text += f'{value:b}'.join(self._forms[signal])
                 values[signal] = value
         if len(self._known) >= MOST_KNOWN:
             self._known.clear()

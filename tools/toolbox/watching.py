@@ -14,6 +14,7 @@ from toolbox.probing import Happenings
 from toolbox.program import Files
 from toolbox.runfile import read_run_file
 from toolbox.vcd import Changes
+from toolbox.watches import watch_of
 
 PIECE = 1_000_000  # clocks
 MOST = 16  # kinds that the probe takes at once
@@ -41,6 +42,7 @@ def watched_of(listing: Listing, text: str) -> Watched:
     address = address_of(listing, place)
     line = listing.at.get(address)
     is_word = size == 'word' or not size and line is not None and kind_in(line.text) == 'DW'
+    watch_of(address, 1 + is_word)
     return Watched(re.sub(r'\s', '_', place), range(address, address + 1 + is_word))
 
 

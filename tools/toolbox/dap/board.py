@@ -18,7 +18,7 @@ from toolbox.way_back import paced
 
 MOST_BREAKPOINTS = MOST_STOPS - 1  # one is left for a long way out of a call
 STACKED = 'starts entries'  # what calls and returns are followed by
-LOOKED_BACK = 200_000  # clocks in which calls that are under way are looked for
+LOOKED_BACK = 100_000  # clocks in which calls that are under way are looked for
 FIRST_PIECE, MOST_PIECE = 1000, 1 << 20  # clocks that are followed at once
 # What ends a way out of a routine before it returns.
 ENDS = {'jammed': 'the processor has jammed, and nothing returned', 'halted for good': 'halted with interrupts off, and nothing returned'}
@@ -35,10 +35,11 @@ class Machine(SessionBoard):
         self.known: dict[int, Event] = {}
         self.why = ''  # why the last way over or out of a routine ended: 'returned', 'stop', 'far', or as `_ended` tells
 
-    def _forget(self) -> None:
-        super()._forget()
-        self._known: tuple[int, Follower | None] = (-1, None)  # the calls under way at a clock
-        self._is_whole = False  # whether they were followed from power-on on
+    def _forget(self, is_other: bool = True) -> None:
+        super()._forget(is_other)
+        if is_other:
+            self._known: tuple[int, Follower | None] = (-1, None)  # the calls under way at a clock
+            self._is_whole = False  # whether they were followed from power-on on
 
     def trail(self) -> list[Event]:
         """The last instruction starts and entries. What they tell of instructions is kept for disassembly."""
