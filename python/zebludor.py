@@ -24,9 +24,10 @@ import re
 import subprocess
 import sys
 import tempfile
+import threading
 import time
 from dataclasses import dataclass
-from typing import IO, TYPE_CHECKING, Any, Iterator, NamedTuple, NoReturn, Sequence
+from typing import IO, TYPE_CHECKING, Any, Callable, Iterator, NamedTuple, NoReturn, Sequence, TypeVar
 
 if TYPE_CHECKING:
     import ctypes  # else imported where the chips are loaded: what only runs programs begins sooner without it
@@ -52,6 +53,7 @@ CHOICES: dict[str, tuple[str, ...]] = {'timer': ('8253', '8254'), 'clocks': ('C1
 FIRST_CHOICES = {name: them[0] for name, them in CHOICES.items()}
 
 Source = str | bytes | os.PathLike
+T = TypeVar('T')
 
 
 class Unfit(Exception):
@@ -751,10 +753,12 @@ class Session:
     """A session of the debugger, as a context manager: a board at clock 0 that goes forth and back. Stops are numbered from 1,
     and stay for the whole session; what goes to a stop answers the number of the one that holds, or None. Its commands are
     those of docs/debugger.md; a refused one is raised as Fault. `source` tells where labels and lines stand. With `probe` it is
-    one of pcprobe, which has `events`, `key`, `watch` and `stop_when`."""
+    one of pcprobe, which has `events`, `key`, `watch` and `stop_when`. Any thread may use it: a command waits until those of
+    others are answered, and so does `close`, after which each is Unfit."""
 
     def __init__(self, source: Source, *, is_hex: bool = False, symbols: str | os.PathLike | None = None, probe: bool = False, **fields: Any) -> None:
         self.source, self._is_probe = Places(source, is_hex=is_hex, symbols=symbols), probe
+        self._lock, self._is_closed = threading.Lock(), False
         with _files(source, _fields(fields)) as names:
             words = [*_hex_words(source, is_hex), *names]
             called = called_of(words)
@@ -776,16 +780,26 @@ class Session:
 
     def close(self) -> None:
         """Ends it."""
-        self._dialogue.close()
+        with self._lock:
+            if not self._is_closed:
+                self._is_closed = True
+                self._dialogue.close()
 
     @property
     def clock(self) -> int:
         """Where the board stands."""
         return self._dialogue.clock
 
+    def _asked(self, ask: Callable[..., T], *given: Any) -> T:
+        """What the dialogue answers to one thread at a time."""
+        with self._lock:
+            if self._is_closed:
+                raise Unfit('the session is closed')
+            return ask(*given)
+
     def _one(self, command: str) -> int | None:
         """The stop that the answer of a command tells, or None; a refusal is raised."""
-        answer = self._dialogue.one(command)
+        answer = self._asked(self._dialogue.one, command)
         fault = fault_in(answer)
         if fault:
             raise fault
@@ -794,7 +808,7 @@ class Session:
 
     def _many(self, command: str) -> list[str]:
         """The lines of any other answer. A refusal is a line alone."""
-        lines = self._dialogue.many(command)
+        lines = self._asked(self._dialogue.many, command)
         fault = fault_in(lines[0]) if len(lines) == 1 else None
         if fault:
             raise fault
@@ -867,7 +881,7 @@ class Session:
 
     def dump(self, address: int, count: int) -> bytes:
         """Bytes from a physical address on, as many as there are below 100000h."""
-        return self._dialogue.dump(address, count)
+        return self._asked(self._dialogue.dump, address, count)
 
     def byte(self, place: str | int) -> int:
         """The byte at a label, at another place of `source`, or at a physical address."""
@@ -882,7 +896,7 @@ class Session:
         `entries`, `writes`, `ports`, `states`, `keys`, `wires`. Labels and other places of `source` may stand in the ranges of
         writes, as in `writes=ticks` or `writes=first-last`."""
         self._of_the_probe('events')
-        *lines, last = self._dialogue.happenings(f'events {clocks} {" ".join(map(self._kind, kinds))}')
+        *lines, last = self._asked(self._dialogue.happenings, f'events {clocks} {" ".join(map(self._kind, kinds))}')
         fault = fault_in(last)
         if fault:
             raise fault
@@ -892,7 +906,7 @@ class Session:
         """Types a key by its scan code: it comes at clock `at`, above the present one, or at the next clock, which is answered, as if the
         run had had it from the start. Going back leaves it: on the way on it comes again."""
         self._of_the_probe('key')
-        answer = self._dialogue.one(f'key {code:X}' if at is None else f'key {code:X} {at}')
+        answer = self._asked(self._dialogue.one, f'key {code:X}' if at is None else f'key {code:X} {at}')
         fault = fault_in(answer)
         if fault:
             raise fault
@@ -942,7 +956,7 @@ def chips() -> Chips:
 
 class Chip:
     """A chip by itself. `state` has its fields, which the header explains: they may be read, written, compared, kept as `bytes`.
-    Any bytes are some chip, so no call can fail; a number of a port, a counter or a level counts modulo how many there are."""
+    Any bytes are some chip. A number that doesn't fit is a ValueError, which names it."""
 
     name = ''
 
@@ -951,8 +965,12 @@ class Chip:
         self.state: Any = kind() if state is None else kind.from_buffer_copy(state)
         self._calls, self._at = chips().calls_of(self.name), chips().at(self.state)
 
-    def _call(self, call: str, *values: int) -> Any:
-        return self._calls[call](self._at, *values)
+    def _call(self, call: str, **values: tuple[int, int]) -> Any:
+        """Makes a call of the library with numbers, of which each goes up to a greatest one."""
+        for name, (value, most) in values.items():
+            if not 0 <= value <= most:
+                raise ValueError(f'{name} is {value}, and has to be 0 to {most}')
+        return self._calls[call](self._at, *(value for value, _ in values.values()))
 
     def __bytes__(self) -> bytes:
         return bytes(self.state)
@@ -981,31 +999,31 @@ class Pit(Chip):
         super().__init__()
         if kind not in CHOICES['timer']:
             raise ValueError(f'{kind} is no timer: {" or ".join(CHOICES["timer"])}')
-        self._call('power_on_as', CHOICES['timer'].index(kind))
+        self._call('power_on_as', kind=(CHOICES['timer'].index(kind), 1))
 
     def read(self, port: int) -> int:
         """A byte of a counter, by its access and latches."""
-        return self._call('read', port)
+        return self._call('read', port=(port, 3))
 
     def write(self, port: int, value: int) -> None:
         """A byte of a count, or to port 3 a control word."""
-        self._call('write', port, value)
+        self._call('write', port=(port, 3), value=(value, 255))
 
     def set_gate(self, counter: int, level: int) -> None:
         """A gate takes a level."""
-        self._call('set_gate', counter, level)
+        self._call('set_gate', counter=(counter, 2), level=(level, 1))
 
     def out(self, counter: int) -> int:
         """The level of an OUT."""
-        return self._call('out', counter)
+        return self._call('out', counter=(counter, 2))
 
     def advance(self, ticks: int) -> None:
         """Ticks of the three counters; any number takes as long."""
-        self._call('advance', ticks)
+        self._call('advance', ticks=(ticks, (1 << 64) - 1))
 
     def until_change(self, counter: int) -> int:
         """After how many ticks an OUT first changes, as long as nothing is written; 0: never."""
-        return self._call('until_change', counter)
+        return self._call('until_change', counter=(counter, 2))
 
 
 class Pic(Chip):
@@ -1019,15 +1037,15 @@ class Pic(Chip):
 
     def set_line(self, level: int, is_high: int) -> None:
         """A request line takes a level."""
-        self._call('set_line', level, is_high)
+        self._call('set_line', level=(level, 7), is_high=(is_high, 1))
 
     def read(self, a0: int) -> int:
         """A read at an address line A0."""
-        return self._call('read', a0)
+        return self._call('read', a0=(a0, 1))
 
     def write(self, a0: int, value: int) -> None:
         """A command word at an address line A0."""
-        self._call('write', a0, value)
+        self._call('write', a0=(a0, 1), value=(value, 255))
 
     def request(self) -> int:
         """The interrupt output."""
@@ -1045,15 +1063,15 @@ class Ppi(Chip):
 
     def __init__(self, sw1: int = 0, sw2: int = 0) -> None:
         super().__init__()
-        self._call('power_on', sw1, sw2)
+        self._call('power_on', sw1=(sw1, 255), sw2=(sw2, 31))
 
     def read(self, port: int, latch: int = 0, out2: int = 0) -> int:
         """A port, with the keyboard's latch and the timer's OUT 2 on the pins."""
-        return self._call('read', port, latch, out2)
+        return self._call('read', port=(port, 3), latch=(latch, 255), out2=(out2, 1))
 
     def write(self, port: int, value: int) -> None:
         """To a port's latch, or to port 3 a control word."""
-        self._call('write', port, value)
+        self._call('write', port=(port, 3), value=(value, 255))
 
     def port_b(self) -> int:
         """The levels of port B's lines."""

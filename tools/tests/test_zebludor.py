@@ -5,6 +5,7 @@ import pathlib
 import re
 import subprocess
 import sys
+import threading
 import unittest
 
 from tests.support import STORED, TOP, ToolCase, example
@@ -63,6 +64,21 @@ class Texts(unittest.TestCase):
         for chip in (zebludor.Pit, zebludor.Pic, zebludor.Ppi):
             calls = {it.removeprefix(f'zebludor_{chip.name}_') for it in header.calls if it.startswith(f'zebludor_{chip.name}_')}
             self.assertEqual(calls - set(vars(chip)) - {'power_on', 'power_on_as'}, set())
+
+    def test_numbers_that_dont_fit(self) -> None:
+        """Each is named before the library is called."""
+        pit, pic, ppi = (kind.__new__(kind) for kind in (zebludor.Pit, zebludor.Pic, zebludor.Ppi))
+        for call, sentence in (
+            (lambda: pit.write(300, 1), 'port is 300, and has to be 0 to 3'),
+            (lambda: pit.write(0, -1), 'value is -1, and has to be 0 to 255'),
+            (lambda: pit.out(9), 'counter is 9, and has to be 0 to 2'),
+            (lambda: pit.advance(-1), 'ticks is -1, and has to be 0 to 18446744073709551615'),
+            (lambda: pic.set_line(8, 1), 'level is 8, and has to be 0 to 7'),
+            (lambda: pic.write(2, 0), 'a0 is 2, and has to be 0 to 1'),
+            (lambda: ppi.read(0, 256), 'latch is 256, and has to be 0 to 255'),
+        ):
+            with self.assertRaisesRegex(ValueError, f'^{sentence}$'):
+                call()
 
     def test_reports(self) -> None:
         report = zebludor.read_report(read(f'{STORED}/tone.report'))
@@ -168,6 +184,34 @@ class Runs(ToolCase):
                 self.assertEqual(caught.exception.number, number)
         with self.assertRaisesRegex(Fault, 'fault 4 UnknownName line 2'):
             Session('SEGMENT A AT 0\n FROB\n')
+
+    def test_threads(self) -> None:
+        """Four that use one session: each is answered what it asked, and once it is closed, each is told that."""
+        faults = list[str]()
+        with Session(pathlib.Path(f'{TOP}/examples/ticks.asm'), budget=10_000) as session:
+
+            def use() -> None:
+                try:
+                    for _ in range(60):
+                        session.go(7)
+                        if len(session.trail()) > 32 or len(session.dump(0x400, 5000)) != 5000 or [*session.registers()] != [*zebludor.REGISTERS]:
+                            faults.append('another answer')
+                        session.back(3)
+                except (Unfit, Fault, ValueError, IndexError) as error:
+                    faults.append(str(error))
+
+            threads = [threading.Thread(target=use) for _ in range(4)]
+            for each in threads:
+                each.start()
+            for each in threads:
+                each.join()
+            self.assertEqual((faults, session.clock), ([], 4 * 60 * 4))
+        for ask in (session.registers, session.close, lambda: session.go(1), lambda: session.dump(0, 1), session.trail):
+            if ask == session.close:
+                ask()
+                continue
+            with self.assertRaisesRegex(Unfit, '^the session is closed$'):
+                ask()
 
     def test_events(self) -> None:
         """What happens, by labels too; they are the session's own: the trail, memory, a key's stamp."""

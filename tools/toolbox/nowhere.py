@@ -5,7 +5,7 @@ Intel HEX in the trail; of its registers and the memory that it reached the firs
 it has jammed, at which bytes                the report's state is `jammed`
 text memory has characters, the screen none  a word at B0000h to B0F9Fh would show one
 a character's attribute shows nothing        the screen is blank, no such word would show one, and the low byte of one is 21h to 7Eh
-another byte than the source placed          the processor jammed at it; the instruction is the one that ran before the byte first had its value
+another byte than the source placed          the processor jammed at it; the instruction is the one that ran before the byte last changed
 what led to 0000:0000                        the run came to CS:IP 0000:0000 where 00 00 was; the first time counts. INT, INT3, INTO,
                                              DIV, IDIV and entries are by a vector
 INT 21 is decimal                            the INT that led there is written so, and INT 21h would be one of doubts.py's calls
@@ -65,7 +65,7 @@ from toolbox.leaving import is_left
 from toolbox.listing import Listing, code_of, listing_of, physical
 from toolbox.missteps import A_RETURN, is_zeros, of_astray, of_labels_as_bytes, of_returns, of_scan_codes, of_the_data_segment, of_words_from_bytes, of_writes
 from toolbox.places import Event, event_of, line_at
-from toolbox.program import LAST_CLOCK, Files, Session
+from toolbox.program import LAST_CLOCK, Files, ProbeSession, Session
 from toolbox.report import COLUMNS, ROWS, Report
 from toolbox.runfile import read_run_file
 from toolbox.services import left_at
@@ -139,9 +139,10 @@ def of_changed_code(run: Run, address: int, octets: bytes) -> list[str]:
     text = f'line {line.number} ({code_of(line.text).strip()}): the source placed {line.shown.hex(" ").upper()} there, and the program has changed it'
     if not run.is_repeated:
         return [text]
-    with Session(run.files) as session:
-        session.stop(f'byte {address + place:X} {octets[place]:X}')
-        _ = session.go(run.report.clock)
+    with ProbeSession(run.files) as session:
+        session.go_to(run.report.clock)
+        session.stop(f'changes {address + place:X}')
+        _ = session.one('back stop')
         trail, clock = session.many('trail'), session.clock
     return [f'{text}: the byte at {address + place:05X}h became {octets[place]:02X}h at clock {clock}, by {run.place(event_of(trail[-1]))}']
 
