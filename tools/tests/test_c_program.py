@@ -142,7 +142,7 @@ class Debugged(ToolCase):
             clocks.append(str(client.clock()))
         commands = (f'break {SUM}', 'go 20000', 'back step', 'step', 'step', 'back stop', 'go 20000', 'go 20000')
         self.assertEqual(clocks, self.clocks(*commands))
-        self.assertEqual(self.names(client), ['_sum', '_sum+1A', '_sum+1A', '_main+3A'])
+        self.assertEqual(self.names(client), ['_sum', '_sum+1A', '_sum+1A', '_main+3A', '_stop'])
         client.ask('setFunctionBreakpoints', breakpoints=[])
         for command, wanted in (('stepOut', '_sum+1A'), ('stepOut', '_sum+1A'), ('stepOut', '_main+3A')):
             client.move(command)

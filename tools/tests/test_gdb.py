@@ -22,11 +22,9 @@ from toolbox.gdb.board import far_of_address
 from toolbox.gdb.elf import is_call, sleb, uleb
 from toolbox.effects import goes_on, target_of
 from toolbox.gdb.flow import outermost
-from toolbox.gdb.frames import pushed_by
 from toolbox.gdb.stub import NAMES
 from toolbox.gdb.wire import Gone, framed, unescaped
 from toolbox.listing import Line, Listing, listing_of
-from toolbox.places import event_of
 from toolbox.program import Files, Session
 from toolbox.report import registers_of
 
@@ -97,17 +95,6 @@ class Words(unittest.TestCase):
             ('', False),
         ):
             self.assertEqual(is_call(bytes.fromhex(octets)), wanted, octets)
-        for event, place, wanted in (
-            ('9 F000:0010 E80D00 CALL 00020h', (0xF000, 0x20), 2),
-            ('9 F000:0010 9A200000F0 CALL FAR 0F000h:00020h', (0xF000, 0x20), 4),
-            ('9 F000:0010 CD21 INT 021h', (0xF000, 0x20), 6),
-            ('9 F000:0010 entry 08', (0xF000, 0x20), 6),
-            ('9 F000:0010 F7F3 DIV BX', (0xF000, 0x12), 0),
-            ('9 F000:0010 F7F3 DIV BX', (0xF000, 0x20), 6),
-            ('9 F000:0010 CE INTO', (0xF000, 0x11), 0),
-            ('9 F000:0010 EB0E JMP SHORT 00020h', (0xF000, 0x20), 0),
-        ):
-            self.assertEqual(pushed_by(event_of(event), place), wanted, event)
 
 
 class Flow(ToolCase):

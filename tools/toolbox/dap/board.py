@@ -6,40 +6,33 @@ import time
 from typing import Callable, Collection, Iterator
 
 from toolbox.command import Sorry
-from toolbox.effects import Does, Far, effect_of, signed
+from toolbox.effects import Does, effect_of, signed
 from toolbox.events import clock_of
-from toolbox.following import CALLING, Follower, Frame, Mark, Marks, Out, Start, State, states_in
+from toolbox.followed import MOST_PIECE, STACKED, FollowedBoard
+from toolbox.following import CALLING, Out
 from toolbox.listing import Listing, physical
 from toolbox.places import Event, is_repeated
 from toolbox.program import Files
-from toolbox.session_board import BEFORE_START, MOST_STOPS, SessionBoard, place_of
+from toolbox.session_board import BEFORE_START, MOST_STOPS, place_of
 from toolbox.watches import MEMORY, watch_of
 from toolbox.way_back import paced
 
 MOST_BREAKPOINTS = MOST_STOPS - 1  # one is left for a long way out of a call
-STACKED = 'starts entries'  # what calls and returns are followed by
-LOOKED_BACK = 100_000  # clocks in which calls that are under way are looked for
-FIRST_PIECE, MOST_PIECE = 1000, 1 << 20  # clocks that are followed at once
+FIRST_PIECE = 1000  # clocks that are followed at first
 # What ends a way out of a routine before it returns.
 ENDS = {'jammed': 'the processor has jammed, and nothing returned', 'halted for good': 'halted with interrupts off, and nothing returned'}
 IF = 0x200
 FLAG_BITS = {'OF': 11, 'DF': 10, 'IF': 9, 'TF': 8, 'SF': 7, 'ZF': 6, 'AF': 4, 'PF': 2, 'CF': 0}
 
 
-class Machine(SessionBoard):
+class Machine(FollowedBoard):
     """The board with its listing."""
 
     def __init__(self, files: Files, listing: Listing, budget: int, poll: Callable[[], None] = lambda: None) -> None:
         super().__init__(files, budget, poll)
-        self.listing, self._reader = listing, Marks()
+        self.listing = listing
         self.known: dict[int, Event] = {}
         self.why = ''  # why the last way over or out of a routine ended: 'returned', 'stop', 'far', or as `_ended` tells
-
-    def _forget(self, is_other: bool = True) -> None:
-        super()._forget(is_other)
-        if is_other:
-            self._known: tuple[int, Follower | None] = (-1, None)  # the calls under way at a clock
-            self._is_whole = False  # whether they were followed from power-on on
 
     def trail(self) -> list[Event]:
         """The last instruction starts and entries. What they tell of instructions is kept for disassembly."""
@@ -135,42 +128,6 @@ class Machine(SessionBoard):
         else:
             self.why = self._ended(here)
 
-    # Calls
-
-    def _beginning(self) -> Follower:
-        """A follower from here on."""
-        now = self.registers()
-        return Follower(State(now['SS'], now['SP'], now['FL'], (now['CS'], now['IP'])))
-
-    def _marks(self, lines: list[bytes]) -> list[Mark]:
-        """The marks of lines that tell what led to here, with the registers that their bytes don't tell."""
-        marks = self._reader.of(lines) + self._reader.rest()
-        if asking := [mark for mark in marks if mark.asks_for_stack()]:
-            here = self.clock
-            self.go_to(asking[0].clock + 1)
-            octets = self._talk(lambda: self._session.registers_at([mark.clock + 1 for mark in asking], here))
-            for mark, state in zip(asking, states_in(octets)):
-                mark.state = state
-        return marks
-
-    def _follow(self, follower: Follower, end: int) -> None:
-        """Follows the calls up to a clock, to which the board goes past all stops."""
-        for mark in self._marks(self.lines(end - self.clock, STACKED)):
-            follower.follow(mark)
-
-    def follower(self) -> Follower:
-        """The calls under way, as the last clocks before this one tell them, or from power-on on."""
-        here = self.clock
-        known, follower = self._known if 0 <= here - self._known[0] <= LOOKED_BACK else (-1, None)
-        if follower is None:
-            known = max(0, here - LOOKED_BACK)
-            self._is_whole = not known
-        self.go_to(known)
-        follower = follower or self._beginning()
-        self._follow(follower, here)
-        self._known = here, follower
-        return follower
-
     def _pieces(self, end: int) -> Iterator[list[bytes]]:
         """What begins up to a clock, to which the board goes past all stops, piece by piece."""
         length = FIRST_PIECE
@@ -222,17 +179,3 @@ class Machine(SessionBoard):
             self.go_to(trail[-1].clock)
             self.one('step')
         return kind
-
-    def callers(self) -> list[Far | None]:
-        """The places to which the present routine and those above it return; None at the end, if calls before those aren't known."""
-        found: list[Far | None] = [self._caller(frame) for frame in reversed(self.follower().nest)]
-        return found if self._is_whole else [*found, None]
-
-    def _caller(self, frame: Frame) -> Far:
-        """Where a call returns to: as its address stands on the stack, or behind it, if the routine has taken that."""
-        octets = self.dump(frame.place, 4)
-        offset, segment = int.from_bytes(octets[:2], 'little'), int.from_bytes(octets[2:], 'little')
-        if isinstance(frame.what, Start):
-            segment = segment if frame.pushed > 2 else frame.what.place[0]
-            offset = (frame.what.place[1] + len(frame.what.octets)) % 0x10000 if frame.is_lifted else offset
-        return segment, offset

@@ -4,9 +4,10 @@ from __future__ import annotations
 from dataclasses import dataclass
 from typing import Iterable
 
+from toolbox.followed import FollowedBoard
 from toolbox.listing import Listing, physical
 from toolbox.program import LAST_CLOCK, Files
-from toolbox.session_board import BEFORE_START, Paused, SessionBoard
+from toolbox.session_board import BEFORE_START, Paused
 from toolbox.watches import changed, watched_by
 
 MEMORY = 1 << 20
@@ -21,7 +22,7 @@ class Met:
     number: int = 0
 
 
-class Board(SessionBoard):
+class Board(FollowedBoard):
     """A board with two kinds of stops: those of `monitor`, which stay, and gdb's watchpoints and breakpoints, which are other ones at
     each run. In each session those of `monitor` come first: of the stops that hold at a clock the debugger tells the first."""
 

@@ -26,20 +26,6 @@ def reached(lines: dict[int, Line], order: list[int], begun: set[int]) -> set[in
     return found
 
 
-class Flow:
-    """The code to which each routine's jumps lead."""
-
-    def __init__(self, listing: Listing) -> None:
-        self._lines = placed(listing)
-        self._order, self._reached = sorted(self._lines), dict[int, set[int]]()
-
-    def leads(self, routine: int, place: int) -> bool:
-        """Whether jumps lead from an address to another."""
-        if routine not in self._reached:
-            self._reached[routine] = reached(self._lines, self._order, {routine})
-        return place in self._reached[routine]
-
-
 def placed(listing: Listing) -> dict[int, Line]:
     """The lines that place bytes, by physical address."""
     return {address: line for address, line in (*listing.modules.items(), *listing.at.items()) if line.shown}

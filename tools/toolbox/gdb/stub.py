@@ -50,7 +50,7 @@ class Stub:
         self._addresses = dict[int, list[Condition]]()  # of breakpoints, with their conditions, one of which is to hold
         self._watches, self._may_be_within = list[str](), False  # the latter: an instruction may be under way
         self._told = set[int]()
-        self._frames, self._records = Frames(board.dump, listing), (-1, b'')  # the latter of a clock
+        self._frames, self._records = Frames(), (-1, b'')  # the latter of a clock
         self.has_ended, self._last, self._state = False, 'S05', 'running'
         self._is_extended = False  # gdb may begin anew, and come back to a board that it has left
         self._can_name_breaks = False
@@ -182,7 +182,7 @@ class Stub:
         address, count = int(found[1], 16), min(int(found[2], 16), MOST_MEMORY)
         if address >= RECORDS:
             if self._records[0] != self._board.clock:
-                self._records = self._board.clock, self._frames.records(self._board.registers(), self._board.trail())
+                self._records = self._board.clock, self._frames.records(self._board)
             octets = self._records[1]
             return octets[address - RECORDS : address - RECORDS + count].hex() or 'E01'
         return self._board.dump(address, count).hex() if address < MEMORY else 'E01'

@@ -1,0 +1,285 @@
+"""Random sessions of tools/dbg, an editor's adapter, tools/gdb and zebludor.py: each command is answered again by fresh runs of pcprobe
+from power-on, with none of the code that follows calls for the tools.
+
+  python3 -m tests.test_sessions COUNT [SEED]     in tools/: so many of each, from a seed on"""
+from __future__ import annotations
+
+import random
+import re
+import struct
+import subprocess
+import sys
+import unittest
+from dataclasses import dataclass
+
+from tests.test_calls import program
+from tests.test_dap import Client as Editor
+from tests.test_gdb import Served, told_as
+
+import zebludor
+from toolbox.program import Files, path
+from toolbox.runfile import DEFAULTS, read_run_file, text_of
+
+CLOCKS, COMMANDS = 2500, 12
+IN_THE_GATE = 25  # sessions of each kind
+PREFIXES, REPEATS, STRINGS = b'\x26\x2E\x36\x3E\xF0\xF2\xF3', b'\xF2\xF3', (*range(0xA4, 0xA8), *range(0xAA, 0xB0))
+
+
+@dataclass
+class Call:
+    """A call: the number of the event that made it, the place of its return address in SS, and the number of the event that ended it."""
+
+    at: int
+    slot: int
+    end: int | None = None
+
+
+class Truth:
+    """What a run is, by fresh runs of pcprobe. Of a run file's end nothing is known: commands stay before it."""
+
+    def __init__(self, files: Files) -> None:
+        self.files, self.words = files, [path('pcprobe'), *files.words('')[1:]]
+        lines = [line.split() for line in self.ask(f'events {CLOCKS} starts entries')[:-1]]
+        self.clocks = [int(line[0]) for line in lines]
+        self.octets = [bytes.fromhex(line[3]) if line[1] == 'start' else b'' for line in lines]  # of an entry none
+        self.places = [line[2] if line[1] == 'start' else '' for line in lines]
+        steps = [b - a for a, b in zip([0, *self.clocks], [*self.clocks, CLOCKS])]
+        answers = '\n'.join(self.ask(*(f'go {step}\nregs' for step in steps)))
+        self.stacks = [int(each, 16) or 0x10000 for each in re.findall(r'SP=(....)', answers)]
+        self.calls = list[Call]()
+        for number, octets in enumerate(self.octets):
+            self._follow(number, octets.lstrip(PREFIXES))
+
+    def ask(self, *commands: str) -> list[str]:
+        """The lines that a fresh run answers."""
+        given = '\n'.join(commands) + '\n'
+        return subprocess.run(self.words, input=given, capture_output=True, text=True, check=True).stdout.splitlines()
+
+    def clock(self, *commands: str) -> int:
+        """The clock to which commands lead."""
+        return int(self.ask(*commands)[-1].split()[-1])
+
+    def registers(self, clock: int) -> list[str]:
+        """The registers at a clock."""
+        return self.ask(f'go {clock}', 'regs')[1:3]
+
+    def bytes(self, clock: int, address: int, count: int) -> bytes:
+        """Memory at a clock."""
+        return b''.join(bytes.fromhex(line.partition(':')[2]) for line in self.ask(f'go {clock}', f'dump {address:X} {count}')[1:])
+
+    def _follow(self, number: int, code: bytes) -> None:
+        """Notes a call, or what ends calls."""
+        before, after = self.stacks[number], self.stacks[number + 1]
+        is_call = not code or code[0] in (0xE8, 0x9A, 0xCC, 0xCD) or code[0] == 0xFF and code[1] >> 3 & 7 in (2, 3)
+        if is_call or code[0] in (0xCE, 0xD4, 0xF6, 0xF7) and before - after == 6:
+            self.calls.append(Call(number, after))
+        elif code[0] in (0xC2, 0xC3, 0xCA, 0xCB, 0xCF):
+            taken = [call for call in self.calls if call.end is None and call.slot == before][-1:]
+            for call in self.calls:
+                if call in taken or call.end is None and call.slot < before:
+                    call.end = number
+        elif code[0] == 0xFF and code[1] >= 0xE0:
+            for call in [call for call in self.calls if call.end is None and call.slot == before - 2][-1:]:
+                call.end = number
+
+    def under_way(self, clock: int) -> list[Call]:
+        """The calls under way, the innermost first."""
+        return [call for call in reversed(self.calls) if self.clocks[call.at] < clock and (call.end is None or self.clocks[call.end] >= clock)]
+
+    def after(self, call: Call) -> int | None:
+        """The clock to which the end of a call leads, if it comes."""
+        return None if call.end is None or call.end + 1 == len(self.clocks) else self.clocks[call.end + 1]
+
+    def over(self, clock: int) -> int | None:
+        """Over what begins at a clock."""
+        if clock not in self.clocks:
+            return self.clock(f'go {clock}', 'step')
+        number = self.clocks.index(clock)
+        if call := next((call for call in self.calls if call.at == number), None):
+            return self.after(call)
+        octets, rest = self.octets[number], self.octets[number].lstrip(PREFIXES)
+        if not set(octets[: len(octets) - len(rest)]) & set(REPEATS) or rest[0] not in STRINGS:
+            return self.clock(f'go {clock}', 'step')
+        later = number + 1
+        while later < len(self.clocks) and self.places[later] in ('', self.places[number]):
+            entered = next((call for call in self.calls if call.at == later), None)
+            if entered and entered.end is None:
+                return None
+            later = entered.end + 1 if entered and entered.end is not None else later + 1
+        return self.clocks[later] if later < len(self.clocks) else None
+
+    def over_interrupts(self, clock: int) -> int | None:
+        """Over what is under way or halted, and interrupts that come first, and what begins then."""
+        here: int | None = clock if clock in self.clocks else next((each for each in self.clocks if each > clock), None)
+        while here is not None and here in self.clocks and not self.octets[self.clocks.index(here)]:
+            here = self.over(here)
+        return None if here is None else self.over(here)
+
+    def out(self, clock: int) -> int | None:
+        """Out of the routine that runs at a clock."""
+        return next((self.after(call) for call in self.under_way(clock)), None)
+
+    def last_write(self, clock: int, address: int) -> int | None:
+        """The last earlier clock behind one in which a byte was written."""
+        lines = self.ask(f'events {clock} writes={address:X}-{address:X}')[:-1]
+        return next((at for line in reversed(lines) if (at := int(line.split()[0]) + 1) < clock), None)
+
+
+class Sessions(Served):
+    """A session of each kind."""
+
+    def setUp(self) -> None:
+        super().setUp()
+        self.asked = list[str]()
+
+    def truth(self, seed: int) -> tuple[Truth, random.Random]:
+        """A random program and run, of which no routine drops the stack by loading SP, and dice for what is asked."""
+        seed = seed * 3 + 1
+        dice = random.Random(seed)
+        keys = [[each, dice.choice((0x1E, 0x9E))] for each in sorted(dice.sample(range(300, CLOCKS), 4))]
+        run = text_of(DEFAULTS | {'ram': 128, 'budget': 100_000, 'keys': keys})
+        return Truth(Files(self.file('it.asm', program(seed)), self.file('it.json', run))), dice
+
+    def dbg(self, seed: int) -> None:
+        """A session of tools/dbg."""
+        truth, dice = self.truth(seed)
+        clock, commands, wanted, top = 0, list[str](), list[str](), 0x500 + truth.calls[0].slot
+        for _ in range(COMMANDS):
+            to = dice.randrange(300, CLOCKS - 500)
+            command = dice.choice(('to', 'go', 'step', 'next', 'next', 'finish', 'finish', 'back', 'last write'))
+            there = {
+                'to': lambda: to,
+                'go': lambda: clock + 40,
+                'step': lambda: truth.clock(f'go {clock}', 'step'),
+                'next': lambda: truth.over(clock),
+                'finish': lambda: truth.out(clock),
+                'back': lambda: next((each for each in reversed(truth.clocks) if each < clock), None),
+                'last write': lambda: truth.last_write(clock, top),
+            }[command]()
+            if there is None or there > CLOCKS - 500:
+                command, there = 'to', to
+            clock = there
+            commands += [{'to': f'to {clock}', 'go': 'go 40', 'last write': f'last write {top:05X}'}.get(command, command), 'regs']
+            wanted += [f'clock {clock}', *truth.registers(clock)]
+        out = self.called('dbg', truth.files.file, truth.files.run_file, given='\n'.join(commands) + '\n')[0]
+        self.asked += [command.split()[0] for command in commands]
+        found = [line.split(': ')[0] for line in out.splitlines() if re.match('clock |AX=|CS=', line)]
+        self.assertEqual(found, wanted, (seed, commands))
+
+    def editor(self, seed: int) -> None:
+        """A session of an editor."""
+        truth, dice = self.truth(seed)
+        client = Editor(self.room)
+        client.launch(truth.files.file, run=truth.files.run_file, stopOnEntry=True)
+        client.event('stopped')
+        clock, said = 0, list[tuple[str, int]]()
+        for _ in range(COMMANDS):
+            to = dice.randrange(300, CLOCKS - 500)
+            command = dice.choice(('toClock', 'next', 'next', 'stepOut', 'stepOut'))
+            free = clock if clock in truth.clocks else truth.clock(f'go {clock}', 'step')
+            there = {'toClock': lambda: to, 'next': lambda: truth.over_interrupts(clock), 'stepOut': lambda: truth.out(free)}[command]()
+            if there is None or there > CLOCKS - 500:
+                command, there = 'toClock', to
+            clock = there
+            said.append((command, clock))
+            if command == 'toClock':
+                client.ask('toClock', clock=clock)
+                client.event('stopped')
+            else:
+                client.move(command)
+            self.assertEqual(client.clock(), clock, (seed, said))
+            frames = client.ask('stackTrace', threadId=1)['stackFrames']
+            self.assertEqual(len(frames), 1 + len(truth.under_way(clock)), (seed, said, frames))
+        self.assertEqual(client.leave(), 0)
+
+    def debugger(self, seed: int) -> None:
+        """A session of gdb's protocol: registers, and where the frames end that gdb is told."""
+        truth, dice = self.truth(seed)
+        client, said = self.client(truth.files.file, truth.files.run_file), list[str]()
+        clock = 0
+        for _ in range(COMMANDS):
+            command = dice.choice(('monitor', 's', 's', 'bs', 'monitor'))
+            said.append(command)
+            if command == 'monitor':
+                clock = dice.randrange(300, CLOCKS - 500)
+                client.monitor(f'to {clock}')
+            elif command == 'bs':
+                clock = truth.clock(f'go {clock}', 'back step')
+                client.ask('bs')
+            else:
+                clock = int(client.monitor('go 0').split()[-1])
+                client.ask('s')
+                there = int(client.monitor('go 0').split()[-1])
+                self.assertIn(there, (truth.clock(f'go {clock}', 'step'), truth.clock(f'go {clock}', 'step', 'step'), *truth.clocks), (seed, said))
+                clock = there
+            lines = truth.registers(clock)
+            self.assertEqual(client.registers()[:14], told_as(lines), (seed, said))
+            stack, ends = zebludor.registers_of(lines)['SP'], list[int]()
+            records = bytes.fromhex(client.ask('mf0000010,400'))
+            for end, back_by, _, number in struct.iter_unpack('<iiII', records[: len(records) // 16 * 16]):
+                ends.append((stack + end) % 0x10000)
+                stack = (stack + back_by) % 0x10000
+                if number <= 16 * len(ends):
+                    break
+            self.assertEqual(ends[:-1], [call.slot % 0x10000 for call in truth.under_way(clock)], (seed, said))
+        client.ask('k')
+        client.close()
+
+    def python(self, seed: int) -> None:
+        """A session of zebludor.py."""
+        truth, dice = self.truth(seed)
+        fields = read_run_file(truth.files.run_file)
+        said, clock = list[str](), 0
+        with open(truth.files.file, encoding='ascii') as file, zebludor.Session(file.read(), probe=True, **fields) as session:
+            for _ in range(COMMANDS):
+                command, count = dice.choice(('go', 'step', 'back', 'back_step', 'events')), dice.randrange(1, 90)
+                command = 'go' if clock < 200 else 'back' if clock > CLOCKS - 500 else command
+                said.append(f'{command} {count}')
+                before = clock
+                if command in ('go', 'back'):
+                    clock += count if command == 'go' else -count
+                    getattr(session, command)(count)
+                elif command == 'events':
+                    found = session.events(count, 'starts', 'writes')
+                    lines = truth.ask(f'go {clock}', f'events {count} starts writes')[1:-1]
+                    self.assertEqual(found, [zebludor.happening_of(line) for line in lines], (seed, said))
+                    clock += count
+                else:
+                    clock = truth.clock(f'go {clock}', command.replace('_', ' '))
+                    getattr(session, command)()
+                self.assertEqual((session.clock, session.registers()), (clock, zebludor.registers_of(truth.registers(clock))), (seed, said, before))
+                self.assertEqual(session.dump(0x8C0, 64), truth.bytes(clock, 0x8C0, 64), (seed, said))
+
+    def test_dbg(self) -> None:
+        for seed in range(IN_THE_GATE):
+            self.dbg(seed)
+        self.assertGreater(min(self.asked.count(command) for command in ('next', 'finish', 'back', 'last')), IN_THE_GATE // 3, self.asked)
+
+    def test_editors(self) -> None:
+        for seed in range(IN_THE_GATE):
+            self.editor(100 + seed)
+
+    def test_gdb(self) -> None:
+        for seed in range(IN_THE_GATE):
+            self.debugger(200 + seed)
+
+    def test_python(self) -> None:
+        for seed in range(IN_THE_GATE):
+            self.python(300 + seed)
+
+
+    def many(self, count: int, first: int) -> None:
+        """So many of each kind, by hand."""
+        for seed in range(first, first + count):
+            print(f'seed {seed}', flush=True)
+            for ask in (self.dbg, self.editor, self.debugger, self.python):
+                ask(seed)
+
+
+if __name__ == '__main__':
+    if sys.argv[1:2] and sys.argv[1].isdecimal():
+        them = Sessions('test_dbg')
+        them.setUp()
+        them.many(int(sys.argv[1]), int(sys.argv[2]) if sys.argv[2:] else 0)
+    else:
+        unittest.main()
