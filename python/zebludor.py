@@ -15,6 +15,7 @@ the static library, laid out as c/zebludor.h says. Nothing here decides a fact. 
 and the name that docs/formats.md explains; what isn't there, or isn't such a thing, as Unfit."""
 from __future__ import annotations
 
+import atexit
 import contextlib
 import functools
 import io
@@ -26,6 +27,7 @@ import sys
 import tempfile
 import threading
 import time
+import weakref
 from dataclasses import dataclass
 from typing import IO, TYPE_CHECKING, Any, Callable, Iterator, NamedTuple, NoReturn, Sequence, TypeVar
 
@@ -408,6 +410,16 @@ def happening_of(line: str) -> Happening:
     return Happening(int(clock), what, None, int(words[0], 16) if words else None)
 
 
+_started: weakref.WeakSet[subprocess.Popen[bytes]] = weakref.WeakSet()
+
+
+@atexit.register
+def _end_all() -> None:
+    """Ends the sessions' processes that are left, also in the midst of a run."""
+    for each in _started:
+        each.kill()
+
+
 class Dialogue:
     """A session of `pcboard debug` by its texts: one command at a time, and its answer. The terminal's interrupt doesn't reach
     it, so that what talks with it can end a long run and go on."""
@@ -416,6 +428,7 @@ class Dialogue:
         self._process = self.started(
             [name or program(), *words], stdin=subprocess.PIPE, stdout=subprocess.PIPE, stderr=subprocess.PIPE, bufsize=0, start_new_session=True
         )
+        _started.add(self._process)
         assert self._process.stdout
         self._out = os.fdopen(os.dup(self._process.stdout.fileno()), 'rb')
         self.clock, self.is_idle = 0, True

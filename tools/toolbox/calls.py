@@ -1,17 +1,14 @@
 """What a run's calls and interrupts come to: how long each took, how much stack, and how long interrupts were off."""
 from __future__ import annotations
 
-import contextlib
-import signal
 from bisect import bisect_left
 from dataclasses import dataclass, field
 from typing import Iterator
 
 from toolbox.chips import Chips
 from toolbox.effects import Does, Effect, Far
-from toolbox.following import Follower, Frame, Mark, Marks, Port, Requests, Start, State, Tally, What, Wire
-from toolbox.probing import Happenings
-from toolbox.program import Files
+from toolbox.following import Follower, Frame, Mark, Marks, Port, Requests, Start, State, Tally, What, Wire, states_in
+from toolbox.program import Files, ProbeSession, uninterrupted
 
 PIECE = 1_000_000  # clocks that are followed at once: an interrupt is seen after them
 KINDS = 'starts entries wires ports=20-21'
@@ -160,43 +157,30 @@ class Calls(Follower):
                 (routine.otherwise if is_passed else routine.unended).append(frame.clock)
 
 
-@contextlib.contextmanager
-def whole() -> Iterator[None]:
-    """An interrupt comes after what is done here."""
-    before, came = signal.getsignal(signal.SIGINT), list[int]()
-    if before is signal.default_int_handler:
-        signal.signal(signal.SIGINT, lambda number, _: came.append(number))
-    try:
-        yield
-    finally:
-        signal.signal(signal.SIGINT, before)
-    if came:
-        raise KeyboardInterrupt
-
-
 class Following:
     """A run that is followed, piece by piece. `calls` is what it came to, whole after `end`."""
 
     def __init__(self, files: Files, first: int) -> None:
-        self._events, self._states = Happenings(files), Happenings(files)
+        self._events, self._states = ProbeSession(files), ProbeSession(files)
         self._events.go_to(first)
         self._marks = Marks()
         self.clock = first
-        self.calls = Calls(first, self._states.states([first])[0], Chips.of(self._states.answers(['chips'])))
+        (state,) = states_in(self._states.registers_at([first]))
+        self.calls = Calls(first, state, Chips.of(self._states.answers(['chips'])))
 
     def __enter__(self) -> Following:
         return self
 
     def __exit__(self, *_: object) -> None:
         for each in (self._events, self._states):
-            each.__exit__()
+            each.close()
 
     def run(self, end: int) -> Iterator[int]:
         """Follows the clocks up to the end, and tells how far it has come."""
         while self.clock < end:
             clocks = min(PIECE, end - self.clock)
             lines = self._events.lines(clocks, KINDS)
-            with whole():
+            with uninterrupted():
                 self._follow(self._marks.of(lines))
                 self.clock += clocks
             yield self.clock
@@ -210,7 +194,7 @@ class Following:
     def _follow(self, marks: list[Mark]) -> None:
         """Follows marks, once SS, SP and the flags are known that their bytes don't tell."""
         asking = [each for each in marks if each.asks()]
-        for mark, state in zip(asking, self._states.states([each.clock + 1 for each in asking])):
+        for mark, state in zip(asking, states_in(self._states.registers_at([each.clock + 1 for each in asking]))):
             mark.state = state
         for mark in marks:
             self.calls.follow(mark)

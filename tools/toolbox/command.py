@@ -110,7 +110,18 @@ def start(main: Callable[[list[str]], int]) -> None:
     except KeyboardInterrupt:
         silence()
         status = 130
+    except Exception as error:  # pylint: disable=broad-exception-caught
+        silence()
+        status = refuse(f'a mistake of this tool has ended it: {type(error).__name__}: {error} ({place_of(error)})')
     sys.exit(status)
+
+
+def place_of(error: Exception) -> str:
+    """Where an exception was raised."""
+    where = error.__traceback__
+    while where and where.tb_next:
+        where = where.tb_next
+    return f'{os.path.basename(where.tb_frame.f_code.co_filename)}, line {where.tb_lineno}' if where else 'nowhere'
 
 
 def status_of(main: Callable[[list[str]], int]) -> int:

@@ -7,6 +7,7 @@ import os
 import tempfile
 from typing import Iterator
 
+from toolbox.effects import target_of
 from toolbox.listing import physical
 from toolbox.places import Event, operation_of
 from toolbox.program import LAST_CLOCK, Files, Session
@@ -36,9 +37,8 @@ def targets(event: Event) -> list[tuple[int, int]]:
     name = operation_of(event.text)
     if not (name.startswith(('J', 'LOOP')) and name != 'JMP'):
         return []
-    behind = (event.offset + len(event.octets)) % 0x10000
-    to = (behind + int.from_bytes(event.octets[-1:], 'little', signed=True)) % 0x10000
-    return [(event.segment, behind), (event.segment, to)]
+    at = event.segment, event.offset
+    return [(event.segment, (event.offset + len(event.octets)) % 0x10000), *filter(None, [target_of(event.octets, at)])]
 
 
 def handlers(session: Session) -> set[tuple[int, int]]:

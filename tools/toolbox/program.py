@@ -1,12 +1,13 @@
 """The program itself: where it stands, runs of it, and sessions of `debug` on a pipe."""
 from __future__ import annotations
 
+import contextlib
 import select
 import signal
 import subprocess
 import threading
 from dataclasses import dataclass, replace
-from typing import Any, NoReturn
+from typing import Any, Iterator, NoReturn
 
 import zebludor
 from zebludor import LAST_CLOCK, TOP, Ran, Unfit, is_hex_name, limit_memory, limited
@@ -128,8 +129,8 @@ class Session(zebludor.Dialogue):
         """A sentence for what the program refuses."""
         raise Sorry(refusal(status, err))
 
-    def is_answered(self, seconds: float) -> bool:
-        """Whether the answer, or the end, of what was begun comes within so many seconds."""
+    def is_answered(self, seconds: float | None) -> bool:
+        """Whether the answer, or the end, of what was begun comes within so many seconds, or without a limit."""
         return bool(select.select([self._out], [], [], seconds)[0])
 
     def stop(self, condition: str) -> str:
@@ -148,37 +149,67 @@ class Session(zebludor.Dialogue):
                 raise Sorry(f'the debugger refuses: {answer}')
 
 
+@contextlib.contextmanager
+def uninterrupted() -> Iterator[None]:
+    """An interrupt that would end what is done here comes after it."""
+    before, came = signal.getsignal(signal.SIGINT), list[int]()
+    is_held = before is signal.default_int_handler and threading.current_thread() is threading.main_thread()
+    if is_held:
+        signal.signal(signal.SIGINT, lambda number, _: came.append(number))
+    try:
+        yield
+    finally:
+        if is_held:
+            signal.signal(signal.SIGINT, before)
+    if came:
+        raise KeyboardInterrupt
+
+
 class ProbeSession(Session):
-    """A session of pcprobe, which also takes typed keys and tells what the chips hold."""
+    """A session of pcprobe, which also takes typed keys, tells what the chips hold, and what happens."""
 
     name, task = 'pcprobe', []
 
+    def __init__(self, files: Files) -> None:
+        super().__init__(files)
+        self._owed, self._heard = 0, bytearray()
+
+    def answers(self, commands: list[str]) -> list[str]:
+        """The lines that commands are answered."""
+        return self.answered(commands).decode('ascii').splitlines()
+
+    def answered(self, commands: list[str]) -> bytes:
+        """What commands are answered; a refusal as a sentence. An interrupt comes before or after the question, or while the answer is
+        waited for; then that one is passed when another is asked for."""
+        with uninterrupted():
+            self._owed += 1
+            self._send('\n'.join([*commands, ENDING, '']))
+        while not (self._heard.endswith(ENDED) and self._heard.count(ENDED) == self._owed):
+            self.is_answered(None)
+            with uninterrupted():
+                piece = self._out.read1(1 << 16)  # type: ignore[attr-defined]
+                self._heard += piece
+            if not piece:
+                self._ended()
+        octets = bytes(self._heard).split(ENDED)[self._owed - 1]
+        self._owed, self._heard, self.is_idle = 0, bytearray(), True
+        if octets.startswith(b'fault') or b'\nfault' in octets:
+            raise Sorry(f'pcprobe refuses: {octets[octets.index(b"fault") :].splitlines()[0].decode("ascii")}')
+        return octets
+
     def lines(self, clocks: int, kinds: str) -> list[bytes]:
         """What happens in so many clocks, past all stops, of these kinds: lines as `events` prints them."""
-        found = self._answered([f'events {clocks} {kinds}'])
+        found = self.answered([f'events {clocks} {kinds}'])
         self.clock += clocks
         return found.split(b'\n')[:-2]
 
-    def registers_at(self, clocks: list[int], end: int) -> bytes:
-        """The answers to `regs` at these clocks, which rise; past all stops, and on to an end."""
-        found = b''
+    def registers_at(self, clocks: list[int], end: int | None = None) -> bytes:
+        """The answers to `regs` at these clocks, which rise: of a session without stops; with an end past all stops, and on to there."""
+        found, command = b'', 'go {}' if end is None else 'events {} keys'
         for at in range(0, len(clocks), ASKED):
             here, some = self.clock, clocks[at : at + ASKED]
-            found += self._answered([f'events {b - a} keys\nregs' for a, b in zip([here, *some], some)])
+            found += self.answered([f'{command.format(b - a)}\nregs' for a, b in zip([here, *some], some)])
             self.clock = some[-1]
-        self.lines(end - self.clock, 'keys')
+        if end is not None:
+            self.lines(end - self.clock, 'keys')
         return found
-
-    def _answered(self, commands: list[str]) -> bytes:
-        """What commands are answered, of which the last one ends with its clock."""
-        self._send('\n'.join([*commands, ENDING, '']))
-        octets = bytearray()
-        while not octets.endswith(ENDED):
-            piece = self._out.read1(1 << 16)
-            if not piece:
-                self._ended()
-            octets += piece
-        self.is_idle, octets = True, octets[: -len(ENDED)]
-        if b'fault' in octets:
-            raise Sorry(f'the probe refuses: {octets[octets.index(b"fault") :].splitlines()[0].decode("ascii")}')
-        return bytes(octets)

@@ -12,7 +12,7 @@ from toolbox.effects import Far
 from toolbox.listing import physical
 from toolbox.places import Event, event_of, operation_of
 from toolbox.faults import fault_in
-from toolbox.program import CLOCKS_OF_A_TRAIL, LAST_CLOCK, Files, ProbeSession
+from toolbox.program import LAST_CLOCK, Files, ProbeSession
 from toolbox.report import registers_of
 from toolbox.runfile import add_keys
 from toolbox.way_back import last_stop, paced
@@ -224,16 +224,8 @@ class SessionBoard:
         return lines
 
     def state(self) -> str:
-        """Running, halted or jammed. A jammed processor steps by single clocks; an instruction takes two or more."""
-        if self.is_halted:
-            return 'halted'
-        here, last = self.clock, self.trail()[-1:]
-        self.one('step')
-        once = self.clock
-        self.one('step')
-        is_jammed = (once, self.clock) == (here + 1, here + 2) and self.trail()[-1:] == last
-        self.go_to(here)
-        return 'jammed' if is_jammed else 'running'
+        """Running, halted or jammed."""
+        return self.chips()[-1].split()[1]
 
     def type(self, code: int, clock: int | None = None) -> int:
         """Types a key, which comes at this clock, else at the next one; returns its stamp."""
@@ -422,24 +414,20 @@ class SessionBoard:
     def leave_halt(self, wanted: Collection[str], end: int) -> str | None:
         """From within a halt to where the interrupt that ends it begins to be taken, at most to this clock, or to one of these stops,
         which it returns. The place behind the HLT is none: there it would hold at each clock."""
-        kept = [stop for stop in wanted if place_of(stop) != self.place()]
-        if self.place() in map(place_of, self._stops):
-            self.begin_anew(kept)
-        self.want(kept)
-        halted, length = self.trail()[-1], 1
+        here, kept, length, woken = self.clock, [stop for stop in wanted if place_of(stop) != self.place()], FIRST_PIECE, end
         while self.clock < end:
-            here = self.clock
-            met, trail = self.go_on(min(here + length, end)), self.trail()
-            if trail[-1] == halted:
-                if met and met in wanted:
-                    return met
-                length *= 2
-            elif behind := [after for event, after in zip(trail, trail[1:]) if event == halted]:
-                self.go_to(behind[0].clock)
-                return None
-            else:
-                self.go_to(here)  # too far for the trail
-                length = max(1, length // 2) if length > CLOCKS_OF_A_TRAIL else 1
+            if lines := self.lines(min(length, end - self.clock), 'states'):
+                woken = int(lines[0].split()[0])
+                break
+            self.poll()
+            length *= 2
+        self.go_to(here if kept else woken)
+        if kept and self.place() in map(place_of, self._stops):
+            self.begin_anew(kept)
+        while self.clock < woken:
+            self.want(kept)
+            if (met := self.go_on(woken)) in kept:
+                return met
         return None
 
     def back_to(self, wanted: Collection[str]) -> str | None:

@@ -10,8 +10,7 @@ from toolbox.command import Sorry
 from toolbox.data_labels import kind_in
 from toolbox.listing import Listing
 from toolbox.places import address_of
-from toolbox.probing import Happenings
-from toolbox.program import Files
+from toolbox.program import Files, ProbeSession
 from toolbox.runfile import read_run_file
 from toolbox.vcd import Changes
 from toolbox.watches import watch_of
@@ -57,7 +56,7 @@ class Watching:
     """A run's changes of what is watched. Its signals have the numbers from `first_signal` on."""
 
     def __init__(self, files: Files, watched: list[Watched], first_signal: int) -> None:
-        self._session = Happenings(files)
+        self._session = ProbeSession(files)
         self._watched, self._first_signal = watched, first_signal
         self._ram = range(1024 * int(read_run_file(files.run_file)['ram']))
         self._octets: dict[int, int] = {}
