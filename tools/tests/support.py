@@ -55,6 +55,8 @@ for line in sys.stdin:
         print('stop 1')
     elif word == 'dump':
         print('00000: 00')
+    elif word == 'chips':
+        print('processor running busy 0')
     sys.stdout.flush()
 """
 

@@ -12,9 +12,10 @@ import sys
 import unittest
 from dataclasses import dataclass
 
+from tests import test_gdb
+from tests.support import ToolCase
 from tests.test_calls import program
 from tests.test_dap import Client as Editor
-from tests.test_gdb import Served, told_as
 
 import zebludor
 from toolbox.program import Files, path
@@ -125,12 +126,14 @@ class Truth:
         return next((at for line in reversed(lines) if (at := int(line.split()[0]) + 1) < clock), None)
 
 
-class Sessions(Served):
+class Sessions(ToolCase):
     """A session of each kind."""
 
     def setUp(self) -> None:
         super().setUp()
-        self.asked = list[str]()
+        self.asked, self.served = list[str](), test_gdb.Served('client')  # which serves gdb's protocol in the same folder
+        self.served.room = self.room
+        self.addCleanup(self.served.doCleanups)
 
     def truth(self, seed: int) -> tuple[Truth, random.Random]:
         """A random program and run, of which no routine drops the stack by loading SP, and dice for what is asked."""
@@ -174,10 +177,9 @@ class Sessions(Served):
         client.event('stopped')
         clock, said = 0, list[tuple[str, int]]()
         for _ in range(COMMANDS):
-            to = dice.randrange(300, CLOCKS - 500)
+            to = dice.choice([each for each in truth.clocks if 300 < each < CLOCKS - 500])
             command = dice.choice(('toClock', 'next', 'next', 'stepOut', 'stepOut'))
-            free = clock if clock in truth.clocks else truth.clock(f'go {clock}', 'step')
-            there = {'toClock': lambda: to, 'next': lambda: truth.over_interrupts(clock), 'stepOut': lambda: truth.out(free)}[command]()
+            there = {'toClock': lambda: to, 'next': lambda: truth.over_interrupts(clock), 'stepOut': lambda: truth.out(clock)}[command]()
             if there is None or there > CLOCKS - 500:
                 command, there = 'toClock', to
             clock = there
@@ -195,10 +197,10 @@ class Sessions(Served):
     def debugger(self, seed: int) -> None:
         """A session of gdb's protocol: registers, and where the frames end that gdb is told."""
         truth, dice = self.truth(seed)
-        client, said = self.client(truth.files.file, truth.files.run_file), list[str]()
+        client, said = self.served.client(truth.files.file, truth.files.run_file), list[str]()
         clock = 0
         for _ in range(COMMANDS):
-            command = dice.choice(('monitor', 's', 's', 'bs', 'monitor'))
+            command = dice.choice(('monitor', 's', 's', 'bs', 'monitor')) if clock else 'monitor'
             said.append(command)
             if command == 'monitor':
                 clock = dice.randrange(300, CLOCKS - 500)
@@ -213,7 +215,7 @@ class Sessions(Served):
                 self.assertIn(there, (truth.clock(f'go {clock}', 'step'), truth.clock(f'go {clock}', 'step', 'step'), *truth.clocks), (seed, said))
                 clock = there
             lines = truth.registers(clock)
-            self.assertEqual(client.registers()[:14], told_as(lines), (seed, said))
+            self.assertEqual(client.registers()[:14], test_gdb.told_as(lines), (seed, said))
             stack, ends = zebludor.registers_of(lines)['SP'], list[int]()
             records = bytes.fromhex(client.ask('mf0000010,400'))
             for end, back_by, _, number in struct.iter_unpack('<iiII', records[: len(records) // 16 * 16]):

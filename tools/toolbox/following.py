@@ -306,7 +306,7 @@ class Follower:
         """A call, or an interrupt, whose return address is on the stack."""
         frame, nest = Frame(mark, self.stack, moves), self.nest
         self._open.setdefault(frame.place, []).append(frame)
-        while nest and nest[-1].level <= frame.level:
+        while nest and nest[-1].level <= frame.level - nest[-1].is_lifted:  # over its own place a lifted one may call
             nest.pop()
         nest.append(frame)
         self.called(frame, mark)

@@ -147,7 +147,14 @@ class SessionBoard:
         return refused(self.answer(command))
 
     def many(self, command: str) -> list[str]:
-        """The lines that answer a command. On a long way back the session answers nothing else."""
+        """The lines that answer a command, or a sentence for a refusal."""
+        lines = self._many(command)
+        if len(lines) == 1:
+            refused(lines[0])
+        return lines
+
+    def _many(self, command: str) -> list[str]:
+        """The lines that answer a command, a refusal too. On a long way back the session answers nothing else."""
         if not self._session.is_idle:
             raise Sorry('the board goes back; pause first')
         return self._talk(lambda: self._session.many(command))
@@ -175,9 +182,7 @@ class SessionBoard:
 
     def chips(self) -> list[str]:
         """What the chips hold, a line for each chip and counter."""
-        lines = self.many('chips')
-        refused(lines[0])
-        return lines
+        return self.many('chips')
 
     @property
     def is_halted(self) -> bool:
@@ -251,7 +256,7 @@ class SessionBoard:
         end, before = self.clock + clocks, None
         while first <= last:
             to = min(last, first + TRIED_AT_ONCE - 1) if first <= end else last
-            for line in self.many(f'moments {code:02X} {first} {to} {clocks}'):
+            for line in self._many(f'moments {code:02X} {first} {to} {clocks}'):
                 found = self._moments_in(line, code)
                 joined = before.with_next(found) if before else found
                 if before and not joined:
