@@ -9,13 +9,22 @@ from toolbox.listing import code_of, label_in
 
 BEFORE = r'\s*(?:\w+\s*:\s*)?'
 TERM = r"(?:\d\w*|'[^']')"
-IN_BYTE = re.compile(rf'{BEFORE}\w+\s+[ABCD][HL]\s*,\s*(?:-\s*)?(?:{TERM}\s*[+-]\s*)*([A-Z_]\w*)(?:\s*[+-]\s*{TERM})*', re.I)
-CALL = re.compile(rf'{BEFORE}INT\s+(\d\d)', re.I)
-# The calls of textbooks, whose numbers are hexadecimal.
-CALLS = (0x10, 0x11, 0x12, 0x13, 0x14, 0x15, 0x16, 0x17, 0x19, 0x20, 0x21, 0x27)
-PREFIX = re.compile(rf'{BEFORE}(REPN?[EZ]?)\s+(?:[ECSD]S\s*:\s*)?(\w+)', re.I)
-REPEATED = re.compile('(?:MOVS|STOS|LODS|CMPS|SCAS)[BW]|LOCK|REP.*', re.I)
-NAMES = ('offset-in-byte', 'decimal-interrupt', 'rep-without-string')
+STRINGS = r'(?:(?:MOVS|STOS|LODS|CMPS|SCAS)[BW]|LOCK|REP\w*)'
+# What a line looks like whose first group is hardly meant, and what may be: {0} is the group, {1} in upper case, {2} its number. A name
+# in a byte register counts if it is a label; the numbers of INT are those of textbooks' calls, which are hexadecimal.
+LOOKS = {
+    'offset-in-byte': (
+        rf'{BEFORE}\w+\s+[ABCD][HL]\s*,\s*(?:-\s*)?(?:{TERM}\s*[+-]\s*)*([A-Z_]\w*)(?:\s*[+-]\s*{TERM})*',
+        'perhaps [{0}] is meant: {0} is a number here, its offset',
+    ),
+    'decimal-interrupt': (rf'{BEFORE}INT\s+(1[0-79]|2[017])', 'perhaps INT {0}h is meant: {0} is decimal, so this is interrupt {2:X}h'),
+    'word-to-port': (rf'{BEFORE}OUT\s+(0*(?:2[01]|4[0-3]|6[0-3])h)\s*,\s*AX', 'perhaps OUT {0},AL is meant: AH goes to the next port'),
+    'rep-without-string': (
+        rf'{BEFORE}(REPN?[EZ]?)\s+(?!(?:[ECSD]S\s*:\s*)?{STRINGS}\b)\S.*',
+        'perhaps {1} MOVSB or its like is meant: {1} repeats string instructions alone',
+    ),
+}
+NAMES = tuple(LOOKS)
 
 
 @dataclass(frozen=True)
@@ -29,36 +38,13 @@ class Doubt:
     text: str
 
 
-def name_in_byte(line: str) -> re.Match[str] | None:
-    """The one name of what a byte register takes, as a group; if it is a label, that is its offset."""
-    return IN_BYTE.fullmatch(code_of(line))
-
-
-def decimal_call(line: str) -> re.Match[str] | None:
-    """The number of an INT, as a group, that is decimal, and would be one of BIOS or DOS if it were hexadecimal."""
-    found = CALL.fullmatch(code_of(line))
-    return found if found and int(found[1], 16) in CALLS else None
-
-
-def of_a_call(number: str) -> str:
-    """What is told of such a number."""
-    return f'{number} is decimal, so this is interrupt {int(number):X}h: a number of hexadecimal digits ends with h, INT {number}h'
-
-
-def idle_prefix(line: str) -> re.Match[str] | None:
-    """REP, as a group, before an instruction that isn't of strings."""
-    found = PREFIX.match(code_of(line))
-    return found if found and not REPEATED.fullmatch(found[2]) else None
-
-
 def doubts(lines: Sequence[str]) -> Iterator[Doubt]:
     """Each line of a source that is hardly meant."""
     labels = {label.upper() for label in map(label_in, lines) if label}
     for number, line in enumerate(lines):
-        if (found := name_in_byte(line)) and found[1].upper() in labels:
-            yield Doubt('offset-in-byte', number, *found.span(1), f'{found[1]} is a number here, its offset; the byte at it is [{found[1]}]')
-        elif found := decimal_call(line):
-            yield Doubt('decimal-interrupt', number, *found.span(1), of_a_call(found[1]))
-        elif found := idle_prefix(line):
-            prefix = found[1].upper()
-            yield Doubt('rep-without-string', number, *found.span(1), f'{prefix} repeats string instructions alone, as {prefix} MOVSB')
+        for name, (look, text) in LOOKS.items():
+            found = re.fullmatch(look, code_of(line), re.I)
+            if found and (name != 'offset-in-byte' or found[1].upper() in labels):
+                value = int(found[1]) if found[1].isdecimal() else 0
+                yield Doubt(name, number, *found.span(1), text.format(found[1], found[1].upper(), value))
+                break

@@ -45,13 +45,13 @@ def variables_in_rom(source: Source, _: Answers) -> Iterator[Doubt]:
         overridden = any(token.key in ('ES', 'SS', 'DS') for token in groups[0])
         name = lone_label(source, tuple(token for token in inside if token.kind != 'register' and token.text != '+')) if not overridden else None
         if name and in_rom(source, name):
-            yield Doubt(
-                'variable-in-rom', number, name.start, name.end, f'{name.text} stands in ROM, where a write is lost: variables stand in a segment of RAM'
-            )
+            yield Doubt('variable-in-rom', number, name.start, name.end, f'perhaps {name.text} is to stand in RAM: it is in ROM, where a write is lost')
         if line.does('MOV') and register_in(groups[0]) == 'SS' and len(groups) == 2:
             paragraph = held(source, number, register_in(groups[1])) if register_in(groups[1]) else None
             if paragraph is not None and paragraph >= ROM:
-                yield Doubt('variable-in-rom', number, groups[0][0].start, groups[1][-1].end, 'the stack stands in ROM, where a write is lost')
+                yield Doubt(
+                    'variable-in-rom', number, groups[0][0].start, groups[1][-1].end, 'perhaps the stack is to stand in RAM: it is in ROM, where a push is lost'
+                )
 
 
 def no_vectors(source: Source, answers: Answers) -> Iterator[Doubt]:
@@ -66,7 +66,13 @@ def no_vectors(source: Source, answers: Answers) -> Iterator[Doubt]:
         places = {4 * value + at for at in range(4)}
         if not places & written and not any(map(answers.has, places)):
             operands = source.lines[number].operands
-            yield Doubt('no-vector', number, operands[0].start, operands[-1].end, f'no line sets the vector of interrupt {value:X}h, at {4 * value:05X}h')
+            yield Doubt(
+                'no-vector',
+                number,
+                operands[0].start,
+                operands[-1].end,
+                f'perhaps a handler is missing: no line sets the vector of interrupt {value:X}h, at {4 * value:05X}h',
+            )
 
 
 def interrupts(source: Source) -> list[tuple[int, int]]:
@@ -91,7 +97,7 @@ def no_reset(source: Source, answers: Answers) -> Iterator[Doubt]:
     has_code = any(line.statement and line.statement.kind == 'mnemonic' for line in source.lines)
     if has_code and source.spans and not any(value in OF_THE_SERVICES for _, value in interrupts(source)) and not answers.has(RESET):
         span = source.spans[-1]
-        text = 'the processor begins at FFFF:0000, and nothing stands there: SEGMENT RESET AT 0FFFFh, JMP FAR start, ENDS'
+        text = 'perhaps the far jump is missing at FFFF:0000, where the processor begins: SEGMENT RESET AT 0FFFFh, JMP FAR start, ENDS'
         yield Doubt('no-reset', span.first, span.name.start, span.name.end, text)
 
 
