@@ -11,7 +11,7 @@ from tests import dosbox
 from tests.support import SECONDS, ToolCase, is_there, not_run
 
 from toolbox.guests import Guest, prepared
-from toolbox.nowhere import told_of_end
+from toolbox.nowhere import told_of_run
 from toolbox.program import Files, Session
 from toolbox.runfile import report_at
 from toolbox.scancodes import stamped, strokes_of
@@ -54,7 +54,7 @@ class Books(ToolCase):
             text = session.dump(0xB0000, 4000)[::2].decode('cp437')
             session.go(1000)
             report = report_at(files, session.clock)
-            self.assertEqual(told_of_end(report, files, session), [], name)
+            self.assertEqual(told_of_run(report, files), [], name)
         return [text[start : start + 80].replace('\0', ' ').rstrip() for start in range(0, 2000, 80)]
 
     def test_each_screen_is_that_of_dosbox(self) -> None:

@@ -47,9 +47,9 @@ SHORT = 'SEGMENT RESET AT 0FFFFh\n        HLT\nENDS\n'
 FOREVER = 'SEGMENT MAIN AT 0F000h\nstart:  CALL deep\nstay:   JMP SHORT stay\ndeep:   INC AX\n        JMP SHORT deep\nENDS\nSEGMENT RESET AT 0FFFFh\n        JMP FAR start\nENDS\n'
 
 
-# It writes to text memory with the video off, and goes round in a loop that nothing ends.
+# It writes to text memory with the video off, and goes round in a loop that nothing ends: no carry comes.
 DARK = (
-    'SEGMENT MAIN AT 0F000h\nstart:  MOV AX,0B000h\n        MOV ES,AX\n        MOV WORD ES:[0],0741h\nstay:   INC BX\n        DEC BX\n        JMP SHORT stay\nENDS\n'
+    'SEGMENT MAIN AT 0F000h\nstart:  MOV AX,0B000h\n        MOV ES,AX\n        MOV WORD ES:[0],0741h\nstay:   INC BX\n        DEC BX\n        JNC stay\nENDS\n'
     'SEGMENT RESET AT 0FFFFh\n        JMP FAR start\nENDS\n'
 )
 

@@ -7,8 +7,9 @@ import unittest
 from tests.support import EXAMPLES, ToolCase, example
 
 from toolbox.doubts import doubts
-from toolbox.nowhere import told_of_end
-from toolbox.program import Files, Session, answer_of
+from toolbox.asking import lines_of
+from toolbox.nowhere import told_of_run
+from toolbox.program import Files, answer_of
 from toolbox.report import report_of
 
 TO_RAM = 'JMP FAR there\nENDS\nSEGMENT CODE AT 50h\nthere: MOV AX,CS\n'
@@ -27,7 +28,7 @@ CASES: tuple[tuple[str, str, str, tuple[str, ...]], ...] = (
     (
         'a label in a byte register',
         IN_RAM + ' MOV AL,hours\n HLT\nhours: DB 9\n' + STACK,
-        'takes hours for a number, its offset',
+        'perhaps [hours] is meant: hours is a number here, its offset',
         (IN_RAM + ' MOV AL,[hours]\n HLT\nhours: DB 9\n' + STACK, IN_RAM + ' HLT\n MOV AL,hours\nhours: DB 9\n' + STACK),
     ),
     (
@@ -54,19 +55,20 @@ CASES: tuple[tuple[str, str, str, tuple[str, ...]], ...] = (
     ),
     (
         'JMP for CALL',
-        IN_RAM + ' MOV CX,9\n PUSH CX\n JMP show\n POP CX\n HLT\nshow: RET\n' + STACK,
-        'before which no CALL stands',
+        IN_RAM + ' MOV CX,900h\n PUSH CX\n JMP show\n POP CX\n HLT\nshow: RET\n' + STACK,
+        'returned to 0050:0900, which line 11 (PUSH CX), 0050:000C had pushed at clock',
         (
-            IN_RAM + ' MOV CX,9\n PUSH CX\n CALL show\n POP CX\n HLT\nshow: RET\n' + STACK,
+            IN_RAM + ' MOV CX,900h\n PUSH CX\n CALL show\n POP CX\n HLT\nshow: RET\n' + STACK,
             IN_RAM + ' MOV AX,over\n PUSH AX\n RET\n NOP\nover: HLT\n' + STACK,
         ),
     ),
     (
         'a program that runs into its procedure',
-        IN_RAM + ' CALL show\nshow: MOV BX,1\n RET\n' + STACK + ' DW there\n',
-        'returned with nothing on the stack, which began at line 9 (MOV SP,top)',
+        IN_RAM + ' CALL show\nshow: MOV BX,1\n RET\n' + STACK,
+        'line 12 (RET), 0050:000F took its address from 00550h, where nothing had been pushed',
         (
-            IN_RAM + ' CALL show\n HLT\nshow: MOV BX,1\n RET\n' + STACK + ' DW there\n',
+            IN_RAM + ' CALL show\n HLT\nshow: MOV BX,1\n RET\n' + STACK,
+            IN_RAM + ' CALL show\nshow: MOV BX,1\n RET\n' + STACK + ' DW over\nover: HLT\n',
             IN_RAM + ' PUSH AX\n CALL show\n CALL show\n PUSHF\n PUSH CS\n CALL over\n HLT\nover: IRET\nshow: RET\n' + STACK,
             IN_RAM + ' MOV BP,frame\n MOV SP,BP\n RET\nframe: DW over\nover: HLT\n' + STACK,
         ),
@@ -128,9 +130,7 @@ class Missteps(ToolCase):
     def why(self, files: Files) -> str:
         """What is told of a run."""
         report = report_of(answer_of(files.words('run')))
-        with Session(files) as session:
-            session.go_to(report.clock)
-            return '\n'.join(told_of_end(report, files, session))
+        return '\n'.join(lines_of(told_of_run(report, files)))
 
     def test_each_misstep_is_told(self) -> None:
         for name, lines, wanted, others in CASES:
@@ -145,8 +145,8 @@ class Missteps(ToolCase):
 
     def test_the_handler_of_a_ret_is_named(self) -> None:
         text = self.why(Files(*self.program(TICK.format('RET'), 200_000)))
-        self.assertIn('interrupt 08 set IF to 0, and line 18 (own: RET)', text)
-        self.assertNotIn('STI lets', text)
+        self.assertIn('line 18 (own: RET), F000:001C took the place that interrupt 08 had left at clock 103', text)
+        self.assertNotIn('no STI', text)
 
     def test_scan_codes(self) -> None:
         for lines, is_told in OF_CODES:
@@ -171,8 +171,8 @@ class Missteps(ToolCase):
         self.assertIn('INT 21h', out[1])
         self.assertIn('[here]', out[2])
         right = self.file('right.asm', 'SEGMENT MAIN AT 50h\nhere: INT 21\nENDS\n')
-        self.assertIn(':2: warning: 21 is decimal', self.called('why', '--lines', right)[0])
-        self.assertIn('line 2: 21 is decimal', self.called('why', '--all', right)[0])
+        self.assertIn(':2: warning: perhaps INT 21h is meant: 21 is decimal', self.called('why', '--lines', right)[0])
+        self.assertIn('line 2: perhaps INT 21h is meant', self.called('why', '--all', right)[0])
 
     def test_no_line_of_the_examples_is_doubted(self) -> None:
         for path in glob.glob(f'{EXAMPLES}/**/*.asm', recursive=True):

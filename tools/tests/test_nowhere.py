@@ -7,8 +7,9 @@ import unittest
 
 from tests.support import EXAMPLES, ToolCase, example
 
-from toolbox.nowhere import told_of_end
-from toolbox.program import Files, Session, answer_of
+from toolbox.asking import lines_of
+from toolbox.nowhere import told_of_run
+from toolbox.program import Files, answer_of
 from toolbox.report import report_of
 
 VECTOR = 'ENDS\nSEGMENT VECTORS AT 0\n ORG {:X}h\n DW own,SEG own\n'
@@ -36,7 +37,12 @@ CASES: tuple[tuple[str, str, str, str], ...] = (
         'nothing leads out but what port 60h reads',
         'over: IN AL,60h\n INC BX\n CMP BX,5000\n JNZ over',
     ),
-    ('no STI', ' CLI\n MOV WORD [24h],5\nidle: HLT\n JMP SHORT idle', 'with interrupts off', ' STI\nidle: HLT\n JMP SHORT idle'),
+    (
+        'CLI for STI',
+        TICK.replace(' STI\n', ' CLI\n') + VECTOR.format(0x20),
+        'with interrupts off',
+        TICK.replace('idle: HLT', ' CLI\nidle: HLT') + VECTOR.format(0x20),
+    ),
     ('no STI before a handler', TICK.replace(' STI\n', '') + VECTOR.format(0x20), 'with interrupts off', 'done: HLT\n JMP SHORT done'),
     ('past the end', CODE_IN_RAM + 'MOV AX,1\n MOV BX,AX', 'were 00 00', CODE_IN_RAM + 'ADD [BX+SI],AL\n ADD [BX+SI],AL\n ADD [BX+SI],AL\n HLT'),
     ('into data', CODE_IN_RAM + 'MOV AX,1\nroom: DW 500 DUP(0)', 'were 00 00', CODE_IN_RAM + 'ADD [BX+SI],AL\n JMP there'),
@@ -66,7 +72,7 @@ CASES: tuple[tuple[str, str, str, str], ...] = (
     (
         'a stack in code',
         CODE_IN_RAM + 'MOV AX,50h\n MOV SS,AX\n MOV SP,room\n PUSH AX\n PUSH AX\n HLT\nroom: DW 0,0',
-        'the source placed',
+        'line 10 (PUSH AX), 0050:0009 pushed over line 8 (MOV SP,room)',
         CODE_IN_RAM + 'MOV AX,50h\n MOV SS,AX\n MOV SP,room+4\n PUSH AX\n PUSH AX\n HLT\nroom: DW 0,0',
     ),
 )
@@ -79,9 +85,7 @@ class Nowhere(ToolCase):
     def why(self, files: Files) -> list[str]:
         """What is told of a run."""
         report = report_of(answer_of(files.words('run')))
-        with Session(files) as session:
-            session.go_to(report.clock)
-            return told_of_end(report, files, session)
+        return lines_of(told_of_run(report, files))
 
     def test_each_mistake_is_told(self) -> None:
         for name, lines, wanted, near in CASES:
@@ -117,20 +121,21 @@ class Nowhere(ToolCase):
 
     def test_a_return_that_led_astray(self) -> None:
         lines = self.why(Files(*self.program(CODE_IN_RAM + 'MOV AX,200h\n PUSH AX\n RET 2', 900)))
-        self.assertIn('hint: a return takes', ' '.join(lines))
+        self.assertIn('returned to 0050:0200, which line 7 (PUSH AX), 0050:0003 had pushed', ' '.join(lines))
         self.assertIn('(RET 2)', ' '.join(lines))
 
     def test_ends_that_are_none(self) -> None:
-        """A loop that writes as it goes isn't said never to end."""
+        """A loop that writes as it goes isn't said never to end, and one without a condition is an end of a program."""
         for lines in (
-            'over: MOV BYTE [500h],1\n JMP over',
-            'over: OUT 61h,AL\n JMP over',
-            'over: PUSH AX\n POP AX\n JMP over',
-            'over: CALL sub1\n JMP over\nsub1: RET',
+            'over: MOV BYTE [500h],1\n JC over\n JMP over',
+            'over: OUT 61h,AL\n JC over\n JMP over',
+            'over: PUSH AX\n POP AX\n JC over\n JMP over',
+            'over: CALL sub1\n JC over\n JMP over\nsub1: RET',
         ):
             text = ' '.join(self.why(Files(*self.program(lines, 3000))))
-            self.assertIn('the last 32 instructions were the same', text)
+            self.assertIn('perhaps the run waits for ever: the last 32 instructions were the same', text)
             self.assertNotIn('off: nothing leads out', text)
+            self.assertEqual(self.why(Files(*self.program(lines.replace(' JC over\n', ''), 3000))), [])
 
     def test_a_delay_is_not_blamed(self) -> None:
         """A loop that will be left, by its count, a key, the timer or a handler, is none that goes nowhere."""

@@ -20,6 +20,7 @@ PAGES = (
     'docs/examples.md',
     'docs/debugger.md',
     'docs/probe.md',
+    'docs/why.md',
     'docs/sweeps.md',
 )
 SESSION = r'((?:break|byte|sound|halted|go|step|back|regs|screen|dump|trail|quit)\b.*)'  # what is typed in a session of debug

@@ -149,7 +149,7 @@ class Tries(ToolCase):
             self.assertIn(f'usage: tools/{name}' if name != 'why' else 'tools/why run FILE [RUN]', printed)
 
     def test_an_interrupt_leaves_no_traceback(self) -> None:
-        source, _ = self.program('over: JMP over')
+        source, _ = self.program('over: INC WORD [0]\n JMP over')
         with subprocess.Popen(
             [sys.executable, '-S', f'{TOOLS}/try', source, '--budget', '1,099,511,627,776'],
             stdout=subprocess.PIPE,

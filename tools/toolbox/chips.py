@@ -1,24 +1,20 @@
 """What the chips hold at a clock, as `pcprobe` tells it (docs/probe.md), and what of it keeps an interrupt or a key away."""
 from __future__ import annotations
 
-import subprocess
 from dataclasses import dataclass
+from typing import Any, Callable
 
-import zebludor
-
+from toolbox.asking import answers_of, said
 from toolbox.command import Sorry
-from toolbox.program import Files, path, refusal
+from toolbox.program import Files, ProbeSession
 
 END_OF_INTERRUPT = 'no end of interrupt (20h to port 20h)'
+ASKED_BACK = 50_000_000  # clocks
 
 
 def chip_lines(files: Files, clock: int) -> list[str]:
     """What the chips hold at a clock, a line for each chip and counter."""
-    words, given = [path('pcprobe'), *files.words('')[1:]], f'go {clock}\nchips\n'.encode()
-    done = subprocess.run(zebludor.limited(words), input=given, capture_output=True, check=False)
-    if done.returncode:
-        raise Sorry(refusal(done.returncode, done.stderr.decode('utf-8', 'replace')))
-    clock_line, *lines = done.stdout.decode('utf-8', 'replace').splitlines() or ['it answers nothing']
+    clock_line, *lines = answers_of(files, (f'go {clock}', 'chips')) or ('it answers nothing',)
     if clock_line != f'clock {clock}' or not lines or lines[0].startswith('fault'):
         raise Sorry(f'pcprobe refuses: {(lines or [clock_line])[0]}')
     return lines
@@ -130,46 +126,72 @@ def levels(byte: int) -> list[int]:
     return [it for it in range(8) if byte >> it & 1]
 
 
-def of_requests(controller: Controller) -> list[str]:
+Fact = tuple[str, dict[str, Any]]  # a row of sentences.json, and its values
+
+
+def of_requests(chips: Chips, ends: Callable[[int], str]) -> list[Fact]:
     """Why the controller passes no request on, where levels ask."""
+    controller = chips.controller
     asking = levels(controller.requests)
     if controller.is_asking or not asking:
         return []
+    values: dict[str, Any] = {'level': asking[0], 'requests': controller.requests, 'served': controller.served}
     if not controller.is_ready:
         sequence = f'its initialisation waits for {controller.awaited}' if controller.awaited != 'none' else "it isn't in 8086 mode (bit 0 of ICW4)"
-        return [f'IR{asking[0]} asks, and the interrupt controller takes nothing: {sequence}']
-    sentences = [f'IR{level} asks, and is masked' for level in asking if controller.masked >> level & 1]
+        return [('initialisation', values | {'sequence': sequence, 'awaits': controller.awaited, 'is_8086': controller.is_8086})]
+    found: list[Fact] = [('masked', values | {'level': level}) for level in asking if controller.masked >> level & 1]
     kept = [level for level in asking if not controller.masked >> level & 1]
     if kept and controller.blocking:
-        served = f'IR{controller.blocking[0]}'
-        asks = f'{served} asks again, and' if kept[0] == controller.blocking[0] else f'IR{kept[0]} asks, and {served}'
-        sentences.append(f'{asks} is still in service: {END_OF_INTERRUPT} has come since it was taken')
-    return sentences
+        first, served = kept[0], controller.blocking[0]
+        asks = f'IR{first} asks again, and ' if first == served else f'IR{first} asks, and IR{served} '
+        kind = int(chips.value('controller', 'vector'), 16) & 0xF8
+        found.append(('in service', values | {'level': first, 'asks': asks, 'ends': ends(kind + served)}))
+    return found
 
 
-def of_the_timer(chips: Chips) -> list[str]:
-    """Whether a halted processor waits for a tick that no count brings."""
-    controller = chips.controller
+def ends_before(files: Files, clock: int, kind: int) -> str:
+    """What ends of interrupt have come before a clock since this type was entered last."""
+    first = max(0, clock - ASKED_BACK)
+    with ProbeSession(files) as probe:
+        probe.go_to(first)
+        lines = [line.decode('ascii').split() for line in probe.lines(clock - first, 'entries ports=20-20')]
+    taken = next((at for at in reversed(range(len(lines))) if lines[at][1:] == ['entry', f'{kind:02X}']), None)
+    ends = [words for words in lines[taken or 0 :] if words[1] == 'out' and int(words[3], 16) & 0x38 == 0x20]
+    since = f'since it was taken at clock {lines[taken][0]}' if taken is not None else f'in the last {clock - first:,} clocks'
+    return f'{END_OF_INTERRUPT} has come {since}' if not ends else f'{len(ends)} ends of interrupt have come {since}, and none was for it'
+
+
+def of_the_timer(chips: Chips) -> list[Fact]:
+    """Whether a halted processor waits for a tick that no count brings, and whether a count is half written."""
+    controller, first = chips.controller, chips.value('counter 0', 'first')
+    if first != 'none':
+        written = {'1': 'one byte', '2': 'one byte'}.get(chips.value('counter 0', 'RW'), 'two bytes, the low one first')
+        return [('half a count', {'first': first, 'written': written})]
     waits = chips.is_halted and controller.is_ready and not controller.requests and not controller.masked & 1
-    if not waits or chips.value('counter 0', 'newest') != 'none':
-        return []
-    return ['the processor waits for an interrupt, and IR0 comes from counter 0, which no count has been written to']
+    return [('no count', {})] if waits and chips.value('counter 0', 'newest') == 'none' else []
 
 
-def of_keys(chips: Chips) -> list[str]:
+def of_keys(chips: Chips) -> list[Fact]:
     """Why key codes wait."""
     if not chips.waiting:
         return []
-    what = f'{len(chips.waiting)} key code{"s wait" if len(chips.waiting) > 1 else " waits"}'
+    count = f'{len(chips.waiting)} key code{"s wait" if len(chips.waiting) > 1 else " waits"}'
+    why = ''
     if chips.port_b & 0x80:
-        return [f'{what}: line 7 of port B is 1 and empties the latch']
-    if chips.latched is not None:
-        return [f"{what} behind {chips.latched:02X}h in the latch, which line 7 of port B hasn't emptied"]
-    return [f'{what}: line 6 of port B is 0 and lets the keyboard send nothing'] if not chips.port_b & 0x40 else []
+        why = ': line 7 of port B is 1 and empties the latch'
+    elif chips.latched is not None:
+        why = f" behind {chips.latched:02X}h in the latch, which line 7 of port B hasn't emptied"
+    elif not chips.port_b & 0x40:
+        why = ': line 6 of port B is 0 and lets the keyboard send nothing'
+    return [('keys', {'count': count, 'why': why, 'waiting': chips.value('keyboard', 'waiting')})] if why else []
 
 
-def facts(lines: list[str]) -> list[str]:
-    """What keeps an interrupt or a key away, as sentences: of interrupts where the processor takes them."""
-    chips = Chips.of(lines)
-    sentences = of_requests(chips.controller) + of_the_timer(chips) if chips.is_open else []
-    return sentences + of_keys(chips)
+def of_chips(chips: Chips, ends: Callable[[int], str]) -> list[Fact]:
+    """What keeps an interrupt or a key away: of interrupts where the processor takes them. `ends` tells what ends of interrupt have come
+    since a type was entered."""
+    return (of_requests(chips, ends) + of_the_timer(chips) if chips.is_open else []) + of_keys(chips)
+
+
+def facts(lines: list[str], ends: Callable[[int], str]) -> list[str]:
+    """So, as sentences."""
+    return [said(name, **values) for name, values in of_chips(Chips.of(lines), ends)]

@@ -13,11 +13,11 @@ from toolbox.comments import handed
 from toolbox.faults import Fault, fault_in
 from toolbox.hints import hint_of
 from toolbox.messages import TWICE_DEFINED, first_definition
-from toolbox.nowhere import told_of_end
+from toolbox.asking import how
+from toolbox.nowhere import told_of_run
 from toolbox.report import Report
 from toolbox.runfile import CHOICES, DEFAULTS, FIRST_CHOICES
 from toolbox.shown import LONGEST_LINE, bounded, clipped
-from toolbox.walk import at_end
 
 FIRST_LOST, LAST_LOST = 0xA0000, 0xF0000
 RANGES = {'version': (1, 2), 'ram': (0, 65535), 'sw1': (0, 255), 'sw2': (0, 31), 'budget': (0, None)}
@@ -252,10 +252,11 @@ def of_json_as_source(file: str, run_file: Optional[str]) -> list[str]:
     return ['hint: this is Intel HEX; say --hex'] if re.match(r':[0-9A-F]{10}', text) else []
 
 
-def of_a_report(report: Report, files: program.Files, tool: str = 'why') -> list[str]:
-    """What isn't as most programs want it."""
-    with waiting(f'{tool}: looking at the run'), at_end(files, report) as session:
-        return bounded(told_of_end(report, files, session))
+def of_a_report(report: Report, files: program.Files, tool: str = 'why', shown: program.Files | None = None) -> list[str]:
+    """What isn't as most programs want it, as lines; if files are to be shown, under each sentence how they were asked for it."""
+    with waiting(f'{tool}: looking at the run'):
+        them = told_of_run(report, files)
+    return bounded([line for one in them for line in (*one.text.split('\n'), *(how(one, shown) if shown else ()))])
 
 
 def after_run(words: list[str], status: int, err: str) -> list[str]:

@@ -1,128 +1,122 @@
-"""Why a run went nowhere, read off its report, the trail of its last 32 instruction starts, and sessions. A sentence is printed
-exactly if its condition holds; what an instruction did is looked at in the first 50,000 clocks of a source's run and the last 5,000, of
-Intel HEX in the trail; of its registers and the memory that it reached the first time counts, and after a run that is over the last:
-
-it has jammed, at which bytes                the report's state is `jammed`
-text memory has characters, the screen none  a word at B0000h to B0F9Fh would show one
-a character's attribute shows nothing        the screen is blank, no such word would show one, and the low byte of one is 21h to 7Eh
-another byte than the source placed          the processor jammed at it; the instruction is the one that ran before the byte last changed
-what led to 0000:0000                        the run came to CS:IP 0000:0000 where 00 00 was; the first time counts. INT, INT3, INTO,
-                                             DIV, IDIV and entries are by a vector
-INT 21 is decimal                            the INT that led there is written so, and INT 21h would be one of doubts.py's calls
-the last N instructions were 00 00           four or more at the trail's end, none by an ADD of the source
-a step led to where no byte of the program   the run came from an instruction of the source to 00 00 that is no ADD, or to where neither the
-is                                           program has a byte nor RAM is; if it jammed or ended so, also to another place without a byte,
-                                             or to a line of DB, DW. Not if it came to 0000:0000
-the last 32 were the same few in turn        running, the trail is full and has no entry, up to eight instructions in turn in all of it, but
-                                             for one JMP to itself, which ends a program; within a second no conditional jump of them leads
-                                             out, also if a key is typed, and no request's handler is entered
-nothing leads out but what a port reads      one of these reads a port, into AL; all others are CMP, TEST, near jumps by flags or without
-                                             condition, NOP, and MOV, AND, OR of a number to a register but DX. With IF 1 `or an interrupt`
-nothing answers at that port                 it is none of PORTS
-nothing leads out                            IF and TF are 0; none of these writes memory, uses a port, calls, returns, halts or changes
-                                             IF; within the next 31 steps all registers are again what they were, by such alone
-halted with interrupts off                   halted by HLT, IF and TF 0, a JMP SHORT behind it leads up to 32 bytes back, and a vector
-                                             from 08h to 0Fh isn't 0
-DS or ES is B800h                            at the run's end
-IF is 0 by an interrupt                      so halted; an interrupt was entered and nothing since was an IRET, POPF or STI. A RET ended its
-                                             handler if since the entry each RET before it had its CALL
-a write is lost, a push is lost              an instruction of the program wrote or pushed where ROM is, or nothing answers; not through B800h
-strings go downward                          of such a write by MOVS or STOS the direction flag was 1
-it came with CX 0                            a LOOP round such a write did
-a return with nothing on the stack           since MOV SP with a number, after which nothing else has set SP or SS, the words that were pushed
-                                             have been taken
-a return before which no CALL stands         RET or RETF of the source led to a place of it that has no label, and no CALL or INT before it
-DS is 0, as at power-on                      it is; no line has MOV DS, POP DS or LDS; by DS an address was reached where the program has no
-                                             byte, and in another segment a label has its offset
-a label taken for a number                   an instruction has run with a byte register and one, or one plus or minus numbers, as operands
-words read from bytes                        an instruction read a word at the first byte of a line of DB with three numbers or more, and one two
-                                             bytes or more behind the last line of DB below it, but no further than these lines are long
-a scan code taken for a sign                 within 40 events behind IN AL,60h, which read a key's code, SUB AL,'0' found it in AL, less than
-                                             30h, or a MOV or STOS wrote it as a character to text memory; it came from no other place
-the source placed other bytes                of an instruction in RAM at most 32 bytes below SS:SP, or at it
-a call isn't among the services              the services (docs/services.md) are in ROM, and have noted it
-keys were lost                               so too
-
-Of the chips at the run's end, as pcprobe tells them:
-
-IRn asks, and nothing is taken               IF is 1, and the controller waits for an initialisation word, or isn't in 8086 mode
-IRn asks, and is masked, or another level    IF is 1, and the controller, initialised, asks for nothing: n's bit of the mask is 1; or it is 0,
-is still in service                          and that level keeps n back
-no count has been written to counter 0       halted by HLT with IF 1; the controller is initialised, no level asks, IR0 isn't masked, and
-                                             counter 0 has no full count since its control word
-key codes wait                               port B empties the latch (line 7 is 1), the latch is full, or port B lets the keyboard send
-                                             nothing (line 6 is 0)"""
+"""Why a run went nowhere. Each sentence is one of sentences.json, whose `when` says where it is asked for; here is found what may have
+been so, by the report, by the trail, and by `events` of the run's first clocks and its last ones, and pcprobe is asked whether it is."""
 from __future__ import annotations
 
 import re
 from itertools import takewhile
+from typing import Any, Iterator
 
-from toolbox.chips import chip_lines, facts
+from toolbox.asking import Raw, Told, ask
+from toolbox.chips import Chips, ends_before, of_chips
 from toolbox.command import tool
-from toolbox.doubts import decimal_call, of_a_call
+from toolbox.doubts import doubts
+from toolbox.effects import ends_with_call, target_of
 from toolbox.later import later
-from toolbox.leaving import is_left
-from toolbox.listing import Listing, code_of, listing_of, physical
-from toolbox.missteps import A_RETURN, is_zeros, of_astray, of_labels_as_bytes, of_returns, of_scan_codes, of_the_data_segment, of_words_from_bytes, of_writes
+from toolbox.listing import Line, Listing, code_of, listing_of, physical
 from toolbox.places import Event, event_of, line_at
-from toolbox.program import LAST_CLOCK, Files, ProbeSession, Session
+from toolbox.program import LAST_CLOCK, Files, ProbeSession
 from toolbox.report import COLUMNS, ROWS, Report
 from toolbox.runfile import read_run_file
-from toolbox.services import left_at
+from toolbox.scancodes import names
+from toolbox.services import left_at, mark_of
 from toolbox.text_memory import TEXT_MEMORY, shown
-from toolbox.walk import WRITERS, Run, Talker, mnemonic, statement_of
+from toolbox.walk import DATA, REACH, RETURNS, TEXT, TEXT_END, Run, go_to_end, is_for_good, is_push, is_short, opcode, registers_at, statement_of, trail_at
 
-TRAIL, LONGEST_LOOP, ZEROS, NEAR = 32, 8, 4, 32
-IF, TF = 0x200, 0x100
-SETTERS = {'STI', 'IRET', 'POPF'}
-PORTS = {0x20, 0x21, 0x40, 0x41, 0x42, 0x43, 0x60, 0x61, 0x62, 0x63, 0x3B4, 0x3B5, 0x3B8, 0x3BA}
+TRAIL, LONGEST_LOOP, ZEROS, NEAR, SOON, FEW = 32, 8, 4, 32, 40, 8
+IF, TF, A_SECOND, SPACE = 0x200, 0x100, 4_772_727, 0x39
+PORTS = {0x20, 0x21, 0x40, 0x41, 0x42, 0x60, 0x61, 0x62, 0x3B5, 0x3BA}  # those that answer a read
+READS, SETS_IF = {0xE4, 0xE5, 0xEC, 0xED}, {0xFB, 0xCF, 0x9D}
+# What does nothing but to registers and flags, by its first byte: CMP, TEST, near jumps by flags, LOOP, INC, DEC, MOV of a number, ..
+STILL = {0x38, 0x39, 0x3A, 0x3B, 0x3C, 0x3D, 0x84, 0x85, 0xA8, 0xA9, 0x90, 0xEB, 0xE9, *range(0x70, 0x80), *range(0xE0, 0xE4)}
+BY_FORM = {0x04: 'SI', 0x05: 'DI', 0x07: 'BX'}
+LOADS_AL = {0xB0, 0xB8, 0xAC, 0xAD, 0xD7, 0xA0, 0xA1}
+STILL |= {*range(0x40, 0x50), *range(0xB0, 0xC0), 0x8A, 0x8B, 0xA0, 0xA1, *(8 * n + at for n in range(7) for at in (2, 3, 4, 5))}
+DIVISIONS, STRINGS, DF = {0xF6, 0xF7, 0xD4}, {0xA4, 0xA5, 0xAA, 0xAB}, 0x400
 WITH_SERVICES = f'or let {tool("try")} --services put such calls into ROM (docs/services.md)'
 NO_BIOS = f'no BIOS is here; {WITH_SERVICES}'
-SERVICES = dict.fromkeys((0x11, 0x12, 0x13, 0x14, 0x15, 0x17, 0x18, 0x19, 0x1A), NO_BIOS) | {
+ADVICE = dict.fromkeys((0x11, 0x12, 0x13, 0x14, 0x15, 0x17, 0x18, 0x19, 0x1A), NO_BIOS) | {
     0x21: f'no DOS is here: text goes to text memory at B000:0000, keys come from port 60h, HLT ends a program; {WITH_SERVICES}',
     0x20: f'no DOS is here: HLT ends a program; {WITH_SERVICES}',
     0x10: f'no BIOS is here: text goes to text memory at B000:0000, a character and its attribute in each word; {WITH_SERVICES}',
     0x16: f'no BIOS is here: keys come from port 60h, by polling or by interrupt; {WITH_SERVICES}',
 }
-# What does nothing but to registers and flags, if its first operand is a register.
-INNER = WRITERS - {'POP'} | set('CBW CWD LEA MUL IMUL LAHF SAHF CLC STC CMC CLD STD NOP XLAT LODSB LODSW AAA AAS AAD AAM DAA DAS'.split())
-READERS = {'CMP', 'TEST', 'SCASB', 'SCASW', 'CMPSB', 'CMPSW', 'NOP', 'JMP', 'LOOP', 'LOOPE', 'LOOPZ', 'LOOPNE', 'LOOPNZ', 'JCXZ'}
+GOES_ON = 'HLT ends a program, JMP goes back'
+IN_RAM = '\nhint: what a program changes stands in RAM, in a segment of its own, and DS or ES names it'
+FOR_A_STACK = '\nhint: room for the stack lies in RAM, and SP begins at its end'
+CALLED = re.compile(r'\bINT\s+(10|16|1A|20|21)h', re.I)
 
 
-def told_of_end(report: Report, files: Files, session: Talker, listing: Listing | None = None, reach: int = LAST_CLOCK) -> list[str]:
-    """What isn't as most programs want it, of a run whose session stands at the report's clock, as lines. A run of more than `reach`
-    clocks isn't repeated for it. The session may have moved then."""
-    run = Run(report, files, session, listing_of(files) if listing is None else listing, reach=reach)
-    run.trail = [event_of(line) for line in session.many('trail')]
-    ram = read_run_file(files.run_file).get('ram')
-    run.ram_end = 1024 * ram if isinstance(ram, int) else 0
-    at_zero = of_address_zero(run)
-    astray = at_zero or of_zeros(run) + of_astray(run)
-    lines = of_a_jam(run, bool(astray)) if report.state == 'jammed' else of_a_blank(report, session)
-    halt = of_a_halt(run)
-    lines += of_code_in_the_stack(run) + astray + of_the_services(run) + halt + of_colour_memory(run) + of_writes(run)
-    lines += [] if astray or halt else of_returns(run)
-    lines += [] if astray else of_the_data_segment(run) + of_labels_as_bytes(run) + of_words_from_bytes(run) + of_scan_codes(run)
-    return lines + ([] if at_zero else of_a_loop(run)) + of_the_chips(run)
+class Teller:
+    """What is told of a run."""
+
+    def __init__(self, run: Run, is_ended: bool) -> None:
+        self.run, self.is_ended = run, is_ended
+        self.clock = run.report.clock
+
+    def tell(self, name: str, event: Event | None = None, **values: Any) -> list[Told]:
+        """A sentence; of an event with its clock, its place, and its beginning in `trail` and `events`."""
+        if event:
+            place, octets = f'{event.segment:04X}:{event.offset:04X}', event.octets.hex().upper()
+            values = {'at': event.clock, 'after': event.clock + 1, 'place': self.run.place(event), 'where': f'{place} {octets}'.strip()} | values
+            values.setdefault('what', f'start {place}' if event.entry is None else f'entry {event.entry:02X}')
+            if event.entry is not None:
+                values['where'] = Raw(rf'\S+ entry {event.entry:02X}')
+        return ask(self.run.files, name, {'clock': self.clock, 'second': A_SECOND} | values)
 
 
-def of_a_jam(run: Run, is_led: bool) -> list[str]:
+def told_of_run(report: Report, files: Files, listing: Listing | None = None, reach: int = REACH) -> list[Told]:
+    """What isn't as most programs want it. A run that is busy for more than `reach` clocks isn't made again, and this is told."""
+    with ProbeSession(files) as session:
+        if not is_short(session, report.clock, reach):
+            text = f'nothing was asked of this run: of {report.clock:,} clocks no more than {reach:,} busy ones are made again'
+            return [Told(text)]
+    with ProbeSession(files) as session:
+        was_at_zero = go_to_end(session, report)
+        ram = read_run_file(files.run_file).get('ram')
+        ram_end = 1024 * ram if isinstance(ram, int) else 0
+        served = left_at(session, ram_end)
+        trail = [event_of(line) for line in session.many('trail')]
+        run = Run(report, files, session, listing or listing_of(files), trail, ram_end, mark_of(ram_end) if served else 0)
+        teller = Teller(run, bool(served and served.phase == 2))
+        found = [one for remark in (served.remarks() if served else []) for one in teller.tell('services', remark=remark, address=run.mark - 2)]
+        if teller.is_ended:
+            return found + (of_a_division(teller) if served and not served.how else of_an_early_end(teller)) + of_the_source(teller)
+        found += of_the_end(teller, was_at_zero)
+        is_port_told = any(one.name == 'no port' for one in found)
+        return found + [one for one in of_the_source(teller) if not (is_port_told and one.name == 'unanswered port')] + of_the_chips(teller)
+
+
+def of_the_end(teller: Teller, was_at_zero: int | None) -> list[Told]:
+    """How the run ended, and what led there."""
+    run = teller.run
+    at_zero = of_address_zero(teller, was_at_zero) if was_at_zero is not None else []
+    over = of_code_in_the_stack(teller)
+    astray = at_zero or of_zeros(teller) + ([] if over else of_astray(teller))
+    returns = [] if at_zero else of_returns(teller, bool(astray) or run.report.state == 'jammed')
+    lines = of_a_jam(teller, bool(astray + returns + over)) if run.report.state == 'jammed' else of_a_blank(teller)
+    return lines + over + returns + astray + of_a_halt(teller) + of_lost_writes(teller) + ([] if at_zero else of_a_loop(teller))
+
+
+def of_a_jam(teller: Teller, is_led: bool) -> list[Told]:
     """Where the processor jammed, at which bytes, and what ran before; what led there may be told already."""
+    run = teller.run
     segment, offset = run.report.registers['CS'], run.report.registers['IP']
-    octets, address = run.session.dump(physical(segment, offset), 6), physical(segment, offset)
-    lines = [f'the processor has jammed: {segment:04X}:{offset:04X} has {octets.hex(" ").upper()}, which is no instruction of the 8086']
+    address = physical(segment, offset)
+    octets = run.session.dump(address, 6)
+    found = teller.tell('jammed', address=address, place=f'{segment:04X}:{offset:04X}', octets=octets.hex(' ').upper())
     if not run.trail:
-        return lines + [
-            'hint: the processor begins at FFFF:0000, and no far jump stands there'
-            + ("; is a ROM's file loaded at its own address?" if run.files.is_hex else ': SEGMENT RESET AT 0FFFFh, JMP FAR start, ENDS')
-        ]
+        call = next(((line, code_of(line.text).strip()) for line in run.listing.lines if CALLED.search(code_of(line.text))), None)
+        if call:
+            return found + teller.tell('bare call', line=call[0].number, code=call[1], services=f'{tool("try")} --services')
+        reset = "is a ROM's file loaded at its own address?" if run.files.is_hex else 'SEGMENT RESET AT 0FFFFh, JMP FAR start, ENDS'
+        return found + teller.tell('no reset', instead=reset)
     line = run.listing.at.get(address)
-    is_meant = line is not None and "'" not in code_of(line.text) or not run.listing.lines
-    lines += of_changed_code(run, address, octets) or [f'hint: {hint}' for hint in [later(octets)] if hint and is_meant]
-    lines.append(f'the last instruction before: {text_of(run.trail[-1])}')
-    if not is_led and octets[:2] == b'\xFF\xFF' and run.region(address) and not run.has(address):
-        lines.append('hint: FFh is read where no image and no RAM is: the program ran past its end, or jumped astray; HLT ends it')
-    return lines
+    changed = of_changed_code(teller, line, octets) if line else []
+    what = later(octets) if line is not None and "'" not in code_of(line.text) or not run.listing.lines else None
+    found += changed or (teller.tell('later processor', what=what) if what else [])
+    found += teller.tell('last before', row=text_of(run.trail[-1]))
+    is_past = not is_led and octets[:2] == b'\xFF\xFF' and run.region(address) and not run.has(address)
+    return found + (teller.tell('past the end') if is_past else [])
 
 
 def text_of(event: Event) -> str:
@@ -130,99 +124,271 @@ def text_of(event: Event) -> str:
     return f'{event.clock} {event.segment:04X}:{event.offset:04X} {event.octets.hex().upper()} {event.text}'.replace('  ', ' ')
 
 
-def of_changed_code(run: Run, address: int, octets: bytes) -> list[str]:
-    """What the source placed where other bytes are now, and which instruction changed the first of these."""
-    line = run.listing.at.get(address)
-    place = next((n for n, (was, now) in enumerate(zip(line.shown, octets)) if was != now), None) if line else None
-    if line is None or place is None:
+def last_change(teller: Teller, condition: str, before: int | None = None) -> Event | None:
+    """What began last before a stop on writes or changes was met last, at the run's end or before a clock."""
+    with ProbeSession(teller.run.files) as session:
+        session.go_to(teller.clock if before is None else before)
+        session.stop(condition)
+        return event_of(session.many('trail')[-1]) if session.one('back stop').startswith('stop') and session.clock else None
+
+
+def of_changed_code(teller: Teller, line: Line, octets: bytes) -> list[Told]:
+    """What the source placed where other bytes are now, and which instruction changed the first of these last."""
+    place = next((n for n, (was, now) in enumerate(zip(line.shown, octets)) if was != now), None)
+    if place is None or not line.address:
         return []
-    text = f'line {line.number} ({code_of(line.text).strip()}): the source placed {line.shown.hex(" ").upper()} there, and the program has changed it'
-    if not run.is_repeated:
-        return [text]
-    with ProbeSession(run.files) as session:
-        session.go_to(run.report.clock)
-        session.stop(f'changes {address + place:X}')
-        _ = session.one('back stop')
-        trail, clock = session.many('trail'), session.clock
-    return [f'{text}: the byte at {address + place:05X}h became {octets[place]:02X}h at clock {clock}, by {run.place(event_of(trail[-1]))}']
+    address = physical(*line.address) + place
+    last = last_change(teller, f'changes {address:05X}')
+    values = {'line': line.number, 'code': code_of(line.text).strip(), 'octets': line.shown.hex(' ').upper()}
+    return teller.tell('changed', last, address=address, value=octets[place], **values) if last else []
 
 
-def of_a_blank(report: Report, session: Talker) -> list[str]:
+def of_a_blank(teller: Teller) -> list[Told]:
     """Text memory that would be seen, if it were shown."""
-    memory = session.dump(TEXT_MEMORY, 2 * ROWS * COLUMNS)
-    if ''.join(report.screen).strip():
+    memory = teller.run.session.dump(TEXT_MEMORY, 2 * ROWS * COLUMNS)
+    if ''.join(teller.run.report.screen).strip():
         return []
-    if any(shown(memory, word) != ' ' for word in range(ROWS * COLUMNS)):
-        return ['text memory has characters and the screen is blank; hint: the video is on once 8 is written to port 3B8h']
-    dark = [word for word in range(ROWS * COLUMNS) if 0x20 < memory[2 * word] <= 0x7E]
-    return (
-        [
-            f'text memory has {chr(memory[2 * dark[0]])!r} at {TEXT_MEMORY + 2 * dark[0]:05X}h with the attribute {memory[2 * dark[0] + 1]:02X}h,'
-            ' which shows nothing',
-            'hint: each character wants its attribute behind it: MOV WORD ES:[0],0748h is H, 07h normal',
-        ]
-        if dark
-        else []
-    )
-
-
-def of_the_services(run: Run) -> list[str]:
-    """What the services have noted, if they are in ROM."""
-    found = left_at(run.session, run.ram_end)
-    return found.remarks() if found else []
-
-
-def of_the_chips(run: Run) -> list[str]:
-    """What keeps an interrupt or a key away."""
-    return facts(chip_lines(run.files, run.report.clock)) if run.is_repeated else []
-
-
-def of_address_zero(run: Run) -> list[str]:
-    """Whether the run came to 0000:0000, where 00 00 stands, and by what."""
-    if not run.is_repeated:
+    seen = next((word for word in range(ROWS * COLUMNS) if shown(memory, word) != ' '), None)
+    dark = next((word for word in range(ROWS * COLUMNS) if 0x20 < memory[2 * word] <= 0x7E), None)
+    at = seen if seen is not None else dark
+    if at is None:
         return []
-    with Session(run.files) as session:
-        session.stop('break 0:0')
-        if not session.go(run.end).startswith('stop') or session.dump(0, 2) != b'\0\0':
-            return []
-        trail = session.many('trail')
-        last, clock = event_of(trail[-1]), session.clock
-    kind, place = vector_of(last), run.place(last)
+    octets = memory[2 * at : 2 * at + 2]
+    values = {'address': TEXT_MEMORY + 2 * at, 'octets': octets.hex(' ').upper()}
+    return teller.tell('video off', **values) if seen is not None else teller.tell('dark', sign=repr(chr(octets[0])), attribute=octets[1], **values)
+
+
+def of_address_zero(teller: Teller, clock: int) -> list[Told]:
+    """By what the run came to 0000:0000, where 00 00 stands."""
+    run = teller.run
+    last = trail_at(run.files, clock)[-1]
+    kind = type_of(last)
     if kind is None:
-        return [
-            f'clock {clock}: {place} led to 0000:0000, where memory is 00 00',
-            A_RETURN,
-        ]
-    name = 'entry' if last.entry is not None else mnemonic(last)[0]
-    said = {
-        'entry': f'at {place} interrupt {kind:02X} came',
-        'DIV': f'{place} has no quotient (the divisor is 0, or the quotient too large), which enters interrupt 0',
-        'INTO': f'{place} enters interrupt 4',
-    }.get(name.removeprefix('I') if name == 'IDIV' else name, f'{place} enters interrupt {kind:02X}')
-    line = line_at(run.listing, last) if last.entry is None else None
-    number = decimal_call(line.text) if line else None
-    an_own = f'the address of a handler goes there: SEGMENT VECTORS AT 0, ORG {4 * kind:X}h, DW own,SEG own, ENDS'
-    hint = of_a_call(number[1]) if number else SERVICES.get(kind, an_own)
-    return [f'clock {clock}: {said}; its vector, at {4 * kind:05X}h, is 0000:0000', f'hint: {hint}']
+        taken = 'a return takes the words pushed last, and zeros where nothing was pushed; HLT ends a program, IRET a handler'
+        return teller.tell('to 0000:0000', last, after=clock, advice=taken if opcode(last) in RETURNS else GOES_ON)
+    what = 'has no quotient (the divisor is 0, or the quotient too large), which enters' if opcode(last) in DIVISIONS else 'enters'
+    place = f'{last.segment:04X}:{last.offset:04X}'
+    does = f'at {place} interrupt {kind:02X} came' if last.entry is not None else f'{run.place(last)} {what} interrupt {kind:02X}'
+    advice = ADVICE.get(kind, f'the address of a handler goes there: SEGMENT VECTORS AT 0, ORG {4 * kind:X}h, DW own,SEG own, ENDS')
+    return teller.tell('empty vector', last, after=clock, does=does, kind=kind, vector=4 * kind, advice=advice)
 
 
-def vector_of(event: Event) -> int | None:
+def type_of(event: Event) -> int | None:
     """The type of the interrupt by which an event led to 0000:0000, if it was by one."""
-    if event.entry is not None:
+    code = opcode(event)
+    if event.entry is not None or (event.offset + len(event.octets)) % 0x10000 == 0 and event.segment == 0:
         return event.entry
-    name, operands = mnemonic(event)
-    if (event.offset + len(event.octets)) % 0x10000 == 0 and event.segment == 0:
-        return None
-    if name == 'INT':
-        return event.octets[-1]
-    return {'INT3': 3, 'INTO': 4, 'DIV': 0, 'IDIV': 0}.get(name)
+    return {0xCC: 3, 0xCE: 4, 0xCD: event.octets[-1]}.get(code, 0 if code in DIVISIONS and event.octets[-1] >> 4 & 3 == 3 or code == 0xD4 else None)
 
 
-def of_zeros(run: Run) -> list[str]:
-    """Whether the last instructions were 00 00, and no ADD of the source."""
-    astray = [is_zeros(run, event) for event in run.trail]
-    count = next((n for n, is_zero in enumerate(reversed(astray)) if not is_zero), len(astray))
-    return [f'the last {count} instructions were 00 00, which is ADD [BX+SI],AL, and what RAM holds at power-on'] if count >= ZEROS else []
+def is_zeros(run: Run, event: Event) -> bool:
+    """Whether an instruction was 00 00, and no ADD of the source."""
+    return event.octets == b'\0\0' and statement_of(line_at(run.listing, event)) != 'ADD'
+
+
+def is_outside(run: Run, event: Event) -> bool:
+    """Whether an instruction was 00 00, or stood where the program has no byte and no RAM is."""
+    return event.entry is None and (is_zeros(run, event) or bool(run.region(event.address)) and not run.has(event.address))
+
+
+def of_zeros(teller: Teller) -> list[Told]:
+    """Zeros at the trail's end."""
+    trail = teller.run.trail
+    count = next((n for n, event in enumerate(reversed(trail)) if not is_zeros(teller.run, event)), len(trail))
+    return teller.tell('zeros', count=count, row=text_of(trail[-1])) if count >= ZEROS else []
+
+
+def way_out(run: Run) -> tuple[Event, Event] | None:
+    """The first step that led out of the program's instructions, as far as the run is looked at, else one by halving."""
+    ends_badly = run.report.state == 'jammed' or bool(run.trail and is_outside(run, run.trail[-1]))
+    for before, event in run.steps if run.listing.lines else []:
+        if event.entry is not None or before.entry is None and not line_at(run.listing, before):
+            continue
+        is_data = statement_of(run.line_over(event.address)) in DATA
+        if is_outside(run, event) or ends_badly and (is_data or not run.has(event.address)):
+            return before, event
+    return by_halving(run) if run.trail and is_outside(run, run.trail[-1]) else None
+
+
+def by_halving(run: Run) -> tuple[Event, Event] | None:
+    """A step to where no instruction of the program is, where the halves of the run tell."""
+    low, high = 0, run.end
+    while high - low > 60:
+        middle = (low + high) // 2
+        trail = trail_at(run.files, middle)
+        low, high = (low, middle) if trail and is_outside(run, trail[-1]) else (middle, high)
+    trail = trail_at(run.files, high)
+    return next(((one, two) for one, two in zip(trail, trail[1:]) if not is_outside(run, one) and is_outside(run, two)), None)
+
+
+def of_astray(teller: Teller) -> list[Told]:
+    """The step that led out of the program's instructions."""
+    run = teller.run
+    found = way_out(run)
+    if found is None:
+        return []
+    before, event = found
+    to, line = f'{event.segment:04X}:{event.offset:04X}', run.line_over(event.address) if run.has(event.address) else None
+    is_jump = before.entry is not None or event.address != physical(before.segment, before.offset + len(before.octets))
+    what = f'line {line.number} ({code_of(line.text).strip()}), {to}' if line else f'{to}, where the program has no byte'
+    place = run.place(before)
+    next_line = f'^{event.clock} start {to} ' if event.clock < teller.clock else ' jammed$'
+    span = min(event.clock, teller.clock - 1) - before.clock + 1
+    advice = '' if opcode(before) in RETURNS or before.entry is not None else f'\nhint: {GOES_ON}'
+    how = f'{place} led to {what}' if is_jump else f'behind {place} came {what}'
+    return teller.tell('astray', before, how=how, span=span, next=Raw(next_line), advice=advice)
+
+
+def of_returns(teller: Teller, ends_badly: bool) -> list[Told]:
+    """Returns to where no CALL stands before, by what wrote the word that they took."""
+    found = list[Told]()
+    for event, after in suspicious(teller.run):
+        found += of_a_return(teller, event, after, ends_badly)
+        if found:
+            break
+    return found
+
+
+def suspicious(run: Run) -> Iterator[tuple[Event, Event]]:
+    """Steps of returns of the source to where no CALL and no INT stands before, and of IRETs that no interrupt came before."""
+    for part in run.parts[:1]:
+        depth = 0
+        for event, after in zip(part.events, part.events[1:]):
+            depth += event.entry is not None or opcode(event) in (0xCC, 0xCD, 0xCE)
+            if opcode(event) == 0xCF:
+                depth -= 1
+                if depth < 0 and line_at(run.listing, event) and run.is_own(event):
+                    yield event, after
+                    depth = 0
+    for event, after in run.steps:
+        if opcode(event) not in RETURNS - {0xCF} or after.entry is not None or not line_at(run.listing, event) or not run.is_own(event):
+            continue
+        octets = run.session.dump(physical(after.segment, (after.offset - 5) % 0x10000), 5)
+        if not (ends_with_call(octets[1:]) or ends_with_call(octets, is_far=True) or octets[-2:-1] == b'\xCD'):
+            yield event, after
+
+
+def of_a_return(teller: Teller, event: Event, after: Event, ends_badly: bool) -> list[Told]:
+    """What a return took: what nothing had written, what an interrupt had pushed, or, if the run ends badly, what something else had."""
+    run, code = teller.run, opcode(event)
+    registers = registers_at(run.files, event.clock)
+    address = physical(registers['SS'], registers['SP'])
+    by = last_change(teller, f'when writes={address:X}-{address:X}', event.clock)
+    if by is None:
+        is_placed = any(run.has(address + at) or address + at in run.image for at in (0, 1))
+        return [] if is_placed else teller.tell('nothing pushed', event, address=address, last=address + 1, segment=registers['SS'])
+    values = {'address': address, 'pushed': by.clock, 'after': by.clock + 1, 'where': text_of(by).split(' ', 1)[1], 'by': run.place(by)}
+    if by.entry is not None and code in (0xC3, 0xCB):
+        return teller.tell('return of an interrupt', event, kind=by.entry, **values)
+    to = f'{after.segment:04X}:{after.offset:04X}'
+    return teller.tell('pushed by', event, to=to, **values) if ends_badly and code != 0xCF and not is_call(by) else []
+
+
+def is_call(event: Event) -> bool:
+    """Whether an instruction calls, or enters an interrupt."""
+    if event.entry is None and opcode(event) == 0xFF:
+        return is_push(event) and event.text.startswith('CALL')
+    return event.entry is not None or opcode(event) in (0xE8, 0x9A, 0xCC, 0xCD, 0xCE)
+
+
+def of_a_division(teller: Teller) -> list[Told]:
+    """The division that ended a program."""
+    run = teller.run
+    events = run.parts[-1].events if run.parts else []
+    last = next((event for event in reversed(events) if opcode(event) in DIVISIONS and run.is_own(event)), None)
+    return teller.tell('division', last, span=1) if last else []
+
+
+def of_an_early_end(teller: Teller) -> list[Told]:
+    """A RET that ended a program, in a routine from which a CALL hasn't returned."""
+    run = teller.run
+    events = run.parts[0].events if run.is_whole else []
+    own = [event for event in events if event.entry is None and run.is_own(event) and line_at(run.listing, event)]
+    if not own or opcode(own[-1]) != 0xC3:
+        return []
+    latest = {event.offset: at for at, event in enumerate(own)}
+    calls = [(target_of(event.octets, (event.segment, event.offset)), at, event) for at, event in enumerate(own) if opcode(event) == 0xE8]
+    within = max((to for to, _, _ in calls if to and to[1] <= own[-1].offset), default=None)
+    call = next((event for to, at, event in reversed(calls) if to == within and latest.get(event.offset + 3, -1) < at), None)
+    return teller.tell('ended within', own[-1], label=run.listing.label_before(*within), by=run.place(call)) if within and call else []
+
+
+def of_a_halt(teller: Teller) -> list[Told]:
+    """A halt with interrupts off where one seems awaited: a jump back stands behind it, a handler's vector is set, and interrupts were
+    never on."""
+    run = teller.run
+    registers, last = run.report.registers, run.trail[-1] if run.trail else None
+    if not is_for_good(run.report) or not last or opcode(last) != 0xF4 or not run.is_whole:
+        return []
+    code, vectors = run.session.dump(physical(registers['CS'], registers['IP']), 2), run.session.dump(0x20, 0x20)
+    back = code[1] - 256 if len(code) == 2 and code[0] == 0xEB else 0
+    has_set = any(opcode(event) in SETS_IF for event in run.parts[0].events)
+    return teller.tell('halted with interrupts off', last) if -NEAR <= back <= -3 and any(vectors) and not has_set else []
+
+
+def of_code_in_the_stack(teller: Teller) -> list[Told]:
+    """Instructions of the source just below or at SS:SP over which something was pushed last."""
+    run = teller.run
+    registers = run.report.registers
+    top = physical(registers['SS'], registers['SP'])
+    for address, line in sorted(run.listing.at.items()):
+        if not (top - NEAR <= address <= top + 1 and line.shown and address < run.ram_end) or statement_of(line) in (*DATA, ''):
+            continue
+        if run.session.dump(address, len(line.shown)) == line.shown:
+            continue
+        by = last_change(teller, f'changes {address:05X} {len(line.shown)}')
+        if by and is_push(by):
+            most, times, perhaps = most_pushed(run, by.clock)
+            values = {'line': line.number, 'code': code_of(line.text).strip(), 'most': most, 'times': times, 'perhaps': perhaps}
+            return teller.tell('over code', by, address=address, size=len(line.shown), **values)
+    return []
+
+
+def most_pushed(run: Run, clock: int) -> tuple[str, str, str]:
+    """Which line had pushed most often by a clock, how often, and what that may mean."""
+    most = (0, 'nothing')
+    with ProbeSession(run.files) as session:
+        for row in session.happenings(f'counts {clock + 1}'):
+            place, times = row.split()[0], row.split()[-2]
+            line = run.listing.at.get(physical(*(int(word, 16) for word in place.split(':')))) if ':' in place else None
+            if line and line.address and is_push(Event(0, *line.address, line.shown, '', None)):
+                most = max(most, (int(times), f'line {line.number} ({code_of(line.text).strip()})'))
+    advice = f'{most[1]} is never undone: each PUSH has its POP, each CALL its RET' if most[0] > FEW else 'SP begins too low: it begins at the end of its room'
+    return most[1], f'{most[0]:,}', advice
+
+
+def of_lost_writes(teller: Teller) -> list[Told]:
+    """What is written, or pushed, where it is lost, of each instruction once."""
+    run, found, known = teller.run, list[Told](), set[tuple[object, ...]]()
+    is_over = is_for_good(run.report) or run.report.state == 'jammed'
+    for part in run.parts:
+        for at, address, _ in part.writes:
+            event, wrong = part.events[at] if at >= 0 else None, run.region(address)
+            if not event or not wrong or event[1:] in known or not (is_over or run.is_first(event)) or not run.is_own(event):
+                continue
+            if run.listing.lines and event.entry is None and not run.has(event.address):
+                continue
+            known.add(event[1:])
+            if len(found) < 3:
+                does, advice = ('pushes to', FOR_A_STACK) if is_push(event) else ('writes to', IN_RAM)
+                found += teller.tell('lost write', event, address=address, does=does, wrong=wrong, advice='' if found else advice)
+                found += of_direction(teller, event) + of_a_count(teller, event) if len(found) == 1 else []
+    return found
+
+
+def of_direction(teller: Teller, event: Event) -> list[Told]:
+    """A string instruction that goes downward."""
+    flags = registers_at(teller.run.files, event.clock)['FL'] if opcode(event) in STRINGS else 0
+    return teller.tell('downward', event, flags=flags) if flags & DF else []
+
+
+def of_a_count(teller: Teller, event: Event) -> list[Told]:
+    """A loop round an instruction that began with CX 0."""
+    for loop in teller.run.firsts if event.entry is None else []:
+        to = loop.address + 2 + int.from_bytes(loop.octets[-1:], 'little', signed=True)
+        if opcode(loop) == 0xE2 and to <= event.address < loop.address and registers_at(teller.run.files, loop.clock)['CX'] == 0:
+            return teller.tell('count of 0', loop)
+    return []
 
 
 def period_of(trail: list[Event]) -> int:
@@ -233,133 +399,233 @@ def period_of(trail: list[Event]) -> int:
     return next((n for n in range(1, LONGEST_LOOP + 1) if places[n:] == places[:-n]), 0)
 
 
-def of_a_loop(run: Run) -> list[str]:
-    """Whether the same few instructions come in turn, and what leads out of them, where that can be read off."""
+def of_a_loop(teller: Teller) -> list[Told]:
+    """Whether the same few instructions come in turn, of which one jumps by a condition, and what leads out of them."""
+    run = teller.run
     period = period_of(run.trail) if run.report.state == 'running' else 0
-    if not period:
+    turn = sorted(run.trail[-period:], key=lambda event: (event.segment, event.offset)) if period else []
+    if not any(map(is_conditional, turn)) or is_left(run, turn):
         return []
-    turn, is_one = sorted(run.trail[-period:], key=lambda event: (event.segment, event.offset)), period == 1
-    if is_one and mnemonic(turn[0])[0] == 'JMP' or is_left(run.files, run.report, turn):
+    values = {'count': period, 'rows': '\n'.join(f'  {run.place(event)}' for event in turn)}
+    is_still = all(opcode(event) in STILL or is_compared(event) or opcode(event) in READS for event in turn)
+    ports = ports_of(run, turn)
+    if is_still and not ports and not run.report.registers['FL'] & (IF | TF) and (registers := of_a_round(run, period)):
+        steps = '\n'.join(['step'] * (period + 1))
+        return teller.tell('no way out', row=text_of(run.trail[-1]), steps=steps, registers=registers, **values)
+    on = ', or an interrupt' if run.report.registers['FL'] & IF else ''
+    rest = f'\nnothing leads out but what port {next(iter(ports)):02X}h reads{on}' if is_still and len(ports) == 1 else ''
+    return teller.tell('waits', rest=rest, **values) + of_a_port(teller, ports)
+
+
+def is_left(run: Run, turn: list[Event]) -> bool:
+    """Whether the run leaves a loop of these instructions within a second, with one more key typed: to where one of its conditional jumps
+    leads out, or into an interrupt."""
+    clock, places = run.report.clock, {(event.segment, event.offset) for event in turn}
+    if clock + A_SECOND > LAST_CLOCK:
+        return False
+    ways = {(event.segment, (event.offset + len(event.octets)) % 0x10000) for event in turn if is_conditional(event)}
+    ways |= {way for event in turn if is_conditional(event) for way in [target_of(event.octets, (event.segment, event.offset))] if way}
+    with ProbeSession(run.files) as session:
+        session.go_to(clock)
+        for command in (
+            f'key {SPACE:X} {clock + 1000}',
+            f'key {SPACE + 0x80:X} {clock + 20_000}',
+            *('break %X:%X' % way for way in sorted(ways - places)[:15]),
+        ):
+            session.one(command)
+        if run.report.registers['FL'] & IF:
+            session.stop('when entries')
+        return session.go(A_SECOND).startswith('stop')
+
+
+def is_conditional(event: Event) -> bool:
+    """Whether an instruction jumps by a condition."""
+    return 0x70 <= opcode(event) < 0x80 or 0xE0 <= opcode(event) < 0xE4
+
+
+def is_compared(event: Event) -> bool:
+    """Whether an instruction compares or tests a number and memory or a register."""
+    code, at = opcode(event), event.octets.index(opcode(event)) + 1
+    digit = event.octets[at] >> 3 & 7 if at < len(event.octets) else -1
+    return 0x80 <= code <= 0x83 and digit == 7 or code in (0xF6, 0xF7) and digit == 0
+
+
+def ports_of(run: Run, turn: list[Event]) -> set[int]:
+    """The ports that these instructions read."""
+    return {run.report.registers['DX'] if opcode(event) in (0xEC, 0xED) else event.octets[-1] for event in turn if opcode(event) in READS}
+
+
+def of_a_round(run: Run, period: int) -> str | None:
+    """The first line of registers at the run's end, if a round later all are what they are then."""
+    with ProbeSession(run.files) as session:
+        session.go_to(run.report.clock)
+        session.one('step')
+        first = session.many('regs')
+        for _ in range(period):
+            session.one('step')
+        return first[0] if session.many('regs') == first else None
+
+
+def of_a_port(teller: Teller, ports: set[int]) -> list[Told]:
+    """A port that a loop reads, where nothing answers."""
+    port, first = next(iter(ports - PORTS), None), max(0, teller.clock - 2000)
+    return [] if port is None else teller.tell('no port', port=port, first=first, span=teller.clock - first)
+
+
+def of_the_source(teller: Teller) -> list[Told]:
+    """What lines that ran do, and are hardly meant to."""
+    those = (of_segments, of_near_jumps, of_doubts, of_vectors, of_ports, of_scan_codes, of_words_from_bytes)
+    return [one for of in those for one in of(teller)]
+
+
+def loads(listing: Listing, register: str) -> bool:
+    """Whether a line of the source loads a segment register."""
+    wanted = rf'\bMOV\s+{register}\s*,|\bPOP\s+{register}\b|\bL{register}\b'
+    return any(re.search(wanted, code_of(line.text), re.I) for line in listing.lines)
+
+
+def of_segments(teller: Teller) -> Iterator[Told]:
+    """DS and ES that nothing has loaded, or that are wrong at the end."""
+    run, registers = teller.run, teller.run.report.registers
+    for register in ('DS', 'ES'):
+        if registers[register] == 0xB800:
+            yield from teller.tell('colour memory', register=register)
+        elif registers[register] == 0x0B00:
+            yield from teller.tell('a nought too few', register=register)
+    labels = {name.upper(): (name, at) for name, at in run.listing.labels.items() if at[0]}
+    if not registers['DS'] and not loads(run.listing, 'DS'):
+        for event in run.firsts:
+            found = re.search(r'\[(?:[^\]:]*\+)?\s*([A-Za-z_]\w*)\s*[\]+]', code_of(line_of(run, event)))
+            name, at = labels.get(found[1].upper(), ('', (0, 0))) if found else ('', (0, 0))
+            if name and opcode(event) != 0x8D and not re.search(r'\bBP\b|\b[ECS]S\s*:', code_of(line_of(run, event)), re.I):
+                yield from teller.tell('data segment', event, label=name, target=f'{at[0]:04X}:{at[1]:04X}')
+                break
+    if not registers['ES'] and run.listing.lines and not loads(run.listing, 'ES') and not teller.is_ended:
+        string = next((event for event in run.firsts if opcode(event) in STRINGS), None)
+        yield from teller.tell('extra segment', string) if string else []
+
+
+def line_of(run: Run, event: Event) -> str:
+    """An instruction's line."""
+    line = line_at(run.listing, event)
+    return line.text if line else ''
+
+
+def of_near_jumps(teller: Teller) -> Iterator[Told]:
+    """A near jump to a label of another segment."""
+    run = teller.run
+    for event in run.firsts:
+        found = re.search(r'\b(?:JMP|CALL)\s+([A-Za-z_]\w*)\s*$', code_of(line_of(run, event)), re.I) if opcode(event) in (0xE9, 0xE8) else None
+        at = run.listing.label_of(found[1]) if found else None
+        to = target_of(event.octets, (event.segment, event.offset))
+        if found and at and to and physical(*at) != physical(*to):
+            yield from teller.tell('near jump', event, segment=event.segment, label=found[1], target=f'{at[0]:04X}:{at[1]:04X}')
+
+
+def of_doubts(teller: Teller) -> Iterator[Told]:
+    """Lines that ran of which editors warn."""
+    ran = {line.number for event in teller.run.firsts for line in [line_at(teller.run.listing, event)] if line}
+    for doubt in doubts([line.text for line in teller.run.listing.lines]):
+        if doubt.line + 1 in ran:
+            yield from teller.tell('doubt', text=doubt.text, line=doubt.line + 1)
+
+
+def of_vectors(teller: Teller) -> Iterator[Told]:
+    """A far pointer among the vectors that is none of them."""
+    for line in teller.run.listing.lines:
+        address = physical(*line.address) if line.address else 0x400
+        if address < 0x400 and address % 4 and re.search(r'\bDW\s+\w+\s*,\s*SEG\s', code_of(line.text), re.I):
+            yield from teller.tell("vector's place", line=line.number, code=code_of(line.text).strip(), address=address)
+            break
+
+
+def of_ports(teller: Teller) -> Iterator[Told]:
+    """A port that the program reads, and where nothing answers."""
+    known = set[int]()
+    for part in teller.run.parts:
+        for at, port, value in part.reads:
+            event = part.events[at] if at >= 0 else None
+            if event and value == 0xFF and port not in PORTS | known and teller.run.is_own(event):
+                known.add(port)
+                yield from teller.tell('unanswered port', event, port=port)
+
+
+def of_scan_codes(teller: Teller) -> Iterator[Told]:
+    """The code of a key that is written as a character soon after it was read."""
+    keys = names()
+    for part in teller.run.parts:
+        writes = {(at, value): address for at, address, value in part.writes if TEXT <= address <= TEXT_END and address % 2 == 0}
+        for at, port, code in part.reads:
+            behind = range(at, min(at + SOON, len(part.events))) if port == 0x60 and code in keys else ()
+            kept = takewhile(lambda n: opcode(part.events[n]) not in LOADS_AL, behind)
+            place = next((n for n in kept if (n, code) in writes or is_digit(teller.run, part.events[n], code)), None)
+            if place is not None and teller.run.is_own(part.events[place]):
+                by = teller.run.place(part.events[at])
+                yield from teller.tell('scan code', part.events[place], code=code, key=keys[code], by=by)
+                return
+
+
+def is_digit(run: Run, event: Event, code: int) -> bool:
+    """Whether an instruction takes '0' from a code in AL that is less."""
+    return event.octets == b'\x2C\x30' and code < 0x30 and registers_at(run.files, event.clock)['AX'] & 0xFF == code
+
+
+def block_at(run: Run, address: int) -> tuple[Line, int] | None:
+    """The line of DB that begins at an address, of three numbers or more, and the end of its bytes and of those of DB below it."""
+    line = run.listing.at.get(address)
+    if line is None or statement_of(line) != 'DB' or re.search(r"'|\bDUP\b", code_of(line.text), re.I) or code_of(line.text).count(',') < 2:
+        return None
+    below = list(takewhile(lambda row: statement_of(row) == 'DB', run.listing.lines[line.number - 1 :]))
+    behind = run.listing.lines[line.number - 1 + len(below) :]
+    return next(((line, physical(*row.address)) for row in behind if row.address), None)
+
+
+def of_words_from_bytes(teller: Teller) -> Iterator[Told]:
+    """An instruction that reads words from a line of DB on, and past its end."""
+    run = teller.run
+    for event in run.firsts:
+        by = BY_FORM.get(event.octets[-1] & 0xC7) if opcode(event) == 0x8B else None
+        name = 'SI' if opcode(event) in (0xA5, 0xA7, 0xAD) else by
+        reached = (physical(at['DS'], at[name]) for at in run.registers_often(event)) if name else iter(())
+        block = block_at(run, next(reached, -1))
+        far = block and next((at for at in reached if block[1] + 2 <= at < 2 * block[1] + 2 - physical(*block[0].address or (0, 0))), None)
+        if block and far:
+            yield from teller.tell('words from bytes', event, line=block[0].number, address=far)
+            return
+
+
+def of_the_chips(teller: Teller) -> list[Told]:
+    """What keeps an interrupt or a key away, a second later too."""
+    run = teller.run
+    if is_for_good(run.report) or run.report.state == 'jammed' or teller.clock + A_SECOND > LAST_CLOCK:
         return []
-    lines = ['the last 32 instructions were the same one:' if is_one else f'the last 32 instructions were the same {period} in turn:']
-    lines += [f'  {run.place(event)}' for event in turn]
-    return lines + (of_a_port(run, turn) or of_an_endless_loop(run, turn))
+    chips = Chips.of(run.session.many('chips'))
+    base = int(chips.value('controller', 'vector'), 16) & 0xF8
+    vectors = run.session.dump(4 * base, 32) if chips.controller.is_ready else bytes(32)
+    has_vector = [any(vectors[4 * level : 4 * level + 4]) for level in range(8)]
+    found = list[Told]()
+    for name, values in of_chips(chips, lambda kind: ends_before(run.files, teller.clock, kind)):
+        found += of_a_chip(teller, name, values | {'kind': base + int(values.get('level', 0))}, chips, has_vector)
+    is_awaited = chips.is_halted and chips.is_open and has_vector[1] and not chips.controller.masked & 2 and not run.mark
+    if is_awaited and not read_run_file(run.files.run_file).get('keys'):
+        found += teller.tell('no key', keys=f"{tool('try')} --keys 'text' types")
+    return found
 
 
-def of_a_port(run: Run, turn: list[Event]) -> list[str]:
-    """The one port that a loop reads, where nothing else in it changes from round to round."""
-    ins = [event for event in turn if mnemonic(event)[0] == 'IN']
-    ports = {run.report.registers['DX'] if event.octets[-1] in (0xEC, 0xED) else event.octets[-1] for event in ins}
-    if len(ports) != 1 or any(event.text.startswith('IN AX') for event in ins) or not all(is_steady(event) or event in ins for event in turn):
+def of_a_chip(teller: Teller, name: str, values: dict[str, Any], chips: Chips, has_vector: list[bool]) -> list[Told]:
+    """One fact of the chips, if the program wants it otherwise."""
+    wants_keys = has_vector[1] and not chips.controller.masked & 2
+    if name == 'masked' and chips.controller.masked != 0xFF:
+        return teller.tell('masked, others not', **values) if has_vector[values['level']] and not has_entered(teller) else []
+    if name == 'no count' and not (has_vector[0] and not has_entered(teller)) or name == 'keys' and not wants_keys:
         return []
-    port, off = ports.pop(), not run.report.registers['FL'] & IF
-    lines = [f'nothing leads out but what port {port:02X}h reads{"" if off else ", or an interrupt"}']
-    return lines + ([] if port in PORTS else [f'nothing answers at port {port:02X}h: it always reads FFh'])
-
-
-def is_steady(event: Event) -> bool:
-    """Whether an instruction does the same in each round, whatever the round before did."""
-    name, operands = mnemonic(event)
-    first, _, second = operands.partition(',')
-    if name in ('CMP', 'TEST', 'NOP', 'JMP') or name.startswith('J') and name != 'JCXZ':
-        return not first.startswith('FAR')
-    is_number = bool(re.fullmatch(r'[0-9A-F]+h', second))
-    return '[' not in first and first not in ('DX', 'DL', 'DH') and is_number and name in ('MOV', 'AND', 'OR')
-
-
-def is_inner(event: Event) -> bool:
-    """Whether an instruction changes registers and flags alone, and never leads away but by a near jump."""
-    name, operands = mnemonic(event)
-    first, _, second = operands.partition(',')
-    if name in READERS or name.startswith('J'):
-        return not first.startswith('FAR')
-    return name in INNER and not first.endswith(']') and not (name == 'XCHG' and second.endswith(']'))
-
-
-def of_an_endless_loop(run: Run, turn: list[Event]) -> list[str]:
-    """Whether nothing changes from round to round, and nothing can come between: then the run never ends."""
-    if run.report.registers['FL'] & (IF | TF) or not all(map(is_inner, turn)):
+    if name == 'initialisation' and chips.value('controller', 'IC4') == '0' and chips.controller.awaited == 'none':
         return []
-    if run.session.clock + 1000000 > LAST_CLOCK:
-        return []
-    run.session.one('step')
-    begun, first = run.session.clock, run.session.many('regs')
-    for _ in range(TRAIL - 1):
-        run.session.one('step')
-        if run.session.many('regs') == first:
-            since = [event for event in map(event_of, run.session.many('trail')) if event.clock >= begun]
-            return (
-                ['they write nothing, the registers are the same each time round, and interrupts are off: nothing leads out']
-                if len(since) < TRAIL and all(map(is_inner, since))
-                else []
-            )
-    return []
+    return teller.tell(name, **values)
 
 
-def of_a_halt(run: Run) -> list[str]:
-    """A halt with interrupts off where one seems awaited: a jump back stands behind it, and a handler's vector is set."""
-    registers = run.report.registers
-    if run.report.state != 'halted' or registers['FL'] & (IF | TF) or not run.trail:
-        return []
-    code, vectors = run.session.dump(physical(registers['CS'], registers['IP']), 2), run.session.dump(0x20, 0x20)
-    back = code[1] - 256 if len(code) == 2 and code[0] == 0xEB else 0
-    if mnemonic(run.trail[-1])[0] != 'HLT' or not -NEAR <= back <= -3 or not any(vectors):
-        return []
-    text = f'{run.place(run.trail[-1])} has halted the processor with interrupts off: nothing wakes it, and the jump back behind it' " isn't reached"
-    return [text, *of_a_handler(run)]
-
-
-def of_a_handler(run: Run) -> list[str]:
-    """Why IF is 0: an interrupt set it so, and no IRET has ended its handler; or nothing has set it to 1."""
-    since = list(takewhile(lambda event: mnemonic(event)[0] not in SETTERS, reversed(run.walk[-1])))
-    entry = next((n for n, event in enumerate(since) if event.entry is not None), None)
-    if entry is not None:
-        begun = since[entry]
-        ended = return_of(since[:entry][::-1])
-        cause = f'{run.place(ended)} ended its handler and left CS and the flags on the stack' if ended else 'no IRET has set it again'
-        return [f'clock {begun.clock}: interrupt {begun.entry:02X} set IF to 0, and {cause}', 'hint: IRET ends a handler']
-    if any(mnemonic(event)[0] in SETTERS for part in run.walk for event in part):
-        return []
-    return ['hint: STI lets interrupts in, before the HLT']
-
-
-def return_of(handler: list[Event]) -> Event | None:
-    """The RET that took what the entry of an interrupt had pushed: one that no CALL of the handler's goes before."""
-    depth = 0
-    for event in handler:
-        name = mnemonic(event)[0]
-        if name in ('RET', 'RETF') and not depth:
-            return event
-        depth += (name == 'CALL') - (name in ('RET', 'RETF'))
-    return None
-
-
-def of_colour_memory(run: Run) -> list[str]:
-    """B800h in a segment register."""
-    names = [name for name in ('DS', 'ES') if run.report.registers[name] == 0xB800]
-    return (
-        [
-            f'{" and ".join(names)} {"is" if len(names) == 1 else "are"} B800h, and no colour adapter is here: from B1000h to EFFFFh nothing answers,'
-            ' and writes are lost',
-            'hint: monochrome text memory begins at paragraph 0B000h',
-        ]
-        if names
-        else []
-    )
-
-
-def of_code_in_the_stack(run: Run) -> list[str]:
-    """Instructions of the source just below or at SS:SP whose bytes have changed."""
-    top = physical(run.report.registers['SS'], run.report.registers['SP'])
-    for address, line in sorted(run.listing.at.items()):
-        if not (top - NEAR <= address <= top + 1 and line.shown and address < run.ram_end) or statement_of(line) in ('DB', 'DW', 'DD', ''):
-            continue
-        memory = run.session.dump(address, len(line.shown))
-        if memory != line.shown:
-            registers, was, now = run.report.registers, line.shown.hex(' ').upper(), memory.hex(' ').upper()
-            return [
-                f'line {line.number} ({code_of(line.text).strip()}): the source placed {was} at {address:05X}h, and memory holds {now};'
-                f' SS:SP is {registers["SS"]:04X}:{registers["SP"]:04X}',
-                'hint: the stack runs into code: it grows down, so SP begins at the end of its room',
-            ]
-    return []
+def has_entered(teller: Teller) -> bool:
+    """Whether an interrupt was ever taken."""
+    with ProbeSession(teller.run.files) as session:
+        session.stop('when entries')
+        return session.go(teller.clock).startswith('stop')

@@ -123,6 +123,11 @@ def served_of(files: Files, clock: int) -> Served | None:
         return left_at(session, 1024 * ram if isinstance(ram, int) else 0, ended)
 
 
+def mark_of(ram_end: int) -> int:
+    """Where the services note that the program runs, or how it ended (the phase)."""
+    return ram_end - SPAN + KEPT + 2
+
+
 def left_at(session: Talker, ram_end: int, ended: int | None = None) -> Served | None:
     """What the services left where a session stands, of a program that ended at a clock, or None where they aren't in ROM, or haven't
     begun."""

@@ -1,9 +1,6 @@
-"""A run at its end, and what it did, instruction by instruction: in its first clocks and its last ones, with the registers that an
-instruction found and the memory that it reached."""
+"""A run at its end, and what happened in its first clocks and its last ones, as `events` of pcprobe tells it."""
 from __future__ import annotations
 
-import contextlib
-import functools
 import re
 from bisect import bisect_right
 from dataclasses import dataclass, field
@@ -11,25 +8,24 @@ from functools import cached_property
 from typing import Iterator, Protocol
 
 from toolbox.comments import handed
-from toolbox.events import events
 from toolbox.listing import Line, Listing, code_of, physical
-from toolbox.places import Event, event_of, is_repeated, line_at
-from toolbox.program import LAST_CLOCK, Files, Session, answer_of
+from toolbox.places import Event, event_of, line_at
+from toolbox.program import Files, ProbeSession, answer_of
 from toolbox.report import Report, registers_of
 from toolbox.symbols import image_of
 
 FIRST, LAST = 50_000, 5_000  # the clocks that are looked at
+REACH = 100_000_000  # so many clocks are made again, and of a longer run all
+MOST_STARTS, SAMPLE = 5_000_000, 1_000_000  # if about so few instructions begin after them, by those that do in so many clocks
+OFTEN = 64  # so many times an instruction is looked at
 LONG, LONGEST = 1000, 2_000_000  # no instruction takes so many clocks, and no repeated one
 WAKES = 0x300  # IF and TF
-AT_ONCE = 24  # so many registers are asked for together
-ROM, TEXT, TEXT_END = 0xF0000, 0xB0000, 0xB0FFF
-PREFIX = re.compile(r'^(?:(?:LOCK|REPN?[EZ]?|[ECSD]S:) )*')
+ROM, TEXT, TEXT_END, SERVICES = 0xF0000, 0xB0000, 0xB0FFF, 0xF6000
 DATA = ('DB', 'DW', 'DD')
-# What writes its first operand, what names memory and doesn't reach it, and what pushes.
+# What writes its first operand.
 WRITERS = set('MOV ADD ADC SUB SBB AND OR XOR INC DEC NEG NOT SHL SAL SHR SAR ROL ROR RCL RCR XCHG POP'.split())
-UNREACHED = {'LEA', 'ESC', 'NOP'}
-PUSHES = {'PUSH', 'PUSHF', 'CALL', 'INT', 'INT3'}
-STRINGS = re.compile('(MOVS|STOS|LODS|CMPS|SCAS)[BW]')
+PREFIXES = b'\x26\x2E\x36\x3E\xF0\xF2\xF3'
+RETURNS, CALLS, PUSHES = {0xC2, 0xC3, 0xCA, 0xCB, 0xCF}, {0xE8, 0x9A}, {0x06, 0x0E, 0x16, 0x1E, 0x9C, *range(0x50, 0x58)}
 
 
 class Talker(Protocol):
@@ -49,146 +45,144 @@ class Talker(Protocol):
         """Bytes from a physical address on."""
 
 
-@dataclass(frozen=True)
-class Access:
-    """Memory that an instruction reaches: `read`, `write` or `push`, through which segment register, where, how many bytes."""
-
-    kind: str
-    name: str
-    segment: int
-    offset: int
-    size: int
-
-    @property
-    def address(self) -> int:
-        """The physical address."""
-        return physical(self.segment, self.offset)
-
-
-def mnemonic(event: Event) -> tuple[str, str]:
-    """An instruction's mnemonic and operands, without prefixes."""
-    return parts_of_text(event.text)
-
-
-@functools.lru_cache(1 << 14)
-def parts_of_text(text: str) -> tuple[str, str]:
-    """An instruction's mnemonic and operands, by its text."""
-    name, _, operands = PREFIX.sub('', text, count=1).partition(' ')
-    return name, operands
-
-
 def statement_of(line: Line | None) -> str:
     """The first word of a line's statement."""
     found = re.match(r'\s*(?:\w+\s*:(?!\s*\[))?\s*(?:(?:LOCK|REPN?[EZ]?|[ECSD]S:)\s*)*(\w+)', code_of(line.text), re.I) if line else None
     return found[1].upper() if found else ''
 
 
-def accesses_of(event: Event, registers: dict[str, int]) -> list[Access]:
-    """The memory that an instruction reaches, or the entry of an interrupt, with the registers that it finds."""
-    name, operands = mnemonic(event)
-    found = list[Access]()
-    if event.entry is not None or name in PUSHES:
-        found.append(Access('push', 'SS', registers['SS'], (registers['SP'] - 2) % 0x10000, 2))
-    if event.entry is not None:
-        return found
-    own = (re.findall(r'([ECSD]S):', event.text) or [''])[-1]
-    if STRINGS.fullmatch(name):
-        return [] if 'REP' in event.text.partition(name)[0] and not registers['CX'] else of_a_string(name, own, registers)
-    inside = re.search(r'\[([^\]]*)\]', operands)
-    if inside and name not in UNREACHED:
-        segment = own or ('SS' if 'BP' in inside[1] else 'DS')
-        terms = [registers[term] if term in registers else int(term.rstrip('h'), 16) for term in inside[1].split('+')]
-        is_written = name in WRITERS and ('[' in operands.partition(',')[0] or name == 'XCHG')
-        size = 1 if re.search(r'\bBYTE\b|\b[ABCD][HL]\b', operands) and 'WORD' not in operands else 2
-        found.append(Access('write' if is_written else 'read', segment, registers[segment], sum(terms) % 0x10000, size))
-    return found
+def opcode(event: Event) -> int:
+    """The first byte of an instruction behind its prefixes; of an entry, or a jam, -1."""
+    return next((octet for octet in event.octets if octet not in PREFIXES), -1) if event.entry is None else -1
 
 
-def of_a_string(name: str, own: str, registers: dict[str, int]) -> list[Access]:
-    """The memory that a string instruction reaches at first."""
-    size, what, source = (2 if name.endswith('W') else 1), name[:4], own or 'DS'
-    found = [Access('read', source, registers[source], registers['SI'], size)] if what in ('MOVS', 'LODS', 'CMPS') else []
-    if what != 'LODS':
-        found.append(Access('write' if what in ('MOVS', 'STOS') else 'read', 'ES', registers['ES'], registers['DI'], size))
-    return found
+def is_push(event: Event) -> bool:
+    """Whether it pushes: by PUSH, CALL, INT, or as an entry."""
+    code, form = opcode(event), event.octets[-1:]
+    if code == 0xFF:
+        form = event.octets[event.octets.index(0xFF) + 1 :][:1]
+        return bool(form) and form[0] >> 3 & 7 in (2, 3, 6)
+    return event.entry is not None or code in CALLS | PUSHES or code in (0xCC, 0xCD, 0xCE)
+
+
+@dataclass
+class Part:
+    """What happened in some clocks without a gap: what began, and which of it wrote where, and read which port."""
+
+    events: list[Event] = field(default_factory=list)
+    writes: list[tuple[int, int, int]] = field(default_factory=list)  # which event, where, and what
+    reads: list[tuple[int, int, int]] = field(default_factory=list)  # so too, from which port
+
+    @staticmethod
+    def of(lines: list[bytes]) -> Part:
+        """What these lines of `events` tell."""
+        part, known = Part(), dict[bytes, tuple[int, int, bytes, str, int | None] | tuple[str, int, int]]()
+        for line in lines:
+            clock, _, rest = line.partition(b' ')
+            what = known.get(rest) or known.setdefault(rest, read(rest))
+            if len(what) == 5:
+                part.events.append(Event(int(clock), *what))
+            elif what[0] == 'write':
+                part.writes.append((len(part.events) - 1, what[1], what[2]))
+            elif what[0] == 'in':
+                part.reads.append((len(part.events) - 1, what[1], what[2]))
+        return part
+
+
+def read(rest: bytes) -> tuple[int, int, bytes, str, int | None] | tuple[str, int, int]:
+    """What a line tells behind its clock."""
+    kind, *words = rest.decode('ascii').split()
+    if kind == 'start':
+        segment, _, offset = words[0].partition(':')
+        return int(segment, 16), int(offset, 16), bytes.fromhex(words[1]), '', None
+    if kind == 'entry':
+        return 0, 0, b'', '', int(words[0], 16)
+    return kind, int(words[0], 16), int(words[1], 16)
 
 
 @dataclass
 class Run:
-    """A run at its end: report, trail, the source's lines, RAM's end."""
+    """A run at its end: report, trail, the source's lines, RAM's end. One with services is looked at from where its program begins."""
 
     report: Report
     files: Files
     session: Talker
-    listing: Listing = field(default_factory=Listing)
-    trail: list[Event] = field(default_factory=list)
+    listing: Listing
+    trail: list[Event]
     ram_end: int = 0
-    reach: int = LAST_CLOCK
-    _registers: dict[int, dict[str, int]] = field(default_factory=dict)
-
-    @property
-    def is_repeated(self) -> bool:
-        """Whether the run is short enough to be repeated."""
-        return self.report.clock <= self.reach
+    mark: int = 0  # where the services note that the program runs
 
     @cached_property
-    def walk(self) -> list[list[Event]]:
-        """The events of the first clocks and of the last ones, each without a gap; of Intel HEX, which has no lines, the trail's."""
-        end = self.end
-        if not self.listing.lines or not self.is_repeated:
-            return [self.trail]
-        if end <= FIRST + LAST:
-            return [list(events(self.files, 0, end))]
-        return [list(events(self.files, 0, FIRST)), list(events(self.files, end - LAST, end)) or self.trail]
+    def parts(self) -> list[Part]:
+        """What happened in the first clocks and in the last ones, each without a gap."""
+        kinds, found = f'starts entries ports writes={min(self.ram_end, TEXT):X}-FFFFF', list[Part]()
+        with ProbeSession(self.files) as probe:
+            probe.go_to(self.begun)
+            rest = self.end - probe.clock
+            found.append(Part.of(probe.lines(rest if rest <= FIRST + LAST else FIRST, kinds)))
+            if probe.clock < self.end:
+                probe.go_to(self.end - LAST)
+                found.append(Part.of(probe.lines(LAST, kinds)))
+        return found
+
+    @cached_property
+    def begun(self) -> int:
+        """The clock at which the program began: 0, or when the services had."""
+        if not self.mark:
+            return 0
+        with ProbeSession(self.files) as session:
+            session.stop(f'byte {self.mark:X} 1')
+            session.go(self.end)
+            return session.clock
+
+    @property
+    def is_whole(self) -> bool:
+        """Whether all of the run was looked at."""
+        return len(self.parts) == 1
 
     @cached_property
     def steps(self) -> list[tuple[Event, Event]]:
         """Each event with the one behind it, as it came first; at the end of a run that has jammed, with what it jammed at."""
         found = dict[tuple[object, ...], tuple[Event, Event]]()
-        for part in self.walk:
-            for pair in zip(part, part[1:]):
+        for part in self.parts:
+            for pair in zip(part.events, part.events[1:]):
                 found.setdefault((pair[0][1:], pair[1][1:]), pair)
-        last = self.walk[-1][-1:]
-        if last and self.report.state == 'jammed':
+        if self.report.state == 'jammed' and self.trail:
             segment, offset = self.report.registers['CS'], self.report.registers['IP']
             jam = Event(self.report.clock, segment, offset, self.session.dump(physical(segment, offset), 6), '', None)
-            return [*found.values(), (last[0], jam)]
+            return [*found.values(), (self.trail[-1], jam)]
         return list(found.values())
 
-    @property
+    @cached_property
     def end(self) -> int:
         """A clock behind which nothing begins: the report's, or one soon after the last event, if nothing has come since."""
         last = self.trail[-1] if self.trail else None
-        return min(self.report.clock, last.clock + (LONGEST if is_repeated(last.text) else LONG) if last else 0)
-
-    @property
-    def is_over(self) -> bool:
-        """Whether nothing more comes."""
-        return self.report.state == 'jammed' or self.report.state == 'halted' and not self.report.registers['FL'] & WAKES
+        return min(self.report.clock, last.clock + (LONGEST if 'REP' in last.text else LONG) if last else 0)
 
     @cached_property
-    def moments(self) -> list[Event]:
-        """Of each instruction and each interrupt the first time, and of a run that is over the last."""
-        them = [event for part in self.walk for event in part]
-        first = {(event.address, event.entry, event.octets): event for event in reversed(them)}
-        last = {(event.address, event.entry, event.octets): event for event in them if self.is_over}
-        return sorted({event.clock: event for event in (*first.values(), *last.values())}.values())
-
-    def registers_at(self, them: list[Event]) -> list[tuple[Event, dict[str, int]]]:
-        """Events with the registers that each found, as far as the run can be repeated."""
-        wanted = sorted({event.clock for event in them} - self._registers.keys()) if self.is_repeated else []
-        if wanted:
-            with Session(self.files) as session:
-                for at in range(0, len(wanted), AT_ONCE):
-                    clocks = wanted[at : at + AT_ONCE]
-                    answers = session.trails([b - a for a, b in zip([session.clock, *clocks], clocks)], 'regs')
-                    self._registers |= {clock: registers_of([line.decode('ascii') for line in lines[:2]]) for clock, lines in zip(clocks, answers)}
-        return [(event, self._registers[event.clock]) for event in them if event.clock in self._registers]
+    def _firsts(self) -> dict[tuple[object, ...], Event]:
+        found = dict[tuple[object, ...], Event]()
+        for part in self.parts:
+            for event in part.events:
+                found.setdefault(event[1:], event)
+        return found
 
     @cached_property
-    def reached(self) -> list[tuple[Event, dict[str, int], Access]]:
-        """The memory that the instructions reached at these moments."""
-        return [(event, registers, access) for event, registers in self.registers_at(self.moments) for access in accesses_of(event, registers)]
+    def firsts(self) -> list[Event]:
+        """Each instruction of the source's lines as it began first."""
+        return [event for event in self._firsts.values() if event.entry is None and self.is_own(event) and line_at(self.listing, event)]
+
+    def is_first(self, event: Event) -> bool:
+        """Whether it had not been before, as far as the run is looked at."""
+        return self._firsts[event[1:]].clock == event.clock
+
+    def registers_often(self, event: Event) -> Iterator[dict[str, int]]:
+        """The registers that an instruction found, its first times."""
+        clocks = [one.clock for part in self.parts for one in part.events if one[1:] == event[1:]][:OFTEN]
+        with ProbeSession(self.files) as session:
+            for clock in clocks:
+                session.go_to(clock)
+                yield registers_of(session.many('regs'))
 
     @cached_property
     def image(self) -> set[int]:
@@ -200,6 +194,10 @@ class Run:
     def has(self, address: int) -> bool:
         """Whether the program has a byte at an address."""
         return self.listing.has(address) or address in self.image
+
+    def is_own(self, event: Event) -> bool:
+        """Whether an instruction isn't one of the services."""
+        return not (self.mark and event.address >= SERVICES)
 
     @cached_property
     def _starts(self) -> list[int]:
@@ -214,9 +212,17 @@ class Run:
         """Where an event was, with its source line, or what it did."""
         line = line_at(self.listing, event)
         name = f'{event.segment:04X}:{event.offset:04X}'
-        if line and event.entry is None:
+        if event.entry is not None:
+            return f'interrupt {event.entry:02X}'
+        if line and self.is_own(event):
             return f'line {line.number} ({code_of(line.text).strip()}), {name}'
-        return name if event.entry is not None or not event.text else f'{name} ({event.text})'
+        text = event.text or self.text_at(event)
+        return f'{name} ({text})' if text else name
+
+    def text_at(self, event: Event) -> str:
+        """An instruction's text."""
+        row = trail_at(self.files, event.clock + 1)[-1:] if event.octets else []
+        return row[0].text if row and row[0].clock == event.clock else ''
 
     def region(self, address: int) -> str:
         """What is wrong with writing at an address: nothing, or a clause."""
@@ -227,22 +233,38 @@ class Run:
         return 'and nothing answers there: what is written there is lost' if address > TEXT_END else ''
 
 
-@contextlib.contextmanager
-def at_end(files: Files, report: Report) -> Iterator[Session]:
-    """A session at a run's end. If its first halt is for good, it stands there already: nothing changes behind it but the chips."""
-    if report.state == 'halted' and not report.registers['FL'] & WAKES:
-        with Session(files) as session:
-            session.stop('halted')
-            _ = session.go(report.clock)
-            if not registers_of(session.many('regs'))['FL'] & WAKES:
-                yield session
-                return
-    with Session(files) as session:
-        session.go_to(report.clock)
-        yield session
-
-
-def trail_at(session: Session, clock: int) -> list[Event]:
+def trail_at(files: Files, clock: int) -> list[Event]:
     """The trail at a clock."""
-    session.go_to(clock)
-    return [event_of(line) for line in session.many('trail')]
+    with ProbeSession(files) as session:
+        session.go_to(clock)
+        return [event_of(line) for line in session.many('trail')]
+
+
+def is_for_good(report: Report) -> bool:
+    """Whether the processor has halted, and nothing wakes it."""
+    return report.state == 'halted' and not report.registers['FL'] & WAKES
+
+
+def is_short(session: ProbeSession, clock: int, reach: int) -> bool:
+    """Whether a run up to a clock may be made again: it has no more than `reach` clocks, or waits most of what comes behind them."""
+    if clock <= reach:
+        return True
+    session.go_to(min(reach, clock - SAMPLE))
+    starts = sum(int(row.split()[-2]) for row in session.happenings(f'counts {SAMPLE}')[1:-1])
+    return starts * (clock - reach) // SAMPLE <= MOST_STARTS
+
+
+def go_to_end(session: ProbeSession, report: Report) -> int | None:
+    """Takes a session to a run's end, and returns the first clock at which it was at 0000:0000 where 00 00 stands, if there is one."""
+    session.stop('break 0:0')
+    answer = session.go(report.clock)
+    was = session.clock if answer.startswith('stop') and session.dump(0, 2) == b'\0\0' else None
+    session.go_to(report.clock)
+    return was
+
+
+def registers_at(files: Files, clock: int) -> dict[str, int]:
+    """The registers at a clock."""
+    with ProbeSession(files) as session:
+        session.go_to(clock)
+        return registers_of(session.many('regs'))

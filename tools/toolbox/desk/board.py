@@ -10,7 +10,7 @@ import time
 from dataclasses import dataclass, replace
 from typing import Any, Callable
 
-from toolbox.chips import Chips, facts
+from toolbox.chips import Chips, ends_before, facts
 from toolbox.command import Sorry
 from toolbox.dap.board import ENDS, MOST_BREAKPOINTS, Machine
 from toolbox.data_labels import Datum, labels_of_data, values_of
@@ -20,7 +20,8 @@ from toolbox.disassembly import instructions
 from toolbox.effects import Far
 from toolbox.events import commands
 from toolbox.listing import labels_alone, listing_of, physical
-from toolbox.nowhere import told_of_end
+from toolbox.asking import lines_of
+from toolbox.nowhere import told_of_run
 from toolbox.places import address_of, event_of, far_of, is_repeated, line_at, number_of
 from toolbox.program import LAST_CLOCK, Files, path
 from toolbox.report import REGISTERS, Report, report_of
@@ -447,7 +448,7 @@ class Board:
     def chips(self) -> Fields:
         """What the chips hold, and what in them keeps an interrupt or a key away."""
         lines = self.machine.chips()
-        return {'lines': lines, 'facts': facts(lines)}
+        return {'lines': lines, 'facts': facts(lines, lambda kind: ends_before(self.files, self.clock, kind))}
 
     def data(self) -> Fields:
         """The program's labels of data, with what memory holds there; of Intel HEX without their lines, which the editor hasn't."""
@@ -460,10 +461,7 @@ class Board:
         """Why the run goes nowhere, if it does, as tools/why tells it of a run up to this clock."""
         clock, registers = self.clock, self.machine.registers()
         report = Report(clock, registers, self._chips().value('processor', 'state'), 0, [], self.machine.many('screen'))
-        try:
-            lines = told_of_end(report, self.files, self.machine, self.listing, REACH)
-        finally:
-            self.machine.go_to(clock)
+        lines = lines_of(told_of_run(report, self.files, self.listing, REACH))
         return {'clock': clock, 'told': lines}
 
     # Stops and keys

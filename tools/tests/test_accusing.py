@@ -1,0 +1,156 @@
+"""No right program is accused, and mistakes are told: random programs that meet their page, beginners' mistakes, and for each row of
+sentences.json a program of which it is told. What is told and no guess, pcprobe answers when it is asked by hand."""
+from __future__ import annotations
+
+import re
+import subprocess
+import unittest
+from functools import cached_property
+
+from tests import right_programs
+from tests.mistaken import MISLEADING, QUIET, TOLD, Mistake
+from tests.right_programs import FIRST_SEED, FORMS, unmarked
+from tests.support import TOOLS, TOP, ToolCase
+
+from toolbox.asking import Told, rows
+from toolbox.guests import Guest, prepared
+from toolbox.nowhere import told_of_run
+from toolbox.program import Files, answer_of
+from toolbox.report import report_of
+from toolbox.runfile import DEFAULTS, text_of
+from toolbox.scancodes import BARE, stamped, strokes_of
+
+COUNT, MOST_QUIET, LEAST_SURE = 60, 46, 20
+SERVED = ('sort', 'melody', 'factorial')
+WITHOUT_KEYS = (('echo', 'ORG 24h', 'ORG 9'), ('echo', 'STI', 'STI'))
+WRONG_CAUSES = re.compile('SP begins|stack runs into code|each PUSH|far jump is missing|a tick is awaited')
+IN_RAM = 'JMP FAR there\nENDS\nSEGMENT CODE AT 50h\nthere: MOV AX,CS\n MOV DS,AX\n MOV SS,AX\n MOV SP,top\n'
+STACK = ' DW 32 DUP(0)\ntop:\n'
+READY = ' MOV AL,13h\n OUT 20h,AL\n MOV AL,8\n OUT 21h,AL\n MOV AL,1\n OUT 21h,AL\n MOV AL,{}\n OUT 21h,AL\n{} STI\nidle: HLT\n JMP SHORT idle\nown: IRET\n'
+COUNTED = ' MOV AL,14h\n OUT 43h,AL\n MOV AL,100\n OUT 40h,AL\n'
+VECTOR = 'ENDS\nSEGMENT VECTORS AT 0\n ORG {:X}h\n DW own,SEG own\n'
+STRING = ' MOV AX,0F000h\n MOV ES,AX\n{} MOV CX,0\nover: STOSB\n LOOP over\n HLT'
+# Rows that no mistake draws, each with a program behind `start:` of which it is told.
+ROWS = {
+    'bare call': 'ENDS\nSEGMENT OTHER AT 60h\n INT 21h\nENDS\nSEGMENT LAST AT 0FFFFh\n DB 0Fh\nENDS\nSEGMENT REST AT 70h\n NOP',
+    'no reset': '',
+    'later processor': ' DB 0Fh,0B6h',
+    'changed': IN_RAM + ' MOV BYTE [next],60h\nnext: NOP\n HLT\n' + STACK,
+    'past the end': ' JMP FAR 0E000h:0',
+    'dark': " MOV AX,0B000h\n MOV ES,AX\n MOV BYTE ES:[4],'A'\n HLT",
+    'zeros': IN_RAM + ' MOV BX,1\n' + STACK,
+    'downward': STRING.format(' STD\n'),
+    'count of 0': STRING.format(''),
+    'no way out': 'over: TEST AL,1\n JZ over',
+    'waits': 'over: IN AL,60h\n CMP AL,1\n JNZ over',
+    'no port': 'over: IN AL,43h\n TEST AL,80h\n JNZ over',
+    'colour memory': ' MOV AX,0B800h\n MOV ES,AX\n HLT',
+    'masked, others not': READY.format(1, COUNTED) + VECTOR.format(0x20),
+    'no count': READY.format(0, '') + VECTOR.format(0x20),
+    'scan code': " MOV AL,99h\n OUT 63h,AL\n MOV AL,40h\n OUT 61h,AL\npoll: IN AL,60h\n TEST AL,AL\n JZ poll\n SUB AL,'0'\n HLT",
+    'words from bytes': IN_RAM + ' MOV SI,list\n MOV CX,4\nmore: LODSW\n LOOP more\n HLT\nlist: DB 3,1,4,1\n' + STACK,
+}
+
+
+class Accusing(ToolCase):
+    """Over the built program."""
+
+    def of_mistake(self, mistake: Mistake) -> list[Told]:
+        """What is told of a mistake."""
+        name, was, written = mistake
+        with open(f'{TOOLS}/tests/mistakes/{name}.asm', encoding='ascii') as file:
+            text = file.read()
+        self.assertIn(was, text)
+        text = text.replace(was, written, 1)
+        if 'bye' in written:
+            text = text.replace('ENDS', "bye:    DB ' bye'" + ('' if 'DX,bye\n        MOV AH' in written else ",'$'") + '\nENDS')
+        if 'tdone' in written:
+            text = text.replace('        POP AX\n        IRET', 'tdone:  POP AX\n        IRET')
+        source = self.file('it.asm', text)
+        keys = stamped(strokes_of('abc', True), *BARE) if name == 'echo' and mistake not in WITHOUT_KEYS else []
+        keys = [[200_000, 6], [220_000, 134]] if 'INT 21h\n        MOV AH,0' in written else keys
+        fields = {'keys': keys, 'budget': 30_000_000 if name == 'clock' else 10_000_000}
+        if name not in SERVED:
+            return self.of_files(Files(source, self.file('it.json', text_of(DEFAULTS | fields))))
+        with prepared(Guest(source, None, True), Files(source, ''), fields) as files:
+            return self.of_files(files)
+
+    def of_files(self, files: Files) -> list[Told]:
+        """What is told of a run. The rows that were told are kept."""
+        found = told_of_run(report_of(answer_of(files.words('run'))), files)
+        self.drawn |= {one.name for one in found}
+        for one in found:
+            self.assertEqual(bool(one.commands), not one.text.startswith('perhaps'), one)
+        return found
+
+    @cached_property
+    def drawn(self) -> set[str]:
+        """The rows that were told."""
+        return set()
+
+    def test_right_programs_draw_nothing(self) -> None:
+        forms, wrong, _ = right_programs.tried(range(FIRST_SEED, FIRST_SEED + COUNT))
+        self.assertEqual(wrong, {})
+        self.assertGreaterEqual(min(forms[form] for form in FORMS) * 10, COUNT, forms)
+
+    def test_mistakes_are_told(self) -> None:
+        """So is each row: what mistakes don't draw, programs of its own do."""
+        sure = 0
+        for mistake, wanted in TOLD:
+            lines = [line for line in '\n'.join(one.text for one in self.of_mistake(mistake)).split('\n') if re.search(wanted, line)]
+            self.assertTrue(lines, mistake)
+            sure += any(unmarked([line]) for line in lines)
+        self.assertGreaterEqual(sure, LEAST_SURE)
+        for mistake in MISLEADING:
+            lines = '\n'.join(one.text for one in self.of_mistake(mistake)).split('\n')
+            self.assertEqual([line for line in unmarked(lines) if WRONG_CAUSES.search(line)], [], mistake)
+        quiet = [mistake for mistake in QUIET if not self.of_mistake(mistake)]
+        self.assertLessEqual(len(quiet), MOST_QUIET, quiet)
+        for name, lines in ROWS.items():
+            source, run = self.program(lines, 3_000_000)
+            if name == 'no reset':
+                source = self.file('bare.asm', 'SEGMENT A AT 0\n NOP\n')
+            if name == 'bare call':
+                source = self.file('bare.asm', 'SEGMENT A AT 0\n INT 21h\n')
+            if name == 'scan code':
+                run = self.file('keys.json', text_of(DEFAULTS | {'budget': 20_000, 'keys': [[2000, 5], [2500, 133]]}))
+            is_hex = name == 'past the end'
+            source = self.file('it.hex', answer_of(['asm', source])) if is_hex else source
+            self.assertIn(name, [one.name for one in self.of_files(Files(source, run, is_hex))])
+        self.drawn |= {'services'}  # which test_services draws
+        self.assertEqual(set(rows()) - self.drawn, set())
+
+    def test_a_user_can_ask_again(self) -> None:
+        """Each command of --how, given to a shell, answers what stands below it."""
+        for lines in (READY.format('0FFh', COUNTED) + VECTOR.format(0x20), IN_RAM + ' MOV BYTE [next],60h\nnext: NOP\n HLT\n' + STACK):
+            source, run = self.program(lines, 200_000)
+            told = [line.removeprefix('why: ') for line in self.tool('why', 'run', source, run, '--how')[1].splitlines()]
+            commands = [at for at, line in enumerate(told) if line.startswith('  $ ')]
+            self.assertTrue(commands)
+            for at in commands:
+                ran = subprocess.run(['sh', '-c', told[at].removeprefix('  $ ')], cwd=TOP, stdout=subprocess.PIPE, text=True, check=True)
+                shown = [line.removeprefix('  ') for line in told[at + 1 : next((end for end in range(at + 1, len(told)) if told[end][:2] != '  '), len(told))]]
+                self.assertEqual([line for line in shown if line != '..'], [line for line in ran.stdout.splitlines() if line in shown])
+
+    def test_the_page_is_the_table_s(self) -> None:
+        self.assertEqual(subprocess.run([f'{TOP}/dev/sentences', '--check'], check=False).returncode, 0)
+        with open(f'{TOP}/docs/why.md', encoding='utf-8') as file:
+            self.assertLessEqual(len(file.read().split()), 1500)
+
+    def test_how_wants_files_that_stay(self) -> None:
+        source, _ = self.program(' HLT')
+        self.assertIn('run.json writes a run file', self.tool('why', 'run', source, '--how', status=2)[1])
+        self.assertIn('--write RUN keeps them', self.tool('try', source, '--how', status=2)[1])
+
+    def test_a_run_that_is_too_long(self) -> None:
+        """It isn't made again, and this is told. One that jams, or waits, is made again whatever its clocks."""
+        source, run = self.program(' JMP start', 10_000_000_000)
+        self.assertIn('why: nothing was asked of this run: of 10,000,000,000 clocks', self.tool('why', 'run', source, run)[1])
+        source, run = self.program(' DB 0Fh', 10_000_000_000)
+        self.assertIn('why: the processor has jammed: F000:0000 has 0F', self.tool('why', 'run', source, run)[1])
+        source, run = self.program(READY.format(0, '') + VECTOR.format(0x20), 10_000_000_000)
+        self.assertIn('perhaps a tick is awaited', self.tool('why', 'run', source, run)[1])
+
+
+if __name__ == '__main__':
+    unittest.main()
