@@ -196,7 +196,7 @@ class Runs(ToolCase):
         source = self.file('no_reset.asm', 'SEGMENT A AT 0\nNOP\n')
         err = self.called('why', 'run', source, run)[1]
         self.assertIn('FFFF:0000 has FF FF', err)
-        self.assertIn("no far jump stands there", err)
+        self.assertIn('perhaps the far jump is missing at which the processor begins', err)
         files = self.program(' NOP\n DB 0Fh', 100)
         self.assertIn('F000:0001 has 0F', self.called('why', 'run', *files)[1])
         files = self.program(' MOV AX,0B000h\n MOV ES,AX\n MOV WORD ES:[0],0741h\n HLT', 200)
