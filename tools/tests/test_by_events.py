@@ -15,8 +15,7 @@ STRING = (
 )
 DROPPED = f'{STACK}        CALL one\n        HLT\none:    CALL two\n        NOP\n        RET\ntwo:    ADD SP,2\n        RET'
 CONTROLLER = ''.join(
-    f'        MOV AL,{value}\n        OUT {port},AL\n'
-    for port, value in (('63h', '99h'), ('61h', '40h'), ('20h', '13h'), ('21h', '8'), ('21h', '1'))
+    f'        MOV AL,{value}\n        OUT {port},AL\n' for port, value in (('63h', '99h'), ('61h', '40h'), ('20h', '13h'), ('21h', '8'), ('21h', '1'))
 )
 HANDLER = '\nonkey:  PUSH AX\n        IN AL,60h\n        MOV AL,20h\n        OUT 20h,AL\n        POP AX\n        IRET\nENDS\nSEGMENT V AT 0\n        ORG 24h\n        DW onkey,SEG onkey'
 BUSY = f'{STACK}{CONTROLLER}        STI\nidle:   JMP idle{HANDLER}'
@@ -85,7 +84,10 @@ class ByEvents(ToolCase):
 
     def test_keys_of_clock_0(self) -> None:
         """Two of eighteen are lost there, and one at 50."""
-        for more, wanted in (([], '2 keys lost, the first by clock 0, the last by clock 0'), ([[50, 30]], '3 keys lost, the first by clock 0, the last by clock 50')):
+        for more, wanted in (
+            ([], '2 keys lost, the first by clock 0, the last by clock 0'),
+            ([[50, 30]], '3 keys lost, the first by clock 0, the last by clock 50'),
+        ):
             fields = {'version': 1, 'ram': 64, 'sw1': 0, 'sw2': 0, 'budget': 100, 'keys': [[0, 30]] * 18 + more}
             out, _ = self.called('dbg', example('hello')[0], self.file('lost.json', json.dumps(fields)), given='go\nstate\n')
             self.assertIn(wanted, out)

@@ -26,7 +26,9 @@ PLANTED = {
     'an entry as a beginning': [('if wanted in line), None)', "if wanted in line or b' entry ' in line), None)")],
     'a halt as a beginning': [('if wanted in line), None)', "if wanted in line or line.endswith(b' halted')), None)")],
     'the first writer for the last': [('            found = int(', '            found = found or int(')],
-    'a wait that outlives a fall': [('        line.waits = clock if wire.is_high else None\n', '        line.waits = line.waits or (clock if wire.is_high else None)\n')],
+    'a wait that outlives a fall': [
+        ('        line.waits = clock if wire.is_high else None\n', '        line.waits = line.waits or (clock if wire.is_high else None)\n')
+    ],
     'a key of clock 0 left out': [('return [0] * lost_before + [', 'return [')],
     'a dropped address': [(ABOVE, 'is_own and frame is None and level >= self.intact')],
     "a tick's IRET for the routine's": [(ENDED, 'if follower.ended and (follower.ended.is_entry or follower.ended is frame)')],
@@ -118,7 +120,15 @@ class Case:
         line = requests.lines[0]
         taken, fell = line.taken, line.fell
         stood = [fell.least, fell.most]
-        return {'taken': taken.times, 'least': taken.least, 'most': taken.most, 'fell': fell.times, 'first': fell.first, 'stood': stood, 'forgotten': line.forgotten}
+        return {
+            'taken': taken.times,
+            'least': taken.least,
+            'most': taken.most,
+            'fell': fell.times,
+            'first': fell.first,
+            'stood': stood,
+            'forgotten': line.forgotten,
+        }
 
     def marks_of_all(self) -> Any:
         """The marks of the lines, without registers."""

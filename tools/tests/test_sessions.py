@@ -269,7 +269,6 @@ class Sessions(ToolCase):
         for seed in range(IN_THE_GATE):
             self.python(300 + seed)
 
-
     def many(self, count: int, first: int) -> None:
         """So many of each kind, by hand."""
         for seed in range(first, first + count):
