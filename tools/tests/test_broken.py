@@ -1,4 +1,5 @@
-"""What breaks a tool ends it: a refusal of the program, once for each inquiry that a tool makes, and a mistake of the tool itself."""
+"""What breaks a tool ends it: a refusal of the program, once for each inquiry that a tool makes, and a mistake of the
+tool itself."""
 from __future__ import annotations
 
 import os

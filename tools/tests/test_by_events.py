@@ -1,4 +1,5 @@
-"""Programs in which SP, a place or a rise alone would tell something else than what happens: what the tools tell of them."""
+"""Programs in which SP, a place or a rise alone would tell something else than what happens: what the tools tell of
+them."""
 from __future__ import annotations
 
 import json
@@ -61,7 +62,8 @@ class ByEvents(ToolCase):
         self.assertEqual(self.dbg(DROPPED, 'until two', 'finish')[-1], 'HLT')
 
     def test_beginnings(self) -> None:
-        """An interrupt that is taken at a place, or a halt before it, isn't its beginning: that is the first start after the IRET."""
+        """An interrupt that is taken at a place, or a halt before it, isn't its beginning: that is the first start
+        after the IRET."""
         for lines, place in ((BUSY, 'idle'), (HALTED, 'after')):
             files = self.program(lines, 2000)
             out, _ = self.called('moments', '--measure', place, *files, '--key', '1E', '--at', '800..816', '--jobs', '1')

@@ -1,4 +1,5 @@
-"""What lines of the probe tell of calls, beginnings, writes and requests: the cases in tests/following, and that mistakes fail them."""
+"""What lines of the probe tell of calls, beginnings, writes and requests: the cases in tests/following, and that
+mistakes fail them."""
 from __future__ import annotations
 
 import json
@@ -105,7 +106,8 @@ class Case:
         return found
 
     def requests(self) -> dict[str, object]:
-        """What became of the requests of IR0: those of an entry are taken at the next start, of which one comes after each here."""
+        """What became of the requests of IR0: those of an entry are taken at the next start, of which one comes after
+        each here."""
         requests, rise, entered = self.module.Requests(self.given['controller']), None, None
         for mark in self.marks_of_all():
             what = mark.what

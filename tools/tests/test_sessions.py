@@ -1,7 +1,7 @@
-"""Random sessions of tools/dbg, an editor's adapter, tools/gdb and zebludor.py: each command is answered again by fresh runs of pcprobe
-from power-on, with none of the code that follows calls for the tools.
+"""Random sessions of tools/dbg, an editor's adapter, tools/gdb and zebludor.py: each command is answered again by fresh
+runs of pcprobe from power-on, with none of the code that follows calls for the tools.
 
-  python3 -m tests.test_sessions COUNT [SEED]     in tools/: so many of each, from a seed on"""
+python3 -m tests.test_sessions COUNT [SEED] in tools/: so many of each, from a seed on"""
 from __future__ import annotations
 
 import random
@@ -28,7 +28,8 @@ PREFIXES, REPEATS, STRINGS = b'\x26\x2E\x36\x3E\xF0\xF2\xF3', b'\xF2\xF3', (*ran
 
 @dataclass
 class Call:
-    """A call: the number of the event that made it, the place of its return address in SS, and the number of the event that ended it."""
+    """A call: the number of the event that made it, the place of its return address in SS, and the number of the event
+    that ended it."""
 
     at: int
     slot: int

@@ -54,7 +54,8 @@ class FollowedBoard(SessionBoard):
         return follower
 
     def callers(self) -> list[Far | None]:
-        """The places to which the present routine and those above it return; None at the end, if calls before those aren't known."""
+        """The places to which the present routine and those above it return; None at the end, if calls before those
+        aren't known."""
         found: list[Far | None] = [self._caller(frame) for frame in reversed(self.follower().nest)]
         return found if self.is_whole else [*found, None]
 

@@ -1,21 +1,24 @@
-"""Follows a run by the lines of the probe's `events` (docs/probe.md): when an instruction begins, which return ends which call, how long a
-request waits, and who wrote a byte last. It starts nothing: lines go in, and, for what no line tells, the registers at some clocks.
+"""Follows a run by the lines of the probe's `events` (docs/probe.md): when an instruction begins, which return ends
+which call, how long a request waits, and who wrote a byte last. It starts nothing: lines go in, and, for what no line
+tells, the registers at some clocks.
 
-`begin_in(lines, place)` is the clock at which the instruction at a place begins; not where the processor is merely free there, halted, or
-enters an interrupt. `writer_in(lines, address)` is what began last before the last write of a byte, of lines of `starts`, `entries` and
-`writes`. `lost_in(lines, lost_before)` are the clocks at which codes of keys were lost.
+`begin_in(lines, place)` is the clock at which the instruction at a place begins; not where the processor is merely free
+there, halted, or enters an interrupt. `writer_in(lines, address)` is what began last before the last write of a byte,
+of lines of `starts`, `entries` and `writes`. `lost_in(lines, lost_before)` are the clocks at which codes of keys were
+lost.
 
-`Marks().of(lines)` reads lines of `starts` and `entries`, of `wires` and `ports=20-21` if they are wanted, as marks: what there is to
-follow. A mark whose `asks_for_stack()` is true gets its `state`, the registers one clock after it, before it is followed; with
-`asks()` also where flags and targets are wanted.
+`Marks().of(lines)` reads lines of `starts` and `entries`, of `wires` and `ports=20-21` if they are wanted, as marks:
+what there is to follow. A mark whose `asks_for_stack()` is true gets its `state`, the registers one clock after it,
+before it is followed; with `asks()` also where flags and targets are wanted.
 
-`Follower(state)` takes the marks from a clock on, whose registers `state` has. Its `nest` are the calls under way that it has seen, the
-innermost last, each a `Frame`; what was called before isn't known. `Out(follower, frame).ends(mark)` follows a mark and says whether it ends
-that frame's call: by the return that takes its address from where the call has put it, also a string's behind that address if
-the routine has taken it by POP and puts another one there, or jumps there by a register; or by a return from above it, if the
-address was dropped. Interrupts, calls on the way, other tasks' stacks and words that were pushed to be jumped to don't count. Without a frame
-it is the routine that runs at the state: a return ends it that takes its address from at or above SP, where nothing has been
-pushed since. `Requests(controller)` takes wires and ports, and tells each request's rise, fall and acceptance.
+`Follower(state)` takes the marks from a clock on, whose registers `state` has. Its `nest` are the calls under way that
+it has seen, the innermost last, each a `Frame`; what was called before isn't known. `Out(follower, frame).ends(mark)`
+follows a mark and says whether it ends that frame's call: by the return that takes its address from where the call has
+put it, also a string's behind that address if the routine has taken it by POP and puts another one there, or jumps
+there by a register; or by a return from above it, if the address was dropped. Interrupts, calls on the way, other
+tasks' stacks and words that were pushed to be jumped to don't count. Without a frame it is the routine that runs at the
+state: a return ends it that takes its address from at or above SP, where nothing has been pushed since.
+`Requests(controller)` takes wires and ports, and tells each request's rise, fall and acceptance.
 
 The cases in tests/following, which any other implementation can be held against, are lines and answers."""
 from __future__ import annotations
@@ -85,8 +88,8 @@ FOR_FLAGS, CALLING = (Does.LOADS_FLAGS, Does.RETURNS_WITH_FLAGS), (Does.CALLS, D
 
 
 class Mark:
-    """A line in which there is something to follow; what begins next, an instruction with its place or an entry without one; and
-    the registers after it, if nothing else tells them."""
+    """A line in which there is something to follow; what begins next, an instruction with its place or an entry without
+    one; and the registers after it, if nothing else tells them."""
 
     __slots__ = 'clock', 'what', 'next', 'state'
 
@@ -105,7 +108,8 @@ class Mark:
         return self.does in FOR_STACK
 
     def asks(self) -> bool:
-        """Whether the registers after it are wanted: SS, SP and the flags, or where a call leads if an interrupt is entered there first."""
+        """Whether the registers after it are wanted: SS, SP and the flags, or where a call leads if an interrupt is
+        entered there first."""
         does = self.does
         if does is Does.MOVES:
             return False
@@ -184,7 +188,8 @@ def begin_in(lines: Iterable[bytes], place: Far) -> int | None:
 
 
 def writer_in(lines: Iterable[bytes], address: int) -> tuple[int, bytes] | None:
-    """What wrote a byte last: the clock of the write, and the line of the instruction or entry that began last by then."""
+    """What wrote a byte last: the clock of the write, and the line of the instruction or entry that began last by
+    then."""
     wanted, began, found = b' write %05X ' % address, b'', None
     for line in lines:
         if b' start ' in line or b' entry ' in line:
@@ -195,15 +200,16 @@ def writer_in(lines: Iterable[bytes], address: int) -> tuple[int, bytes] | None:
 
 
 def lost_in(lines: Iterable[bytes], lost_before: int = 0) -> list[int]:
-    """The clocks at which codes of keys were lost, of lines of `keys` from power-on on: no line tells of those stamped 0, which the
-    keyboard has counted there already."""
+    """The clocks at which codes of keys were lost, of lines of `keys` from power-on on: no line tells of those stamped
+    0, which the keyboard has counted there already."""
     return [0] * lost_before + [int(line[: line.index(b' ')]) for line in lines if line.endswith(b' lost')]
 
 
 class Frame:
-    """A call under way: when it began, what called, where it leads, its type if it is an interrupt's, where its return address lies, its
-    length, and the stack before it. It is lifted once the routine has taken its address by POP, passed once the routine has jumped to that,
-    or something was called from above it. If it is an interrupt that was entered before a call's first instruction, that call is under it."""
+    """A call under way: when it began, what called, where it leads, its type if it is an interrupt's, where its return
+    address lies, its length, and the stack before it. It is lifted once the routine has taken its address by POP,
+    passed once the routine has jumped to that, or something was called from above it. If it is an interrupt that was
+    entered before a call's first instruction, that call is under it."""
 
     __slots__ = 'clock', 'what', 'target', 'type', 'line', 'rise', 'place', 'segment', 'level', 'above', 'pushed', 'under', 'is_lifted', 'is_passed'
 
@@ -226,7 +232,8 @@ class Frame:
 
 
 class Stack:
-    """SS and SP. Of each segment SP is kept as a number that goes on below 0 and above 65,535, and how low it came since when."""
+    """SS and SP. Of each segment SP is kept as a number that goes on below 0 and above 65,535, and how low it came
+    since when."""
 
     def __init__(self, segment: int, pointer: int) -> None:
         self.segment, self.level = segment, pointer
@@ -265,7 +272,8 @@ class Stack:
 
 
 class Follower:
-    """The calls under way on the present stack, `nest`, and the one that the last mark has ended, `ended`, if it has."""
+    """The calls under way on the present stack, `nest`, and the one that the last mark has ended, `ended`, if it
+    has."""
 
     def __init__(self, state: State) -> None:
         self.stack = Stack(state.segment, state.pointer)
@@ -329,7 +337,8 @@ class Follower:
             self.ended.is_passed, self.ended.is_lifted = True, False
 
     def _load(self, clock: int, octets: bytes, segment: int, pointer: int) -> None:
-        """SS or SP is loaded: within a routine's frame; to another task's stack, or back to one; or to where nothing is known."""
+        """SS or SP is loaded: within a routine's frame; to another task's stack, or back to one; or to where nothing is
+        known."""
         stack, nest, here = self.stack, self.nest, (self.stack.segment, self.stack.level % 0x10000)
         stack.load(clock, segment, pointer)
         if (segment, pointer) == here or segment == here[0] and is_by_frame(octets):
@@ -377,7 +386,8 @@ class Out:
 
 @dataclass
 class Tally:
-    """How often something was measured: the least and the most, the sum, the clock of the most, the first of equals, and the first clock."""
+    """How often something was measured: the least and the most, the sum, the clock of the most, the first of equals,
+    and the first clock."""
 
     times: int = 0
     least: int = 0
@@ -398,8 +408,9 @@ class Tally:
 
 @dataclass
 class Line:
-    """A request line: since when a request waits, the latencies of those that were taken, how long those stood that fell before they
-    were taken, how many were taken by a poll or forgotten at an initialisation, and entries that no rise was seen of."""
+    """A request line: since when a request waits, the latencies of those that were taken, how long those stood that
+    fell before they were taken, how many were taken by a poll or forgotten at an initialisation, and entries that no
+    rise was seen of."""
 
     waits: int | None = None
     taken: Tally = field(default_factory=Tally)
@@ -422,8 +433,8 @@ class Line:
 
 
 class Requests:
-    """The interrupt controller as far as it remembers requests. One whose line falls isn't remembered. `controller` has the words of its
-    line of `chips`."""
+    """The interrupt controller as far as it remembers requests. One whose line falls isn't remembered. `controller` has
+    the words of its line of `chips`."""
 
     def __init__(self, controller: dict[str, str]) -> None:
         self.lines = [Line() for _ in range(8)]

@@ -1,5 +1,5 @@
-"""The board as an editor's debugger moves it: by instructions, over calls and halts, and out of routines, forth and back. It decides
-nothing: each place is that of a session of pcprobe."""
+"""The board as an editor's debugger moves it: by instructions, over calls and halts, and out of routines, forth and
+back. It decides nothing: each place is that of a session of pcprobe."""
 from __future__ import annotations
 
 import time
@@ -41,7 +41,8 @@ class Machine(FollowedBoard):
         return found
 
     def step(self) -> Event | None:
-        """Makes one instruction, iteration or entry, and returns what began. A halted processor goes on to its interrupt."""
+        """Makes one instruction, iteration or entry, and returns what began. A halted processor goes on to its
+        interrupt."""
         if self.is_halted and self.clock < self.budget:
             self.leave_halt((), self.budget)
             if self.clock == self.budget:
@@ -58,17 +59,18 @@ class Machine(FollowedBoard):
             raise Sorry('this is the start of the run')
 
     def next(self, wanted: Collection[str]) -> str | None:
-        """Makes one instruction with all that it calls, an interrupt that comes first, and all its repeats, at most to one of these
-        stops, which it returns."""
+        """Makes one instruction with all that it calls, an interrupt that comes first, and all its repeats, at most to
+        one of these stops, which it returns."""
         return self.to_stops(self._over, wanted)
 
     def out(self, wanted: Collection[str]) -> str | None:
-        """Runs to where the routine has returned, or dropped its address; at most to one of these stops, to a jam, a halt for good, or
-        the budget."""
+        """Runs to where the routine has returned, or dropped its address; at most to one of these stops, to a jam, a
+        halt for good, or the budget."""
         return self.to_stops(self._out, wanted)
 
     def to_stops(self, way: Callable[[], object], wanted: Collection[str]) -> str | None:
-        """A way, at most to one of these stops: to find them, it is gone once more. A place at its end is no stop before it."""
+        """A way, at most to one of these stops: to find them, it is gone once more. A place at its end is no stop
+        before it."""
         here, _ = self.clock, way()
         if wanted and (there := self.clock) > here:
             self.go_to(here)
@@ -151,7 +153,8 @@ class Machine(FollowedBoard):
         self.why = 'far'
 
     def _skip(self, out: Out) -> None:
-        """Goes on as long as no return can have ended a call: nothing is pushed to where its address lies, and SP isn't above that."""
+        """Goes on as long as no return can have ended a call: nothing is pushed to where its address lies, and SP isn't
+        above that."""
         stack, level = out.follower.stack, out.frame.level if out.frame else out.intact
         place = physical(stack.segment, level % 0x10000)
         stop = watch_of(place, 2, is_each_write=True) if out.is_own and place + 1 < MEMORY else ''
@@ -168,8 +171,8 @@ class Machine(FollowedBoard):
             self.poll()
 
     def _ended(self, here: int) -> str:
-        """What ended a way that led from a clock to no return: `jammed` and `halted for good` at the clock at which that began,
-        else `far`."""
+        """What ended a way that led from a clock to no return: `jammed` and `halted for good` at the clock at which
+        that began, else `far`."""
         trail = self.trail()
         if self.is_halted:
             kind = 'far' if self.registers()['FL'] & IF else 'halted for good'

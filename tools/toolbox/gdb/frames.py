@@ -15,8 +15,8 @@ TOP = 0x10000  # where the stack of a routine ends whose call isn't known
 
 @dataclass(frozen=True)
 class Frame:
-    """What the rules of `cfi` ask of a frame: how far from its SP its stack ends; how far from there its caller's SP is, and the
-    place to which it returns, or 0 and its own place, by which gdb ends the list."""
+    """What the rules of `cfi` ask of a frame: how far from its SP its stack ends; how far from there its caller's SP
+    is, and the place to which it returns, or 0 and its own place, by which gdb ends the list."""
 
     end: int
     back_by: int
@@ -25,16 +25,17 @@ class Frame:
 
 
 class Frames:
-    """What gdb takes for one frame is told by where its stack ends: at the routine's return address, if its call is known. Where it isn't
-    any more, behind a return that comes long after, gdb is told the end that it was told before."""
+    """What gdb takes for one frame is told by where its stack ends: at the routine's return address, if its call is
+    known. Where it isn't any more, behind a return that comes long after, gdb is told the end that it was told
+    before."""
 
     def __init__(self) -> None:
         self.returns = dict[int, Far]()  # of the addresses that calls were told to return to, their CS:IP
         self._ends = dict[tuple[Far, int], int]()  # by the place and SP to which one returns, where its stack ends
 
     def records(self, board: FollowedBoard) -> bytes:
-        """The present frame and those above it, as far as they are known, as they stand in memory for gdb: the first is for frames of
-        which nothing is known."""
+        """The present frame and those above it, as far as they are known, as they stand in memory for gdb: the first is
+        for frames of which nothing is known."""
         frames = self.frames(board)
         rows = [struct.pack('<iiII', one.end, one.back_by, physical(*one.place), RECORD * (at + (not one.is_last))) for at, one in enumerate(frames, 1)]
         return bytes(RECORD) + b''.join(rows)
@@ -55,6 +56,7 @@ class Frames:
         return [*found, Frame(self._end(place, stack), 0, place, True)]
 
     def _end(self, place: Far, stack: int, taken: int = 0) -> int:
-        """How far from SP a stack ends whose routine's call isn't known, behind a return that took so many bytes of arguments."""
+        """How far from SP a stack ends whose routine's call isn't known, behind a return that took so many bytes of
+        arguments."""
         known = self._ends.setdefault((place, (stack - taken) % TOP), TOP)
         return known - stack if known == TOP else signed(known - stack)
