@@ -77,8 +77,6 @@ class Broken(ToolCase):
             (['trace', '--vcd', 'it.vcd', '--watch', 'B0000', source, run], ''),
             (['judge', page, source, run], ''),
             (['moments', '--measure', 'tick', source, run, '--key', '1E', '--at', '100..102', '--jobs', '1'], ''),
-            (['why', 'run', source, run], ''),
-            (['try', source, run], ''),
         )
         for words, given in tools:
             open(f'{self.room}/seen', 'w', encoding='ascii').close()
@@ -90,7 +88,7 @@ class Broken(ToolCase):
                 came = self.came(words, given, name)
                 self.assertNotIn('Traceback', came.stderr, (words, name))
                 is_told = re.search('refuse|no memory', came.stdout + came.stderr) or came.stdout == first.stdout
-                self.assertTrue(came.returncode or is_told, (words, name, came))
+                self.assertTrue(came.returncode == 2 or is_told, (words, name, came))
         self.assertEqual(children(os.getpid()), [])
 
     def test_a_mistake(self) -> None:

@@ -115,7 +115,7 @@ def first_start(session: ProbeSession, place: Far, end: int) -> int | None:
         if found is not None:
             return found
         length = 1 if lines else min(2 * length, LONGEST)
-        if lines and not session.go(end - session.clock).startswith('stop'):
+        if lines and not session.unrefused(session.go(end - session.clock)).startswith('stop'):
             break
     return None
 

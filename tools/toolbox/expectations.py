@@ -85,8 +85,7 @@ class Subject:
     def first_halt(self) -> int | None:
         """The first clock at which the processor is halted, or None."""
         with Session(self.ran()) as session:
-            session.stop('halted')
-            return session.clock if session.go(self.report.clock).startswith('stop') else None
+            return session.clock if session.meets('halted', self.report.clock) else None
 
 
 @dataclass(frozen=True)

@@ -134,8 +134,20 @@ class Session(zebludor.Dialogue):
         return bool(select.select([self._out], [], [], seconds)[0])
 
     def stop(self, condition: str) -> str:
-        """Adds a stop, and returns its answer."""
-        return self.one(condition)
+        """Adds a stop, and returns its answer; a refusal as a sentence."""
+        return self.unrefused(self.one(condition))
+
+    @staticmethod
+    def unrefused(answer: str) -> str:
+        """An answer that isn't a refusal."""
+        if answer.startswith('fault'):
+            raise Sorry(f'the debugger refuses: {answer}')
+        return answer
+
+    def meets(self, condition: str, clocks: int) -> bool:
+        """Whether a run of so many clocks at most ends at a stop that is added."""
+        self.stop(condition)
+        return self.unrefused(self.go(clocks)).startswith('stop')
 
     def go(self, clocks: int) -> str:
         """Goes on by so many clocks at most."""
@@ -144,9 +156,7 @@ class Session(zebludor.Dialogue):
     def go_to(self, clock: int) -> None:
         """Goes to this clock, back or on, past every stop."""
         while self.clock != clock:
-            answer = self.one(f'back {self.clock - clock}' if clock < self.clock else f'go {clock - self.clock}')
-            if answer.startswith('fault'):
-                raise Sorry(f'the debugger refuses: {answer}')
+            self.unrefused(self.one(f'back {self.clock - clock}' if clock < self.clock else f'go {clock - self.clock}'))
 
 
 @contextlib.contextmanager
