@@ -880,7 +880,7 @@ class OnePage(ToolCase):
         page.write(NESTED)
         page.click('#assemble', "assembled.includes('inner')")
         page.click('#tab-callers')
-        self.assertIn('show a caller', browser.run("$('callers').textContent"))
+        self.assertIn('Nothing has called', browser.run("$('callers').textContent"))
         page.click('#start', 'view.clock===0')
         for _ in range(4):
             page.click('#step')
