@@ -19,7 +19,20 @@ from toolbox.proved import PROGRAMS
 MAINTAINER = 'The developers of Zebludor <zebludor@localhost>'
 TIME = 1_000_000_000  # of every file: a second of 2001, since Debian takes none before 1984
 ROOM, LIBRARIES, DOCS = 'usr/lib/zebludor', 'usr/lib/x86_64-linux-gnu', 'usr/share/doc/zebludor'
-LINKED = ('README.md', 'CHANGELOG.md', 'CONTRIBUTING.md', 'SECURITY.md', 'LICENSE-APACHE', 'LICENSE-MIT', 'c', 'docs', 'editors', 'examples', 'python', 'services')
+LINKED = (
+    'README.md',
+    'CHANGELOG.md',
+    'CONTRIBUTING.md',
+    'SECURITY.md',
+    'LICENSE-APACHE',
+    'LICENSE-MIT',
+    'c',
+    'docs',
+    'editors',
+    'examples',
+    'python',
+    'services',
+)
 CONTROL = """Package: zebludor
 Version: {version}
 Architecture: amd64

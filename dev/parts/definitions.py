@@ -20,9 +20,7 @@ ITEM = (
     r'^{}(pub )?(?:pub\(.*?\) )?(?:safe |const |unsafe |extern "C" )*'
     r'(fn|struct|enum|trait|impl|mod|use|type|static|const|ghost)\b(?:<.*?> | )(?:([^{{\n]*) for )?&?(?:\w+::)*(\w+)'
 )
-USE = re.compile(
-    r'^\s*(?:pub |ghost |unfoldable )*use (?:Rattle\.(?=\w+\.specs\.)|(?=denote\.))(\w+)(?:\.specs)?\.([\w.]+?)(?:\.\{(.*)\}| as (\w+));?$', re.M
-)
+USE = re.compile(r'^\s*(?:pub |ghost |unfoldable )*use (?:Rattle\.(?=\w+\.specs\.)|(?=denote\.))(\w+)(?:\.specs)?\.([\w.]+?)(?:\.\{(.*)\}| as (\w+));?$', re.M)
 DEFINED = re.compile(r'(?:(?:abbrev|unfoldable|pub|record|data) )*([^\s(]+)(?: [({].*)? :(?: |$)')
 IMPORT = re.compile(r'(?:pub |unfoldable )*use ')
 COMMENT, NOTE = re.compile(r'(^|\s)--.*', re.M), re.compile(r'//.*')

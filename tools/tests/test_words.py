@@ -94,10 +94,7 @@ class Identifiers(unittest.TestCase):
             if path.parent.name == 'specs' and path.stem != 'Lib':
                 by_name[path.stem].append(path.parts[-3])
         pairs = [
-            f'{name}: {one}, {other}'
-            for name, found in sorted(by_name.items())
-            for one in found
-            for other in sorted(crates.below(one) & set(found) - {one})
+            f'{name}: {one}, {other}' for name, found in sorted(by_name.items()) for one in found for other in sorted(crates.below(one) & set(found) - {one})
         ]
         self.assertEqual(pairs[:20], [], len(pairs))
 
