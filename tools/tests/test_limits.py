@@ -31,6 +31,8 @@ INNER = {
     'data_labels MOST_BYTES',
     'desk.board MOST_LISTED',
     'desk.board MOST_MARKS',
+    'desk.drafts MOST_AT_HAND',
+    'desk.drafts MOST_TEXTS',
     'desk.http SECONDS_OF_A_REFUSAL',
     'desk.sound MOST_SAMPLES',
     'disassembly LONGEST',
@@ -53,13 +55,17 @@ INNER = {
     'term_board MOST_HALTED',
     'term_board MOST_PIECE',
     'tools/test MOST_SECONDS',
+    'followed MOST_PIECE',
     'vcd MOST_KNOWN',
     'walk LONGEST',
     'way_back MOST_PIECE',
     'way_back MOST_SECONDS',
+    'writing MOST_SECONDS',
 }
-# What reads files of the repository or of the tools' own: pages, sums, drafts, locks.
-OWN = {'command', 'crates', 'desk.drafts', 'desk.pages', 'manual', 'proved', 'sources', 'tools/desk', 'tools/test'}
+# What reads files of the repository, of the kernel or of the tools' own, or looks at a file that it is about to write: pages, sums,
+# drafts, marks, tables.
+OWN = {'asking', 'command', 'crates', 'desk.drafts', 'desk.files', 'desk.pages', 'gdb.door', 'manual', 'proved', 'rooms', 'sources'}
+OWN |= {'tools/desk', 'tools/test', 'writing'}
 UNITS = {'MB': 1 << 20, 'KB': 1 << 10}
 
 
