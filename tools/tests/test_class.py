@@ -215,7 +215,7 @@ class Strangers(ToolCase):
         wrong, refused = self.feedback('_w_r_n_'), self.feedback('refused')
         self.assertRegex(wrong, "no  shows = HELLO: came 'HALLO'\n(?s:.*)A hidden run: not met\n(?s:.*)Mark: 1 of 6")
         self.assertIn('hexadecimal numbers end with h', refused)
-        self.assertIn('no far jump stands there', self.feedback('empty'))
+        self.assertIn('perhaps the far jump is missing at which the processor begins', self.feedback('empty'))
         self.assertNotIn('root', self.feedback('link'))
         self.assertEqual(os.listdir(f'{self.room}/told/link'), ['feedback.txt'])
         for text in map(self.feedback, os.listdir(f'{self.room}/told')):

@@ -1014,7 +1014,7 @@ class OnePage(ToolCase):
         browser = page.browser
         page.write(DARK)
         page.click('#assemble', "assembled.includes('stay')&&!$('why').hidden")
-        self.assertEqual(browser.run("$('why').firstChild.textContent").partition(';')[0], 'text memory has characters and the screen is blank')
+        self.assertEqual(browser.run("$('why').firstChild.textContent").partition(':')[0], 'text memory has characters and the screen is blank')
         self.assertEqual(browser.run("[...document.querySelectorAll('#why button')].map(it=>it.textContent)"), ['line 5', 'line 6', 'line 7'])
         browser.click('#why button')
         self.assertEqual(browser.run("[document.activeElement.id,$('source').value.slice(0,$('source').selectionStart).split('\\n').length]"), ['source', 5])
