@@ -80,7 +80,7 @@ class Folder(ToolCase):
         pattern = self.package['problemMatchers'][0]['pattern']
         source, _ = self.program(' INT 21\n FROB')
         lines = self.tool('why', '--lines', source, status=1)[0].splitlines()
-        for line, wanted, begins in zip(lines, (('4', 'error'), ('3', 'warning')), ('UnknownName: ', '21 is decimal'), strict=True):
+        for line, wanted, begins in zip(lines, (('4', 'error'), ('3', 'warning')), ('UnknownName: ', 'perhaps '), strict=True):
             found = re.match(pattern['regexp'], line)
             assert found
             self.assertEqual((found[pattern['file']], found[pattern['line']], found[pattern['severity']]), (source, *wanted))
