@@ -201,11 +201,13 @@ class ToolCase(unittest.TestCase):
 
     def tool(self, name: str, *words: str, given: str = '', status: int | None = 0) -> tuple[str, str]:
         """What a tool prints on its two streams, where it ends with this status. One of another folder is named with it."""
+        from toolbox.command import MISTAKE
+
         path = f'{TOP}/{name}' if '/' in name else f'{TOOLS}/{name}'
         ran = subprocess.run([sys.executable, '-S', path, *words], input=given, capture_output=True, text=True, cwd=self.room, check=False)
         if status is not None:
             self.assertEqual(ran.returncode, status, ran.stderr or ran.stdout)
-        self.assertNotIn('Traceback', ran.stderr)
+        self.assertNotRegex(ran.stderr, f'Traceback|{MISTAKE}')
         return ran.stdout, but_progress(ran.stderr)
 
     def called(self, name: str, *words: str, given: str = '', status: int = 0) -> tuple[str, str]:

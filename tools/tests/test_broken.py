@@ -10,6 +10,7 @@ import unittest
 
 from tests.support import SECONDS, TOOLS, ToolCase, children, example
 
+from toolbox.command import MISTAKE
 from toolbox.program import path
 
 # In place of a program: it refuses the first command of a name, and hands on all else, as what the tools ask to know where an answer
@@ -86,7 +87,7 @@ class Broken(ToolCase):
                 seen = sorted(set(file.read().split()) - {'?'})
             for name in seen:
                 came = self.came(words, given, name)
-                self.assertNotIn('Traceback', came.stderr, (words, name))
+                self.assertNotRegex(came.stderr, f'Traceback|{MISTAKE}', (words, name))
                 is_told = re.search('refuse|no memory', came.stdout + came.stderr) or came.stdout == first.stdout
                 self.assertTrue(came.returncode == 2 or is_told, (words, name, came))
         self.assertEqual(children(os.getpid()), [])

@@ -13,6 +13,8 @@ from collections.abc import Callable
 
 from tests.support import EXAMPLES, SECONDS, TOP, ToolCase
 
+from toolbox.command import MISTAKE
+
 FOLDERS = ('tools', 'dev', 'bench')
 # Words with a path, `{}`, beyond those that are tried of each tool: one path, two and three.
 WORDS = (
@@ -110,7 +112,7 @@ class EveryTool(ToolCase):
             except subprocess.TimeoutExpired:
                 os.killpg(process.pid, signal.SIGKILL)
                 self.fail(f'{line}: it goes on for {SECONDS} seconds')
-        for sign in ('Traceback', 'Exception ignored'):
+        for sign in ('Traceback', MISTAKE, 'Exception ignored'):
             self.assertNotIn(sign, err, line)
         self.assertNotRegex(err, r'(?<!:)//', line)  # a path below nothing
         self.assertFalse(os.path.exists(f'{self.room}/.cache'), line)

@@ -44,7 +44,7 @@ class Fuzz(Planted):
                 "    except KeyError as error:\n        raise Sorry(f'{path} is no JSON",
             ),
         )
-        self.assertIn('JSONDecodeError', self.finds(top, 'dev/fuzz', '--kind', 'run', '--seconds', '15'))
+        self.assertIn('JSONDecodeError', self.finds(top, 'dev/fuzz', '--kind', 'run', '--seconds', '5'))
         with open(f'{TOP}/{HTTP}', encoding='utf-8') as file:
             if GOOD_ONCE not in file.read():
                 not_run("dev/fuzz with a token that is good twice, since the desk's is good as long as it runs")

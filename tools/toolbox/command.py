@@ -14,6 +14,7 @@ from toolbox import reading
 from toolbox.writing import write_whole
 
 HINT_STATUS = 2
+MISTAKE = 'a mistake of this tool has ended it'
 STARTED = 'ZEBLUDOR_STARTED'  # in the environment: how the user has started the command zebludor, by which he then knows the tools
 PYTHON = sys.executable or 'python3'  # Python knows no path of its own where it was started without PATH
 SYMBOLS = (
@@ -112,7 +113,7 @@ def start(main: Callable[[list[str]], int]) -> None:
         status = 130
     except Exception as error:  # pylint: disable=broad-exception-caught
         silence()
-        status = refuse(f'a mistake of this tool has ended it: {type(error).__name__}: {error} ({place_of(error)})')
+        status = refuse(f'{MISTAKE}: {type(error).__name__}: {error} ({place_of(error)})')
     sys.exit(status)
 
 
