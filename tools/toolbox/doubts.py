@@ -42,8 +42,9 @@ def doubts(lines: Sequence[str]) -> Iterator[Doubt]:
     """Each line of a source that is hardly meant."""
     labels = {label.upper() for label in map(label_in, lines) if label}
     for number, line in enumerate(lines):
-        for name, (look, text) in LOOKS.items():
-            found = re.fullmatch(look, code_of(line), re.I)
+        code = code_of(line)
+        for name, (look, text) in LOOKS.items() if code else ():
+            found = re.fullmatch(look, code, re.I)
             if found and (name != 'offset-in-byte' or found[1].upper() in labels):
                 value = int(found[1]) if found[1].isdecimal() else 0
                 yield Doubt(name, number, *found.span(1), text.format(found[1], found[1].upper(), value))

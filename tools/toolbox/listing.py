@@ -89,7 +89,7 @@ def code_of(line: str) -> str:
 
 def label_in(line: str) -> str | None:
     """The label that a line defines, or none. A segment's prefix is no label."""
-    found = re.match(r'\s*([A-Za-z_]\w*)\s*:', code_of(line))
+    found = re.match(r'\s*([A-Za-z_]\w*)\s*:', code_of(line)) if ':' in line else None
     return found[1] if found and found[1].upper() not in ('ES', 'CS', 'SS', 'DS') else None
 
 

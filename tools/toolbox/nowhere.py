@@ -481,7 +481,7 @@ def of_the_source(teller: Teller) -> list[Told]:
 def loads(listing: Listing, register: str) -> bool:
     """Whether a line of the source loads a segment register."""
     wanted = rf'\bMOV\s+{register}\s*,|\bPOP\s+{register}\b|\bL{register}\b'
-    return any(re.search(wanted, code_of(line.text), re.I) for line in listing.lines)
+    return any(register in line.text.upper() and re.search(wanted, code_of(line.text), re.I) for line in listing.lines)
 
 
 def of_segments(teller: Teller) -> Iterator[Told]:
