@@ -1,6 +1,6 @@
 //! The monochrome text adapter (Motorola MC6845 data sheet; IBM PC Technical Reference, "IBM Monochrome Display and
 //! Parallel Printer Adapter").
-ghost use Rattle.std.specs.Prelude.{◌≡◌, ◌<◌, ◌≤◌, ◌+◌, ◌++◌, ◌==◌, IfOk, OnOk, map, length};
+ghost use Rattle.std.specs.Prelude.{◌≡◌, ◌<◌, ◌≤◌, ◌+◌, ◌*◌, ◌/◌, ◌%◌, ◌++◌, ◌==◌, IfOk, OnOk, map, length};
 ghost use Rattle.std.specs.List.{range_with_len, flat_map};
 ghost use Rattle.std.specs.String.{string_bytes};
 ghost use Rattle.board_types.specs.Bits.{has_bit};
@@ -183,6 +183,7 @@ impl Mda {
     }
 
     /// The byte at `offset` of text memory, below 4,096: a code at an even offset, an attribute at an odd one.
+    #[inline(always)]
     #[tactic(auto, unfolding(crate::specs::Mda::text_byte))]
     pub fn read_mem(&self, offset: u16) -> u8
         requires { offset < 4096 }
@@ -193,6 +194,7 @@ impl Mda {
     }
 
     /// Writes `value` at `offset` of text memory, below 4,096, and notes the section as written since the last mark.
+    #[inline(always)]
     #[tactic(auto, unfolding(crate::specs::Mda::with_text_byte))]
     pub fn write_mem(&mut self, offset: u16, value: u8)
         requires { offset < 4096 }
@@ -200,6 +202,26 @@ impl Mda {
     {
         self.bytes[offset as usize] = value;
         self.snapshot.written[offset as usize / SECTION_BYTES] = true;
+    }
+
+    /// The word whose low byte stands at `offset` of text memory, below 4,095, in one call: of a cell, at an even offset,
+    /// its code is the low byte.
+    #[inline(always)]
+    pub fn read_word(&self, offset: u16) -> u16
+        requires { offset < 4095 }
+        ensures { result ≡ text_byte self.now offset + 256 * text_byte self.now (offset + 1) }
+    {
+        u16::from(self.read_mem(offset)) + 256 * u16::from(self.read_mem(offset + 1))
+    }
+
+    /// Writes `word` at `offset` of text memory, below 4,095, its low byte first, in one call.
+    #[inline(always)]
+    pub fn write_word(&mut self, offset: u16, word: u16)
+        requires { offset < 4095 }
+        ensures { self.new ≡ with_text_byte (with_text_byte self.old offset (word % 256)) (offset + 1) (word / 256) }
+    {
+        self.write_mem(offset, (word % 256) as u8);
+        self.write_mem(offset + 1, (word / 256) as u8);
     }
 
     /// The character that the cell at `row`, below 25, and `column`, below 80, shows, an ASCII code from 20h to 7Eh:
