@@ -11,7 +11,7 @@ ghost use Rattle.board.specs.UnseenClocks.{WiresStay, WiresStayThen};
 ghost use Rattle.board.specs.HeldBack.{IsHeldBack};
 ghost use Rattle.board.specs.TrailState.{IsExact};
 ghost use Rattle.board.specs.OneTurn.{begun_of};
-ghost use Rattle.board.specs.IpRange.{AllWithin, is_unwatched};
+ghost use Rattle.board.specs.IpRange.{AllWithin, all_unwatched, is_unwatched};
 ghost use Rattle.board_plain.specs.Plain.{act_at, after_clock, after_clocks, byte_of, change_next, changes_in, clock_of, lost_codes, next_act, power_on, registers_of, screen_of, speaker_level, state_of};
 ghost use Rattle.board_plain.specs.Stops.{FitsRoom, HasAddress, IsStopOf, NoStop, holding, holds, run_length};
 ghost use Rattle.board_plain.specs.Lasts.{IsLastOf};
@@ -177,8 +177,7 @@ impl<A: Allocator> Board<A> {
         }
         let end = self.clock().get() + count;
         'turns: while self.clock().get() < end {
-            self.quiet_steps(end, &Nothing);
-            if self.clock().get() < end {
+            if self.steps_to_a_turn(end) {
                 self.turn(end, end)?;
             }
         }
@@ -462,6 +461,23 @@ impl<A: Allocator> Board<A> {
         }
         self.turns += made;
         true
+    }
+
+    /// Makes quiet steps up to `end`, and answers whether a turn is due after them: not if the run has come to its end,
+    /// nor if more quiet steps may follow at once, as after a repeat.
+    #[inline(always)]
+    fn steps_to_a_turn(&mut self, end: u64) -> bool
+        requires before_end { clock_of self.old.plain < end }
+        requires within { end ≤ 2 ^ 40 }
+        ensures steps { AreStepsOn all_unwatched end self.old self.new }
+        ensures due { IsTrue result → clock_of self.new.plain < end }
+        ensures not_due { ¬ (IsTrue result) → clock_of self.old.plain < clock_of self.new.plain }
+    {
+        let made = self.quiet_steps(end, &Nothing);
+        if self.clock().get() >= end {
+            return false;
+        }
+        !made || self.engine.quiet.is_stuck
     }
 
     /// Lists the change of the speaker's level at the next clock, at which it is `high`; nothing if it is so now.

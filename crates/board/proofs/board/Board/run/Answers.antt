@@ -1,4 +1,5 @@
-use Rattle.std.proofs.Common.{refl, arith}
+use Rattle.std.proofs.Common.{refl, sym, ◌∙◌, arith}
+use Rattle.std.proofs.lemmas.Bool.{false≢true}
 use Rattle.board.proofs.Turns.{HeldRun, held_run, not_counted, so_far_none, so_far_steps, so_far_turn, steps_move, turn_moves}
 use Rattle.board.proofs.board.Board.run.Given.{Over}
 use Rattle.board.proofs.board.Board.run.Goals.{After-from_residual}
@@ -13,28 +14,28 @@ turns-init g c = so_far_none _ _ c.is_past_limit.ensures.trail (omega (arith, c.
 pub turns-smaller : goal.turns-smaller
 turns-smaller g c =
     let before = c.turns-test.true in
-    let past = c.if-get-end.false in
-    omega (arith, before, past, c.clock-in-turns.ensures, c.get-in-turns.ensures.value, c.clock-in-turns-2.ensures, c.get-in-turns-2.ensures.value)
+    let moved = c.steps_to_a_turn.ensures.not_due (λ yes. false≢true (sym c.if-steps_to_a_turn.false ∙ yes)) in
+    omega (arith, before, moved, c.clock-in-turns.ensures, c.get-in-turns.ensures.value)
 
 pub turns-preserved : goal.turns-preserved
-turns-preserved g c = so_far_steps _ 1 _ _ _ _ c.turns.invariant c.quiet_steps.ensures.steps
+turns-preserved g c = so_far_steps _ 1 _ _ _ _ c.turns.invariant c.steps_to_a_turn.ensures.steps
 
 pub turns-smaller-in-Continue-1 : goal.turns-smaller-in-Continue-1
 turns-smaller-in-Continue-1 g c =
-    let moved = steps_move _ _ _ _ c.quiet_steps.ensures.steps in
-    let less = turn_moves _ _ _ (omega (arith, c.if-get-end.true, c.clock-in-turns-2.ensures, c.get-in-turns-2.ensures.value)) c.in_ok-turn.ensures.ok in
+    let moved = steps_move _ _ _ _ c.steps_to_a_turn.ensures.steps in
+    let less = turn_moves _ _ _ (c.steps_to_a_turn.ensures.due c.if-steps_to_a_turn.true) c.in_ok-turn.ensures.ok in
     omega (arith, moved, less)
 
 pub turns-preserved-in-Continue-1 : goal.turns-preserved-in-Continue-1
 turns-preserved-in-Continue-1 g c =
-    so_far_turn 1 _ _ _ _ (so_far_steps _ 1 _ _ _ _ c.turns.invariant c.quiet_steps.ensures.steps)
-    (omega (arith, c.if-get-end.true, c.clock-in-turns-2.ensures, c.get-in-turns-2.ensures.value)) c.in_ok-turn.ensures.ok
+    so_far_turn 1 _ _ _ _ (so_far_steps _ 1 _ _ _ _ c.turns.invariant c.steps_to_a_turn.ensures.steps)
+    (c.steps_to_a_turn.ensures.due c.if-steps_to_a_turn.true) c.in_ok-turn.ensures.ok
 
 held : (g : Over) (c : After-from_residual g) → HeldRun c.args.count c.args.self.now c.turn.new.self
 held g c =
-    held_run 1 _ c.args.count _ _ _ (so_far_steps _ 1 _ _ _ _ c.turns.invariant c.quiet_steps.ensures.steps)
+    held_run 1 _ c.args.count _ _ _ (so_far_steps _ 1 _ _ _ _ c.turns.invariant c.steps_to_a_turn.ensures.steps)
     (omega arith) (omega (arith, c.clock.ensures, c.get.ensures.value))
-    (omega (arith, c.if-get-end.true, c.clock-in-turns-2.ensures, c.get-in-turns-2.ensures.value)) c.in_err-turn.ensures.err
+    (c.steps_to_a_turn.ensures.due c.if-steps_to_a_turn.true) c.in_err-turn.ensures.err
 
 pub returns-in_err-turn-clause-succeeds : goal.returns-in_err-turn-clause-succeeds
 returns-in_err-turn-clause-succeeds g c = λ within enough. absurd ((held g c).enough enough)
