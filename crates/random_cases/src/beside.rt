@@ -2,7 +2,7 @@
 ghost use Rattle.std.specs.Prelude.{All};
 ghost use Rattle.board_plain.specs.Stops.{HasAddress};
 
-use crate::program::random_image;
+use crate::program::{Shape, random_image};
 use crate::shown::difference;
 use anyhow::{Context, Result, bail};
 use board::board::Board;
@@ -63,8 +63,14 @@ fn board_at_power_on(
 
 /// Judges a `budgets` case: compares a run from power-on of each number of clocks, from `clocks - width` to `clocks`,
 /// with a board that makes them one by one. Fails with the first that differs.
-pub fn compare_budgets(alloc: Global, seed: u64, clocks: u64, width: u64) -> Result<()> {
-    let image = random_image(alloc, seed)?;
+pub fn compare_budgets(
+    alloc: Global,
+    shape: Shape,
+    seed: u64,
+    clocks: u64,
+    width: u64,
+) -> Result<()> {
+    let image = random_image(alloc, shape, seed)?;
     let mut ticking = board_at_power_on(alloc, &image, seed, None)?;
     let answer = compare_from(alloc, &image, seed, &mut ticking, clocks, width);
     drop(ticking);
@@ -108,7 +114,7 @@ fn compare_run(board: &mut Board, count: u64, other: &Board, whole: bool) -> Res
 /// Judges a `keys` case: compares runs of `clocks` clocks, with a key stamped at each of the `width` clocks before the
 /// last 300, with boards that make them one by one.
 pub fn compare_keys(alloc: Global, seed: u64, clocks: u64, width: u64) -> Result<()> {
-    let image = random_image(alloc, seed)?;
+    let image = random_image(alloc, Shape::Mixed, seed)?;
     let last = clocks.saturating_sub(AFTER_KEYS);
     for stamp in last.saturating_sub(width)..last {
         let mut ticking = board_at_power_on(alloc, &image, seed, Some(stamp))?;
@@ -142,7 +148,7 @@ fn compare_struck(
 /// Judges a `stops` case: compares runs of `clocks` clocks that go on until the processor is free at an offset of the
 /// code, for `width` offsets, with boards that go on one clock at a time.
 pub fn compare_stops(alloc: Global, seed: u64, clocks: u64, width: u64) -> Result<()> {
-    let image = random_image(alloc, seed)?;
+    let image = random_image(alloc, Shape::Mixed, seed)?;
     let mut ticking = board_at_power_on(alloc, &image, seed, None)?;
     let answer = compare_stops_after(alloc, &image, seed, &mut ticking, clocks, width);
     drop(ticking);

@@ -3,13 +3,19 @@
 use crate::chance::Chance;
 use crate::code::Code;
 use crate::operands::{byte_register, offset, put_memory, put_register, register, word_register};
-use crate::program::ROUTINE_AT;
+use crate::program::{DATA_AT, ROUTINE_AT};
 use std::alloc::AllocError;
 
 /// Opcodes of two byte operands: ADD, OR, ADC, SBB, AND, SUB, XOR, CMP, TEST, XCHG, MOV.
 const OF_TWO: [u8; 11] = [
     0x00, 0x08, 0x10, 0x18, 0x20, 0x28, 0x30, 0x38, 0x84, 0x86, 0x88,
 ];
+
+/// Opcodes of two byte operands that blocks have: ADD, AND, SUB, XOR, CMP, MOV.
+const OF_BLOCKS: [u8; 6] = [0x00, 0x20, 0x28, 0x30, 0x38, 0x88];
+
+/// Accesses to text memory begin at this offset of it or up to 31 bytes further on; its last byte stands at FFFh.
+const TEXT_NEAR_END: u16 = 0xFE8;
 
 /// String instructions: MOVSB, MOVSW, CMPSB, STOSB, STOSW, LODSB, LODSW, SCASW.
 const STRINGS: [u8; 8] = [0xA4, 0xA5, 0xA6, 0xAA, 0xAB, 0xAC, 0xAD, 0xAF];
@@ -185,6 +191,40 @@ fn put_segment(chance: &mut Chance, code: &mut Code) -> Result<(), AllocError> {
         // PUSH CS; POP ES
         _ => code.put_all(&[0x0E, 0x07]),
     }
+}
+
+/// Puts into a random program an access by ES:DI to text memory, up to its last byte or past it.
+pub fn put_text_access(chance: &mut Chance, code: &mut Code) -> Result<(), AllocError> {
+    // MOV BP,0B000h; MOV ES,BP; MOV DI,number
+    code.put_all(&[0xBD, 0x00, 0xB0, 0x8E, 0xC5, 0xBF])?;
+    code.put_word(TEXT_NEAR_END + chance.below(32))?;
+    match chance.below(6) {
+        // MOV ES:[DI],AX; MOV AX,ES:[DI]; ADD ES:[DI],AX; MOV ES:[DI],AL
+        0 => code.put_all(&[0x26, 0x89, 0x05]),
+        1 => code.put_all(&[0x26, 0x8B, 0x05]),
+        2 => code.put_all(&[0x26, 0x01, 0x05]),
+        3 => code.put_all(&[0x26, 0x88, 0x05]),
+        // MOV CX,8; REP STOSW
+        4 => code.put_all(&[0xB9, 0x08, 0x00, 0xF3, 0xAB]),
+        // MOV CX,8; MOV SI,0FF0h; REP MOVSW from ES
+        _ => code.put_all(&[0xB9, 0x08, 0x00, 0xBE, 0xF0, 0x0F, 0xF3, 0x26, 0xA5]),
+    }
+}
+
+/// Puts a step that a block can have into a random program: MOV or an operation on two registers, or on a register and
+/// a byte or word of data.
+pub fn put_block_step(chance: &mut Chance, code: &mut Code) -> Result<(), AllocError> {
+    let is_word = chance.once_in(2);
+    code.put(
+        chance.pick(&OF_BLOCKS) % 0x89 + u8::from(is_word) + if chance.once_in(2) { 2 } else { 0 },
+    )?;
+    let reg = register(chance, is_word);
+    if chance.once_in(2) {
+        let other = register(chance, is_word);
+        return put_register(code, reg, other);
+    }
+    code.put(8 * reg + 6)?;
+    code.put_word(DATA_AT + chance.below(200))
 }
 
 /// Puts a string instruction, perhaps repeated up to five times, into a random program.

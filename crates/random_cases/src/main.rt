@@ -5,7 +5,9 @@
 //! what follows, jump into the middle of instructions, load segment registers, and are interrupted by timer and
 //! keyboard.
 //!
-//! `budgets`: runs from power-on, of this number of clocks and of each of the `width` numbers below. `keys`: runs with
+//! `budgets`: runs from power-on, of this number of clocks and of each of the `width` numbers below; `text`, `apart` and
+//! `rounds` likewise, for programs that access text memory, that stand in two pieces a multiple of 2,048 bytes apart, or
+//! whose loops are blocks that lead back to their own start. `keys`: runs with
 //! a key stamped at each of the `width` clocks before the last 300. `stops`: runs that go on until the processor is
 //! free at an offset, for `width` offsets one after the other. Registers, state, trail, speaker changes and RAM are
 //! compared.
@@ -22,6 +24,7 @@ mod shown;
 use anyhow::{Context, Result, bail};
 use beside::{compare_budgets, compare_keys, compare_stops};
 use cases::judge_cases;
+use program::Shape;
 use std::alloc::Global;
 use std::io;
 
@@ -39,7 +42,10 @@ fn judge(alloc: Global, case: &str) -> Result<()> {
     let clocks = number(words.next())?;
     let width = number(words.next())?;
     let compared = match kind {
-        "budgets" => compare_budgets(alloc, seed, clocks, width),
+        "budgets" => compare_budgets(alloc, Shape::Mixed, seed, clocks, width),
+        "text" => compare_budgets(alloc, Shape::Text, seed, clocks, width),
+        "apart" => compare_budgets(alloc, Shape::Apart, seed, clocks, width),
+        "rounds" => compare_budgets(alloc, Shape::Rounds, seed, clocks, width),
         "keys" => compare_keys(alloc, seed, clocks, width),
         "stops" => compare_stops(alloc, seed, clocks, width),
         _ => bail!("nothing has this name"),

@@ -2,7 +2,7 @@
 
 use crate::chance::Chance;
 use crate::code::Code;
-use crate::instructions::put_instruction;
+use crate::instructions::{put_block_step, put_instruction, put_text_access};
 use anyhow::{Result, bail};
 use assembler::assembly::assemble;
 use board_types::image::{Image, is_loadable};
@@ -19,6 +19,26 @@ pub const ROUTINE_AT: u16 = 0x2F0;
 
 /// The address at which the random code begins.
 const CODE_AT: u32 = 0x1000;
+
+/// How far apart two pieces of random code stand, by the seed.
+const DISTANCES: [u16; 3] = [0x1000, 0x1800, 0x2000];
+
+/// INC AX; RET, the routine that the random code calls.
+const ROUTINE: [u8; 2] = [0x40, 0xC3];
+
+/// What the loops of a random program are made of.
+#[derive(Clone, Copy)]
+pub enum Shape {
+    /// Random instructions of all kinds.
+    Mixed,
+    /// Every other one accesses text memory, up to and past its last byte.
+    Text,
+    /// Random instructions in two pieces of code 4,096, 6,144 or 8,192 bytes apart, of which the second stores into the
+    /// first.
+    Apart,
+    /// Steps that blocks have: a loop is one block that leads back to its own start.
+    Rounds,
+}
 
 /// The source around the random code: it sets the segments, lets timer and keyboard interrupt, and jumps to the random
 /// code. All interrupts have one handler.
@@ -75,9 +95,9 @@ SEGMENT VECTORS AT 0
 ENDS
 ";
 
-/// The image of the program that a seed decides, with what sets the board up and handles interrupts around the random
-/// code, for the boards that are compared.
-pub fn random_image(alloc: Global, seed: u64) -> Result<Image> {
+/// The image of the program of this shape that a seed decides, with what sets the board up and handles interrupts around
+/// the random code, for the boards that are compared.
+pub fn random_image(alloc: Global, shape: Shape, seed: u64) -> Result<Image> {
     let listing = match assemble(alloc, AROUND.as_bytes()) {
         Ok(listing) => listing,
         Err(_) => bail!("the setup isn't assembled"),
@@ -86,13 +106,29 @@ pub fn random_image(alloc: Global, seed: u64) -> Result<Image> {
     for (addr, byte) in listing.image().iter() {
         put_in(&mut image, *addr, *byte)?;
     }
-    let code = random_code(alloc, &mut Chance::new(seed))?;
-    let mut addr = CODE_AT;
-    for byte in code.bytes.as_slice() {
-        put_in(&mut image, addr, *byte)?;
+    let mut chance = Chance::new(seed);
+    if !matches!(shape, Shape::Apart) {
+        let code = random_code(alloc, shape, &mut chance, None)?;
+        put_code(&mut image, 0, code.bytes.as_slice())?;
+        return Ok(image);
+    }
+    let distance = DISTANCES[(seed % 3) as usize];
+    let first = random_code(alloc, shape, &mut chance, Some(distance))?;
+    put_code(&mut image, 0, first.bytes.as_slice())?;
+    let second = random_code(alloc, shape, &mut chance, Some(0u16.wrapping_sub(distance)))?;
+    put_code(&mut image, distance, second.bytes.as_slice())?;
+    put_code(&mut image, distance.saturating_add(ROUTINE_AT), &ROUTINE)?;
+    Ok(image)
+}
+
+/// Puts bytes of the random code into its image, from this offset of its segment on.
+fn put_code(image: &mut Image, offset: u16, bytes: &[u8]) -> Result<(), AllocError> {
+    let mut addr = CODE_AT + u32::from(offset);
+    for byte in bytes {
+        put_in(image, addr, *byte)?;
         addr = addr.saturating_add(1);
     }
-    Ok(image)
+    Ok(())
 }
 
 /// Puts a byte of the program into its image, if its address is loadable.
@@ -103,16 +139,22 @@ fn put_in(image: &mut Image, addr: u32, byte: u8) -> Result<(), AllocError> {
     image.put(addr, byte)
 }
 
-/// The random code of a program: loops of random instructions, with stores into them in between, again and again.
-fn random_code(alloc: Global, chance: &mut Chance) -> Result<Code, AllocError> {
+/// The random code of a program: loops of random instructions, with stores into them in between, again and again. It
+/// goes on at the offset `to`, counted from its own start, or with its first loop if there is none.
+fn random_code(
+    alloc: Global,
+    shape: Shape,
+    chance: &mut Chance,
+    to: Option<u16>,
+) -> Result<Code, AllocError> {
     let mut code = Code::new(alloc);
     put_counts(chance, &mut code)?;
     let begin = code.here();
     for _ in 0..2 + chance.below(3) {
-        put_rounds(chance, &mut code)?;
+        put_rounds(shape, chance, &mut code)?;
         put_stores(chance, &mut code)?;
     }
-    put_jump_back(&mut code, begin)?;
+    put_jump_back(&mut code, to.unwrap_or(begin))?;
     Ok(code)
 }
 
@@ -127,17 +169,17 @@ fn put_counts(chance: &mut Chance, code: &mut Code) -> Result<(), AllocError> {
 
 /// Puts a loop of 10 to 33 rounds into the random code: MOV DX, random instructions, DEC DX, and a jump back to them,
 /// short if it can be; half of them also store into themselves in the end.
-fn put_rounds(chance: &mut Chance, code: &mut Code) -> Result<(), AllocError> {
+fn put_rounds(shape: Shape, chance: &mut Chance, code: &mut Code) -> Result<(), AllocError> {
     code.put(0xBA)?;
     code.put_word(10 + chance.below(24))?;
     code.close()?;
-    let creeps = chance.once_in(2);
+    let creeps = chance.once_in(2) && !matches!(shape, Shape::Rounds);
     if creeps {
         put_start_of_creep(chance, code)?;
     }
     let begin = code.here();
     for _ in 0..3 + chance.below(8) {
-        put_instruction(chance, code)?;
+        put_one_of(shape, chance, code)?;
         code.close()?;
     }
     if creeps {
@@ -146,6 +188,15 @@ fn put_rounds(chance: &mut Chance, code: &mut Code) -> Result<(), AllocError> {
     }
     code.put(0x4A)?;
     put_round_back(code, begin)
+}
+
+/// Puts an instruction of a loop of this shape.
+fn put_one_of(shape: Shape, chance: &mut Chance, code: &mut Code) -> Result<(), AllocError> {
+    match shape {
+        Shape::Text if chance.once_in(2) => put_text_access(chance, code),
+        Shape::Rounds => put_block_step(chance, code),
+        _ => put_instruction(chance, code),
+    }
 }
 
 /// Puts MOV BX with an offset some bytes from here before a loop: the loop's store at BX, which goes down by one each

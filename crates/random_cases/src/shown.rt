@@ -1,10 +1,12 @@
 //! What a board shows.
+ghost use Rattle.std.specs.Prelude.{◌≤◌, ◌^◌};
 
 use board::board::Board;
 use board_plain::trail::{TRAIL_LENGTH, TrailEntry, TrailEvent};
+use board_types::address::{TEXT_SIZE, TEXT_START};
 
 /// What two boards that ran the same random program show differently, for a case to report, or `None`. The first 16 KB
-/// of RAM are compared if `whole`, else only the code and its data.
+/// of RAM and text memory are compared if `whole`, else only the code and its data.
 pub fn difference(one: &Board, other: &Board, whole: bool) -> Option<&'static str> {
     if one.clock() != other.clock() {
         return Some("the clocks");
@@ -27,10 +29,20 @@ pub fn difference(one: &Board, other: &Board, whole: bool) -> Option<&'static st
     None
 }
 
-/// Whether two boards have the same bytes in the first 16 KB of RAM if `whole`, else only in the random code and its
-/// data.
+/// Whether two boards have the same bytes in the first 16 KB of RAM and in text memory if `whole`, else only in the
+/// random code and its data.
 fn have_same_memory(one: &Board, other: &Board, whole: bool) -> bool {
-    let (start, end) = if whole { (0, 0x4000) } else { (0x1000, 0x1400) };
+    if whole {
+        return have_same_bytes(one, other, 0, 0x4000)
+            && have_same_bytes(one, other, TEXT_START, TEXT_START + TEXT_SIZE);
+    }
+    have_same_bytes(one, other, 0x1000, 0x1400)
+}
+
+/// Whether two boards have the same bytes from an address on, up to another one.
+fn have_same_bytes(one: &Board, other: &Board, start: u32, end: u32) -> bool
+    requires { end ≤ 2 ^ 20 }
+{
     for addr in start..end {
         if one.byte(addr) != other.byte(addr) {
             return false;
