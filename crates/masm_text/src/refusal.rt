@@ -1,0 +1,168 @@
+//! Why a source isn't translated.
+ghost use Rattle.std.specs.Prelude.{◌≡◌};
+ghost use Rattle.masm_text.specs.declared.refusal.Stop.TheVariants.{Memory};
+ghost use Rattle.masm_text.specs.declared.refusal.Failure.TheVariants as failures;
+
+use crate::place::Place;
+use std::alloc::{AllocError, AllocFailed};
+
+/// Why a line can't be translated.
+#[derive(Clone, Copy, PartialEq, Eq, PartialOrd, Ord)]
+pub enum Reason {
+    BadCharacter,
+    OpenText,
+    LongName,
+    BadNumber,
+    BadExpression,
+    NotConstant,
+    Overflow,
+    DivisionByZero,
+    TwoLabels,
+    UnknownName,
+    DefinedTwice,
+    UnknownStatement,
+    BadOperand,
+    /// Nothing tells whether an operand in memory is a byte or a word.
+    NoSize,
+    BadData,
+    TooManySegments,
+    /// An instruction or a register of a later processor.
+    LaterProcessor,
+    /// A directive of a later assembler, or one that isn't taken.
+    NotTaken,
+    /// Macros or included texts that call one another; nothing is read after it.
+    TooDeep,
+    /// Nothing is read after it.
+    TooManyLines,
+    TooLong,
+    NoEnd,
+    NothingToEnd,
+}
+
+impl Reason {
+    /// The reason in words.
+    pub fn words(self) -> &'static str {
+        match self {
+            Reason::BadCharacter => "a character that no line may have outside quotes and comments",
+            Reason::OpenText => "the quote that ends the text is missing",
+            Reason::LongName => "a name has at most 31 characters",
+            Reason::BadNumber =>
+                "no number: hexadecimal ends with h, binary with b, and has 32 bits at most",
+            Reason::BadExpression => "this is no expression",
+            Reason::NotConstant => "a number is needed that is known here",
+            Reason::Overflow => "the number is too large",
+            Reason::DivisionByZero => "a division by zero",
+            Reason::TwoLabels => "two labels can't be added",
+            Reason::UnknownName => "a name that nothing defines",
+            Reason::DefinedTwice => "the name is defined already",
+            Reason::UnknownStatement => "neither an instruction nor a directive nor a macro",
+            Reason::BadOperand => "the instruction has no such operand",
+            Reason::NoSize => "a byte or a word? Write BYTE PTR or WORD PTR",
+            Reason::BadData => "this can't be data of this size",
+            Reason::TooManySegments => "too many segments: at most 14",
+            Reason::LaterProcessor => "no 8086 has this instruction or register",
+            Reason::NotTaken => "this directive isn't taken",
+            Reason::TooDeep => "macros and included texts may stand 64 deep",
+            Reason::TooManyLines => "more than 1,000,000 lines come of macros",
+            Reason::TooLong => "too much comes of this line",
+            Reason::NoEnd => "ENDM, ENDIF, ENDS or the end of COMMENT is missing",
+            Reason::NothingToEnd => "there is nothing here that it ends",
+        }
+    }
+}
+
+/// What a line is taken for that has another effect with MASM.
+#[derive(Clone, Copy, PartialEq, Eq)]
+pub enum Remark {
+    /// A later processor is named; an instruction that it adds is refused.
+    LaterProcessor,
+    /// Nothing is aligned.
+    NotAligned,
+    /// A shift by a number, which no 8086 has, is made of shifts by one.
+    Repeated,
+}
+
+impl Remark {
+    /// The remark in words.
+    pub fn words(self) -> &'static str {
+        match self {
+            Remark::LaterProcessor => "an 8086's instructions are taken, and no others",
+            Remark::NotAligned => "nothing is aligned",
+            Remark::Repeated => "no 8086 shifts by a number: as many shifts by one",
+        }
+    }
+}
+
+/// A line, and what is to be said of it.
+#[derive(Clone, Copy)]
+pub struct Note {
+    pub place: Place,
+    pub remark: Remark,
+}
+
+/// A line, and why it can't be translated.
+#[derive(Clone, Copy, PartialEq, Eq, PartialOrd, Ord)]
+pub struct Refusal {
+    pub place: Place,
+    pub reason: Reason,
+}
+
+/// Why there is no translation.
+#[derive(Drop)]
+pub enum Failure {
+    /// The lines that can't be translated, in order.
+    Refused(Vec<Refusal>),
+    /// The line includes a text of this name, which wasn't given.
+    Wanted(Place, Vec<u8>),
+    Memory,
+}
+
+impl From<AllocError> for Failure {
+    ghost from_gives = { λ _ e. e ≡ failures.Memory };
+
+    /// Lets `?` answer a refused allocation as want of memory.
+    fn from(_error: AllocError) -> Failure {
+        Failure::Memory
+    }
+}
+
+impl<T: Drop> From<AllocFailed<T>> for Failure {
+    ghost from_gives = { λ _ e. e ≡ failures.Memory };
+
+    /// Lets `?` answer a refused allocation as want of memory.
+    fn from(_error: AllocFailed<T>) -> Failure {
+        Failure::Memory
+    }
+}
+
+/// Why the work on a line stops.
+#[derive(Clone, Copy)]
+pub enum Stop {
+    Refused(Reason),
+    Memory,
+}
+
+impl From<AllocError> for Stop {
+    ghost from_gives = { λ _ e. e ≡ Memory };
+
+    /// Lets `?` answer a refused allocation as want of memory.
+    fn from(_error: AllocError) -> Stop {
+        Stop::Memory
+    }
+}
+
+impl<T: Drop> From<AllocFailed<T>> for Stop {
+    ghost from_gives = { λ _ e. e ≡ Memory };
+
+    /// Lets `?` answer a refused allocation as want of memory.
+    fn from(_error: AllocFailed<T>) -> Stop {
+        Stop::Memory
+    }
+}
+
+impl From<Reason> for Stop {
+    /// Lets `?` answer a reason as a stop.
+    fn from(reason: Reason) -> Stop {
+        Stop::Refused(reason)
+    }
+}

@@ -1,0 +1,246 @@
+//! Expressions.
+use crate::operator::{Infix, Prefix};
+use crate::symbol::Symbols;
+use crate::value::{Kind, Type, Value, Width};
+use masm_text::name::Name;
+use masm_text::number::Spelling;
+use masm_text::refusal::{Reason, Stop};
+use masm_text::token::{Mark, Token};
+use std::alloc::Global;
+
+/// An operator whose right operand isn't whole yet.
+#[derive(Clone, Copy)]
+enum Waiting {
+    Prefix(Prefix),
+    Infix(Infix),
+    Parenthesis,
+    Bracket,
+}
+
+impl Waiting {
+    /// How strongly it binds; an open bracket not at all.
+    fn strength(self) -> u8 {
+        match self {
+            Waiting::Prefix(prefix) => prefix.strength(),
+            Waiting::Infix(infix) => infix.strength(),
+            Waiting::Parenthesis | Waiting::Bracket => 0,
+        }
+    }
+}
+
+/// An expression of which some tokens are read.
+#[derive(Drop)]
+struct Reader {
+    values: Vec<Value>,
+    waiting: Vec<Waiting>,
+    /// Whether an operand is due, rather than an operator.
+    wants_value: bool,
+}
+
+/// What an expression is read in the light of: the names, and where its line stands.
+#[derive(Clone, Copy)]
+pub struct Light<'s> {
+    pub alloc: Global,
+    pub symbols: &'s Symbols,
+    /// The place of the line's first byte.
+    pub here: Value,
+    /// How many labels `@@` came before the line.
+    pub anonymous: u32,
+}
+
+/// The value of an expression.
+pub fn value_of(light: Light, tokens: &[Token]) -> Result<Value, Stop> {
+    let mut reader = Reader {
+        values: Vec::new(light.alloc),
+        waiting: Vec::new(light.alloc),
+        wants_value: true,
+    };
+    for (place, token) in tokens.iter().enumerate() {
+        let is_shorthand = is_shorthand(light, *token, tokens.get(place + 1));
+        reader.take(light, *token, is_shorthand)?;
+    }
+    reader.finish(light)
+}
+
+/// Whether a token is `b` or `w` before a dot, which is emu8086's BYTE PTR or WORD PTR.
+fn is_shorthand(light: Light, token: Token, next: Option<&Token>) -> bool {
+    match (token, next) {
+        (Token::Word(name), Some(Token::Mark(Mark::Dot))) => {
+            (name.is(b"B") || name.is(b"W")) && light.symbols.get(name).is_none()
+        }
+        _ => false,
+    }
+}
+
+/// Whether the token is a name that the source defines, though it is an operator elsewhere.
+fn is_defined(light: Light, token: Token) -> bool {
+    match token {
+        Token::Word(name) => light.symbols.get(name).is_some(),
+        _ => false,
+    }
+}
+
+/// The name of the label `@@` of this number, which no user can write.
+pub fn anonymous_name(alloc: Global, number: u32) -> Result<Name, Stop> {
+    let text = format!(in alloc; ".{number}")?;
+    Ok(Name::of(text.as_bytes()).ok_or(Reason::LongName)?)
+}
+
+impl Reader {
+    /// Goes on with a token, which is shorthand for a type if `is_shorthand` says so.
+    fn take(&mut self, light: Light, token: Token, is_shorthand: bool) -> Result<(), Stop> {
+        if !self.wants_value {
+            return self.take_operator(light, token);
+        }
+        if let Some(prefix) = Prefix::of(token)
+            && !is_defined(light, token)
+        {
+            return self.wait(Waiting::Prefix(prefix));
+        }
+        match token {
+            Token::Mark(Mark::Open) => return self.wait(Waiting::Parenthesis),
+            Token::Mark(Mark::OpenBracket) => return self.wait(Waiting::Bracket),
+            _ => {}
+        }
+        let value = match token {
+            Token::Word(name) if is_shorthand => shorthand(name),
+            _ => operand(light, token)?,
+        };
+        self.values.push(value)?;
+        self.wants_value = false;
+        Ok(())
+    }
+
+    /// Has an operator wait for its right operand.
+    fn wait(&mut self, waiting: Waiting) -> Result<(), Stop> {
+        self.waiting.push(waiting)?;
+        self.wants_value = true;
+        Ok(())
+    }
+
+    /// Goes on with a token where an operator is due.
+    fn take_operator(&mut self, light: Light, token: Token) -> Result<(), Stop> {
+        if let Some(infix) = Infix::of(token) {
+            self.reduce(light, infix.strength())?;
+            return self.wait(Waiting::Infix(infix));
+        }
+        match token {
+            Token::Mark(Mark::OpenBracket) => {
+                self.reduce(light, Infix::Index.strength())?;
+                self.wait(Waiting::Infix(Infix::Index))?;
+                self.wait(Waiting::Bracket)
+            }
+            Token::Mark(Mark::Close) => {
+                self.reduce(light, 1)?;
+                match self.waiting.pop() {
+                    Some(Waiting::Parenthesis) => Ok(()),
+                    _ => Err(Stop::Refused(Reason::BadExpression)),
+                }
+            }
+            Token::Mark(Mark::CloseBracket) => {
+                self.reduce(light, 1)?;
+                self.close_bracket(light)
+            }
+            _ => Err(Stop::Refused(Reason::BadExpression)),
+        }
+    }
+
+    /// Ends what stands in brackets: memory, or with MASM a number if nothing but a number stands there.
+    fn close_bracket(&mut self, light: Light) -> Result<(), Stop> {
+        let (Some(Waiting::Bracket), Some(value)) = (self.waiting.pop(), self.values.pop()) else {
+            return Err(Stop::Refused(Reason::BadExpression));
+        };
+        let is_number = value.constant().is_some() && !light.symbols.is_loose;
+        let value = value.addressed()?;
+        self.values.push(Value {
+            kind: if is_number {
+                Kind::Number
+            } else {
+                Kind::Memory
+            },
+            ..value
+        })?;
+        Ok(())
+    }
+
+    /// Applies the operators that bind at least as strongly as this, the last first.
+    fn reduce(&mut self, light: Light, strength: u8) -> Result<(), Stop> {
+        while let Some(waiting) = self.waiting.pop() {
+            if waiting.strength() < strength {
+                self.waiting.push(waiting)?;
+                break;
+            }
+            apply(&mut self.values, light.here, waiting)?;
+        }
+        Ok(())
+    }
+
+    /// The value of the whole expression.
+    fn finish(mut self, light: Light) -> Result<Value, Stop> {
+        if self.wants_value {
+            return Err(Stop::Refused(Reason::BadExpression));
+        }
+        self.reduce(light, 1)?;
+        match (self.values.pop(), self.waiting.is_empty()) {
+            (Some(value), true) if self.values.is_empty() => Ok(value),
+            _ => Err(Stop::Refused(Reason::BadExpression)),
+        }
+    }
+}
+
+/// Applies an operator to the last values, in a line that stands at `here`.
+fn apply(values: &mut Vec<Value>, here: Value, waiting: Waiting) -> Result<(), Stop> {
+    let Some(right) = values.pop() else {
+        return Err(Stop::Refused(Reason::BadExpression));
+    };
+    let value = match waiting {
+        Waiting::Prefix(prefix) => prefix.apply(here, right)?,
+        Waiting::Infix(infix) => match values.pop() {
+            Some(left) => infix.apply(left, right)?,
+            None => return Err(Stop::Refused(Reason::BadExpression)),
+        },
+        Waiting::Parenthesis | Waiting::Bracket => {
+            return Err(Stop::Refused(Reason::BadExpression));
+        }
+    };
+    values.push(value)?;
+    Ok(())
+}
+
+/// The type that shorthand stands for.
+fn shorthand(name: Name) -> Value {
+    let width = if name.is(b"W") {
+        Width::Word
+    } else {
+        Width::Byte
+    };
+    Value::of(Kind::Type(Type::Data(width)))
+}
+
+/// The value of a token that is an operand.
+fn operand(light: Light, token: Token) -> Result<Value, Stop> {
+    match token {
+        Token::Number(number, spelling) => Ok(Value::spelled(number, spelling)),
+        Token::Text([code], _) => Ok(Value::spelled(*code as i64, Spelling::Character)),
+        Token::Text([high, low], quote) if *high == quote && *low == quote => {
+            Ok(Value::spelled(quote as i64, Spelling::Character))
+        }
+        Token::Text([high, low], _) => Ok(Value::number(*high as i64 * 256 + *low as i64)),
+        Token::Word(name) => match name.text() {
+            b"@B" if light.anonymous > 0 => near(anonymous_name(light.alloc, light.anonymous)?),
+            b"@F" => near(anonymous_name(light.alloc, light.anonymous.saturating_add(1))?),
+            _ => Ok(light.symbols.value(name)?),
+        },
+        Token::Mark(Mark::Unknown) => Ok(Value::number(0)),
+        Token::Mark(Mark::Here) => Ok(light.here),
+        Token::Text(..) | Token::Mark(_) => Err(Stop::Refused(Reason::BadExpression)),
+    }
+}
+
+/// The place of a label.
+fn near(name: Name) -> Result<Value, Stop> {
+    Ok(Value {
+        plus: Some(name),
+        ..Value::of(Kind::Near)
+    })
+}

@@ -1,0 +1,344 @@
+//! The names of a source.
+use crate::value::{Kind, Location, Type, Value, Width};
+use dialect::meaning::{Meaning, meaning_of};
+use dialect::register::Register;
+use masm_text::name::{Key, Name};
+use masm_text::number::Spelling;
+use masm_text::refusal::{Reason, Stop};
+use std::alloc::Global;
+use std::collections::BTreeMap;
+
+/// What a name stands for.
+#[derive(Clone, Copy)]
+pub enum Symbol {
+    /// A label, and where it stands, if that is known.
+    Near(Option<Location>),
+    Far,
+    Variable(Variable),
+    Segment(usize),
+    /// The number of a structure.
+    Structure(usize),
+    /// A constant, and whether it may get another value.
+    Value(Value, bool),
+}
+
+/// A name of data.
+#[derive(Clone, Copy)]
+pub struct Variable {
+    /// `None` if it is a structure.
+    pub width: Option<Width>,
+    /// How many bytes it has if it is a structure, else 0.
+    pub size: u32,
+    pub count: u32,
+    pub segment: usize,
+    pub at: Option<Location>,
+}
+
+/// A field of a structure, and the items that it has where none are given.
+#[derive(Drop)]
+pub struct Field {
+    pub width: Width,
+    pub count: u32,
+    pub items: Vec<u8>,
+}
+
+/// A structure, and how many bytes its fields have.
+#[derive(Drop)]
+pub struct Structure {
+    pub fields: Vec<Field>,
+    pub size: u32,
+}
+
+/// A segment.
+#[derive(Clone, Copy)]
+pub struct Segment {
+    pub name: Name,
+    /// The paragraph that AT gives.
+    pub paragraph: Option<u16>,
+    /// The number of the first segment of its group, or its own.
+    pub leader: usize,
+}
+
+/// What a name stands for, as the table has it.
+#[derive(Clone, Copy)]
+enum Entry {
+    Near(Option<Location>),
+    Far,
+    Variable(Variable),
+    Segment(usize),
+    Structure(usize),
+    /// The number of a constant's value, and whether it may get another.
+    Value(usize, bool),
+}
+
+/// The names of a source.
+#[derive(Drop)]
+pub struct Symbols {
+    entries: BTreeMap<Key, Entry>,
+    values: Vec<Value>,
+    /// The segments in the order in which they are opened first.
+    pub segments: Vec<Segment>,
+    pub structures: Vec<Structure>,
+    /// Whether the whole program is one segment that begins at 100h.
+    pub is_tiny: bool,
+    /// Whether emu8086's rules hold, and not MASM's: the source names no segment.
+    pub is_loose: bool,
+}
+
+/// How many segments a program may have; each begins 4096 paragraphs after the one before it.
+const SEGMENT_LIMIT: usize = 14;
+
+impl Symbols {
+    /// No names.
+    pub fn new(alloc: Global) -> Symbols {
+        Symbols {
+            entries: BTreeMap::new(alloc),
+            values: Vec::new(alloc),
+            segments: Vec::new(alloc),
+            structures: Vec::new(alloc),
+            is_tiny: false,
+            is_loose: true,
+        }
+    }
+
+    /// What the name stands for.
+    pub fn get(&self, name: Name) -> Option<Symbol> {
+        let symbol = match self.entries.get(&name.key()).copied()? {
+            Entry::Near(at) => Symbol::Near(at),
+            Entry::Far => Symbol::Far,
+            Entry::Variable(variable) => Symbol::Variable(variable),
+            Entry::Segment(number) => Symbol::Segment(number),
+            Entry::Structure(number) => Symbol::Structure(number),
+            Entry::Value(number, is_again) => {
+                Symbol::Value(self.values.get(number).copied()?, is_again)
+            }
+        };
+        Some(symbol)
+    }
+
+    /// Gives a name its meaning, whatever it had.
+    pub fn set(&mut self, name: Name, symbol: Symbol) -> Result<(), Stop> {
+        let entry = match symbol {
+            Symbol::Near(at) => Entry::Near(at),
+            Symbol::Far => Entry::Far,
+            Symbol::Variable(variable) => Entry::Variable(variable),
+            Symbol::Segment(number) => Entry::Segment(number),
+            Symbol::Structure(number) => Entry::Structure(number),
+            Symbol::Value(value, is_again) => Entry::Value(self.keep(name, value)?, is_again),
+        };
+        self.entries.insert(name.key(), entry)?;
+        Ok(())
+    }
+
+    /// Keeps the value of a constant in place of the one that it had, and gives its number.
+    fn keep(&mut self, name: Name, value: Value) -> Result<usize, Stop> {
+        if let Some(Entry::Value(number, _)) = self.entries.get(&name.key()).copied()
+            && let Some(old) = self.values.get_mut(number)
+        {
+            *old = value;
+            return Ok(number);
+        }
+        let number = self.values.len();
+        self.values.push(value)?;
+        Ok(number)
+    }
+
+    /// Gives a name its meaning; fails if it has one that may not change.
+    pub fn define(&mut self, name: Name, symbol: Symbol) -> Result<(), Stop> {
+        match (self.get(name), symbol) {
+            (None, _) | (Some(Symbol::Value(_, true)), Symbol::Value(_, true)) => {
+                self.set(name, symbol)
+            }
+            (Some(Symbol::Value(old, _)), Symbol::Value(new, _))
+                if old.constant().is_some() && old.constant() == new.constant() => { Ok(()) }
+            _ => Err(Stop::Refused(Reason::DefinedTwice)),
+        }
+    }
+
+    /// The number of the segment of this name, which is opened first here if it isn't known.
+    pub fn open(&mut self, name: Name) -> Result<usize, Stop> {
+        if let Some(Symbol::Segment(number)) = self.get(name) {
+            return Ok(number);
+        }
+        let number = self.segments.len();
+        if number >= SEGMENT_LIMIT {
+            return Err(Stop::Refused(Reason::TooManySegments));
+        }
+        self.define(name, Symbol::Segment(number))?;
+        self.segments.push(Segment {
+            name,
+            paragraph: None,
+            leader: number,
+        })?;
+        Ok(number)
+    }
+
+    /// Has a segment stand at the paragraph that AT gives.
+    pub fn place(&mut self, number: usize, paragraph: u16) {
+        if let Some(segment) = self.segments.get_mut(number) {
+            segment.paragraph = Some(paragraph);
+        }
+    }
+
+    /// Has a segment stand after those of a group that `leader` begins.
+    pub fn join(&mut self, number: usize, leader: usize) {
+        if let Some(segment) = self.segments.get_mut(number) {
+            segment.leader = leader;
+        }
+    }
+
+    /// The number of the first segment of the group in which this one stands.
+    pub fn leader(&self, number: usize) -> usize {
+        match self.segments.get(number) {
+            Some(segment) => segment.leader,
+            None => number,
+        }
+    }
+
+    /// Whether AT gives the segment a paragraph, so that nothing is placed there.
+    pub fn is_elsewhere(&self, number: usize) -> bool {
+        match self.segments.get(number) {
+            Some(segment) => segment.paragraph.is_some(),
+            None => false,
+        }
+    }
+
+    /// How many bytes a structure has.
+    pub fn size_of(&self, number: usize) -> u32 {
+        match self.structures.get(number) {
+            Some(structure) => structure.size,
+            None => 0,
+        }
+    }
+
+    /// Begins a structure of this name, and gives its number.
+    pub fn begin_structure(&mut self, alloc: Global, name: Name) -> Result<usize, Stop> {
+        let number = self.structures.len();
+        self.define(name, Symbol::Structure(number))?;
+        self.structures.push(Structure {
+            fields: Vec::new(alloc),
+            size: 0,
+        })?;
+        Ok(number)
+    }
+
+    /// Puts a field after the others of a structure, and gives its offset.
+    pub fn add_field(&mut self, number: usize, field: Field) -> Result<u32, Stop> {
+        let Some(structure) = self.structures.get_mut(number) else {
+            return Err(Stop::Refused(Reason::BadData));
+        };
+        let offset = structure.size;
+        let size = field
+            .width
+            .bytes()
+            .checked_mul(field.count)
+            .ok_or(Reason::Overflow)?;
+        structure.size = offset.checked_add(size).ok_or(Reason::Overflow)?;
+        structure.fields.push(field)?;
+        Ok(offset)
+    }
+
+    /// The number of the structure that this names.
+    pub fn structure(&self, name: Name) -> Option<usize> {
+        match self.get(name) {
+            Some(Symbol::Structure(number)) => Some(number),
+            _ => None,
+        }
+    }
+
+    /// The paragraph of a segment.
+    pub fn paragraph(&self, number: usize) -> i64 {
+        match self.segments.get(self.leader(number)) {
+            Some(
+                Segment {
+                    paragraph: Some(paragraph),
+                    ..
+                },
+            ) => *paragraph as i64,
+            Some(segment) if !self.is_tiny && segment.leader < SEGMENT_LIMIT => {
+                0x1000 * (segment.leader as i64 + 1)
+            }
+            _ => 0x100,
+        }
+    }
+
+    /// The number of the segment of this name, or else of the first one.
+    pub fn named_segment(&self, word: &[u8]) -> usize {
+        let name = Name::of(word);
+        match name.and_then(|name| self.get(name)) {
+            Some(Symbol::Segment(number)) => number,
+            _ => 0,
+        }
+    }
+
+    /// The number of the segment of data that .DATA opens, if there is one.
+    pub fn data_segment(&self) -> Option<usize> {
+        match self.get(Name::of(b"_DATA")?) {
+            Some(Symbol::Segment(number)) => Some(number),
+            _ => None,
+        }
+    }
+
+    /// The paragraph of a segment as a value.
+    fn paragraph_value(&self, number: usize) -> Value {
+        Value::spelled(self.paragraph(number), Spelling::Hexadecimal(4))
+    }
+
+    /// The value of a word in an expression.
+    pub fn value(&self, name: Name) -> Result<Value, Reason> {
+        if let Some(symbol) = self.get(name) {
+            return Ok(self.value_of(name, symbol));
+        }
+        if let Some(Meaning::Register(register)) = meaning_of(name.text()) {
+            return Ok(Value::of(Kind::Register(register)));
+        }
+        if let Some(class) = Type::of(name.text()) {
+            return Ok(Value::of(Kind::Type(class)));
+        }
+        match name.text() {
+            b"@DATA" | b"DGROUP" => Ok(self.paragraph_value(self.named_segment(b"_DATA"))),
+            b"@CODE" => Ok(self.paragraph_value(self.named_segment(b"_TEXT"))),
+            b"EAX" | b"EBX" | b"ECX" | b"EDX" | b"ESI" | b"EDI" | b"EBP" | b"ESP" | b"FS" | b"GS" =>
+                { Err(Reason::LaterProcessor) }
+            _ => Err(Reason::UnknownName),
+        }
+    }
+
+    /// The value of a name that stands for this.
+    fn value_of(&self, name: Name, symbol: Symbol) -> Value {
+        let place = Value {
+            plus: Some(name),
+            ..Value::of(Kind::Near)
+        };
+        match symbol {
+            Symbol::Near(at) => Value { at, ..place },
+            Symbol::Far => Value {
+                kind: Kind::Far,
+                ..place
+            },
+            Symbol::Variable(variable) => Value {
+                kind: Kind::Memory,
+                width: variable.width,
+                size: variable.size,
+                count: variable.count,
+                segment: Some(variable.segment),
+                at: variable.at,
+                ..place
+            },
+            Symbol::Segment(number) => self.paragraph_value(number),
+            Symbol::Structure(number) => Value {
+                number: self.size_of(number) as i64,
+                ..Value::of(Kind::Structure)
+            },
+            Symbol::Value(value, _) => value,
+        }
+    }
+}
+
+/// Whether the register is that of a segment.
+pub fn is_segment_register(name: Name) -> bool {
+    matches!(
+        meaning_of(name.text()),
+        Some(Meaning::Register(Register::Segment(_)))
+    )
+}
