@@ -1,0 +1,217 @@
+//! What a line says.
+ghost use Rattle.std.specs.Prelude.{◌≤◌, ◌<◌, length, IfSome};
+
+use masm_text::name::Name;
+use masm_text::refusal::{Reason, Remark};
+use masm_text::token::{Mark, Token};
+use masm_value::symbol::is_segment_register;
+use masm_value::value::{Type, Width};
+
+/// What a line says, without its label.
+#[derive(Clone, Copy)]
+pub enum Statement<'t, 'a> {
+    Nothing,
+    /// Nothing but what the remark tells.
+    Remarked(Remark),
+    Segment(Name, &'t [Token<'a>]),
+    EndSegment,
+    Group(Name, &'t [Token<'a>]),
+    Structure(Name),
+    Procedure(Name, &'t [Token<'a>]),
+    EndProcedure,
+    Label(Name, Option<Type>),
+    /// A name's value, and whether it may get another one later.
+    Constant(Name, &'t [Token<'a>], bool),
+    Data(Option<Name>, Width, &'t [Token<'a>]),
+    /// An instance of a structure: its name, the structure's, and the items that are given.
+    Instance(Option<Name>, Name, &'t [Token<'a>]),
+    Origin(&'t [Token<'a>]),
+    Assume(&'t [Token<'a>]),
+    Model(Option<Name>),
+    Startup,
+    Exit(&'t [Token<'a>]),
+    End(Option<Name>),
+    Instruction(Name, &'t [Token<'a>]),
+    Refused(Reason),
+}
+
+/// The word that a token is.
+pub fn word_of(token: Option<&Token>) -> Option<Name> {
+    match token {
+        Some(Token::Word(name)) => Some(*name),
+        _ => None,
+    }
+}
+
+/// Whether the token is this mark.
+pub fn is_mark(token: Option<&Token>, mark: Mark) -> bool {
+    match token {
+        Some(Token::Mark(found)) => *found == mark,
+        _ => false,
+    }
+}
+
+/// The label before a colon, and what follows it.
+pub fn split_label<'t, 'a>(tokens: &'t [Token<'a>]) -> (Option<Name>, &'t [Token<'a>]) {
+    match tokens {
+        [Token::Word(name), second, rest @ ..]
+            if is_mark(Some(second), Mark::Colon) && !is_segment_register(*name) => {
+            (Some(*name), rest)
+        }
+        _ => (None, tokens),
+    }
+}
+
+/// The tokens before the first comma outside parentheses, and those after it, if there is one.
+pub fn split_item<'t, 'a>(tokens: &'t [Token<'a>]) -> (&'t [Token<'a>], Option<&'t [Token<'a>]>)
+    ensures { IfSome result.1 (λ after. length after.now < length tokens.now) }
+{
+    let mut depth = 0u32;
+    for (place, token) in tokens.iter().enumerate() {
+        match token {
+            Token::Mark(Mark::Open) => depth = depth.saturating_add(1),
+            Token::Mark(Mark::Close) => depth = depth.saturating_sub(1),
+            Token::Mark(Mark::Comma) if depth == 0 => {
+                return (&tokens[..place], Some(&tokens[place + 1..]));
+            }
+            _ => {}
+        }
+    }
+    (tokens, None)
+}
+
+/// What the tokens say after a label.
+pub fn statement_of<'t, 'a>(tokens: &'t [Token<'a>]) -> Statement<'t, 'a> {
+    let [first, after @ ..] = tokens else {
+        return Statement::Nothing;
+    };
+    let Token::Word(first) = *first else {
+        return Statement::Refused(Reason::UnknownStatement);
+    };
+    if let [second, rest @ ..] = after {
+        if let Token::Word(second) = *second
+            && let Some(statement) = named(first, second, rest)
+        {
+            return statement;
+        }
+        if is_mark(Some(second), Mark::Equals) {
+            return Statement::Constant(first, rest, true);
+        }
+    }
+    if let Some(items) = within_angles(after) {
+        return Statement::Instance(None, first, items);
+    }
+    match directive(first, after) {
+        Some(statement) => statement,
+        None => Statement::Instruction(first, after),
+    }
+}
+
+/// What a line says whose second word tells it.
+fn named<'t, 'a>(first: Name, second: Name, rest: &'t [Token<'a>]) -> Option<Statement<'t, 'a>> {
+    if let Some(items) = within_angles(rest)
+        && !second.is(b"EQU")
+        && Width::of_directive(second.text()).is_none()
+    {
+        return Some(Statement::Instance(Some(first), second, items));
+    }
+    match second.text() {
+        b"SEGMENT" => Some(Statement::Segment(first, rest)),
+        b"ENDS" => Some(Statement::EndSegment),
+        b"GROUP" => Some(Statement::Group(first, rest)),
+        b"STRUC" | b"STRUCT" => Some(Statement::Structure(first)),
+        b"PROC" => Some(Statement::Procedure(first, rest)),
+        b"ENDP" => Some(Statement::EndProcedure),
+        b"LABEL" => Some(Statement::Label(first, type_at(rest))),
+        b"EQU" => Some(Statement::Constant(first, rest, false)),
+        b"RECORD" | b"UNION" | b"TYPEDEF" | b"PROTO" | b"TEXTEQU" => {
+            Some(Statement::Refused(Reason::NotTaken))
+        }
+        _ if Width::of_directive(first.text()).is_some() || is_operand(rest) => None,
+        word => Some(Statement::Data(Some(first), Width::of_directive(word)?, rest)),
+    }
+}
+
+/// Whether what follows a type makes it one of an operand, as in `INC BYTE PTR [BX]`.
+fn is_operand(rest: &[Token]) -> bool {
+    match word_of(rest.first()) {
+        Some(name) => name.is(b"PTR"),
+        None => is_mark(rest.first(), Mark::OpenBracket),
+    }
+}
+
+/// Whether the word FAR stands among the tokens.
+pub fn has_far(tokens: &[Token]) -> bool {
+    tokens.iter().any(|token| match token {
+        Token::Word(name) => name.is(b"FAR"),
+        _ => false,
+    })
+}
+
+/// The type that the first token names.
+fn type_at(tokens: &[Token]) -> Option<Type> {
+    Type::of(word_of(tokens.first())?.text())
+}
+
+/// The tokens between angle brackets, if they stand there.
+fn within_angles<'t, 'a>(tokens: &'t [Token<'a>]) -> Option<&'t [Token<'a>]> {
+    match tokens {
+        [less, items @ .., greater]
+            if is_mark(Some(less), Mark::Less) && is_mark(Some(greater), Mark::Greater) => {
+            Some(items)
+        }
+        _ => None,
+    }
+}
+
+/// What a line says whose first word is a directive; `None` if it is none.
+fn directive<'t, 'a>(first: Name, after: &'t [Token<'a>]) -> Option<Statement<'t, 'a>> {
+    let statement = match first.text() {
+        b".CODE" | b".DATA" | b".DATA?" | b".CONST" | b".FARDATA" => Statement::Segment(
+            first, after,
+        ),
+        b".MODEL" => Statement::Model(word_of(after.first())),
+        b".STARTUP" => Statement::Startup,
+        b".EXIT" => Statement::Exit(after),
+        b"ENDS" => Statement::EndSegment,
+        b"ENDP" => Statement::EndProcedure,
+        b"ASSUME" => Statement::Assume(after),
+        b"ORG" => Statement::Origin(after),
+        b"END" => Statement::End(word_of(after.first())),
+        b"EVEN" | b"ALIGN" => Statement::Remarked(Remark::NotAligned),
+        word => match Width::of_directive(word) {
+            Some(width) => Statement::Data(None, width, after),
+            None => without_effect(first)?,
+        },
+    };
+    Some(statement)
+}
+
+/// Directives that place nothing, and change nothing here.
+const SILENT: &str =
+    ".STACK .8086 .8088 .LIST .NOLIST .LISTALL .SALL .XALL .LALL .SEQ .ALPHA .DOSSEG PUBLIC DOSSEG EXTRN \
+    LOCALS NOLOCALS JUMPS NOJUMPS OPTION";
+
+/// Directives that name a later processor.
+const PROCESSORS: &str = ".186 .286 .286C .386 .386P .486 .586 .686 .287 .387 P186 P286 P386";
+
+/// Directives that aren't taken; nor is any other that begins with a dot.
+const OTHERS: &str = "INVOKE LOCAL RECORD UNION IDEAL COMM WHILE";
+
+/// What a directive says that places nothing; `None` if the word is no directive.
+fn without_effect<'t, 'a>(word: Name) -> Option<Statement<'t, 'a>> {
+    if is_among(word, SILENT) {
+        Some(Statement::Nothing)
+    } else if is_among(word, PROCESSORS) {
+        Some(Statement::Remarked(Remark::LaterProcessor))
+    } else if is_among(word, OTHERS) || word.text().starts_with(b".") {
+        Some(Statement::Refused(Reason::NotTaken))
+    } else {
+        None
+    }
+}
+
+/// Whether a word is one of those of a list, in upper case and between blanks.
+pub fn is_among(word: Name, list: &str) -> bool {
+    list.split(' ').any(|one| word.is(one.as_bytes()))
+}
