@@ -1,0 +1,6 @@
+use Rattle.std.proofs.Common.{◌+◌, length}
+use Rattle.std.specs.Option.{option_map_or}
+use Rattle.masm.proofs.writer.Writer.assume.Given as goal
+
+abbrev pub decreases-loop-left : goal.decreases-loop-left
+decreases-loop-left l = option_map_or (λ part. 1 + length part.now) l.left 0

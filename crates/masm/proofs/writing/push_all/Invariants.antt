@@ -1,0 +1,5 @@
+use Rattle.masm.specs.Layouts.{AreMade}
+use Rattle.masm.proofs.writing.push_all.Given as goal
+
+abbrev pub invariant-loop-text : goal.invariant-loop-text
+invariant-loop-text l = AreMade l.texts l.made

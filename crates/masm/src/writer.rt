@@ -1,0 +1,492 @@
+//! How a line becomes lines of the dialect.
+use crate::layout::Plan;
+use masm_line::data::{count_of_items, data_text};
+use masm_line::instruction::{Around, Assumed, instruction_lines};
+use masm_line::output::{write_name, write_number, write_spelled};
+use masm_line::statement::{Statement, is_mark, split_item, split_label, statement_of, word_of};
+use masm_reading::names::{Names, constant_here, here, segment_name};
+use masm_text::name::Name;
+use masm_text::number::Spelling;
+use masm_text::refusal::{Reason, Remark, Stop};
+use masm_text::token::{Mark, Token, tokens_of};
+use masm_value::expression::{Light, anonymous_name, value_of};
+use masm_value::symbol::{Field, Symbol, Symbols};
+use masm_value::value::{Value, Width};
+use std::alloc::{AllocError, Global};
+
+/// A procedure whose end hasn't come.
+#[derive(Drop)]
+struct Procedure {
+    is_far: bool,
+    /// The registers that USES names, in the order in which they are pushed.
+    saved: Vec<Name>,
+}
+
+/// What the second pass knows before a line.
+#[derive(Drop)]
+pub struct Writer {
+    alloc: Global,
+    symbols: Symbols,
+    entry: Option<Name>,
+    /// The numbers of the constants in the order of their lines, and how many lines came so far.
+    constants: Vec<Option<i64>>,
+    constant: usize,
+    segment: usize,
+    /// How many bytes stand in the segment, if AT gives its paragraph.
+    location: u32,
+    /// The procedures around the line, the innermost last.
+    procedures: Vec<Procedure>,
+    assumed: Assumed,
+    /// How many labels `@@` came so far.
+    anonymous: u32,
+    has_origin: bool,
+    /// What is to be said of the line.
+    remark: Option<Remark>,
+}
+
+impl Writer {
+    /// What is known before the first line.
+    pub fn new(alloc: Global, names: Names) -> Writer {
+        let Names {
+            symbols,
+            entry,
+            constants,
+            ..
+        } = names;
+        Writer {
+            alloc,
+            symbols,
+            entry,
+            constants,
+            constant: 0,
+            segment: 0,
+            location: 0,
+            procedures: Vec::new(alloc),
+            assumed: Assumed {
+                data: None,
+                extra: None,
+                stack: None,
+            },
+            anonymous: 0,
+            has_origin: false,
+            remark: None,
+        }
+    }
+
+    /// What the segments are laid out by.
+    pub fn plan(&self) -> Plan<'_> {
+        Plan {
+            alloc: self.alloc,
+            symbols: &self.symbols,
+            entry: self.entry,
+            has_origin: self.has_origin,
+        }
+    }
+
+    /// The segment in which the lines stand that were made last.
+    pub fn segment(&self) -> usize {
+        self.segment
+    }
+
+    /// What is to be said of the line that was made last.
+    pub fn remark(&self) -> Option<Remark> {
+        self.remark
+    }
+
+    /// The lines of the dialect that a line becomes.
+    pub fn line(&mut self, line: &[u8]) -> Result<Vec<Vec<u8>>, Stop> {
+        self.remark = None;
+        let tokens = tokens_of(self.alloc, line)?;
+        let (label, tokens) = split_label(tokens.as_slice());
+        let mut texts = Vec::new(self.alloc);
+        if let Some(name) = label {
+            texts.push(self.label(name)?)?;
+        }
+        self.statement(&mut texts, statement_of(tokens))?;
+        joined(self.alloc, texts)
+    }
+
+    /// The line of a label.
+    fn label(&mut self, name: Name) -> Result<Vec<u8>, Stop> {
+        if !name.is(b"@@") {
+            return label_text(self.alloc, name);
+        }
+        self.anonymous = self.anonymous.saturating_add(1);
+        label_text(self.alloc, anonymous_name(self.alloc, self.anonymous)?)
+    }
+
+    /// What the line of the dialect is written in the light of.
+    fn light(&self) -> Result<Light<'_>, Stop> {
+        Ok(Light {
+            alloc: self.alloc,
+            symbols: &self.symbols,
+            here: here(b"$", None)?,
+            anonymous: self.anonymous,
+        })
+    }
+
+    /// Writes what a line says after its label.
+    fn statement(
+        &mut self,
+        texts: &mut Vec<Vec<u8>>,
+        statement: Statement<'_, '_>,
+    ) -> Result<(), Stop> {
+        match statement {
+            Statement::Nothing
+            | Statement::EndSegment
+            | Statement::Group(..)
+            | Statement::Structure(_)
+            | Statement::End(_) => Ok(()),
+            Statement::Remarked(remark) => {
+                self.remark = Some(remark);
+                Ok(())
+            }
+            Statement::Model(_) => {
+                let data = self.symbols.data_segment();
+                self.assumed.data = data;
+                self.assumed.stack = data;
+                Ok(())
+            }
+            Statement::Segment(name, _) => self.open(name),
+            Statement::Assume(tokens) => {
+                self.assume(tokens);
+                Ok(())
+            }
+            Statement::Procedure(name, rest) => self.procedure(texts, name, rest),
+            Statement::EndProcedure => {
+                let _ = self.procedures.pop();
+                Ok(())
+            }
+            Statement::Label(name, _) => Ok(texts.push(self.label(name)?)?),
+            Statement::Constant(name, tokens, is_again) => {
+                self.constant(texts, name, tokens, is_again)
+            }
+            Statement::Data(name, width, tokens) => self.data(texts, name, width, tokens),
+            Statement::Instance(name, structure, items) => {
+                self.instance(texts, name, structure, items)
+            }
+            Statement::Origin(tokens) => self.origin(texts, tokens),
+            Statement::Startup => self.startup(texts),
+            Statement::Exit(tokens) => self.exit(texts, tokens),
+            Statement::Instruction(first, rest) => self.instruction(texts, first, rest),
+            Statement::Refused(reason) => Err(Stop::Refused(reason)),
+        }
+    }
+
+    /// Goes on in a segment.
+    fn open(&mut self, name: Name) -> Result<(), Stop> {
+        self.segment = self.symbols.open(segment_name(name)?)?;
+        self.location = 0;
+        Ok(())
+    }
+
+    /// Takes in which segments the segment registers are assumed to hold.
+    fn assume(&mut self, tokens: &[Token]) {
+        let mut left = Some(tokens);
+        while let Some(tokens) = left {
+            let (item, after) = split_item(tokens);
+            if let [register, colon, segment, ..] = item
+                && is_mark(Some(colon), Mark::Colon)
+                && let (Some(register), Some(segment)) = (
+                    word_of(Some(register)),
+                    word_of(Some(segment)),
+                )
+            {
+                self.assume_one(register, segment);
+            }
+            left = after;
+        }
+    }
+
+    /// Takes in which segment a segment register is assumed to hold; none if the name is no segment's, as NOTHING.
+    fn assume_one(&mut self, register: Name, segment: Name) {
+        let number = match self.symbols.get(segment) {
+            Some(Symbol::Segment(number)) => Some(self.symbols.leader(number)),
+            _ if segment.is(b"@DATA") || segment.is(b"DGROUP") => self.symbols.data_segment(),
+            _ => None,
+        };
+        match register.text() {
+            b"DS" => self.assumed.data = number,
+            b"ES" => self.assumed.extra = number,
+            b"SS" => self.assumed.stack = number,
+            _ => {}
+        }
+    }
+
+    /// Writes the first lines of a procedure: its label, and what saves the registers that USES names.
+    fn procedure(
+        &mut self,
+        texts: &mut Vec<Vec<u8>>,
+        name: Name,
+        rest: &[Token],
+    ) -> Result<(), Stop> {
+        texts.push(self.label(name)?)?;
+        let is_far = matches!(self.symbols.get(name), Some(Symbol::Far));
+        let saved = used_registers(self.alloc, rest)?;
+        for register in saved.as_slice() {
+            texts.push(line_of(self.alloc, b"PUSH ", *register)?)?;
+        }
+        self.procedures.push(Procedure { is_far, saved })?;
+        Ok(())
+    }
+
+    /// Writes an instruction; before a return what USES has saved is restored.
+    fn instruction(
+        &mut self,
+        texts: &mut Vec<Vec<u8>>,
+        first: Name,
+        rest: &[Token],
+    ) -> Result<(), Stop> {
+        let mut is_far = false;
+        if let Some(procedure) = self.procedures.last() {
+            is_far = procedure.is_far;
+            if first.is(b"RET") || first.is(b"RETN") || first.is(b"RETF") {
+                for register in procedure.saved.iter().rev() {
+                    texts.push(line_of(self.alloc, b"POP ", *register)?)?;
+                }
+            }
+        }
+        let around = Around {
+            is_far,
+            segment: self.segment,
+            assumed: self.assumed,
+        };
+        let lines = instruction_lines(self.light()?, around, first, rest)?;
+        if lines.len() > 1 {
+            self.remark = Some(Remark::Repeated);
+        }
+        for line in lines {
+            texts.push(line)?;
+        }
+        Ok(())
+    }
+
+    /// Gives a constant its value. If it still names the place of its line, that gets a label.
+    fn constant(
+        &mut self,
+        texts: &mut Vec<Vec<u8>>,
+        name: Name,
+        tokens: &[Token],
+        is_again: bool,
+    ) -> Result<(), Stop> {
+        let number = self.constant;
+        self.constant = number.saturating_add(1);
+        let here = constant_here(self.alloc, number, None)?;
+        let value = self.constant_value(number, here, tokens)?;
+        if let Some(label) = here.plus
+            && (names(value.plus, label) || names(value.minus, label))
+        {
+            texts.push(self.label(label)?)?;
+        }
+        self.symbols.set(name, Symbol::Value(value, is_again))
+    }
+
+    /// The value of a constant: the number that the first pass knew, since distances are known to it alone, or else what
+    /// its expression is here.
+    fn constant_value(&self, number: usize, here: Value, tokens: &[Token]) -> Result<Value, Stop> {
+        let value = value_of(
+            Light {
+                here,
+                ..self.light()?
+            },
+            tokens,
+        );
+        let Some(Some(known)) = self.constants.get(number) else {
+            return value;
+        };
+        match value {
+            Err(Stop::Memory) => Err(Stop::Memory),
+            Ok(value) if value.constant() == Some(*known) => Ok(value),
+            _ => Ok(Value::number(*known)),
+        }
+    }
+
+    /// Writes a line of data. In a segment whose paragraph AT gives nothing is placed: the location goes on.
+    fn data(
+        &mut self,
+        texts: &mut Vec<Vec<u8>>,
+        name: Option<Name>,
+        width: Width,
+        tokens: &[Token],
+    ) -> Result<(), Stop> {
+        if let Some(name) = name {
+            texts.push(self.label(name)?)?;
+        }
+        let text = data_text(self.light()?, width, tokens)?;
+        if !self.symbols.is_elsewhere(self.segment) {
+            return Ok(texts.push(text)?);
+        }
+        let count = count_of_items(self.light()?, width, tokens)?;
+        let size = count.checked_mul(width.bytes()).ok_or(Reason::Overflow)?;
+        self.location = self.location.checked_add(size).ok_or(Reason::Overflow)?;
+        let location = Value::number(self.location as i64);
+        Ok(texts.push(origin_text(self.alloc, location)?)?)
+    }
+
+    /// Writes the lines of data of a structure's instance: the items that are given, and for the others those of the
+    /// fields.
+    fn instance(
+        &mut self,
+        texts: &mut Vec<Vec<u8>>,
+        name: Option<Name>,
+        structure: Name,
+        items: &[Token],
+    ) -> Result<(), Stop> {
+        if let Some(name) = name {
+            texts.push(self.label(name)?)?;
+        }
+        let number = self
+            .symbols
+            .structure(structure)
+            .ok_or(Reason::UnknownStatement)?;
+        let light = self.light()?;
+        let Some(structure) = light.symbols.structures.get(number) else {
+            return Ok(());
+        };
+        let mut left = Some(items);
+        for field in structure.fields.as_slice() {
+            let (item, after) = split_item(left.unwrap_or(&[]));
+            texts.push(field_text(light, field, item)?)?;
+            left = after;
+        }
+        match left {
+            None | Some([]) => Ok(()),
+            Some(_) => Err(Stop::Refused(Reason::BadData)),
+        }
+    }
+
+    /// Writes an ORG.
+    fn origin(&mut self, texts: &mut Vec<Vec<u8>>, tokens: &[Token]) -> Result<(), Stop> {
+        let value = value_of(self.light()?, tokens)?;
+        let location = value.constant().ok_or(Reason::NotConstant)?;
+        match location {
+            0..=0xFFFF => self.location = location as u32,
+            _ => return Err(Stop::Refused(Reason::Overflow)),
+        }
+        self.has_origin = true;
+        Ok(texts.push(origin_text(self.alloc, value)?)?)
+    }
+
+    /// Writes what .STARTUP stands for.
+    fn startup(&mut self, texts: &mut Vec<Vec<u8>>) -> Result<(), Stop> {
+        let name = Name::of(b".0").ok_or(Reason::LongName)?;
+        self.entry = Some(name);
+        texts.push(label_text(self.alloc, name)?)?;
+        if self.symbols.is_tiny {
+            return Ok(());
+        }
+        let data = self.symbols.paragraph(self.symbols.named_segment(b"_DATA"));
+        let mut text = Vec::from_slice(self.alloc, b"MOV AX,")?;
+        write_spelled(&mut text, data, Some(Spelling::Hexadecimal(4)))?;
+        texts.push(text)?;
+        Ok(texts.push(Vec::from_slice(self.alloc, b"MOV DS,AX")?)?)
+    }
+
+    /// Writes what .EXIT stands for, with the exit code that it has.
+    fn exit(&mut self, texts: &mut Vec<Vec<u8>>, tokens: &[Token]) -> Result<(), Stop> {
+        let code = match tokens {
+            [] => 0,
+            _ => match value_of(self.light()?, tokens)?.constant() {
+                Some(code @ 0..=255) => code,
+                _ => return Err(Stop::Refused(Reason::NotConstant)),
+            },
+        };
+        let mut text = Vec::from_slice(self.alloc, b"MOV AX,")?;
+        write_spelled(&mut text, 0x4C00 + code, Some(Spelling::Hexadecimal(4)))?;
+        texts.push(text)?;
+        Ok(texts.push(Vec::from_slice(self.alloc, b"INT 21h")?)?)
+    }
+}
+
+/// Whether both are the same name.
+fn names(found: Option<Name>, name: Name) -> bool {
+    match found {
+        Some(found) => found.is(name.text()),
+        None => false,
+    }
+}
+
+/// The registers after USES.
+fn used_registers(alloc: Global, tokens: &[Token]) -> Result<Vec<Name>, Stop> {
+    let mut registers = Vec::new(alloc);
+    let mut is_used = false;
+    for token in tokens {
+        match token {
+            Token::Word(name) if is_used => registers.push(*name)?,
+            Token::Word(name) => is_used = name.is(b"USES"),
+            // parameters of a procedure are of a later assembler
+            _ => return Err(Stop::Refused(Reason::NotTaken)),
+        }
+    }
+    Ok(registers)
+}
+
+/// A line of a label.
+fn label_text(alloc: Global, name: Name) -> Result<Vec<u8>, Stop> {
+    let mut text = Vec::new(alloc);
+    write_name(&mut text, name)?;
+    text.push(b':')?;
+    Ok(text)
+}
+
+/// A line that begins so, and ends with a register.
+fn line_of(alloc: Global, front: &[u8], register: Name) -> Result<Vec<u8>, AllocError> {
+    let mut text = Vec::from_slice(alloc, front)?;
+    text.extend_from_slice(register.spelling())?;
+    Ok(text)
+}
+
+/// The line of an ORG.
+fn origin_text(alloc: Global, location: Value) -> Result<Vec<u8>, AllocError> {
+    let mut text = Vec::from_slice(alloc, b"ORG ")?;
+    write_spelled(&mut text, location.number, location.spelling)?;
+    Ok(text)
+}
+
+/// The line of data of a field: what is given, filled up to the field's length, or else what the field has.
+fn field_text(light: Light, field: &Field, item: &[Token]) -> Result<Vec<u8>, Stop> {
+    if item.is_empty() {
+        let tokens = tokens_of(light.alloc, field.items.as_slice())?;
+        return data_text(light, field.width, tokens.as_slice());
+    }
+    let count = count_of_items(light, field.width, item)?;
+    let missing = field.count.checked_sub(count).ok_or(Reason::BadData)?;
+    let mut text = data_text(light, field.width, item)?;
+    if missing > 0 {
+        text.push(b',')?;
+        write_number(&mut text, missing as i64)?;
+        // a text is filled up with blanks
+        let filler: &[u8] = if matches!(item, [Token::Text(..)]) {
+            b" DUP(' ')"
+        } else {
+            b" DUP(0)"
+        };
+        text.extend_from_slice(filler)?;
+    }
+    Ok(text)
+}
+
+/// The texts, with each label on one line with what follows it, unless that is a label too.
+fn joined(alloc: Global, texts: Vec<Vec<u8>>) -> Result<Vec<Vec<u8>>, Stop> {
+    let mut lines = Vec::new(alloc);
+    let mut front = Vec::new(alloc);
+    for text in texts {
+        if text.as_slice().ends_with(b":") {
+            if !front.is_empty() {
+                lines.push(front)?;
+            }
+            front = text;
+        } else {
+            if !front.is_empty() {
+                front.push(b' ')?;
+            }
+            front.extend_from_slice(text.as_slice())?;
+            lines.push(front)?;
+            front = Vec::new(alloc);
+        }
+    }
+    if !front.is_empty() {
+        lines.push(front)?;
+    }
+    Ok(lines)
+}

@@ -1,0 +1,41 @@
+-- Lines that are still to be read.
+-- To be believed by callers of this crate: the headline does not rest on it.
+use Rattle.std.specs.Prelude.{ℕ, ◌≡◌, ◌-◌, List, [], length, take, drop, slice_index_or, IfSome}
+use Rattle.std.specs.List.{All}
+use Rattle.board_types.specs.TextLines.{text_lines}
+use Rattle.masm_text.specs.UserLines.{IsLine, lines_of, AreRefusals}
+use Rattle.masm_text.specs.declared.place.Text.{Text}
+use Rattle.masm_reading.specs.declared.frames.Frame.{Frame}
+use Rattle.masm_reading.specs.declared.frames.Frame.TheVariants.{Given, Made}
+use Rattle.masm_reading.specs.declared.frames.SourceLine.{SourceLine}
+use Rattle.masm_reading.specs.declared.reading.Progress.{Progress}
+
+-- the bytes are those of a text after so many of its lines
+abbrev pub IsRest : List Text → ℕ → ℕ → List ℕ → Type 0
+IsRest texts text line rest = text_lines rest ≡ drop line (lines_of texts text)
+
+-- a line is what stands at its place, but for its end
+abbrev pub IsWritten : List Text → SourceLine → Type 0
+IsWritten texts line =
+    line.text.items ≡
+    take (length line.text.items) (slice_index_or (lines_of texts line.place.text) (line.place.line - 1) [])
+
+-- the lines come from the texts
+abbrev pub IsFrame : List Text → Frame → Type 0
+IsFrame texts (Given given) = IsRest texts given.text given.line given.rest.now
+IsFrame texts (Made made) = IsLine texts made.place
+
+-- all of them do
+abbrev pub AreFrames : List Text → List Frame → Type 0
+AreFrames texts frames = All (IsFrame texts) frames
+
+-- each line is one of the user's, or made of one
+abbrev pub AreLines : List Text → List SourceLine → Type 0
+AreLines texts lines = All (λ (line : SourceLine). IsLine texts line.place) lines
+
+-- all that the first pass has of lines comes from the texts
+abbrev pub IsSound : List Text → Progress → Type 0
+IsSound texts progress =
+    AreFrames texts progress.frames.items × AreLines texts progress.lines.items ×
+    AreRefusals texts progress.refusals.items × IfSome progress.begun (IsLine texts) ×
+    IfSome progress.last (IsLine texts)

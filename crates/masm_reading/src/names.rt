@@ -1,0 +1,389 @@
+//! The meanings that lines give to names.
+use masm_line::data::count_of_items;
+use masm_line::statement::{Statement, has_far, split_item, split_label, statement_of, word_of};
+use masm_text::name::Name;
+use masm_text::raw::split_word;
+use masm_text::refusal::{Reason, Stop};
+use masm_text::token::Token;
+use masm_value::expression::{Light, value_of};
+use masm_value::symbol::{Field, Symbol, Symbols, Variable};
+use masm_value::value::{Kind, Location, Type, Value, Width};
+use std::alloc::Global;
+
+/// What the lines so far say of names.
+#[derive(Drop)]
+pub struct Names {
+    alloc: Global,
+    pub symbols: Symbols,
+    /// The structure whose fields come.
+    structure: Option<usize>,
+    segment: Option<usize>,
+    pub entry: Option<Name>,
+    /// The numbers that constants stand for, in the order of their lines; `None` if one is no number, or not yet.
+    pub constants: Vec<Option<i64>>,
+    /// Where the next byte stands.
+    at: Location,
+    /// How many labels `@@` came so far.
+    anonymous: u32,
+    /// Whether procedures are far if nothing says otherwise.
+    is_far: bool,
+}
+
+impl Names {
+    /// What is known before the first line.
+    pub fn new(alloc: Global) -> Names {
+        Names {
+            alloc,
+            symbols: Symbols::new(alloc),
+            structure: None,
+            segment: None,
+            entry: None,
+            constants: Vec::new(alloc),
+            at: Location { run: 0, offset: 0 },
+            anonymous: 0,
+            is_far: false,
+        }
+    }
+
+    /// Whether the end of a structure hasn't come.
+    pub fn is_in_structure(&self) -> bool {
+        self.structure.is_some()
+    }
+
+    /// What the expressions of a line are read in the light of.
+    pub fn light(&self) -> Result<Light<'_>, Stop> {
+        Ok(Light {
+            alloc: self.alloc,
+            symbols: &self.symbols,
+            here: here(b"$", Some(self.at))?,
+            anonymous: self.anonymous,
+        })
+    }
+
+    /// Takes in a line; says whether the second pass is to have it.
+    pub fn take(&mut self, line: &[u8], tokens: &[Token]) -> Result<bool, Stop> {
+        let (label, tokens) = split_label(tokens);
+        let statement = statement_of(tokens);
+        if let Some(number) = self.structure {
+            self.take_field(number, line, statement)?;
+            return Ok(false);
+        }
+        if let Some(name) = label {
+            self.define_label(name)?;
+        }
+        self.define(statement)?;
+        Ok(self.structure.is_none())
+    }
+
+    /// Begins a place from which on locations are counted anew.
+    fn begin_run(&mut self) {
+        self.at = Location {
+            run: self.at.run.saturating_add(1),
+            offset: 0,
+        };
+    }
+
+    /// Goes on by so many bytes, or by some number that isn't known.
+    fn advance(&mut self, count: Option<u32>, size: u32) {
+        let bytes = count.and_then(|count| count.checked_mul(size));
+        match bytes.and_then(|bytes| self.at.offset.checked_add(bytes)) {
+            Some(offset) => self.at.offset = offset,
+            None => self.begin_run(),
+        }
+    }
+
+    /// Gives a label its meaning.
+    fn define_label(&mut self, name: Name) -> Result<(), Stop> {
+        if name.is(b"@@") {
+            self.anonymous = self.anonymous.saturating_add(1);
+            return Ok(());
+        }
+        self.current_segment()?;
+        self.symbols.define(name, Symbol::Near(Some(self.at)))
+    }
+
+    /// Gives the names of a statement their meaning.
+    fn define(&mut self, statement: Statement<'_, '_>) -> Result<(), Stop> {
+        match statement {
+            Statement::Segment(name, rest) => self.define_segment(name, rest),
+            Statement::Group(name, rest) => self.define_group(name, rest),
+            Statement::Procedure(name, rest) => self.define_procedure(name, rest),
+            Statement::Label(name, class) => {
+                let symbol = self.labelled(class)?;
+                self.symbols.define(name, symbol)
+            }
+            Statement::Constant(name, tokens, is_again) => {
+                self.define_constant(name, tokens, is_again)
+            }
+            Statement::Data(name, width, tokens) => self.define_data(name, width, tokens),
+            Statement::Instance(name, structure, _) => self.define_instance(name, structure),
+            Statement::Model(model) => {
+                self.define_model(model);
+                Ok(())
+            }
+            Statement::End(entry) => {
+                self.entry = entry;
+                Ok(())
+            }
+            Statement::Structure(name) => {
+                self.structure = Some(self.symbols.begin_structure(self.alloc, name)?);
+                Ok(())
+            }
+            Statement::Origin(tokens) => self.define_origin(tokens),
+            Statement::Instruction(..) | Statement::Startup | Statement::Exit(_) => {
+                self.current_segment()?;
+                self.begin_run();
+                Ok(())
+            }
+            Statement::EndSegment => {
+                self.begin_run();
+                Ok(())
+            }
+            _ => Ok(()),
+        }
+    }
+
+    /// Takes in which memory model the source names.
+    fn define_model(&mut self, model: Option<Name>) {
+        self.symbols.is_loose = false;
+        if let Some(model) = model {
+            self.symbols.is_tiny = model.is(b"TINY");
+            self.is_far = model.is(b"MEDIUM") || model.is(b"LARGE") || model.is(b"HUGE");
+        }
+    }
+
+    /// The number of the segment that is open; the code's is opened if none is.
+    fn current_segment(&mut self) -> Result<usize, Stop> {
+        if let Some(segment) = self.segment {
+            return Ok(segment);
+        }
+        let segment = self.symbols.open(code_name()?)?;
+        self.segment = Some(segment);
+        Ok(segment)
+    }
+
+    /// Opens a segment, perhaps at a paragraph of its own.
+    fn define_segment(&mut self, name: Name, rest: &[Token]) -> Result<(), Stop> {
+        let number = self.symbols.open(segment_name(name)?)?;
+        self.segment = Some(number);
+        self.symbols.is_loose = false;
+        self.begin_run();
+        if let [Token::Word(word), paragraph @ ..] = rest
+            && word.is(b"AT")
+        {
+            let value = value_of(self.light()?, paragraph)?;
+            match value.constant().ok_or(Reason::NotConstant)? {
+                paragraph @ 0..=0xFFFF => self.symbols.place(number, paragraph as u16),
+                _ => return Err(Stop::Refused(Reason::Overflow)),
+            }
+        }
+        Ok(())
+    }
+
+    /// Has the segments of a list stand after one another, so that one paragraph serves all of them.
+    fn define_group(&mut self, name: Name, list: &[Token]) -> Result<(), Stop> {
+        let first = word_of(list.first()).ok_or(Reason::UnknownStatement)?;
+        let leader = self.symbols.open(first)?;
+        let mut left = Some(list);
+        while let Some(list) = left {
+            let (item, after) = split_item(list);
+            let member = word_of(item.first()).ok_or(Reason::UnknownStatement)?;
+            let number = self.symbols.open(member)?;
+            self.symbols.join(number, leader);
+            left = after;
+        }
+        self.symbols.set(name, Symbol::Segment(leader))
+    }
+
+    /// Takes in an ORG: at 100h, before a second segment is opened, it makes the program one of a single segment.
+    fn define_origin(&mut self, tokens: &[Token]) -> Result<(), Stop> {
+        self.current_segment()?;
+        let value = value_of(self.light()?, tokens)?;
+        if value.constant() == Some(0x100) && self.symbols.segments.len() == 1 {
+            self.symbols.is_tiny = true;
+        }
+        self.begin_run();
+        Ok(())
+    }
+
+    /// Gives a procedure its meaning.
+    fn define_procedure(&mut self, name: Name, rest: &[Token]) -> Result<(), Stop> {
+        self.current_segment()?;
+        let is_near = match word_of(rest.first()) {
+            Some(word) => word.is(b"NEAR"),
+            None => false,
+        };
+        let symbol = if has_far(rest) || self.is_far && !is_near {
+            Symbol::Far
+        } else {
+            Symbol::Near(Some(self.at))
+        };
+        self.symbols.define(name, symbol)
+    }
+
+    /// What a name before LABEL stands for.
+    fn labelled(&mut self, class: Option<Type>) -> Result<Symbol, Stop> {
+        match class {
+            Some(Type::Data(width)) => Ok(Symbol::Variable(Variable {
+                width: Some(width),
+                size: 0,
+                count: 1,
+                segment: self.current_segment()?,
+                at: Some(self.at),
+            })),
+            Some(Type::Far) => Ok(Symbol::Far),
+            Some(Type::Near) | None => Ok(Symbol::Near(Some(self.at))),
+        }
+    }
+
+    /// Gives a constant its value, if it is known already.
+    fn define_constant(
+        &mut self,
+        name: Name,
+        tokens: &[Token],
+        is_again: bool,
+    ) -> Result<(), Stop> {
+        let number = self.constants.len();
+        let light = Light {
+            here: constant_here(self.alloc, number, Some(self.at))?,
+            ..self.light()?
+        };
+        let value = match value_of(light, tokens) {
+            Ok(value) => Some(value),
+            Err(Stop::Memory) => return Err(Stop::Memory),
+            Err(Stop::Refused(_)) => None,
+        };
+        self.constants
+            .push(value.and_then(|value| value.constant()))?;
+        match value {
+            Some(value) => self.symbols.define(name, Symbol::Value(value, is_again)),
+            None => Ok(()),
+        }
+    }
+
+    /// Gives the name of data its width and its count.
+    fn define_data(
+        &mut self,
+        name: Option<Name>,
+        width: Width,
+        tokens: &[Token],
+    ) -> Result<(), Stop> {
+        let segment = self.current_segment()?;
+        let count = match count_of_items(self.light()?, width, tokens) {
+            Ok(count) => Some(count),
+            Err(Stop::Memory) => return Err(Stop::Memory),
+            Err(Stop::Refused(_)) => None,
+        };
+        if let Some(name) = name {
+            let variable = Variable {
+                width: Some(width),
+                size: 0,
+                count: count.unwrap_or(1),
+                segment,
+                at: Some(self.at),
+            };
+            self.symbols.define(name, Symbol::Variable(variable))?;
+        }
+        self.advance(count, width.bytes());
+        Ok(())
+    }
+
+    /// Gives the name of a structure's instance its meaning.
+    fn define_instance(&mut self, name: Option<Name>, structure: Name) -> Result<(), Stop> {
+        let segment = self.current_segment()?;
+        let number = self
+            .symbols
+            .structure(structure)
+            .ok_or(Reason::UnknownStatement)?;
+        let size = self.symbols.size_of(number);
+        if let Some(name) = name {
+            let variable = Variable {
+                width: None,
+                size,
+                count: 1,
+                segment,
+                at: Some(self.at),
+            };
+            self.symbols.define(name, Symbol::Variable(variable))?;
+        }
+        self.advance(Some(1), size);
+        Ok(())
+    }
+
+    /// Takes in a line of a structure: a field, or its end.
+    fn take_field(
+        &mut self,
+        number: usize,
+        line: &[u8],
+        statement: Statement<'_, '_>,
+    ) -> Result<(), Stop> {
+        match statement {
+            Statement::EndSegment => {
+                self.structure = None;
+                Ok(())
+            }
+            Statement::Nothing => Ok(()),
+            Statement::Data(name, width, tokens) => {
+                let count = count_of_items(self.light()?, width, tokens)?;
+                let items = Vec::from_slice(self.alloc, after_words(line, name.is_some()))?;
+                let field = Field {
+                    width,
+                    count,
+                    items,
+                };
+                let offset = self.symbols.add_field(number, field)?;
+                let Some(name) = name else {
+                    return Ok(());
+                };
+                let value = Value {
+                    width: Some(width),
+                    ..Value::number(offset as i64)
+                };
+                self.symbols.set(name, Symbol::Value(value, false))
+            }
+            _ => Err(Stop::Refused(Reason::UnknownStatement)),
+        }
+    }
+}
+
+/// The place of a line whose first byte the name stands for.
+pub fn here(name: &[u8], at: Option<Location>) -> Result<Value, Stop> {
+    Ok(Value {
+        plus: Some(Name::of(name).ok_or(Reason::LongName)?),
+        at,
+        ..Value::of(Kind::Near)
+    })
+}
+
+/// The place that `$` stands for in the constant of this number. The label that names it is one that no user can write.
+pub fn constant_here(alloc: Global, number: usize, at: Option<Location>) -> Result<Value, Stop> {
+    let text = format!(in alloc; "..{number}")?;
+    here(text.as_bytes(), at)
+}
+
+/// What follows the first word of a line, or its first two.
+fn after_words(line: &[u8], has_name: bool) -> &[u8] {
+    let Some((_, after)) = split_word(line) else {
+        return line;
+    };
+    match split_word(after) {
+        Some((_, later)) if has_name => later,
+        _ => after,
+    }
+}
+
+/// The name of the segment that a directive opens.
+pub fn segment_name(name: Name) -> Result<Name, Stop> {
+    match name.text() {
+        b".CODE" => code_name(),
+        b".DATA" | b".DATA?" | b".CONST" | b".FARDATA" => {
+            Ok(Name::of(b"_DATA").ok_or(Reason::LongName)?)
+        }
+        _ => Ok(name),
+    }
+}
+
+/// The name of the segment of code.
+fn code_name() -> Result<Name, Stop> {
+    Ok(Name::of(b"_TEXT").ok_or(Reason::LongName)?)
+}

@@ -1,0 +1,370 @@
+//! What the lines of a source do in the first pass: macros, conditions and repetitions, and the meanings of names.
+use crate::condition::{ConditionLine, Conditions, Question, condition_line};
+use crate::macros::{Gathered, Macros, Purpose, arguments_of, characters_of, names_of};
+use crate::names::Names;
+use masm_line::statement::is_among;
+use masm_text::name::Name;
+use masm_text::raw::{Binding, bare, split_argument, split_word, with_arguments};
+use masm_text::refusal::{Reason, Stop};
+use masm_text::token::{after_blanks, tokens_of};
+use masm_value::expression::value_of;
+use std::alloc::{AllocError, Global};
+
+/// What becomes of a line.
+#[derive(Drop)]
+pub enum Action {
+    /// It is kept for the second pass.
+    Keep,
+    /// It is left out.
+    Leave,
+    /// It is left out, and begins lines that are gathered.
+    Gather,
+    /// These lines come next, which it makes.
+    Call(Vec<Vec<u8>>),
+    /// These lines come next, so many times, which the line that began to gather makes.
+    Repeat(Vec<Vec<u8>>, u32),
+    /// The text of this name comes next.
+    Include(Vec<u8>),
+    /// The lines of the macro end here.
+    End,
+}
+
+/// What the first pass knows.
+#[derive(Drop)]
+pub struct State {
+    alloc: Global,
+    macros: Macros,
+    conditions: Conditions,
+    names: Names,
+    /// The names that stand for texts.
+    texts: Vec<Binding>,
+    /// The character that ends a COMMENT.
+    comment: Option<u8>,
+    /// Whether END has come.
+    is_ended: bool,
+}
+
+impl State {
+    /// What is known before the first line.
+    pub fn new(alloc: Global) -> State {
+        State {
+            alloc,
+            macros: Macros::new(alloc),
+            conditions: Conditions::new(alloc),
+            names: Names::new(alloc),
+            texts: Vec::new(alloc),
+            comment: None,
+            is_ended: false,
+        }
+    }
+
+    /// Whether lines are gathered whose end hasn't come.
+    pub fn is_gathering(&self) -> bool {
+        self.macros.is_gathering()
+    }
+
+    /// Whether an IF, a structure or a COMMENT has no end.
+    pub fn is_open(&self) -> bool {
+        self.conditions.len() > 0 || self.names.is_in_structure() || self.comment.is_some()
+    }
+
+    /// How many IFs are open.
+    pub fn conditions(&self) -> usize {
+        self.conditions.len()
+    }
+
+    /// Leaves lines before whose first one so many IFs were open.
+    pub fn leave(&mut self, conditions: Option<usize>) {
+        if let Some(count) = conditions {
+            self.conditions.leave(count);
+        }
+    }
+
+    /// The names, at the end of all lines.
+    pub fn finish(self) -> Names {
+        let State { mut names, .. } = self;
+        if names.symbols.segments.len() <= 1 && names.entry.is_none() {
+            names.symbols.is_tiny = true;
+        }
+        names
+    }
+
+    /// Takes a line in, and says what becomes of it.
+    pub fn take(&mut self, line: &[u8]) -> Result<Action, Stop> {
+        if self.is_ended {
+            return Ok(Action::Leave);
+        }
+        if let Some(delimiter) = self.comment {
+            if line.contains(&delimiter) {
+                self.comment = None;
+            }
+            return Ok(Action::Leave);
+        }
+        match self.macros.gather(line)? {
+            Some(Gathered::Nothing) => return Ok(Action::Leave),
+            Some(Gathered::Repeat(lines, rounds)) => return Ok(Action::Repeat(lines, rounds)),
+            None => {}
+        }
+        let Some((first, after)) = split_word(line) else {
+            return self.keep(line);
+        };
+        if let Some(condition) = condition_line(first) {
+            self.take_condition(condition, after)?;
+            return Ok(Action::Leave);
+        }
+        if self.conditions.is_skipped() {
+            return Ok(Action::Leave);
+        }
+        match self.purpose_of(first, after)? {
+            Some(purpose) => {
+                self.macros.begin(purpose);
+                Ok(Action::Gather)
+            }
+            None => self.take_first(line, first, after),
+        }
+    }
+
+    /// Takes in a line by its first word.
+    fn take_first(&mut self, line: &[u8], first: Name, after: &[u8]) -> Result<Action, Stop> {
+        if is_name(after) {
+            return self.take_text(line, first, after);
+        }
+        match first.text() {
+            b"TITLE" | b"SUBTTL" | b"SUBTITLE" | b"PAGE" | b"NAME" | b"INCLUDELIB" => {
+                Ok(Action::Leave)
+            }
+            b"COMMENT" => {
+                if let [delimiter, rest @ ..] = after_blanks(after)
+                    && !rest.contains(delimiter)
+                {
+                    self.comment = Some(*delimiter);
+                }
+                Ok(Action::Leave)
+            }
+            b"INCLUDE" => Ok(Action::Include(Vec::from_slice(self.alloc, unquoted(bare(after)))?)),
+            b"ENDM" => Err(Stop::Refused(Reason::NothingToEnd)),
+            b"EXITM" => Ok(Action::End),
+            b"PURGE" => {
+                self.macros.purge(after)?;
+                Ok(Action::Leave)
+            }
+            b"END" => {
+                let action = self.keep(line)?;
+                self.is_ended = true;
+                Ok(action)
+            }
+            _ if self.macros.has(first) => {
+                let arguments = self.arguments_of(after)?;
+                Ok(Action::Call(self.macros.call(first, arguments)?))
+            }
+            _ => self.take_text(line, first, after),
+        }
+    }
+
+    /// Takes in a line that defines a name for a text, has one in it, or a label before a macro.
+    fn take_text(&mut self, line: &[u8], first: Name, after: &[u8]) -> Result<Action, Stop> {
+        if let Some((second, text)) = split_word(after)
+            && (second.is(b"EQU") || second.is(b"TEXTEQU"))
+            && is_text(text)
+        {
+            self.texts.push(Binding {
+                name: first,
+                text: Vec::from_slice(self.alloc, bare(text))?,
+            })?;
+            return Ok(Action::Leave);
+        }
+        if let [b':', later @ ..] = after_blanks(after)
+            && let Some((second, _)) = split_word(later)
+            && self.macros.has(second)
+        {
+            let lines = label_and_call(self.alloc, first, later)?;
+            return Ok(Action::Call(lines));
+        }
+        if !self.texts.is_empty() {
+            let replaced = with_arguments(self.alloc, line, self.texts.as_slice())?;
+            if replaced.as_slice() != line {
+                self.macros.count(1)?;
+                return Ok(Action::Call(one_line(self.alloc, replaced)?));
+            }
+        }
+        self.keep(line)
+    }
+
+    /// Gives the names of a line their meaning, if it isn't left out.
+    fn keep(&mut self, line: &[u8]) -> Result<Action, Stop> {
+        if self.conditions.is_skipped() {
+            return Ok(Action::Leave);
+        }
+        let tokens = tokens_of(self.alloc, line)?;
+        if self.names.take(line, tokens.as_slice())? {
+            Ok(Action::Keep)
+        } else {
+            Ok(Action::Leave)
+        }
+    }
+
+    /// Takes in a line that belongs to an IF.
+    fn take_condition(&mut self, line: ConditionLine, after: &[u8]) -> Result<(), Stop> {
+        match line {
+            ConditionLine::If(question) => {
+                let holds = !self.conditions.is_skipped() && self.answer(question, after)?;
+                self.conditions.begin(holds)
+            }
+            ConditionLine::ElseIf(question) => {
+                let holds = self.conditions.is_asked() && self.answer(question, after)?;
+                self.conditions.turn(holds)
+            }
+            ConditionLine::Else => self.conditions.turn(true),
+            ConditionLine::EndIf => self.conditions.end(),
+        }
+    }
+
+    /// The answer to what an IF asks.
+    fn answer(&self, question: Question, text: &[u8]) -> Result<bool, Stop> {
+        match question {
+            Question::First(is_first) => Ok(is_first),
+            Question::Number => Ok(self.number_of(text)? != 0),
+            Question::Zero => Ok(self.number_of(text)? == 0),
+            Question::Defined => Ok(self.is_defined(text)),
+            Question::NotDefined => Ok(!self.is_defined(text)),
+            Question::Blank => Ok(bare(bare(text)).is_empty()),
+            Question::NotBlank => Ok(!bare(bare(text)).is_empty()),
+            Question::Same(ignores_case) => Ok(are_same(text, ignores_case)),
+            Question::Different(ignores_case) => Ok(!are_same(text, ignores_case)),
+        }
+    }
+
+    /// The number that an expression is here.
+    fn number_of(&self, text: &[u8]) -> Result<i64, Stop> {
+        let tokens = tokens_of(self.alloc, text)?;
+        let value = value_of(self.names.light()?, tokens.as_slice())?;
+        Ok(value.constant().ok_or(Reason::NotConstant)?)
+    }
+
+    /// Whether the word at the front is a name that is defined.
+    fn is_defined(&self, text: &[u8]) -> bool {
+        match split_word(text) {
+            Some((name, _)) => {
+                self.names.symbols.get(name).is_some()
+                    || self.texts.iter().any(|text| text.name.is(name.text()))
+            }
+            None => false,
+        }
+    }
+
+    /// What lines are gathered for after this one, if it is the first of a macro or a repetition.
+    fn purpose_of(&self, first: Name, after: &[u8]) -> Result<Option<Purpose>, Stop> {
+        match first.text() {
+            b"REPT" | b"REPEAT" => match self.number_of(after)? {
+                count @ 0..=0xFFFF_FFFF => Ok(Some(Purpose::Repeat(count as u32))),
+                _ => Err(Stop::Refused(Reason::BadExpression)),
+            },
+            b"IRP" | b"FOR" => {
+                let (name, list) = parameter_and_list(after)?;
+                Ok(Some(Purpose::Each(name, arguments_of(self.alloc, bare(list))?)))
+            }
+            b"IRPC" | b"FORC" => {
+                let (name, list) = parameter_and_list(after)?;
+                Ok(Some(Purpose::Each(name, characters_of(self.alloc, list)?)))
+            }
+            _ => match split_word(after) {
+                Some((second, list)) if second.is(b"MACRO") => {
+                    Ok(Some(Purpose::Macro(first, names_of(self.alloc, list)?)))
+                }
+                _ => Ok(None),
+            },
+        }
+    }
+
+    /// The arguments of a macro's call; one that `%` begins is the number that it is.
+    fn arguments_of(&self, list: &[u8]) -> Result<Vec<Vec<u8>>, Stop> {
+        let mut arguments = Vec::new(self.alloc);
+        for argument in arguments_of(self.alloc, list)?.as_slice() {
+            match argument.as_slice() {
+                [b'%', expression @ ..] => {
+                    let number = self.number_of(expression)?;
+                    let text = format!(in self.alloc; "{number}")?;
+                    arguments.push(Vec::from_slice(self.alloc, text.as_bytes())?)?;
+                }
+                text => arguments.push(without_marks(self.alloc, text)?)?,
+            }
+        }
+        Ok(arguments)
+    }
+}
+
+/// Whether what follows the first word makes it a name, whatever word it is.
+fn is_name(after: &[u8]) -> bool {
+    match split_word(after) {
+        Some((second, _)) => is_among(second, "DB DW DD DQ DT EQU"),
+        None => matches!(after_blanks(after), [b'=', ..]),
+    }
+}
+
+/// Whether an EQU stands for a text: one in angle brackets, or in quotes and longer than a number may be.
+fn is_text(text: &[u8]) -> bool {
+    match after_blanks(text) {
+        [b'<', ..] => true,
+        [quote @ (b'\'' | b'"'), first, second, third, ..] => {
+            first != quote && second != quote && third != quote
+        }
+        _ => false,
+    }
+}
+
+/// Whether both arguments are the same, or are but for the case of their letters.
+fn are_same(list: &[u8], ignores_case: bool) -> bool {
+    match split_argument(list) {
+        (left, Some(right)) if ignores_case => bare(left).eq_ignore_ascii_case(bare(right)),
+        (left, Some(right)) => bare(left) == bare(right),
+        _ => false,
+    }
+}
+
+/// The parameter of a repetition, and its list.
+fn parameter_and_list(text: &[u8]) -> Result<(Name, &[u8]), Stop> {
+    let (parameter, list) = split_argument(text);
+    let (name, _) = split_word(parameter).ok_or(Reason::UnknownStatement)?;
+    Ok((name, list.ok_or(Reason::UnknownStatement)?))
+}
+
+/// The argument without the marks `!`, each of which has the character after it stand for itself; a text keeps them.
+fn without_marks(alloc: Global, text: &[u8]) -> Result<Vec<u8>, AllocError> {
+    if let [b'\'' | b'"', ..] = text {
+        return Vec::from_slice(alloc, text);
+    }
+    let mut plain = Vec::new(alloc);
+    let mut is_marked = false;
+    for byte in text {
+        is_marked = *byte == b'!' && !is_marked;
+        if !is_marked {
+            plain.push(*byte)?;
+        }
+    }
+    Ok(plain)
+}
+
+/// A label on a line of its own, and the macro's call after it.
+fn label_and_call(alloc: Global, name: Name, call: &[u8]) -> Result<Vec<Vec<u8>>, AllocError> {
+    let mut label = Vec::from_slice(alloc, name.spelling())?;
+    label.push(b':')?;
+    let mut lines = Vec::new(alloc);
+    lines.push(label)?;
+    lines.push(Vec::from_slice(alloc, call)?)?;
+    Ok(lines)
+}
+
+/// A line by itself.
+fn one_line(alloc: Global, line: Vec<u8>) -> Result<Vec<Vec<u8>>, AllocError> {
+    let mut lines = Vec::new(alloc);
+    lines.push(line)?;
+    Ok(lines)
+}
+
+/// The name of a text without quotes around it.
+fn unquoted(name: &[u8]) -> &[u8] {
+    match name {
+        [b'\'' | b'"', inner @ .., b'\'' | b'"'] => inner,
+        _ => name,
+    }
+}
