@@ -10,7 +10,7 @@ import unittest
 from tests.support import TOP
 from toolbox.crates import Crates
 
-HEADINGS = 8
+HEADINGS = 9
 LONGEST = 400  # of a line of cases, in characters
 
 
