@@ -118,11 +118,3 @@ def first_start(session: ProbeSession, place: Far, end: int) -> int | None:
         if lines and not session.unrefused(session.go(end - session.clock)).startswith('stop'):
             break
     return None
-
-
-def commands(first: int, end: int) -> Iterator[str]:
-    """A session's commands that tell all events of a short run: to the first clock, and a trail each few clocks from there on."""
-    yield f'go {first}'
-    for clock in range(first, end, CLOCKS_OF_A_TRAIL):
-        yield f'go {min(CLOCKS_OF_A_TRAIL, end - clock)}'
-        yield 'trail'

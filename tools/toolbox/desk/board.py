@@ -18,11 +18,10 @@ from toolbox.desk.sound import MOST_SAMPLES, Speaker
 from toolbox.desk.work import Fields, Helpers, Job
 from toolbox.disassembly import instructions
 from toolbox.effects import Far
-from toolbox.events import commands
 from toolbox.listing import labels_alone, listing_of, physical
 from toolbox.asking import lines_of
 from toolbox.nowhere import told_of_run
-from toolbox.places import address_of, event_of, far_of, is_repeated, line_at, number_of
+from toolbox.places import address_of, far_of, is_repeated, line_at, number_of
 from toolbox.program import LAST_CLOCK, Files, path
 from toolbox.report import REGISTERS, Report, report_of
 from toolbox.runfile import text_of, with_budget
@@ -40,8 +39,8 @@ REACH = 20_000_000
 STACK_BYTES, CLOCKS_OF_HLT, LOOKS_WITHOUT_ATTRIBUTES = 32, 2, 4
 # So many instructions of Intel HEX are shown, from so many bytes before the next one on.
 CODE_ROWS, CODE_BEFORE = 48, 40
-# Up to so many clocks all trails are read for the interrupts; in a longer run only handlers' first instructions are looked for.
-SHORT_RUN, MARKS_SECONDS, MOST_MARKS = 60_000, 2, 1000
+# So many clocks are looked at together for interrupts, and for so many seconds, or up to so many of them.
+MARKED_AT_ONCE, MARKS_SECONDS, MOST_MARKS = 1_000_000, 2, 1000
 # In this order stops are set, of which the first that holds is told: last what the page sees by itself.
 ORDER = ('break', 'changes', 'sound', 'byte', 'halted')
 # The tab of the sound lists so many changes; the time line has so many parts.
@@ -89,7 +88,7 @@ class Board:
         self._job: Job | None = None
         self._is_ended, self._until, self._count = False, float('inf'), 0
         self._screen, self._screen_number, self._rows = (list[str](), b''), 0, list[list[tuple[str, int]]]()
-        self._vectors, self._helpers = b'', Helpers()
+        self._helpers = Helpers()
         self._of_the_run: tuple[tuple[int, int], Fields] = ((0, 0), {})
         self.stops, self._held = list[str](), (-1, list[str]())
         self.furthest, self._was_at, self._turn, self._began_at = 0, 0, 0, 0
@@ -358,7 +357,6 @@ class Board:
         if not is_light:
             found |= {'trail': [self._event(event) for event in trail], 'callers': self._callers()}
             found |= {'stack': self._stack(registers), 'keys': self._keys()}
-            self._vectors = self.machine.dump(0, 4 * 256)
         return found
 
     def _look_at_screen(self, is_light: bool) -> int:
@@ -594,29 +592,12 @@ class Board:
 
     def _interrupts(self, until: int) -> tuple[list[tuple[int, int]], int]:
         """The interrupts of the run, and up to which clock they were looked for."""
-        if until <= SHORT_RUN:
-            lines = self._helpers.lines(self.files, commands(0, until))
-            return sorted({entry.clock: entry.entry or 0 for entry in map(event_of, (line for line in lines if ' entry ' in line))}.items()), until
-        deadline, found = time.monotonic() + MARKS_SECONDS, dict[int, int]()
+        deadline, found = time.monotonic() + MARKS_SECONDS, list[tuple[int, int]]()
         with self._helpers.session(self.files) as session:
-            for place in self._handlers():
-                session.stop(break_at(place))
-            while session.clock < until and time.monotonic() < deadline and len(found) < MOST_MARKS:
-                session.go(until - session.clock)
-                for line in session.many('trail')[-1:]:
-                    if ' entry ' in line:
-                        event = event_of(line)
-                        found[event.clock] = event.entry or 0
-            return sorted(found.items()), session.clock
-
-    def _handlers(self) -> list[Far]:
-        """The places to which the vectors lead, those of requests first, at most sixteen."""
-        at, octets = dict[Far, None](), self._vectors
-        for number in (*range(8, 16), 0, 1, *range(2, 8), *range(16, 256)):
-            offset, segment = (int.from_bytes(octets[4 * number + start : 4 * number + start + 2], 'little') for start in (0, 2))
-            if offset or segment:
-                at[segment, offset] = None
-        return list(at)[:16]
+            while session.clock < until and time.monotonic() < deadline and len(found) <= MOST_MARKS:
+                lines = session.lines(min(MARKED_AT_ONCE, until - session.clock), 'entries')
+                found += [(int(clock), int(kind, 16)) for clock, _, kind in map(bytes.split, lines)]
+            return found[:MOST_MARKS], found[MOST_MARKS][0] if len(found) > MOST_MARKS else session.clock
 
 
 def state_of(chips: Chips) -> str:

@@ -59,7 +59,7 @@ def sums_in(fields: Fields) -> list[Any]:
 
 
 class Desk:
-    """The boards, and what is asked of them."""
+    """The boards, and what is asked of them: `on_` methods answer words without a board, `of_` methods those of one."""
 
     def __init__(self, room: str, given: Given, drafts: Drafts) -> None:
         self.room, self.given, self.drafts = room, given, drafts
@@ -106,10 +106,10 @@ class Desk:
         """Answers a question. What is refused to the user, and not to the page, is a sentence."""
         word = want(fields, 'do', str)
         try:
-            if word in self.GENERAL:
-                return self.GENERAL[word](self, fields)
-            if word in self.OF_A_BOARD:
-                return self.OF_A_BOARD[word](self, self._board(fields), fields)
+            if answers := getattr(self, f'on_{word.replace(" ", "_")}', None):
+                return answers(fields)
+            if answers := getattr(self, f'of_{word.replace(" ", "_")}', None):
+                return answers(self._board(fields), fields)
         except Gone as gone:
             self._drop(fields)
             return {'gone': str(gone)}
@@ -141,7 +141,7 @@ class Desk:
 
     # Without a board
 
-    def _hello(self, _: Fields) -> Fields:
+    def on_hello(self, _: Fields) -> Fields:
         """What the page begins with. It is offered the drafts of FILE, and those of no file that were written since this desk began;
         without FILE all of no file."""
         found = {'examples': [asdict(example) for example in examples()], 'defaults': DEFAULTS, 'grammar': grammar(), 'given': None}
@@ -155,17 +155,17 @@ class Desk:
         drafts += [draft for draft in free if draft['time'] >= self.drafts.begun]
         return found | {'given': given | {'settled': settled}, 'drafts': drafts, 'amiss': self.drafts.amiss}
 
-    def _example(self, fields: Fields) -> Fields:
+    def on_example(self, fields: Fields) -> Fields:
         """An example's files."""
         name = want(fields, 'name', str)
         source, _ = files_of(name)
         return {'name': f'{name}.asm', 'source': source, 'run': read_run_file(f'{TOP}/examples/{name}.json'), 'hex': False}
 
-    def _page(self, fields: Fields) -> Fields:
+    def on_page(self, fields: Fields) -> Fields:
         """A page of docs/."""
         return {'html': page_of(want(fields, 'name', str))}
 
-    def _language(self, fields: Fields) -> Fields:
+    def on_language(self, fields: Fields) -> Fields:
         """What the editor asks of its text."""
         source, what = want(fields, 'source', str), want(fields, 'what', str)
         line, column = numbers([want(fields, 'line', int, 0), want(fields, 'column', int, 0)], 0, LONGEST_SOURCE)
@@ -173,7 +173,7 @@ class Desk:
             raise Refused(400, 'hover, completion or refused is wanted, of a source')
         return self.language.answer(what, source, line, column)
 
-    def _open(self, fields: Fields) -> Fields:
+    def on_open(self, fields: Fields) -> Fields:
         """A board of a source and a run file, at clock 0; or why it is refused."""
         source, run, is_hex = want(fields, 'source', str), want(fields, 'run', dict), want(fields, 'hex', bool, False)
         if len(source) > 2 * LONGEST_SOURCE:
@@ -213,17 +213,17 @@ class Desk:
         """Where a board has its source."""
         return os.path.join(room, 'it.hex' if is_hex else 'it.asm')
 
-    def _close(self, fields: Fields) -> Fields:
+    def on_close(self, fields: Fields) -> Fields:
         """Ends a board."""
         self._drop(fields)
         return {}
 
-    def _keep(self, fields: Fields) -> Fields:
+    def on_keep(self, fields: Fields) -> Fields:
         """Writes a page's text and fields to the files that the command's words name. What was written is no draft any more."""
         source, run = want(fields, 'source', str), want(fields, 'run', dict)
         return self.files.write(source, run, sums_in(fields), want(fields, 'over', bool, False))
 
-    def _changed(self, fields: Fields) -> Fields:
+    def on_changed(self, fields: Fields) -> Fields:
         """What another hand has changed in those files since the page has read them."""
         return self.files.changed(want(fields, 'source', str), sums_in(fields))
 
@@ -231,7 +231,7 @@ class Desk:
         """The file that a draft is of: FILE, or none."""
         return self.given.file if want(fields, 'given', bool) else None
 
-    def _keep_draft(self, fields: Fields) -> Fields:
+    def on_keep_draft(self, fields: Fields) -> Fields:
         """Keeps what a page holds until it is saved. `again`: the page has to send all of it, with a later number than this."""
         kinds = {'name': str, 'source': str, 'hex': bool, 'run': dict, 'stops': list}
         counts = [want(fields, name, int, 0) for name in ('number', 'base', 'at', 'drop')]
@@ -239,12 +239,12 @@ class Desk:
         last = self.drafts.keep(self._of(fields), want(fields, 'id', str), draft, Change(*numbers(counts, 0, LAST_NUMBER)))
         return {} if last is None else {'again': last}
 
-    def _drop_draft(self, fields: Fields) -> Fields:
+    def on_drop_draft(self, fields: Fields) -> Fields:
         """Forgets a draft."""
         self.drafts.drop(self._of(fields), want(fields, 'id', str), want(fields, 'number', int, 0))
         return {}
 
-    def _draft(self, fields: Fields) -> Fields:
+    def on_draft(self, fields: Fields) -> Fields:
         """A draft, and how it differs from what the page holds."""
         draft, source = self.drafts.one(self._of(fields), want(fields, 'id', str)), want(fields, 'source', str)
         return draft | {'difference': difference(source, draft['source'], ('this page', 'the draft'))}
@@ -256,77 +256,78 @@ class Desk:
         board.begin(work, seconds)
         return board.outcome(PATIENCE)
 
-    def _run(self, board: Board, fields: Fields) -> Fields:
+    def of_run(self, board: Board, fields: Fields) -> Fields:
         """Goes on, for so many milliseconds at most."""
         to, seen = want(fields, 'to', int, LAST_CLOCK), want(fields, 'seen', int, 0)
         is_past, is_light = want(fields, 'past', bool, False), want(fields, 'light', bool, False)
         seconds = min(max(want(fields, 'ms', int, 100), 1), 200) / 1000
         return self._do(board, lambda: board.run(to, is_past, seen, is_light), seconds)
 
-    def _move(self, board: Board, fields: Fields) -> Fields:
-        """A step, forth or back."""
+    def of_step(self, board: Board, fields: Fields) -> Fields:
+        """A step, forth or back, by the board's own words."""
         seen, move = want(fields, 'seen', int, 0), want(fields, 'do', str)
-        moves: dict[str, Callable[[int], Fields]] = {'step': board.step, 'over': board.over, 'out': board.out, 'back': board.back, 'last': board.last}
-        return self._do(board, lambda: moves[move](seen))
+        return self._do(board, lambda: getattr(board, move)(seen))
 
-    def _who(self, board: Board, fields: Fields) -> Fields:
+    of_over = of_out = of_back = of_last = of_step
+
+    def of_who(self, board: Board, fields: Fields) -> Fields:
         """To where some bytes were changed last, and what did it."""
         address, count, seen = want(fields, 'address', int), want(fields, 'count', int, 1), want(fields, 'seen', int, 0)
         if address < 0:
             raise Sorry('an address is 0 or more')
         return self._do(board, lambda: board.who(address, count, seen))
 
-    def _go_to(self, board: Board, fields: Fields) -> Fields:
+    def of_go_to(self, board: Board, fields: Fields) -> Fields:
         """To any clock."""
         clock, seen = want(fields, 'clock', int), want(fields, 'seen', int, 0)
         if not 0 <= clock <= LAST_CLOCK:
             raise Sorry(f'a clock lies from 0 to {LAST_CLOCK:,}')
         return self._do(board, lambda: board.go_to(clock, seen))
 
-    def _wait(self, board: Board, _: Fields) -> Fields:
+    def of_wait(self, board: Board, _: Fields) -> Fields:
         """What the job under way came to."""
         return board.outcome(PATIENCE)
 
-    def _pause(self, board: Board, _: Fields) -> Fields:
+    def of_pause(self, board: Board, _: Fields) -> Fields:
         """Ends the job under way where it is."""
         board.pause()
         return {}
 
-    def _look(self, board: Board, fields: Fields) -> Fields:
+    def of_look(self, board: Board, fields: Fields) -> Fields:
         """What is seen now."""
         seen = want(fields, 'seen', int, 0)
         return self._do(board, lambda: board.view('there', seen))
 
-    def _memory(self, board: Board, fields: Fields) -> Fields:
+    def of_memory(self, board: Board, fields: Fields) -> Fields:
         """Bytes of memory."""
         place, count = want(fields, 'place', str), want(fields, 'count', int, 256)
         return self._do(board, lambda: board.memory(place, count))
 
-    def _code(self, board: Board, fields: Fields) -> Fields:
+    def of_code(self, board: Board, fields: Fields) -> Fields:
         """Instructions of memory."""
         place = want(fields, 'place', str, '')
         return self._do(board, lambda: board.code(place))
 
-    def _chips(self, board: Board, _: Fields) -> Fields:
+    def of_chips(self, board: Board, _: Fields) -> Fields:
         """What the chips hold."""
         return self._do(board, board.chips)
 
-    def _data(self, board: Board, _: Fields) -> Fields:
+    def of_data(self, board: Board, _: Fields) -> Fields:
         """The source's own data."""
         return self._do(board, board.data)
 
-    def _why(self, board: Board, _: Fields) -> Fields:
+    def of_why(self, board: Board, _: Fields) -> Fields:
         """Why the run goes nowhere."""
         return self._do(board, board.why)
 
-    def _stops(self, board: Board, fields: Fields) -> Fields:
+    def of_stops(self, board: Board, fields: Fields) -> Fields:
         """Sets the stops."""
         stops = want(fields, 'stops', list)
         if len(stops) > 1000 or not all(isinstance(stop, str) for stop in stops):
             raise Refused(400, 'texts of stops are wanted')
         return board.set_stops([stop.strip() for stop in stops])
 
-    def _type(self, board: Board, fields: Fields) -> Fields:
+    def of_type(self, board: Board, fields: Fields) -> Fields:
         """Keys typed now: codes, or a text as tools/keys takes it."""
         seen = want(fields, 'seen', int, 0)
         if (later := board.later_keys()) and not want(fields, 'drop', bool, False):
@@ -345,59 +346,25 @@ class Desk:
             raise Refused(400, 'scan codes are wanted')
         return self._do(board, lambda: board.type(codes, pauses, seen))
 
-    def _drop_keys(self, board: Board, fields: Fields) -> Fields:
+    def of_drop_keys(self, board: Board, fields: Fields) -> Fields:
         """Takes keys out of the list, by their places in it."""
         gone, seen = set(numbers(want(fields, 'keys', list), 0, 1 << 20)), want(fields, 'seen', int, 0)
         kept = [key for at, key in enumerate(board.keys) if at not in gone]
         return self._do(board, lambda: board.with_keys(kept, seen))
 
-    def _speaker(self, board: Board, fields: Fields) -> Fields:
+    def of_speaker(self, board: Board, fields: Fields) -> Fields:
         """Where the speaker was high, between two clocks."""
         low, high = numbers([want(fields, 'low', int), want(fields, 'high', int)], 0, LAST_CLOCK)
         return board.speaker(low, max(high, low + 1))
 
-    def _heard(self, board: Board, fields: Fields) -> Fields:
+    def of_heard(self, board: Board, fields: Fields) -> Fields:
         """The speaker's samples between two clocks."""
         begin, end = numbers([want(fields, 'begin', int), want(fields, 'end', int)], 0, 2 * LAST_CLOCK)
         return board.heard(begin, max(begin, end), numbers([want(fields, 'slow', int, 1)], 1, 1000)[0])
 
-    GENERAL = {
-        'hello': _hello,
-        'example': _example,
-        'page': _page,
-        'language': _language,
-        'open': _open,
-        'close': _close,
-        'keep': _keep,
-        'changed': _changed,
-        'keep draft': _keep_draft,
-        'drop draft': _drop_draft,
-        'draft': _draft,
-    }
-    OF_A_BOARD = {
-        'run': _run,
-        'step': _move,
-        'over': _move,
-        'out': _move,
-        'back': _move,
-        'last': _move,
-        'who': _who,
-        'go to': _go_to,
-        'wait': _wait,
-        'pause': _pause,
-        'look': _look,
-        'memory': _memory,
-        'code': _code,
-        'chips': _chips,
-        'data': _data,
-        'why': _why,
-        'stops': _stops,
-        'type': _type,
-        'drop keys': _drop_keys,
-        'speaker': _speaker,
-        'heard': _heard,
-        'marks': lambda _, board, __: board.marks(),
-    }
+    def of_marks(self, board: Board, _: Fields) -> Fields:
+        """The time line's marks."""
+        return board.marks()
 
 
 def refusals(files: Files, refusal: str) -> list[Fields]:

@@ -6,10 +6,10 @@ import resource
 import subprocess
 import tempfile
 import threading
-from typing import Any, Callable, Iterable, Iterator
+from typing import Any, Callable, Iterator
 
 from toolbox.command import Sorry
-from toolbox.program import Files, Session, path, refusal
+from toolbox.program import Files, ProbeSession, refusal
 from toolbox.starting import started
 
 Fields = dict[str, Any]
@@ -92,24 +92,10 @@ class Helpers:
                 raise Sorry(refusal(status, err.read().decode('utf-8', 'replace')))
         return out.decode('utf-8', 'replace') if status == 0 else None
 
-    def lines(self, files: Files, commands: Iterable[str]) -> Iterator[str]:
-        """The answers to commands of debug, which are handed over all at once."""
-        with tempfile.TemporaryFile() as given:
-            given.writelines(f'{command}\n'.encode() for command in commands)
-            given.seek(0)
-            process = started([path(), *files.words('debug')], stdin=given, stdout=subprocess.PIPE, stderr=subprocess.DEVNULL, start_new_session=True)
-            self.add(process)
-            try:
-                assert process.stdout
-                for line in process.stdout:
-                    yield line.decode('ascii', 'replace').rstrip('\n')
-            finally:
-                self.drop(process)
-
     @contextlib.contextmanager
-    def session(self, files: Files) -> Iterator[Session]:
-        """A session of debug."""
-        session = Session(files)
+    def session(self, files: Files) -> Iterator[ProbeSession]:
+        """A session of the probe."""
+        session = ProbeSession(files)
         self.add(session)
         try:
             yield session
