@@ -8,8 +8,10 @@ import unittest
 from tests.support import EXAMPLES, ToolCase, example, is_there
 
 from toolbox.command import Sorry
-from toolbox.disassembly import LONGEST, NONE, instruction, listed
-from toolbox.places import far_of
+from toolbox.disassembly import LONGEST, NONE, listed
+from toolbox.places import event_of, far_of
+from toolbox.program import Files, ProbeSession
+from toolbox.runfile import DEFAULTS, text_of
 from toolbox.symbols import image_of, symbols_of
 
 ROM = 'B800B0 8EC0 EBFE 68656C6C6F2C2062696720776F726C64 00 90 90 F4'
@@ -210,15 +212,26 @@ class Board(ToolCase):
         self.assertEqual(lines[4], lines[0])
         self.assertIn('never there up to the end of the run', lines[-1])
 
+    def begun(self, offset: int, octets: bytes) -> tuple[bytes, str]:
+        """The instruction with which bytes at an offset begin, as a run of it tells; offsets wrap."""
+        parts = [(at, part) for at, part in ((offset, octets[: 0x10000 - offset]), (0, octets[0x10000 - offset :])) if part]
+        placed = '\n'.join(f' ORG {at}\n DB {",".join(map(str, part))}' for at, part in parts)
+        source = self.file('it.asm', f'SEGMENT IT AT 1000h\n{placed}\nENDS\nSEGMENT RESET AT 0FFFFh\n JMP FAR 1000h:{offset}\nENDS\n')
+        with ProbeSession(Files(source, self.file('it.json', text_of(DEFAULTS | {'ram': 128})))) as session:
+            session.one('step')
+            session.one('step')
+            last = event_of(session.many('trail')[-1])
+        return (last.octets, last.text) if (last.segment, last.offset) == (0x1000, offset) else (octets[:1], NONE)
+
     def test_disassembly_both_ways(self) -> None:
-        """What pcprobe lists is what runs: bytes and text of random places, also at a segment's end."""
+        """What pcprobe lists is what runs: bytes and text of random places, also over a segment's end."""
         octets = random.Random(8088).randbytes(300)
-        for offset in (0x100, 0xFF00):
-            rows = list(listed(offset, octets[: 0x10000 - offset], 16))
+        for offset in (0x100, 0xFF00, 0xFFE8):
+            rows = list(listed(offset, octets, 16))
             for at, code, text in rows:
-                alone = instruction(at, octets[at - offset : at - offset + LONGEST])
-                self.assertEqual((code, text), (alone.octets, alone.text) if alone else (octets[at - offset : at - offset + 1], NONE))
-            self.assertEqual([at for at, _, _ in rows[1:]], [at + len(code) for at, code, _ in rows[:-1]])
+                first = (at - offset) % 0x10000
+                self.assertEqual((code, text), self.begun(at, octets[first : first + LONGEST]), (offset, at))
+            self.assertEqual([at for at, _, _ in rows[1:]], [(at + len(code)) % 0x10000 for at, code, _ in rows[:-1]])
 
     def test_disassembly(self) -> None:
         files = self.program('        JMP SHORT over\n        REP MOVSB\n        DB 0Fh\nover:   LOOP over\n        DB 0FFh,0FFh\n        HLT')

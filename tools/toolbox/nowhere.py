@@ -6,7 +6,7 @@ import re
 from itertools import takewhile
 from typing import Any, Iterator
 
-from toolbox.asking import Raw, Told, ask
+from toolbox.asking import Raw, Told
 from toolbox.chips import Chips, ends_before, of_chips
 from toolbox.command import tool
 from toolbox.doubts import doubts
@@ -20,10 +20,10 @@ from toolbox.runfile import read_run_file
 from toolbox.scancodes import names
 from toolbox.services import left_at, mark_of
 from toolbox.text_memory import TEXT_MEMORY, shown
-from toolbox.walk import DATA, REACH, RETURNS, TEXT, TEXT_END, Run, go_to_end, is_for_good, is_push, is_short, opcode, registers_at, statement_of, trail_at
+from toolbox.walk import A_SECOND, DATA, REACH, RETURNS, TEXT, TEXT_END, Run, go_to_end, is_for_good, is_push, is_short, opcode, registers_at, statement_of, trail_at
 
 TRAIL, LONGEST_LOOP, ZEROS, NEAR, SOON, FEW = 32, 8, 4, 32, 40, 8
-IF, TF, A_SECOND, SPACE = 0x200, 0x100, 4_772_727, 0x39
+IF, TF, SPACE = 0x200, 0x100, 0x39
 PORTS = {0x20, 0x21, 0x40, 0x41, 0x42, 0x60, 0x61, 0x62, 0x3B5, 0x3BA}  # those that answer a read
 READS, SETS_IF = {0xE4, 0xE5, 0xEC, 0xED}, {0xFB, 0xCF, 0x9D}
 # What does nothing but to registers and flags, by its first byte: CMP, TEST, near jumps by flags, LOOP, INC, DEC, MOV of a number, ..
@@ -46,24 +46,6 @@ FOR_A_STACK = '\nhint: room for the stack lies in RAM, and SP begins at its end'
 CALLED = re.compile(r'\bINT\s+(10|16|1A|20|21)h', re.I)
 
 
-class Teller:
-    """What is told of a run."""
-
-    def __init__(self, run: Run, is_ended: bool) -> None:
-        self.run, self.is_ended = run, is_ended
-        self.clock = run.report.clock
-
-    def tell(self, name: str, event: Event | None = None, **values: Any) -> list[Told]:
-        """A sentence; of an event with its clock, its place, and its beginning in `trail` and `events`."""
-        if event:
-            place, octets = f'{event.segment:04X}:{event.offset:04X}', event.octets.hex().upper()
-            values = {'at': event.clock, 'after': event.clock + 1, 'place': self.run.place(event), 'where': f'{place} {octets}'.strip()} | values
-            values.setdefault('what', f'start {place}' if event.entry is None else f'entry {event.entry:02X}')
-            if event.entry is not None:
-                values['where'] = Raw(rf'\S+ entry {event.entry:02X}')
-        return ask(self.run.files, name, {'clock': self.clock, 'second': A_SECOND} | values)
-
-
 def told_of_run(report: Report, files: Files, listing: Listing | None = None, reach: int = REACH) -> list[Told]:
     """What isn't as most programs want it. A run that is busy for more than `reach` clocks isn't made again, and this is told."""
     with ProbeSession(files) as session:
@@ -76,47 +58,45 @@ def told_of_run(report: Report, files: Files, listing: Listing | None = None, re
         ram_end = 1024 * ram if isinstance(ram, int) else 0
         served = left_at(session, ram_end)
         trail = [event_of(line) for line in session.many('trail')]
-        run = Run(report, files, session, listing or listing_of(files), trail, ram_end, mark_of(ram_end) if served else 0)
-        teller = Teller(run, bool(served and served.phase == 2))
-        found = [one for remark in (served.remarks() if served else []) for one in teller.tell('services', remark=remark, address=run.mark - 2)]
-        if teller.is_ended:
-            return found + (of_a_division(teller) if served and not served.how else of_an_early_end(teller)) + of_the_source(teller)
-        found += of_the_end(teller, was_at_zero)
+        is_ended = bool(served and served.phase == 2)
+        run = Run(report, files, session, listing or listing_of(files), trail, ram_end, mark_of(ram_end) if served else 0, is_ended)
+        found = [one for remark in (served.remarks() if served else []) for one in run.tell('services', remark=remark, address=run.mark - 2)]
+        if run.is_ended:
+            return found + (of_a_division(run) if served and not served.how else of_an_early_end(run)) + of_the_source(run)
+        found += of_the_end(run, was_at_zero)
         is_port_told = any(one.name == 'no port' for one in found)
-        return found + [one for one in of_the_source(teller) if not (is_port_told and one.name == 'unanswered port')] + of_the_chips(teller)
+        return found + [one for one in of_the_source(run) if not (is_port_told and one.name == 'unanswered port')] + of_the_chips(run)
 
 
-def of_the_end(teller: Teller, was_at_zero: int | None) -> list[Told]:
+def of_the_end(run: Run, was_at_zero: int | None) -> list[Told]:
     """How the run ended, and what led there."""
-    run = teller.run
-    at_zero = of_address_zero(teller, was_at_zero) if was_at_zero is not None else []
-    over = of_code_in_the_stack(teller)
-    astray = at_zero or of_zeros(teller) + ([] if over else of_astray(teller))
-    returns = [] if at_zero else of_returns(teller, bool(astray) or run.report.state == 'jammed')
-    lines = of_a_jam(teller, bool(astray + returns + over)) if run.report.state == 'jammed' else of_a_blank(teller)
-    return lines + over + returns + astray + of_a_halt(teller) + of_lost_writes(teller) + ([] if at_zero else of_a_loop(teller))
+    at_zero = of_address_zero(run, was_at_zero) if was_at_zero is not None else []
+    over = of_code_in_the_stack(run)
+    astray = at_zero or of_zeros(run) + ([] if over else of_astray(run))
+    returns = [] if at_zero else of_returns(run, bool(astray) or run.report.state == 'jammed')
+    lines = of_a_jam(run, bool(astray + returns + over)) if run.report.state == 'jammed' else of_a_blank(run)
+    return lines + over + returns + astray + of_a_halt(run) + of_lost_writes(run) + ([] if at_zero else of_a_loop(run))
 
 
-def of_a_jam(teller: Teller, is_led: bool) -> list[Told]:
+def of_a_jam(run: Run, is_led: bool) -> list[Told]:
     """Where the processor jammed, at which bytes, and what ran before; what led there may be told already."""
-    run = teller.run
     segment, offset = run.report.registers['CS'], run.report.registers['IP']
     address = physical(segment, offset)
     octets = run.session.dump(address, 6)
-    found = teller.tell('jammed', address=address, place=f'{segment:04X}:{offset:04X}', octets=octets.hex(' ').upper())
+    found = run.tell('jammed', address=address, place=f'{segment:04X}:{offset:04X}', octets=octets.hex(' ').upper())
     if not run.trail:
         call = next(((line, code_of(line.text).strip()) for line in run.listing.lines if CALLED.search(code_of(line.text))), None)
         if call:
-            return found + teller.tell('bare call', line=call[0].number, code=call[1], services=f'{tool("try")} --services')
+            return found + run.tell('bare call', line=call[0].number, code=call[1], services=f'{tool("try")} --services')
         reset = "is a ROM's file loaded at its own address?" if run.files.is_hex else 'SEGMENT RESET AT 0FFFFh, JMP FAR start, ENDS'
-        return found + teller.tell('no reset', instead=reset)
+        return found + run.tell('no reset', instead=reset)
     line = run.listing.at.get(address)
-    changed = of_changed_code(teller, line, octets) if line else []
+    changed = of_changed_code(run, line, octets) if line else []
     what = later(octets) if line is not None and "'" not in code_of(line.text) or not run.listing.lines else None
-    found += changed or (teller.tell('later processor', what=what) if what else [])
-    found += teller.tell('last before', row=text_of(run.trail[-1]))
+    found += changed or (run.tell('later processor', what=what) if what else [])
+    found += run.tell('last before', row=text_of(run.trail[-1]))
     is_past = not is_led and octets[:2] == b'\xFF\xFF' and run.region(address) and not run.has(address)
-    return found + (teller.tell('past the end') if is_past else [])
+    return found + (run.tell('past the end') if is_past else [])
 
 
 def text_of(event: Event) -> str:
@@ -124,29 +104,29 @@ def text_of(event: Event) -> str:
     return f'{event.clock} {event.segment:04X}:{event.offset:04X} {event.octets.hex().upper()} {event.text}'.replace('  ', ' ')
 
 
-def last_change(teller: Teller, condition: str, before: int | None = None) -> Event | None:
+def last_change(run: Run, condition: str, before: int | None = None) -> Event | None:
     """What began last before a stop on writes or changes was met last, at the run's end or before a clock."""
-    with ProbeSession(teller.run.files) as session:
-        session.go_to(teller.clock if before is None else before)
+    with ProbeSession(run.files) as session:
+        session.go_to(run.report.clock if before is None else before)
         session.stop(condition)
         return event_of(session.many('trail')[-1]) if session.one('back stop').startswith('stop') and session.clock else None
 
 
-def of_changed_code(teller: Teller, line: Line, octets: bytes) -> list[Told]:
+def of_changed_code(run: Run, line: Line, octets: bytes) -> list[Told]:
     """What the source placed where other bytes are now, and which instruction changed the first of these last."""
     place = next((n for n, (was, now) in enumerate(zip(line.shown, octets)) if was != now), None)
     if place is None or not line.address:
         return []
     address = physical(*line.address) + place
-    last = last_change(teller, f'changes {address:05X}')
+    last = last_change(run, f'changes {address:05X}')
     values = {'line': line.number, 'code': code_of(line.text).strip(), 'octets': line.shown.hex(' ').upper()}
-    return teller.tell('changed', last, address=address, value=octets[place], **values) if last else []
+    return run.tell('changed', last, address=address, value=octets[place], **values) if last else []
 
 
-def of_a_blank(teller: Teller) -> list[Told]:
+def of_a_blank(run: Run) -> list[Told]:
     """Text memory that would be seen, if it were shown."""
-    memory = teller.run.session.dump(TEXT_MEMORY, 2 * ROWS * COLUMNS)
-    if ''.join(teller.run.report.screen).strip():
+    memory = run.session.dump(TEXT_MEMORY, 2 * ROWS * COLUMNS)
+    if ''.join(run.report.screen).strip():
         return []
     seen = next((word for word in range(ROWS * COLUMNS) if shown(memory, word) != ' '), None)
     dark = next((word for word in range(ROWS * COLUMNS) if 0x20 < memory[2 * word] <= 0x7E), None)
@@ -155,22 +135,21 @@ def of_a_blank(teller: Teller) -> list[Told]:
         return []
     octets = memory[2 * at : 2 * at + 2]
     values = {'address': TEXT_MEMORY + 2 * at, 'octets': octets.hex(' ').upper()}
-    return teller.tell('video off', **values) if seen is not None else teller.tell('dark', sign=repr(chr(octets[0])), attribute=octets[1], **values)
+    return run.tell('video off', **values) if seen is not None else run.tell('dark', sign=repr(chr(octets[0])), attribute=octets[1], **values)
 
 
-def of_address_zero(teller: Teller, clock: int) -> list[Told]:
+def of_address_zero(run: Run, clock: int) -> list[Told]:
     """By what the run came to 0000:0000, where 00 00 stands."""
-    run = teller.run
     last = trail_at(run.files, clock)[-1]
     kind = type_of(last)
     if kind is None:
         taken = 'a return takes the words pushed last, and zeros where nothing was pushed; HLT ends a program, IRET a handler'
-        return teller.tell('to 0000:0000', last, after=clock, advice=taken if opcode(last) in RETURNS else GOES_ON)
+        return run.tell('to 0000:0000', last, after=clock, advice=taken if opcode(last) in RETURNS else GOES_ON)
     what = 'has no quotient (the divisor is 0, or the quotient too large), which enters' if opcode(last) in DIVISIONS else 'enters'
     place = f'{last.segment:04X}:{last.offset:04X}'
     does = f'at {place} interrupt {kind:02X} came' if last.entry is not None else f'{run.place(last)} {what} interrupt {kind:02X}'
     advice = ADVICE.get(kind, f'the address of a handler goes there: SEGMENT VECTORS AT 0, ORG {4 * kind:X}h, DW own,SEG own, ENDS')
-    return teller.tell('empty vector', last, after=clock, does=does, kind=kind, vector=4 * kind, advice=advice)
+    return run.tell('empty vector', last, after=clock, does=does, kind=kind, vector=4 * kind, advice=advice)
 
 
 def type_of(event: Event) -> int | None:
@@ -191,11 +170,11 @@ def is_outside(run: Run, event: Event) -> bool:
     return event.entry is None and (is_zeros(run, event) or bool(run.region(event.address)) and not run.has(event.address))
 
 
-def of_zeros(teller: Teller) -> list[Told]:
+def of_zeros(run: Run) -> list[Told]:
     """Zeros at the trail's end."""
-    trail = teller.run.trail
-    count = next((n for n, event in enumerate(reversed(trail)) if not is_zeros(teller.run, event)), len(trail))
-    return teller.tell('zeros', count=count, row=text_of(trail[-1])) if count >= ZEROS else []
+    trail = run.trail
+    count = next((n for n, event in enumerate(reversed(trail)) if not is_zeros(run, event)), len(trail))
+    return run.tell('zeros', count=count, row=text_of(trail[-1])) if count >= ZEROS else []
 
 
 def way_out(run: Run) -> tuple[Event, Event] | None:
@@ -221,9 +200,8 @@ def by_halving(run: Run) -> tuple[Event, Event] | None:
     return next(((one, two) for one, two in zip(trail, trail[1:]) if not is_outside(run, one) and is_outside(run, two)), None)
 
 
-def of_astray(teller: Teller) -> list[Told]:
+def of_astray(run: Run) -> list[Told]:
     """The step that led out of the program's instructions."""
-    run = teller.run
     found = way_out(run)
     if found is None:
         return []
@@ -232,18 +210,18 @@ def of_astray(teller: Teller) -> list[Told]:
     is_jump = before.entry is not None or event.address != physical(before.segment, before.offset + len(before.octets))
     what = f'line {line.number} ({code_of(line.text).strip()}), {to}' if line else f'{to}, where the program has no byte'
     place = run.place(before)
-    next_line = f'^{event.clock} start {to} ' if event.clock < teller.clock else ' jammed$'
-    span = min(event.clock, teller.clock - 1) - before.clock + 1
+    next_line = f'^{event.clock} start {to} ' if event.clock < run.report.clock else ' jammed$'
+    span = min(event.clock, run.report.clock - 1) - before.clock + 1
     advice = '' if opcode(before) in RETURNS or before.entry is not None else f'\nhint: {GOES_ON}'
     how = f'{place} led to {what}' if is_jump else f'behind {place} came {what}'
-    return teller.tell('astray', before, how=how, span=span, next=Raw(next_line), advice=advice)
+    return run.tell('astray', before, how=how, span=span, next=Raw(next_line), advice=advice)
 
 
-def of_returns(teller: Teller, ends_badly: bool) -> list[Told]:
+def of_returns(run: Run, ends_badly: bool) -> list[Told]:
     """Returns to where no CALL stands before, by what wrote the word that they took."""
     found = list[Told]()
-    for event, after in suspicious(teller.run):
-        found += of_a_return(teller, event, after, ends_badly)
+    for event, after in suspicious(run):
+        found += of_a_return(run, event, after, ends_badly)
         if found:
             break
     return found
@@ -268,20 +246,20 @@ def suspicious(run: Run) -> Iterator[tuple[Event, Event]]:
             yield event, after
 
 
-def of_a_return(teller: Teller, event: Event, after: Event, ends_badly: bool) -> list[Told]:
+def of_a_return(run: Run, event: Event, after: Event, ends_badly: bool) -> list[Told]:
     """What a return took: what nothing had written, what an interrupt had pushed, or, if the run ends badly, what something else had."""
-    run, code = teller.run, opcode(event)
+    code = opcode(event)
     registers = registers_at(run.files, event.clock)
     address = physical(registers['SS'], registers['SP'])
-    by = last_change(teller, f'when writes={address:X}-{address:X}', event.clock)
+    by = last_change(run, f'when writes={address:X}-{address:X}', event.clock)
     if by is None:
         is_placed = any(run.has(address + at) or address + at in run.image for at in (0, 1))
-        return [] if is_placed else teller.tell('nothing pushed', event, address=address, last=address + 1, segment=registers['SS'])
+        return [] if is_placed else run.tell('nothing pushed', event, address=address, last=address + 1, segment=registers['SS'])
     values = {'address': address, 'pushed': by.clock, 'after': by.clock + 1, 'where': text_of(by).split(' ', 1)[1], 'by': run.place(by)}
     if by.entry is not None and code in (0xC3, 0xCB):
-        return teller.tell('return of an interrupt', event, kind=by.entry, **values)
+        return run.tell('return of an interrupt', event, kind=by.entry, **values)
     to = f'{after.segment:04X}:{after.offset:04X}'
-    return teller.tell('pushed by', event, to=to, **values) if ends_badly and code != 0xCF and not is_call(by) else []
+    return run.tell('pushed by', event, to=to, **values) if ends_badly and code != 0xCF and not is_call(by) else []
 
 
 def is_call(event: Event) -> bool:
@@ -291,17 +269,15 @@ def is_call(event: Event) -> bool:
     return event.entry is not None or opcode(event) in (0xE8, 0x9A, 0xCC, 0xCD, 0xCE)
 
 
-def of_a_division(teller: Teller) -> list[Told]:
+def of_a_division(run: Run) -> list[Told]:
     """The division that ended a program."""
-    run = teller.run
     events = run.parts[-1].events if run.parts else []
     last = next((event for event in reversed(events) if opcode(event) in DIVISIONS and run.is_own(event)), None)
-    return teller.tell('division', last, span=1) if last else []
+    return run.tell('division', last, span=1) if last else []
 
 
-def of_an_early_end(teller: Teller) -> list[Told]:
+def of_an_early_end(run: Run) -> list[Told]:
     """A RET that ended a program, in a routine from which a CALL hasn't returned."""
-    run = teller.run
     events = run.parts[0].events if run.is_whole else []
     own = [event for event in events if event.entry is None and run.is_own(event) and line_at(run.listing, event)]
     if not own or opcode(own[-1]) != 0xC3:
@@ -310,25 +286,23 @@ def of_an_early_end(teller: Teller) -> list[Told]:
     calls = [(target_of(event.octets, (event.segment, event.offset)), at, event) for at, event in enumerate(own) if opcode(event) == 0xE8]
     within = max((to for to, _, _ in calls if to and to[1] <= own[-1].offset), default=None)
     call = next((event for to, at, event in reversed(calls) if to == within and latest.get(event.offset + 3, -1) < at), None)
-    return teller.tell('ended within', own[-1], label=run.listing.label_before(*within), by=run.place(call)) if within and call else []
+    return run.tell('ended within', own[-1], label=run.listing.label_before(*within), by=run.place(call)) if within and call else []
 
 
-def of_a_halt(teller: Teller) -> list[Told]:
+def of_a_halt(run: Run) -> list[Told]:
     """A halt with interrupts off where one seems awaited: a jump back stands behind it, a handler's vector is set, and interrupts were
     never on."""
-    run = teller.run
     registers, last = run.report.registers, run.trail[-1] if run.trail else None
     if not is_for_good(run.report) or not last or opcode(last) != 0xF4 or not run.is_whole:
         return []
     code, vectors = run.session.dump(physical(registers['CS'], registers['IP']), 2), run.session.dump(0x20, 0x20)
     back = code[1] - 256 if len(code) == 2 and code[0] == 0xEB else 0
     has_set = any(opcode(event) in SETS_IF for event in run.parts[0].events)
-    return teller.tell('halted with interrupts off', last) if -NEAR <= back <= -3 and any(vectors) and not has_set else []
+    return run.tell('halted with interrupts off', last) if -NEAR <= back <= -3 and any(vectors) and not has_set else []
 
 
-def of_code_in_the_stack(teller: Teller) -> list[Told]:
+def of_code_in_the_stack(run: Run) -> list[Told]:
     """Instructions of the source just below or at SS:SP over which something was pushed last."""
-    run = teller.run
     registers = run.report.registers
     top = physical(registers['SS'], registers['SP'])
     for address, line in sorted(run.listing.at.items()):
@@ -336,11 +310,11 @@ def of_code_in_the_stack(teller: Teller) -> list[Told]:
             continue
         if run.session.dump(address, len(line.shown)) == line.shown:
             continue
-        by = last_change(teller, f'changes {address:05X} {len(line.shown)}')
+        by = last_change(run, f'changes {address:05X} {len(line.shown)}')
         if by and is_push(by):
             most, times, perhaps = most_pushed(run, by.clock)
             values = {'line': line.number, 'code': code_of(line.text).strip(), 'most': most, 'times': times, 'perhaps': perhaps}
-            return teller.tell('over code', by, address=address, size=len(line.shown), **values)
+            return run.tell('over code', by, address=address, size=len(line.shown), **values)
     return []
 
 
@@ -357,9 +331,9 @@ def most_pushed(run: Run, clock: int) -> tuple[str, str, str]:
     return most[1], f'{most[0]:,}', advice
 
 
-def of_lost_writes(teller: Teller) -> list[Told]:
+def of_lost_writes(run: Run) -> list[Told]:
     """What is written, or pushed, where it is lost, of each instruction once."""
-    run, found, known = teller.run, list[Told](), set[tuple[object, ...]]()
+    found, known = list[Told](), set[tuple[object, ...]]()
     is_over = is_for_good(run.report) or run.report.state == 'jammed'
     for part in run.parts:
         for at, address, _ in part.writes:
@@ -371,23 +345,23 @@ def of_lost_writes(teller: Teller) -> list[Told]:
             known.add(event[1:])
             if len(found) < 3:
                 does, advice = ('pushes to', FOR_A_STACK) if is_push(event) else ('writes to', IN_RAM)
-                found += teller.tell('lost write', event, address=address, does=does, wrong=wrong, advice='' if found else advice)
-                found += of_direction(teller, event) + of_a_count(teller, event) if len(found) == 1 else []
+                found += run.tell('lost write', event, address=address, does=does, wrong=wrong, advice='' if found else advice)
+                found += of_direction(run, event) + of_a_count(run, event) if len(found) == 1 else []
     return found
 
 
-def of_direction(teller: Teller, event: Event) -> list[Told]:
+def of_direction(run: Run, event: Event) -> list[Told]:
     """A string instruction that goes downward."""
-    flags = registers_at(teller.run.files, event.clock)['FL'] if opcode(event) in STRINGS else 0
-    return teller.tell('downward', event, flags=flags) if flags & DF else []
+    flags = registers_at(run.files, event.clock)['FL'] if opcode(event) in STRINGS else 0
+    return run.tell('downward', event, flags=flags) if flags & DF else []
 
 
-def of_a_count(teller: Teller, event: Event) -> list[Told]:
+def of_a_count(run: Run, event: Event) -> list[Told]:
     """A loop round an instruction that began with CX 0."""
-    for loop in teller.run.firsts if event.entry is None else []:
+    for loop in run.firsts if event.entry is None else []:
         to = loop.address + 2 + int.from_bytes(loop.octets[-1:], 'little', signed=True)
-        if opcode(loop) == 0xE2 and to <= event.address < loop.address and registers_at(teller.run.files, loop.clock)['CX'] == 0:
-            return teller.tell('count of 0', loop)
+        if opcode(loop) == 0xE2 and to <= event.address < loop.address and registers_at(run.files, loop.clock)['CX'] == 0:
+            return run.tell('count of 0', loop)
     return []
 
 
@@ -399,9 +373,8 @@ def period_of(trail: list[Event]) -> int:
     return next((n for n in range(1, LONGEST_LOOP + 1) if places[n:] == places[:-n]), 0)
 
 
-def of_a_loop(teller: Teller) -> list[Told]:
+def of_a_loop(run: Run) -> list[Told]:
     """Whether the same few instructions come in turn, of which one jumps by a condition, and what leads out of them."""
-    run = teller.run
     period = period_of(run.trail) if run.report.state == 'running' else 0
     turn = sorted(run.trail[-period:], key=lambda event: (event.segment, event.offset)) if period else []
     if not any(map(is_conditional, turn)) or is_left(run, turn):
@@ -411,10 +384,10 @@ def of_a_loop(teller: Teller) -> list[Told]:
     ports = ports_of(run, turn)
     if is_still and not ports and not run.report.registers['FL'] & (IF | TF) and (registers := of_a_round(run, period)):
         steps = '\n'.join(['step'] * (period + 1))
-        return teller.tell('no way out', row=text_of(run.trail[-1]), steps=steps, registers=registers, **values)
+        return run.tell('no way out', row=text_of(run.trail[-1]), steps=steps, registers=registers, **values)
     on = ', or an interrupt' if run.report.registers['FL'] & IF else ''
     rest = f'\nnothing leads out but what port {next(iter(ports)):02X}h reads{on}' if is_still and len(ports) == 1 else ''
-    return teller.tell('waits', rest=rest, **values) + of_a_port(teller, ports)
+    return run.tell('waits', rest=rest, **values) + of_a_port(run, ports)
 
 
 def is_left(run: Run, turn: list[Event]) -> bool:
@@ -466,16 +439,16 @@ def of_a_round(run: Run, period: int) -> str | None:
         return first[0] if session.many('regs') == first else None
 
 
-def of_a_port(teller: Teller, ports: set[int]) -> list[Told]:
+def of_a_port(run: Run, ports: set[int]) -> list[Told]:
     """A port that a loop reads, where nothing answers."""
-    port, first = next(iter(ports - PORTS), None), max(0, teller.clock - 2000)
-    return [] if port is None else teller.tell('no port', port=port, first=first, span=teller.clock - first)
+    port, first = next(iter(ports - PORTS), None), max(0, run.report.clock - 2000)
+    return [] if port is None else run.tell('no port', port=port, first=first, span=run.report.clock - first)
 
 
-def of_the_source(teller: Teller) -> list[Told]:
+def of_the_source(run: Run) -> list[Told]:
     """What lines that ran do, and are hardly meant to."""
     those = (of_segments, of_near_jumps, of_doubts, of_vectors, of_ports, of_scan_codes, of_words_from_bytes)
-    return [one for of in those for one in of(teller)]
+    return [one for of in those for one in of(run)]
 
 
 def loads(listing: Listing, register: str) -> bool:
@@ -484,25 +457,25 @@ def loads(listing: Listing, register: str) -> bool:
     return any(register in line.text.upper() and re.search(wanted, code_of(line.text), re.I) for line in listing.lines)
 
 
-def of_segments(teller: Teller) -> Iterator[Told]:
+def of_segments(run: Run) -> Iterator[Told]:
     """DS and ES that nothing has loaded, or that are wrong at the end."""
-    run, registers = teller.run, teller.run.report.registers
+    registers = run.report.registers
     for register in ('DS', 'ES'):
         if registers[register] == 0xB800:
-            yield from teller.tell('colour memory', register=register)
+            yield from run.tell('colour memory', register=register)
         elif registers[register] == 0x0B00:
-            yield from teller.tell('a nought too few', register=register)
+            yield from run.tell('a nought too few', register=register)
     labels = {name.upper(): (name, at) for name, at in run.listing.labels.items() if at[0]}
     if not registers['DS'] and not loads(run.listing, 'DS'):
         for event in run.firsts:
             found = re.search(r'\[(?:[^\]:]*\+)?\s*([A-Za-z_]\w*)\s*[\]+]', code_of(line_of(run, event)))
             name, at = labels.get(found[1].upper(), ('', (0, 0))) if found else ('', (0, 0))
             if name and opcode(event) != 0x8D and not re.search(r'\bBP\b|\b[ECS]S\s*:', code_of(line_of(run, event)), re.I):
-                yield from teller.tell('data segment', event, label=name, target=f'{at[0]:04X}:{at[1]:04X}')
+                yield from run.tell('data segment', event, label=name, target=f'{at[0]:04X}:{at[1]:04X}')
                 break
-    if not registers['ES'] and run.listing.lines and not loads(run.listing, 'ES') and not teller.is_ended:
+    if not registers['ES'] and run.listing.lines and not loads(run.listing, 'ES') and not run.is_ended:
         string = next((event for event in run.firsts if opcode(event) in STRINGS), None)
-        yield from teller.tell('extra segment', string) if string else []
+        yield from run.tell('extra segment', string) if string else []
 
 
 def line_of(run: Run, event: Event) -> str:
@@ -511,57 +484,56 @@ def line_of(run: Run, event: Event) -> str:
     return line.text if line else ''
 
 
-def of_near_jumps(teller: Teller) -> Iterator[Told]:
+def of_near_jumps(run: Run) -> Iterator[Told]:
     """A near jump to a label of another segment."""
-    run = teller.run
     for event in run.firsts:
         found = re.search(r'\b(?:JMP|CALL)\s+([A-Za-z_]\w*)\s*$', code_of(line_of(run, event)), re.I) if opcode(event) in (0xE9, 0xE8) else None
         at = run.listing.label_of(found[1]) if found else None
         to = target_of(event.octets, (event.segment, event.offset))
         if found and at and to and physical(*at) != physical(*to):
-            yield from teller.tell('near jump', event, segment=event.segment, label=found[1], target=f'{at[0]:04X}:{at[1]:04X}')
+            yield from run.tell('near jump', event, segment=event.segment, label=found[1], target=f'{at[0]:04X}:{at[1]:04X}')
 
 
-def of_doubts(teller: Teller) -> Iterator[Told]:
+def of_doubts(run: Run) -> Iterator[Told]:
     """Lines that ran of which editors warn."""
-    ran = {line.number for event in teller.run.firsts for line in [line_at(teller.run.listing, event)] if line}
-    for doubt in doubts([line.text for line in teller.run.listing.lines]):
+    ran = {line.number for event in run.firsts for line in [line_at(run.listing, event)] if line}
+    for doubt in doubts([line.text for line in run.listing.lines]):
         if doubt.line + 1 in ran:
-            yield from teller.tell('doubt', text=doubt.text, line=doubt.line + 1)
+            yield from run.tell('doubt', text=doubt.text, line=doubt.line + 1)
 
 
-def of_vectors(teller: Teller) -> Iterator[Told]:
+def of_vectors(run: Run) -> Iterator[Told]:
     """A far pointer among the vectors that is none of them."""
-    for line in teller.run.listing.lines:
+    for line in run.listing.lines:
         address = physical(*line.address) if line.address else 0x400
         if address < 0x400 and address % 4 and re.search(r'\bDW\s+\w+\s*,\s*SEG\s', code_of(line.text), re.I):
-            yield from teller.tell("vector's place", line=line.number, code=code_of(line.text).strip(), address=address)
+            yield from run.tell("vector's place", line=line.number, code=code_of(line.text).strip(), address=address)
             break
 
 
-def of_ports(teller: Teller) -> Iterator[Told]:
+def of_ports(run: Run) -> Iterator[Told]:
     """A port that the program reads, and where nothing answers."""
     known = set[int]()
-    for part in teller.run.parts:
+    for part in run.parts:
         for at, port, value in part.reads:
             event = part.events[at] if at >= 0 else None
-            if event and value == 0xFF and port not in PORTS | known and teller.run.is_own(event):
+            if event and value == 0xFF and port not in PORTS | known and run.is_own(event):
                 known.add(port)
-                yield from teller.tell('unanswered port', event, port=port)
+                yield from run.tell('unanswered port', event, port=port)
 
 
-def of_scan_codes(teller: Teller) -> Iterator[Told]:
+def of_scan_codes(run: Run) -> Iterator[Told]:
     """The code of a key that is written as a character soon after it was read."""
     keys = names()
-    for part in teller.run.parts:
+    for part in run.parts:
         writes = {(at, value): address for at, address, value in part.writes if TEXT <= address <= TEXT_END and address % 2 == 0}
         for at, port, code in part.reads:
             behind = range(at, min(at + SOON, len(part.events))) if port == 0x60 and code in keys else ()
             kept = takewhile(lambda n: opcode(part.events[n]) not in LOADS_AL, behind)
-            place = next((n for n in kept if (n, code) in writes or is_digit(teller.run, part.events[n], code)), None)
-            if place is not None and teller.run.is_own(part.events[place]):
-                by = teller.run.place(part.events[at])
-                yield from teller.tell('scan code', part.events[place], code=code, key=keys[code], by=by)
+            place = next((n for n in kept if (n, code) in writes or is_digit(run, part.events[n], code)), None)
+            if place is not None and run.is_own(part.events[place]):
+                by = run.place(part.events[at])
+                yield from run.tell('scan code', part.events[place], code=code, key=keys[code], by=by)
                 return
 
 
@@ -580,9 +552,8 @@ def block_at(run: Run, address: int) -> tuple[Line, int] | None:
     return next(((line, physical(*row.address)) for row in behind if row.address), None)
 
 
-def of_words_from_bytes(teller: Teller) -> Iterator[Told]:
+def of_words_from_bytes(run: Run) -> Iterator[Told]:
     """An instruction that reads words from a line of DB on, and past its end."""
-    run = teller.run
     for event in run.firsts:
         by = BY_FORM.get(event.octets[-1] & 0xC7) if opcode(event) == 0x8B else None
         name = 'SI' if opcode(event) in (0xA5, 0xA7, 0xAD) else by
@@ -590,42 +561,41 @@ def of_words_from_bytes(teller: Teller) -> Iterator[Told]:
         block = block_at(run, next(reached, -1))
         far = block and next((at for at in reached if block[1] + 2 <= at < 2 * block[1] + 2 - physical(*block[0].address or (0, 0))), None)
         if block and far:
-            yield from teller.tell('words from bytes', event, line=block[0].number, address=far)
+            yield from run.tell('words from bytes', event, line=block[0].number, address=far)
             return
 
 
-def of_the_chips(teller: Teller) -> list[Told]:
+def of_the_chips(run: Run) -> list[Told]:
     """What keeps an interrupt or a key away, a second later too."""
-    run = teller.run
-    if is_for_good(run.report) or run.report.state == 'jammed' or teller.clock + A_SECOND > LAST_CLOCK:
+    if is_for_good(run.report) or run.report.state == 'jammed' or run.report.clock + A_SECOND > LAST_CLOCK:
         return []
     chips = Chips.of(run.session.many('chips'))
     base = int(chips.value('controller', 'vector'), 16) & 0xF8
     vectors = run.session.dump(4 * base, 32) if chips.controller.is_ready else bytes(32)
     has_vector = [any(vectors[4 * level : 4 * level + 4]) for level in range(8)]
     found = list[Told]()
-    for name, values in of_chips(chips, lambda kind: ends_before(run.files, teller.clock, kind)):
-        found += of_a_chip(teller, name, values | {'kind': base + int(values.get('level', 0))}, chips, has_vector)
+    for name, values in of_chips(chips, lambda kind: ends_before(run.files, run.report.clock, kind)):
+        found += of_a_chip(run, name, values | {'kind': base + int(values.get('level', 0))}, chips, has_vector)
     is_awaited = chips.is_halted and chips.is_open and has_vector[1] and not chips.controller.masked & 2 and not run.mark
     if is_awaited and not read_run_file(run.files.run_file).get('keys'):
-        found += teller.tell('no key', keys=f"{tool('try')} --keys 'text' types")
+        found += run.tell('no key', keys=f"{tool('try')} --keys 'text' types")
     return found
 
 
-def of_a_chip(teller: Teller, name: str, values: dict[str, Any], chips: Chips, has_vector: list[bool]) -> list[Told]:
+def of_a_chip(run: Run, name: str, values: dict[str, Any], chips: Chips, has_vector: list[bool]) -> list[Told]:
     """One fact of the chips, if the program wants it otherwise."""
     wants_keys = has_vector[1] and not chips.controller.masked & 2
     if name == 'masked' and chips.controller.masked != 0xFF:
-        return teller.tell('masked, others not', **values) if has_vector[values['level']] and not has_entered(teller) else []
-    if name == 'no count' and not (has_vector[0] and not has_entered(teller)) or name == 'keys' and not wants_keys:
+        return run.tell('masked, others not', **values) if has_vector[values['level']] and not has_entered(run) else []
+    if name == 'no count' and not (has_vector[0] and not has_entered(run)) or name == 'keys' and not wants_keys:
         return []
     if name == 'initialisation' and chips.value('controller', 'IC4') == '0' and chips.controller.awaited == 'none':
         return []
-    return teller.tell(name, **values)
+    return run.tell(name, **values)
 
 
-def has_entered(teller: Teller) -> bool:
+def has_entered(run: Run) -> bool:
     """Whether an interrupt was ever taken."""
-    with ProbeSession(teller.run.files) as session:
+    with ProbeSession(run.files) as session:
         session.stop('when entries')
-        return session.go(teller.clock).startswith('stop')
+        return session.go(run.report.clock).startswith('stop')

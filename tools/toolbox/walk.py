@@ -5,8 +5,11 @@ import re
 from bisect import bisect_right
 from dataclasses import dataclass, field
 from functools import cached_property
-from typing import Iterator, Protocol
+from typing import Any, Iterator, Protocol
 
+from zebludor import Happening, happening_of
+
+from toolbox.asking import Raw, Told, ask
 from toolbox.comments import handed
 from toolbox.listing import Line, Listing, code_of, physical
 from toolbox.places import Event, event_of, line_at
@@ -19,7 +22,7 @@ REACH = 100_000_000  # so many clocks are made again, and of a longer run all
 MOST_STARTS, SAMPLE = 5_000_000, 1_000_000  # if about so few instructions begin after them, by those that do in so many clocks
 OFTEN = 64  # so many times an instruction is looked at
 LONG, LONGEST = 1000, 2_000_000  # no instruction takes so many clocks, and no repeated one
-WAKES = 0x300  # IF and TF
+WAKES, A_SECOND = 0x300, 4_772_727  # IF and TF; clocks
 ROM, TEXT, TEXT_END, SERVICES = 0xF0000, 0xB0000, 0xB0FFF, 0xF6000
 DATA = ('DB', 'DW', 'DD')
 # What writes its first operand.
@@ -76,28 +79,19 @@ class Part:
     @staticmethod
     def of(lines: list[bytes]) -> Part:
         """What these lines of `events` tell."""
-        part, known = Part(), dict[bytes, tuple[int, int, bytes, str, int | None] | tuple[str, int, int]]()
+        part, known = Part(), dict[bytes, Happening]()
         for line in lines:
             clock, _, rest = line.partition(b' ')
-            what = known.get(rest) or known.setdefault(rest, read(rest))
-            if len(what) == 5:
-                part.events.append(Event(int(clock), *what))
-            elif what[0] == 'write':
-                part.writes.append((len(part.events) - 1, what[1], what[2]))
-            elif what[0] == 'in':
-                part.reads.append((len(part.events) - 1, what[1], what[2]))
+            what = known.get(rest) or known.setdefault(rest, happening_of(line.decode('ascii')))
+            if what.what == 'start':
+                part.events.append(Event(int(clock), *what.place, what.value, '', None))
+            elif what.what == 'entry':
+                part.events.append(Event(int(clock), 0, 0, b'', '', what.value))
+            elif what.what == 'write':
+                part.writes.append((len(part.events) - 1, what.place, what.value))
+            elif what.what == 'in':
+                part.reads.append((len(part.events) - 1, what.place, what.value))
         return part
-
-
-def read(rest: bytes) -> tuple[int, int, bytes, str, int | None] | tuple[str, int, int]:
-    """What a line tells behind its clock."""
-    kind, *words = rest.decode('ascii').split()
-    if kind == 'start':
-        segment, _, offset = words[0].partition(':')
-        return int(segment, 16), int(offset, 16), bytes.fromhex(words[1]), '', None
-    if kind == 'entry':
-        return 0, 0, b'', '', int(words[0], 16)
-    return kind, int(words[0], 16), int(words[1], 16)
 
 
 @dataclass
@@ -111,6 +105,17 @@ class Run:
     trail: list[Event]
     ram_end: int = 0
     mark: int = 0  # where the services note that the program runs
+    is_ended: bool = False  # whether they have ended it
+
+    def tell(self, name: str, event: Event | None = None, **values: Any) -> list[Told]:
+        """A sentence; of an event with its clock, its place, and its beginning in `trail` and `events`."""
+        if event:
+            place, octets = f'{event.segment:04X}:{event.offset:04X}', event.octets.hex().upper()
+            values = {'at': event.clock, 'after': event.clock + 1, 'place': self.place(event), 'where': f'{place} {octets}'.strip()} | values
+            values.setdefault('what', f'start {place}' if event.entry is None else f'entry {event.entry:02X}')
+            if event.entry is not None:
+                values['where'] = Raw(rf'\S+ entry {event.entry:02X}')
+        return ask(self.files, name, {'clock': self.report.clock, 'second': A_SECOND} | values)
 
     @cached_property
     def parts(self) -> list[Part]:
