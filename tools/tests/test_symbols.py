@@ -10,7 +10,7 @@ from tests.support import EXAMPLES, ToolCase, example, is_there
 from toolbox.command import Sorry
 from toolbox.disassembly import LONGEST, NONE, listed
 from toolbox.places import event_of, far_of
-from toolbox.program import Files, ProbeSession
+from toolbox.program import Files as Built, ProbeSession
 from toolbox.runfile import DEFAULTS, text_of
 from toolbox.symbols import image_of, symbols_of
 
@@ -217,7 +217,7 @@ class Board(ToolCase):
         parts = [(at, part) for at, part in ((offset, octets[: 0x10000 - offset]), (0, octets[0x10000 - offset :])) if part]
         placed = '\n'.join(f' ORG {at}\n DB {",".join(map(str, part))}' for at, part in parts)
         source = self.file('it.asm', f'SEGMENT IT AT 1000h\n{placed}\nENDS\nSEGMENT RESET AT 0FFFFh\n JMP FAR 1000h:{offset}\nENDS\n')
-        with ProbeSession(Files(source, self.file('it.json', text_of(DEFAULTS | {'ram': 128})))) as session:
+        with ProbeSession(Built(source, self.file('it.json', text_of(DEFAULTS | {'ram': 128})))) as session:
             session.one('step')
             session.one('step')
             last = event_of(session.many('trail')[-1])
