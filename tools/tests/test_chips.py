@@ -66,7 +66,7 @@ class Facts(unittest.TestCase):
         self.assertEqual(self.short_facts(QUIET, '40', '1E', ' 9E'), ["1 key code waits behind 1Eh in the latch, which line 7 of port B hasn't emptied"])
 
     def test_lines(self) -> None:
-        chips = Chips.of([COUNTER.format('0005'), PORTS.format('4D'), 'speaker 1', PROCESSOR.format('jammed', 0)])
+        chips = Chips([COUNTER.format('0005'), PORTS.format('4D'), 'speaker 1', PROCESSOR.format('jammed', 0)])
         self.assertEqual((chips.value('counter 0', 'newest'), chips.value('ports', 'C'), chips.port_b), ('0005', 'in/in 00', 0x4D))
         self.assertEqual((chips.value('speaker', 'level'), chips.value('processor', 'state')), ('1', 'jammed'))
 
@@ -152,7 +152,7 @@ class Probed(ToolCase):
         fields = f'"version":2,"ram":64,"sw1":109,"sw2":26,"budget":9000,"keys":{keys},"timer":"{timer}","clocks":"C1"'
         answers = self.answers(source, self.file('p.json', f'{{{fields}}}'), commands)
         starts = [at for at, line in enumerate(answers) if line.startswith('controller')]
-        return [Chips.of(answers[at : at + 9]) for at in starts]
+        return [Chips(answers[at : at + 9]) for at in starts]
 
     def answers(self, source: str, run: str, commands: str) -> list[str]:
         """The lines that a session answers."""
@@ -306,7 +306,7 @@ class Probed(ToolCase):
         taken = next(line.split()[0] for line in self.answers(*files, 'events 3000 entries\n') if line.endswith('entry 08'))
         asks = f'IR0 asks again, and is still in service: no end of interrupt (20h to port 20h) has come since it was taken at clock {taken}'
         answers = self.answers(*files, 'go 3000\nchips\n')
-        chips = Chips.of(answers[1:])
+        chips = Chips(answers[1:])
         self.assertEqual([chips.value('controller', word) for word in ('IRR', 'ISR', 'IMR', 'INT')], ['01', '01', 'FE', '0'])
         self.assertEqual(facts(answers[1:], lambda kind: ends_before(Files(*files), 3000, kind)), [asks])
         self.assertEqual(self.tool('dbg', *files, given='to 3000\nstate\n')[0].splitlines()[4:], [*answers[1:], asks])
@@ -321,7 +321,7 @@ class Probed(ToolCase):
     def test_a_masked_timer(self) -> None:
         files = self.program(writes(*READY[:3], ('21h', '1'), *COUNTS) + WAITS.format(''))
         answers = self.answers(*files, 'go 3000\nchips\n')[1:]
-        self.assertEqual([Chips.of(answers).value('controller', word) for word in ('IRR', 'ISR', 'IMR', 'INT')], ['01', '00', '01', '0'])
+        self.assertEqual([Chips(answers).value('controller', word) for word in ('IRR', 'ISR', 'IMR', 'INT')], ['01', '00', '01', '0'])
         self.assertEqual(facts(answers, str), ['IR0 asks, and is masked'])
 
     def test_a_counter_that_was_never_programmed(self) -> None:

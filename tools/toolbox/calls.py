@@ -166,7 +166,7 @@ class Following:
         self._marks = Marks()
         self.clock = first
         (state,) = states_in(self._states.registers_at([first]))
-        self.calls = Calls(first, state, Chips.of(self._states.answers(['chips'])))
+        self.calls = Calls(first, state, Chips(self._states.answers(['chips'])))
 
     def __enter__(self) -> Following:
         return self

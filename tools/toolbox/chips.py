@@ -1,7 +1,6 @@
 """What the chips hold at a clock, as `pcprobe` tells it (docs/probe.md), and what of it keeps an interrupt or a key away."""
 from __future__ import annotations
 
-from dataclasses import dataclass
 from typing import Any, Callable
 
 from toolbox.asking import answers_of, said
@@ -34,18 +33,13 @@ def values_of(name: str, words: list[str]) -> dict[str, str]:
     return dict(zip(words[::2], words[1::2]))
 
 
-@dataclass(frozen=True)
 class Controller:
-    """The interrupt controller's registers."""
+    """The interrupt controller's registers, of the values of its line."""
 
-    requests: int
-    served: int
-    masked: int
-    lowest: int
-    is_asking: bool
-    awaited: str
-    is_8086: bool
-    special_mask: bool
+    def __init__(self, values: dict[str, str]) -> None:
+        self.requests, self.served, self.masked = (int(values[name], 16) for name in ('IRR', 'ISR', 'IMR'))
+        self.lowest, self.awaited = int(values['lowest']), values['awaits']
+        self.is_asking, self.is_8086, self.special_mask = (values[name] == '1' for name in ('INT', 'uPM', 'SMM'))
 
     @property
     def is_ready(self) -> bool:
@@ -59,21 +53,15 @@ class Controller:
         return [it for it in ((self.lowest + n) % 8 for n in range(1, 9)) if held >> it & 1]
 
 
-@dataclass(frozen=True)
 class Chips:
     """The chips' lines by their names, and in each line its values by their words."""
 
-    lines: dict[str, dict[str, str]]
-
-    @staticmethod
-    def of(lines: list[str]) -> Chips:
-        """These lines as chips."""
-        found = {}
+    def __init__(self, lines: list[str]) -> None:
+        self.lines = dict[str, dict[str, str]]()
         for line in lines:
             name, *words = line.split()
             name = f'{name} {words.pop(0)}' if name == 'counter' else name
-            found[name] = values_of(name, words)
-        return Chips(found)
+            self.lines[name] = values_of(name, words)
 
     def value(self, line: str, word: str) -> str:
         """The value behind a word of a line."""
@@ -82,17 +70,7 @@ class Chips:
     @property
     def controller(self) -> Controller:
         """The interrupt controller."""
-        values = self.lines['controller']
-        return Controller(
-            int(values['IRR'], 16),
-            int(values['ISR'], 16),
-            int(values['IMR'], 16),
-            int(values['lowest']),
-            values['INT'] == '1',
-            values['awaits'],
-            values['uPM'] == '1',
-            values['SMM'] == '1',
-        )
+        return Controller(self.lines['controller'])
 
     @property
     def waiting(self) -> list[int]:
@@ -194,4 +172,4 @@ def of_chips(chips: Chips, ends: Callable[[int], str]) -> list[Fact]:
 
 def facts(lines: list[str], ends: Callable[[int], str]) -> list[str]:
     """So, as sentences."""
-    return [said(name, **values) for name, values in of_chips(Chips.of(lines), ends)]
+    return [said(name, **values) for name, values in of_chips(Chips(lines), ends)]

@@ -56,7 +56,7 @@ class Subject:
     def held(self, line: str, word: str) -> str:
         """What a chip holds at the report's clock."""
         if self.chips is None:
-            self.chips = Chips.of(chip_lines(self.ran(), self.report.clock))
+            self.chips = Chips(chip_lines(self.ran(), self.report.clock))
         return next((value for name, value in self.chips.lines[line].items() if name.lower() == word), '')
 
     def memory(self, place: str, count: int) -> bytes:

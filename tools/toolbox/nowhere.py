@@ -569,7 +569,7 @@ def of_the_chips(run: Run) -> list[Told]:
     """What keeps an interrupt or a key away, a second later too."""
     if is_for_good(run.report) or run.report.state == 'jammed' or run.report.clock + A_SECOND > LAST_CLOCK:
         return []
-    chips = Chips.of(run.session.many('chips'))
+    chips = Chips(run.session.many('chips'))
     base = int(chips.value('controller', 'vector'), 16) & 0xF8
     vectors = run.session.dump(4 * base, 32) if chips.controller.is_ready else bytes(32)
     has_vector = [any(vectors[4 * level : 4 * level + 4]) for level in range(8)]
@@ -597,5 +597,4 @@ def of_a_chip(run: Run, name: str, values: dict[str, Any], chips: Chips, has_vec
 def has_entered(run: Run) -> bool:
     """Whether an interrupt was ever taken."""
     with ProbeSession(run.files) as session:
-        session.stop('when entries')
-        return session.go(run.report.clock).startswith('stop')
+        return session.meets('when entries', run.report.clock)

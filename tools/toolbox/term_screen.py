@@ -37,7 +37,7 @@ def look_at(board: SessionBoard) -> Look:
     count = 2 * WORDS // 16
     if len(lines) <= count:
         raise Sorry(f'the board refuses to show its screen: {lines[-1]}')
-    adapter = Chips.of(lines[count:]).lines['adapter']
+    adapter = Chips(lines[count:]).lines['adapter']
     start, cursor = int(adapter['start'], 16) % WORDS, int(adapter['cursor'], 16) % WORDS
     place = (cursor - start) % WORDS
     memory = bytes.fromhex(''.join([each[7:] for each in lines[:count]]))

@@ -272,27 +272,21 @@ class Adapter:
 
     def explained(self, run_file: str, is_hex: bool, sorry: Sorry) -> Sorry:
         """Tells by tools/why what is refused, each line of a source at its place, and gives the first of it."""
-        why = [PYTHON, '-S', f'{TOP}/tools/why']
+
+        def told(*words: str) -> subprocess.CompletedProcess[str]:
+            whole = [PYTHON, '-S', f'{TOP}/tools/why', *words]
+            return subprocess.run(whole, stdin=subprocess.DEVNULL, capture_output=True, text=True, errors='replace', check=False)
+
         first = ''
         if not is_hex:
-            result = subprocess.run(
-                [*why, '--lines', '--', self.program], stdin=subprocess.DEVNULL, capture_output=True, text=True, errors='replace', check=False
-            )
-            for line in result.stdout.splitlines():
+            for line in told('--lines', '--', self.program).stdout.splitlines():
                 number, kind, text = line.removeprefix(f'{self.program}:').split(': ', 2)
                 at = {'source': Sources(self.program, Listing(), [], self.has_uris).described(''), 'line': int(number) - 1 + self.line_base}
                 self.output(f'{line}\n', 'stderr', at)
                 first = first or (f'{os.path.basename(self.program)}, line {number}: {text}' if kind == 'error' else '')
         if not first:
-            result = subprocess.run(
-                [*why, 'run', *(['--hex'] if is_hex else []), '--', self.program, run_file],
-                stdin=subprocess.DEVNULL,
-                capture_output=True,
-                text=True,
-                errors='replace',
-                check=False,
-            )
-            lines = [reason.removeprefix('why: ') for reason in result.stderr.splitlines() if reason.startswith('why: ')]
+            reasons = told('run', *(['--hex'] if is_hex else []), '--', self.program, run_file).stderr.splitlines()
+            lines = [reason.removeprefix('why: ') for reason in reasons if reason.startswith('why: ')]
             self.output(''.join(f'{reason}\n' for reason in lines) or f'{sorry}\n', 'stderr')
             first = lines[0] if lines else str(sorry)
         return Sorry(first)

@@ -22,6 +22,7 @@ FIRST_PIECE = 1000  # clocks that are followed at first
 # What ends a way out of a routine before it returns.
 ENDS = {'jammed': 'the processor has jammed, and nothing returned', 'halted for good': 'halted with interrupts off, and nothing returned'}
 IF = 0x200
+Run = Callable[[Collection[str], int], 'str | None']
 FLAG_BITS = {'OF': 11, 'DF': 10, 'IF': 9, 'TF': 8, 'SF': 7, 'ZF': 6, 'AF': 4, 'PF': 2, 'CF': 0}
 
 
@@ -58,23 +59,23 @@ class Machine(FollowedBoard):
         elif self.one('back step') == BEFORE_START:
             raise Sorry('this is the start of the run')
 
-    def next(self, wanted: Collection[str]) -> str | None:
+    def next(self, wanted: Collection[str], run: Run | None = None) -> str | None:
         """Makes one instruction with all that it calls, an interrupt that comes first, and all its repeats, at most to
         one of these stops, which it returns."""
-        return self.to_stops(self._over, wanted)
+        return self.to_stops(self._over, wanted, run)
 
-    def out(self, wanted: Collection[str]) -> str | None:
+    def out(self, wanted: Collection[str], run: Run | None = None) -> str | None:
         """Runs to where the routine has returned, or dropped its address; at most to one of these stops, to a jam, a
         halt for good, or the budget."""
-        return self.to_stops(self._out, wanted)
+        return self.to_stops(self._out, wanted, run)
 
-    def to_stops(self, way: Callable[[], object], wanted: Collection[str]) -> str | None:
-        """A way, at most to one of these stops: to find them, it is gone once more. A place at its end is no stop
-        before it."""
+    def to_stops(self, way: Callable[[], object], wanted: Collection[str], run: Run | None = None) -> str | None:
+        """A way, at most to one of these stops: to find them, it is gone once more, by another way to run if there is
+        one. A place at its end is no stop before it."""
         here, _ = self.clock, way()
         if wanted and (there := self.clock) > here:
             self.go_to(here)
-            met = self.run(wanted, there)
+            met = (run or self.run)(wanted, there)
             if met and not (place_of(met) and self.clock == there):
                 self.why = 'stop'
                 return met

@@ -8,7 +8,7 @@ import re
 import threading
 import time
 from dataclasses import dataclass, replace
-from typing import Any, Callable
+from typing import Any, Callable, Collection
 
 from toolbox.chips import Chips, ends_before, facts
 from toolbox.command import Sorry
@@ -173,7 +173,7 @@ class Board:
         try:
             if is_past:
                 self.machine.run([], min(to, LAST_CLOCK))
-            elif met := self._run_to_a_stop(min(to, LAST_CLOCK)):
+            elif met := self._run_to_a_stop(self.stops, min(to, LAST_CLOCK)):
                 why = 'stop'
         except Paused:
             why = 'paused'
@@ -185,11 +185,11 @@ class Board:
         """What a stop on bytes has seen that is met here, in words."""
         return {'told': what_was_seen(self.machine, self.listing, stop)} if stop and watched_by(stop) else {}
 
-    def _run_to_a_stop(self, end: int) -> str | None:
+    def _run_to_a_stop(self, wanted: Collection[str], end: int) -> str | None:
         """Goes on to a stop, at most to this clock. One that isn't a place and holds here already counts once it has ceased to hold."""
         met = None
         try:
-            met = self._past_held(end) or self.machine.run(self.stops, end)
+            met = self._past_held(end) or self.machine.run(wanted, end)
         finally:
             # If no stop is met, none holds but those that are being passed.
             self._held = (-1, []) if met else (self.clock, self._held[1])
@@ -231,7 +231,7 @@ class Board:
 
     def _chips(self) -> Chips:
         """What the chips hold."""
-        return Chips.of(self.machine.chips())
+        return Chips(self.machine.chips())
 
     def _back_to_the_end(self, here: int) -> None:
         """Where the processor has halted for good since a clock: back to where it did, so that the run isn't full of nothing."""
@@ -244,20 +244,11 @@ class Board:
 
     def over(self, seen: int) -> Fields:
         """Makes one instruction with all that it calls."""
-        return self._from_a_halt(seen) or self._moved(lambda: self._way(self.machine.next), seen)
+        return self._from_a_halt(seen) or self._moved(lambda: self.machine.next(self.stops, self._run_to_a_stop), seen)
 
     def out(self, seen: int) -> Fields:
         """Runs to where the routine has returned."""
-        return self._moved(lambda: self._way(self.machine.out), seen)
-
-    def _way(self, way: Callable[[tuple[()]], object]) -> str | None:
-        """A way over or out of a routine, at most to a stop: to find them, it is gone once more. A place at its end is no stop before it."""
-        here, _ = self.clock, way(())
-        if not self.stops or (there := self.clock) == here:
-            return None
-        self.machine.go_to(here)
-        met = self._run_to_a_stop(there)
-        return None if met and place_of(met) and self.clock == there else met
+        return self._moved(lambda: self.machine.out(self.stops, self._run_to_a_stop), seen)
 
     def _from_a_halt(self, seen: int) -> Fields | None:
         """A step of a halted processor: into the interrupt that ends the halt; where none can, a clock. None of one that runs."""
@@ -386,10 +377,10 @@ class Board:
 
     def _callers(self) -> list[list[Any]]:
         """Where the present routine and those above it return to: address, label and source line; or that it isn't known."""
-        return [self._caller(place) if place else ['unknown', '', None] for place in self.machine.callers()]
+        return [self._shown(place) if place else ['unknown', '', None] for place in self.machine.callers()]
 
-    def _caller(self, place: Far) -> list[Any]:
-        """A place to which a routine returns."""
+    def _shown(self, place: Far) -> list[Any]:
+        """A place as the page has it: address, label and source line."""
         line = self.listing.at.get(physical(*place))
         return ['%04X:%04X' % place, self.listing.label_before(*place), line.number if line else None]
 
@@ -488,8 +479,7 @@ class Board:
     def _told(self, stop: str) -> list[Any]:
         """A stop as the page has it: its address or the debugger's words, label and source line."""
         if place := place_of(stop):
-            line = self.listing.at.get(physical(*place))
-            return ['%04X:%04X' % place, self.listing.label_before(*place), line.number if line else None]
+            return self._shown(place)
         labels = {physical(*far): name for name, far in self.listing.labels.items()}
         return [stop, labels.get(int(stop.split()[1], 16), '') if stop.startswith(('byte', 'changes')) else '', None]
 

@@ -63,7 +63,7 @@ class Condition:
         """Whether it does. One that can't be evaluated, as by a division by 0, counts as one that does: gdb asks again."""
         try:
             return self._value(register, memory) != 0
-        except (IndexError, ZeroDivisionError):
+        except (LookupError, ZeroDivisionError):
             return True
 
     def _value(self, register: Callable[[int], int], memory: Callable[[int, int], bytes]) -> int:

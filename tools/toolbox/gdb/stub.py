@@ -101,7 +101,8 @@ class Stub:
         if self._is_run(request):
             return self._run(request)
         if first == 'g':
-            return ''.join(map(word_of, self._registers())) + 2 * UNKNOWN
+            found = self._registers(self._board)
+            return ''.join(word_of(found[number]) for number in range(len(NAMES))) + 2 * UNKNOWN
         if first == 'p':
             return self._register(request[1:])
         if first == 'm':
@@ -148,21 +149,22 @@ class Stub:
             return self._described(request)
         return {'QStartNoAckMode': 'OK', 'qAttached': '1', 'qC': 'QC1', 'qfThreadInfo': 'm1', 'qsThreadInfo': 'l'}.get(name, '')
 
-    def _registers(self) -> list[int]:
-        """The registers of `g`, but FS and GS, which the 8086 hasn't."""
-        found = self._board.registers()
-        return [physical(found[SEGMENT_OF[name]], found[name]) if name in SEGMENT_OF else found[name] for name in NAMES]
+    @staticmethod
+    def _registers(board: SessionBoard) -> dict[int, int]:
+        """The registers by their numbers: those of `g`, but FS and GS, which the 8086 hasn't, and the board's own."""
+        found = board.registers()
+        of_gdb = (physical(found[SEGMENT_OF[name]], found[name]) if name in SEGMENT_OF else found[name] for name in NAMES)
+        return dict(enumerate(of_gdb)) | dict(enumerate(map(found.__getitem__, OWN.values()), FIRST_OWN))
 
     def _register(self, text: str) -> str:
         """A register by its number."""
         number = int(text, 16) if re.fullmatch('[0-9a-f]{1,4}', text) else FIRST_OWN + len(OWN)
-        if number < len(NAMES):
-            return word_of(self._registers()[number])
         if number == WORD_OF_FRAMES:
             return word_of(RECORD)
-        if FIRST_OWN <= number < FIRST_OWN + len(OWN):
-            return self._board.registers()[list(OWN.values())[number - FIRST_OWN]].to_bytes(2, 'little').hex()
-        return without_value(number) or 'E01'
+        value = self._registers(self._board).get(number)
+        if value is None:
+            return without_value(number) or 'E01'
+        return word_of(value) if number < len(NAMES) else value.to_bytes(2, 'little').hex()
 
     @staticmethod
     def _described(request: str) -> str:
@@ -225,16 +227,7 @@ class Stub:
 
     def _holds(self, condition: Condition, board: SessionBoard) -> bool:
         """Whether a breakpoint's condition does."""
-        registers = board.registers()
-
-        def register(number: int) -> int:
-            if number < len(NAMES):
-                name = NAMES[number]
-                return physical(registers[SEGMENT_OF[name]], registers[name]) if name in SEGMENT_OF else registers[name]
-            if number >= FIRST_OWN:
-                return registers[list(OWN.values())[number - FIRST_OWN]]
-            raise IndexError  # of which no condition speaks
-
+        register = self._registers(board).__getitem__
         return condition.holds(register, lambda address, count: board.dump(address, count) if address < MEMORY else b'')
 
     def _breaks(self) -> list[str]:
