@@ -18,13 +18,13 @@ from tests.support import SECONDS, SLOW, STORED, TOOLS, TOP, ToolCase, children,
 
 from toolbox.command import Sorry
 from toolbox.gdb import door
-from toolbox.gdb.board import far_of_address
 from toolbox.gdb.elf import is_call, sleb, uleb
 from toolbox.effects import goes_on, target_of
 from toolbox.gdb.flow import outermost
 from toolbox.gdb.stub import NAMES
 from toolbox.gdb.wire import Gone, framed, unescaped
 from toolbox.listing import Line, Listing, listing_of
+from toolbox.places import far_of_address
 from toolbox.program import Files, Session
 from toolbox.report import registers_of
 

@@ -21,7 +21,7 @@ import zebludor
 from toolbox.program import Files, path
 from toolbox.runfile import DEFAULTS, read_run_file, text_of
 
-CLOCKS, COMMANDS = 2500, 12
+CLOCKS, COMMANDS, BUDGET = 2500, 12, 100_000
 IN_THE_GATE = 25  # sessions of each kind
 PREFIXES, REPEATS, STRINGS = b'\x26\x2E\x36\x3E\xF0\xF2\xF3', b'\xF2\xF3', (*range(0xA4, 0xA8), *range(0xAA, 0xB0))
 
@@ -121,6 +121,11 @@ class Truth:
         """Out of the routine that runs at a clock."""
         return next((self.after(call) for call in self.under_way(clock)), None)
 
+    def end(self, clock: int) -> list[int]:
+        """The budget, to which a halted processor goes, if nothing begins up to there."""
+        is_over = len(self.ask(f'go {clock}', f'events {BUDGET - clock} starts entries')) == 2
+        return [BUDGET] if is_over else []
+
     def last_write(self, clock: int, address: int) -> int | None:
         """The last earlier clock behind one in which a byte was written."""
         lines = self.ask(f'events {clock} writes={address:X}-{address:X}')[:-1]
@@ -141,7 +146,7 @@ class Sessions(ToolCase):
         seed = seed * 3 + 1
         dice = random.Random(seed)
         keys = [[each, dice.choice((0x1E, 0x9E))] for each in sorted(dice.sample(range(300, CLOCKS), 4))]
-        run = text_of(DEFAULTS | {'ram': 128, 'budget': 100_000, 'keys': keys})
+        run = text_of(DEFAULTS | {'ram': 128, 'budget': BUDGET, 'keys': keys})
         return Truth(Files(self.file('it.asm', program(seed)), self.file('it.json', run))), dice
 
     def dbg(self, seed: int) -> None:
@@ -178,7 +183,7 @@ class Sessions(ToolCase):
         client.event('stopped')
         clock, said = 0, list[tuple[str, int]]()
         for _ in range(COMMANDS):
-            to = dice.choice([each for each in truth.clocks if 300 < each < CLOCKS - 500])
+            to = dice.choice([each for each in truth.clocks if 300 < each < CLOCKS - 500] or truth.clocks)
             command = dice.choice(('toClock', 'next', 'next', 'stepOut', 'stepOut'))
             there = {'toClock': lambda: to, 'next': lambda: truth.over_interrupts(clock), 'stepOut': lambda: truth.out(clock)}[command]()
             if there is None or there > CLOCKS - 500:
@@ -213,7 +218,8 @@ class Sessions(ToolCase):
                 clock = int(client.monitor('go 0').split()[-1])
                 client.ask('s')
                 there = int(client.monitor('go 0').split()[-1])
-                self.assertIn(there, (truth.clock(f'go {clock}', 'step'), truth.clock(f'go {clock}', 'step', 'step'), *truth.clocks), (seed, said))
+                steps = [truth.clock(f'go {clock}', *['step'] * count) for count in (1, 2)]
+                self.assertIn(there, (*steps, *truth.clocks, *truth.end(clock)), (seed, said))
                 clock = there
             lines = truth.registers(clock)
             self.assertEqual(client.registers()[:14], test_gdb.told_as(lines), (seed, said))

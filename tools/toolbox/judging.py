@@ -3,8 +3,6 @@ from __future__ import annotations
 
 import contextlib
 import hashlib
-import os
-import tempfile
 from typing import Any, Iterator
 
 from toolbox import guests
@@ -17,7 +15,7 @@ from toolbox.guests import BINARIES, LONGEST, Guest, ending, prepared
 from toolbox.listing import parts_of
 from toolbox.program import LAST_CLOCK, Files, refusal, run
 from toolbox.report import report_of
-from toolbox.runfile import DEFAULTS, read_run_file, text_of
+from toolbox.runfile import DEFAULTS, read_run_file, with_fields
 from toolbox.scancodes import stamped
 from toolbox.services import TYPING
 from toolbox.symbols import image_of
@@ -53,12 +51,8 @@ def files_of(planned: Planned, guest: Guest, run_file: str | None, is_hex: bool,
     if run_file and not planned.fields:
         yield Files(guest.file, run_file, is_hex, symbols)
         return
-    fields = fields_of(planned, run_file)
-    with tempfile.TemporaryDirectory() as room:
-        path = os.path.join(room, 'run.json')
-        with open(path, 'w', encoding='utf-8') as to:
-            to.write(text_of(fields))
-        yield Files(guest.file, path, is_hex, symbols)
+    with with_fields(Files(guest.file, '', is_hex, symbols), fields_of(planned, run_file)) as files:
+        yield files
 
 
 def subject_of(files: Files) -> Subject | str:

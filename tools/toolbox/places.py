@@ -9,7 +9,20 @@ from zebludor import Event, event_of
 from toolbox.command import Sorry
 from toolbox.listing import Line, Listing, physical
 
-__all__ = ['Event', 'address_of', 'event_of', 'event_text', 'far_of', 'is_repeated', 'line_at', 'number_of', 'of_line', 'operation_of', 'told_of']
+__all__ = [
+    'Event',
+    'address_of',
+    'event_of',
+    'event_text',
+    'far_of',
+    'far_of_address',
+    'is_repeated',
+    'line_at',
+    'number_of',
+    'of_line',
+    'operation_of',
+    'told_of',
+]
 PREFIXES = ('ES:', 'CS:', 'SS:', 'DS:', 'LOCK', 'REP', 'REPNE')
 
 
@@ -75,6 +88,17 @@ def of_line(listing: Listing, number: int, name: str = '') -> tuple[int, int]:
     if number < 1 or found is None:
         raise Sorry(f'no line of the source from {number} on places bytes')
     return found
+
+
+def far_of_address(listing: Listing, address: int, segment: int) -> tuple[int, int, bool]:
+    """The CS:IP by which an address is most likely come to, and whether the source says so: that of its line or label, else by the
+    present CS if it reaches so far, else by the multiple of 1000h below."""
+    known = [line.address for line in (listing.line_from(address),) if line and line.address]
+    known += [place for place in listing.labels.values() if physical(*place) == address]
+    if known:
+        return *known[0], True
+    offset = (address - 16 * segment) % (1 << 20)
+    return (segment, offset, False) if offset < 0x10000 else (address >> 4 & 0xF000, address & 0xFFFF, False)
 
 
 def address_of(listing: Listing, text: str) -> int:

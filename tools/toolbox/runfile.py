@@ -7,7 +7,7 @@ import json
 import os
 import tempfile
 from dataclasses import replace
-from typing import Any, Iterator
+from typing import Any, ContextManager, Iterator
 
 from zebludor import CHOICES, DEFAULTS, FIRST_CHOICES, run_file as text_of
 
@@ -28,6 +28,7 @@ __all__ = [
     'report_at',
     'text_of',
     'with_budget',
+    'with_fields',
     'with_run_file',
 ]
 
@@ -58,29 +59,23 @@ def chosen(fields: dict[str, Any], choices: dict[str, str]) -> dict[str, Any]:
 
 
 @contextlib.contextmanager
-def with_run_file(files: Files) -> Iterator[Files]:
-    """The same files; if no run file is named, with that of tools/runfile."""
-    if files.run_file:
-        yield files
-        return
+def with_fields(files: Files, fields: dict[str, Any]) -> Iterator[Files]:
+    """The same files, with a run file of these fields."""
     with tempfile.TemporaryDirectory(prefix='zebludor-') as room:
         path = os.path.join(room, 'run.json')
         with open(path, 'w', encoding='utf-8') as file:
-            file.write(text_of(DEFAULTS))
+            file.write(text_of(fields))
         yield replace(files, run_file=path)
 
 
-@contextlib.contextmanager
-def with_budget(files: Files, budget: int) -> Iterator[Files]:
+def with_run_file(files: Files) -> ContextManager[Files]:
+    """The same files; if no run file is named, with that of tools/runfile."""
+    return contextlib.nullcontext(files) if files.run_file else with_fields(files, DEFAULTS)
+
+
+def with_budget(files: Files, budget: int) -> ContextManager[Files]:
     """The same files, with another budget."""
-    fields = read_run_file(files.run_file) | {'budget': budget}
-    handle, name = tempfile.mkstemp(suffix='.json')
-    try:
-        with os.fdopen(handle, 'w', encoding='utf-8') as file:
-            file.write(text_of(fields))
-        yield Files(files.file, name, files.is_hex)
-    finally:
-        os.remove(name)
+    return with_fields(files, read_run_file(files.run_file) | {'budget': budget})
 
 
 def add_keys(path: str, keys: list[tuple[int, int]]) -> None:

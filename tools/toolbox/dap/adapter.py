@@ -20,7 +20,7 @@ from toolbox.effects import Far
 from toolbox.framing import Broken, Read
 from toolbox.keying import key_lines, type_words
 from toolbox.listing import Line, Listing, listing_of, physical
-from toolbox.places import far_of
+from toolbox.places import far_of, far_of_address
 from toolbox.program import LAST_CLOCK, TOP, Files, copied, is_hex_name
 from toolbox.runfile import DEFAULTS, budget_of, text_of
 from toolbox.scancodes import stamped, strokes_of
@@ -414,14 +414,10 @@ class Adapter:
 
     def far(self, address: int) -> Far:
         """CS:IP of a physical address: a line's or label's there, else by the present CS."""
-        listing, segment = self.board().listing, self.board().registers()['CS']
-        line = listing.line_from(address)
-        label = next((place for place in listing.labels.values() if physical(*place) == address), None)
-        offset = (address - 16 * segment) % (1 << 20)
-        if line and line.address or label:
-            return line.address if line and line.address else label or (0, 0)
-        if offset > 0xFFFF:
-            raise Sorry(f"{address:05X}h can't be reached with the present CS, {segment:04X}h")
+        here = self.board().registers()['CS']
+        segment, offset, is_known = far_of_address(self.board().listing, address, here)
+        if not is_known and segment != here:
+            raise Sorry(f"{address:05X}h can't be reached with the present CS, {here:04X}h")
         return segment, offset
 
     def address(self, text: str) -> int:

@@ -5,12 +5,9 @@ from dataclasses import dataclass
 from typing import Iterable
 
 from toolbox.followed import FollowedBoard
-from toolbox.listing import Listing, physical
 from toolbox.program import LAST_CLOCK, Files
 from toolbox.session_board import BEFORE_START, Paused
 from toolbox.watches import changed, watched_by
-
-MEMORY = 1 << 20
 
 
 @dataclass(frozen=True)
@@ -92,15 +89,3 @@ class Board(FollowedBoard):
             self.one('step')
         return met
 
-
-def far_of_address(listing: Listing, address: int, segment: int) -> tuple[int, int, bool]:
-    """The CS:IP by which an address is most likely come to, and whether the source says so: that of its line or label, else by the
-    present CS if it reaches so far, else by the multiple of 1000h below."""
-    known = [line.address for line in (listing.line_from(address),) if line and line.address]
-    known += [place for place in listing.labels.values() if physical(*place) == address]
-    if known:
-        return *known[0], True
-    offset = (address - 16 * segment) % MEMORY
-    if offset < 0x10000:
-        return segment, offset, False
-    return address >> 4 & 0xF000, address & 0xFFFF, False

@@ -6,16 +6,17 @@ import re
 
 from toolbox.command import Sorry
 from toolbox.conditions import Asked
-from toolbox.gdb.board import MEMORY, Board, Met, far_of_address
+from toolbox.gdb.board import Board, Met
 from toolbox.gdb.bytecode import Condition
 from toolbox.gdb.features import FIRST_OWN, OWN, UNKNOWN, WORD_OF_FRAMES, description, without_value
 from toolbox.gdb.frames import RECORD, RECORDS, Frames
 from toolbox.gdb.wire import MOST_BYTES, Wire
 from toolbox.keying import key_lines, type_words
 from toolbox.listing import Listing, physical
+from toolbox.places import far_of_address
 from toolbox.program import LAST_CLOCK
 from toolbox.session_board import MOST_STOPS, Gone, Paused, SessionBoard, break_at
-from toolbox.watches import NO_READS, watch_of, watched_by, what_was_seen
+from toolbox.watches import MEMORY, NO_READS, watch_of, watched_by, what_was_seen
 
 # The order of the `g` packet. Those that point into a segment are told as physical addresses, so that gdb finds code and stack.
 NAMES = ('AX', 'CX', 'DX', 'BX', 'SP', 'BP', 'SI', 'DI', 'IP', 'FL', 'CS', 'SS', 'DS', 'ES')
