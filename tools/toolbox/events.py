@@ -18,6 +18,7 @@ TRAIL = 32
 WANTED = 24  # events that a trail brings, as far as those before tell
 AT_ONCE, AT_FIRST = 16, 4  # trails that are asked for together, fewer where their distance is new
 LONGEST = 1 << 30
+FIRST_LOOK = 64  # clocks in which some instruction begins, unless the processor is halted
 PATIENCE = 4  # how often trails are asked for before their distance grows again, where it was too long
 
 
@@ -108,7 +109,7 @@ def first_start(session: ProbeSession, place: Far, end: int) -> int | None:
     """The clock, from the present one on and before an end, at which the instruction at a place first begins: the session goes to
     where the processor is free there, and looks what begins, in a halt or an interrupt's entry up to where something does."""
     session.stop('break {:X}:{:X}'.format(*place))
-    length = 1
+    length = FIRST_LOOK
     while session.clock < end:
         lines = session.lines(min(length, end - session.clock), 'starts')
         found = begin_in(lines, place)
