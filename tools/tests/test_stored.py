@@ -222,6 +222,24 @@ class Stored(Repository):
             self.assertEqual(self.launch(has_rt=False).stderr, '')
             self.assertTrue(os.path.isfile(note) and not os.path.islink(note))
 
+    def test_a_comparison_that_fails_is_not_noted(self) -> None:
+        """Of whichever command. The start in which it fails refuses and builds nothing; the next one is right, and removes what a start
+        that was killed has left of its note."""
+        self.store()
+        note = self.note()
+        for command in ('awk', 'find', 'sort', 'xargs', 'sha256sum'):
+            os.remove(note)
+            self.file(f'cache/zebludor/note-{2**22 + 1}-abcdef', '')  # no process has this number
+            os.chmod(self.file(f'bin/{command}', '#!/bin/sh\nexit 1\n'), 0o755)
+            ran = self.launch()
+            self.assertEqual((ran.returncode, ran.stdout), (127, ''), command)
+            self.assertIn('of what it is made ', ran.stderr)
+            self.assertEqual([name for name in os.listdir(os.path.dirname(note)) if not name.startswith('told')], [], command)
+            os.remove(f'{self.room}/bin/{command}')
+            ran = self.launch()
+            self.assertEqual((ran.returncode, ran.stdout, ran.stderr), (*AT_ONCE, ''), command)
+            self.note()
+
     def test_its_version_is_of_its_bytes(self) -> None:
         """Also on a disk that has changed them and no time; a run then believes its note."""
         self.store()
