@@ -380,6 +380,24 @@ class Terminal(ToolCase):
         os.write(self.terminal, 2 * b'\x1b[A' + b'\n')
         self.wait_for('12345: ')
 
+    def test_what_cannot_be_kept_is_told_once(self) -> None:
+        """And what is there stays as it is."""
+        os.makedirs(f'{self.room}/state/zebludor/dbg')
+        path = self.file('state/zebludor/dbg/history', 'where\n')
+        os.chmod(path, 0o400)
+        self.assertIn(f"dbg: what you type isn't kept: {path} can't be written: it is read-only\n", self.say('where'))
+        self.assertNotIn("isn't kept", self.say('where'))
+        with open(path, encoding='ascii') as file:
+            self.assertEqual(file.read(), 'where\n')
+
+    def test_the_oldest_line_goes(self) -> None:
+        """Of 1,000."""
+        os.makedirs(f'{self.room}/state/zebludor/dbg')
+        path = self.file('state/zebludor/dbg/history', ''.join(f'to {number}\n' for number in range(1000)))
+        self.say('where')
+        with open(path, encoding='ascii') as file:
+            self.assertEqual(file.read().splitlines(), [*(f'to {number}' for number in range(1, 1000)), 'where'])
+
     def test_drops_a_line(self) -> None:
         before = self.say('to 1000')
         os.write(self.terminal, b'go 100000')

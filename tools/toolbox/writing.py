@@ -24,10 +24,11 @@ class InPlace(Exception):
     """A new file can't take the old one's place with all that the old one has."""
 
 
-def write_whole(path: str, octets: bytes, look: Look = lambda: None) -> None:
+def write_whole(path: str, octets: bytes, look: Look = lambda: None, mode: int = 0o666) -> None:
     """Writes a new file, flushes it to the disk and renames it over the old one; mode, owner and attributes stay, and a link leads
     where it led. A file with other names, or with what a new one can't have, is written in place. A stream, as a FIFO or a device, is
-    written as it is. `look` is called last before anything changes, and may raise. OSError tells why nothing was written."""
+    written as it is. `look` is called last before anything changes, and may raise; `mode` is that of a file that wasn't there. OSError
+    tells why nothing was written."""
     try:
         old = os.stat(path)
     except FileNotFoundError:
@@ -43,7 +44,7 @@ def write_whole(path: str, octets: bytes, look: Look = lambda: None) -> None:
     try:
         if old and old.st_nlink > 1:
             raise InPlace
-        _replace(target, octets, old, look)
+        _replace(target, octets, old, look, mode)
     except InPlace:
         _write_over(target, octets, look)
 
@@ -65,9 +66,9 @@ def own_folder(path: str) -> None:
         os.chmod(path, 0o700)
 
 
-def _replace(target: str, octets: bytes, old: os.stat_result | None, look: Look) -> None:
+def _replace(target: str, octets: bytes, old: os.stat_result | None, look: Look, mode: int) -> None:
     """Writes a new file down to the disk, and renames it over the old one."""
-    handle, beside = _new(target, 0o600 if old else 0o666)
+    handle, beside = _new(target, 0o600 if old else mode)
     try:
         with contextlib.suppress(OSError):  # while this is held, no other writer takes the file for a left one
             fcntl.flock(handle, fcntl.LOCK_EX | fcntl.LOCK_NB)
