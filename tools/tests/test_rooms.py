@@ -11,7 +11,7 @@ import tempfile
 from unittest import mock
 
 from tests.support import SECONDS, TOOLS, ToolCase, example, is_there, rooms_in, until
-from toolbox.rooms import MARK, room, sweep, text_of_mark
+from toolbox.rooms import MARK, NEW, room, sweep, text_of_mark
 
 # Runs a tool, and tells each path that it opens, makes or lists as it goes, with the flags of what is opened.
 WATCHED = """import os, runpy, sys
@@ -106,6 +106,15 @@ class Swept(ToolCase):
         path = self.left('desk-abcdefgh')
         sweep(self.room)
         self.assertFalse(os.path.exists(path))
+
+    def test_one_that_was_hardly_begun(self) -> None:
+        """By a tool that was killed before it had a mark. What isn't named as a room, or holds anything else, stays."""
+        for name, inside in (('desk-abcdefgh', None), ('dap-abcdefg_', NEW), ('homework', None), ('gdb-abcdefgh', 'essay.asm')):
+            os.mkdir(f'{self.room}/{name}', 0o700)
+            if inside:
+                self.file(f'{name}/{inside}', '')
+        sweep(self.room)
+        self.assertEqual(sorted(os.listdir(self.room)), ['gdb-abcdefgh', 'homework'])
 
     def test_one_that_is_held(self) -> None:
         path = self.left('desk-abcdefgh')

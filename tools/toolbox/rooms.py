@@ -5,6 +5,7 @@ from __future__ import annotations
 import contextlib
 import fcntl
 import os
+import re
 import shutil
 import stat
 import tempfile
@@ -12,21 +13,25 @@ from typing import Iterator
 
 from toolbox.command import state_folder
 
-MARK = 'mark'
+MARK, NEW = 'mark', 'new'
+BEGUN = re.compile('[a-z]+-[a-z0-9_]{8}')  # a room's name
 
 
 @contextlib.contextmanager
 def room(name: str) -> Iterator[str]:
     """A folder for a tool of this name, where its temporary files lie too. As long as it lives, it holds a lock on the folder's mark."""
     folder, before = folder_of_rooms(), tempfile.tempdir
-    if folder:
-        sweep(folder)
-    made = tempfile.TemporaryDirectory(prefix=f'{name}-' if folder else f'zebludor-{name}-', dir=folder, ignore_cleanup_errors=True)
-    with made as path, open(f'{path}/new', 'xb') as mark:
-        fcntl.flock(mark, fcntl.LOCK_EX)
-        mark.write(text_of_mark(path))
-        mark.flush()
-        os.rename(mark.name, f'{path}/{MARK}')  # it has this name once it is held
+    with contextlib.ExitStack() as stack:
+        with turn(folder):
+            if folder:
+                sweep(folder)
+            prefix = f'{name}-' if folder else f'zebludor-{name}-'
+            path = stack.enter_context(tempfile.TemporaryDirectory(prefix=prefix, dir=folder, ignore_cleanup_errors=True))
+            mark = stack.enter_context(open(f'{path}/{NEW}', 'xb'))
+            fcntl.flock(mark, fcntl.LOCK_EX)
+            mark.write(text_of_mark(path))
+            mark.flush()
+            os.rename(mark.name, f'{path}/{MARK}')  # it has this name once it is held
         tempfile.tempdir = path
         try:
             yield path
@@ -34,11 +39,37 @@ def room(name: str) -> Iterator[str]:
             tempfile.tempdir = before
 
 
+@contextlib.contextmanager
+def turn(folder: str | None) -> Iterator[None]:
+    """While no other tool sweeps or begins a room in a folder."""
+    if not folder:
+        yield
+        return
+    handle = os.open(folder, os.O_RDONLY | os.O_DIRECTORY | os.O_NOFOLLOW | os.O_CLOEXEC)
+    try:
+        fcntl.flock(handle, fcntl.LOCK_EX)
+        yield
+    finally:
+        os.close(handle)
+
+
 def sweep(folder: str) -> None:
-    """Removes the rooms in a folder whose tools are gone, and nothing else."""
+    """Removes the rooms in a folder whose tools are gone, and nothing else. Nobody begins one meanwhile."""
     for name in os.listdir(folder):
-        if is_left(path := os.path.join(folder, name)):
+        path = os.path.join(folder, name)
+        if is_left(path):
             shutil.rmtree(path, ignore_errors=True)
+        elif BEGUN.fullmatch(name) and is_private(path):
+            remove_begun(path)
+
+
+def remove_begun(path: str) -> None:
+    """Removes a room whose tool was killed before it had a mark, which is empty but for that."""
+    with contextlib.suppress(OSError):
+        if not {*os.listdir(path)} - {NEW}:
+            with contextlib.suppress(FileNotFoundError):
+                os.remove(os.path.join(path, NEW))
+            os.rmdir(path)
 
 
 def folder_of_rooms() -> str | None:
