@@ -12,7 +12,7 @@ import signal
 from typing import Any, Callable
 
 KINDS = {
-    'open': ('open', 'listdir', 'scandir'),
+    'open': ('open', 'listdir', 'scandir', 'mkdir'),
     'read': ('read',),
     'write': ('write', 'sendfile', 'ftruncate'),
     'flush': ('fsync',),
