@@ -123,6 +123,13 @@ def _place_beside(target: str) -> str:
     return path if not os.path.lexists(path) else os.path.join(folder, fresh)
 
 
+def sweep(folder: str) -> None:
+    """Removes what killed writers have left in a folder of the user's own, whose files have other names each time."""
+    for name in os.listdir(folder):
+        if name.startswith('.') and name.endswith('.new'):
+            _remove_left(os.path.join(folder, name), {os.geteuid()})
+
+
 def _remove_left(path: str, owners: set[int]) -> None:
     """Removes a file of this name that no writer holds, if it is of one of these users."""
     with contextlib.suppress(OSError):
