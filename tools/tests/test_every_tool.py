@@ -53,9 +53,18 @@ WORDS = (
     'tools/dbg --hex {} hello.json',
     'tools/dbg --hex hello.hex hello.json --symbols {}',
     'tools/gdb hello.asm {}',
+    'tools/gdb hello.hex hello.json --symbols {}',
     'tools/place rom {}',
+    'tools/place com {}',
+    'tools/place sector {}',
     'tools/desk hello.asm {}',
+    'tools/desk hello.hex hello.json --symbols {}',
     'tools/term hello.asm {}',
+    'tools/try --bcc {}',
+    'tools/trace --hex hello.hex hello.json --coverage --symbols {}',
+    'tools/judge places hello.hex hello.json --symbols {}',
+    'tools/judge --class page hello.asm --run {}',
+    'tools/moments places hello.hex hello.json --key 1E --at 1..9 --symbols {}',
     'bench/count {} --steps',
 )
 MAY_SUCCEED = {'tools/why fault', 'tools/trace --vcd', 'tools/try hello.asm --write'}
@@ -86,6 +95,7 @@ class EveryTool(ToolCase):
         for name in ('hello.asm', 'hello.json'):
             os.symlink(f'{EXAMPLES}/{name}', f'{self.room}/{name}')
         self.file('page', 'shows = HI\n')
+        self.file('places', 'runs = start\n')
         self.file('hello.hex', self.pcboard('asm', f'{EXAMPLES}/hello.asm').stdout)
         from toolbox import program
 

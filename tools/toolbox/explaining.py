@@ -217,11 +217,11 @@ def of_an_opening(paths: list[str]) -> list[str]:
 
 
 def similar(path: str) -> list[str]:
-    """Files beside the missing one with its name but for the ending."""
+    """Other files beside one that can't be opened, with its name but for the ending."""
     folder, name = os.path.split(path)
     stem = name.partition('.')[0].lower()
     try:
-        near = sorted(file for file in os.listdir(folder or '.') if file.lower().partition('.')[0] == stem)
+        near = sorted(file for file in os.listdir(folder or '.') if file != name and file.lower().partition('.')[0] == stem)
     except OSError:
         return [f'hint: the folder {folder} is not there'] if folder and not os.path.isdir(folder) else []
     return [f'hint: there is {", ".join(os.path.join(folder, file) for file in near)}'] if near else []
