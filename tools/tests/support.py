@@ -212,15 +212,15 @@ class ToolCase(unittest.TestCase):
 
     def called(self, name: str, *words: str, given: str = '', status: int = 0) -> tuple[str, str]:
         """As `tool`, in this process: a start of Python less for each of many calls."""
-        from toolbox import comments
+        from toolbox import comments, guests
         from toolbox.command import Sorry, refuse, status_of
 
         out, err, held = io.StringIO(), io.StringIO(), (sys.argv, sys.stdin)
         handlers = {sign: signal.getsignal(sign) for sign in (signal.SIGINT, signal.SIGTERM, signal.SIGHUP)}
         sys.argv, sys.stdin = [f'{TOOLS}/{name}', *words], io.TextIOWrapper(io.BytesIO(given.encode()))
-        anew = mock.patch.multiple(comments, _copies={}, _told=set())
+        anew, told = mock.patch.multiple(comments, _copies={}, _told=set()), mock.patch.object(guests, '_told', set())
         try:
-            with contextlib.redirect_stdout(out), contextlib.redirect_stderr(err), contextlib.chdir(self.room), anew:
+            with contextlib.redirect_stdout(out), contextlib.redirect_stderr(err), contextlib.chdir(self.room), anew, told:
                 try:
                     came = status_of(main_of(name))
                 except Sorry as sorry:

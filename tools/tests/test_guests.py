@@ -3,6 +3,7 @@ from __future__ import annotations
 
 import os
 import random
+import shlex
 import struct
 import subprocess
 import sys
@@ -12,14 +13,26 @@ from unittest import mock
 from tests import dosbox
 from tests.support import TOOLS, ToolCase, example, is_there
 
-from toolbox import loading, program
+from toolbox import loading, program, services
 from toolbox.command import Sorry
+from toolbox.runfile import DEFAULTS, text_of
 from toolbox.symbols import image_of
 
 # MOV DX,0109h; MOV AH,9; INT 21h; INT 20h; 'Hello, tail: $'
 HELLO = bytes.fromhex('BA0B01B409CD21CD209090') + b'Hello$'
 # MOV AX,2 (relocated); MOV DS,AX; MOV DX,0; MOV AH,9; INT 21h; MOV AX,4C07h; INT 21h; in the paragraph behind: 'Exe$'
 MODULE = bytes.fromhex('B802008ED8BA0000B409CD21B8074CCD21').ljust(32, b'\x90') + b'Exe$'.ljust(16, b'\0')
+SOURCE = """SEGMENT MAIN AT 100h
+ ORG 100h
+start: NOP
+ MOV AH,9
+ MOV DX,text
+ INT 21h
+ MOV AX,4C03h
+ INT 21h
+text: DB 'Hello$'
+ENDS
+"""
 
 
 def exe(**more: int) -> bytes:
@@ -85,7 +98,104 @@ class Guests(ToolCase):
             self.assertIn(wrong, self.called('try', '--services', path, status=2)[1])
         high = self.file('high.asm', 'SEGMENT MAIN AT 8F00h\nstart: NOP\nENDS\n')
         self.assertIn('no room', self.called('try', '--services', high, status=2)[1])
-        self.assertIn('fault 3', self.called('try', '--services', self.file('bad.asm', 'MOV AX,0x1\n'), status=2)[1])
+        bad = self.file('bad.asm', 'MOV AX,0x1\n INT 21h\n')
+        refused = self.called('try', bad, '--bare', status=1)
+        self.assertIn('fault 3', refused[1])
+        for words in ([], ['--services']):
+            self.assertEqual(self.called('try', bad, *words, status=1), refused)
+
+    def test_the_look_of_a_source(self) -> None:
+        """A call of INT 10h, 16h, 20h or 21h, however its number is written, and no byte at FFFF:0000."""
+        main, reset = 'SEGMENT MAIN AT 100h\n ORG 100h\nstart:{}\nENDS\n', 'SEGMENT R AT 0FFFFh\n JMP FAR start\nENDS\n'
+        for code, is_one in (
+            (' INT 21h', True),
+            (' MOV AX,BX\n INT 32 ; ends', True),
+            ('\nx: int 16h', True),
+            (' INT DOS\nDOS EQU 21h', True),
+            (' INT 10h', True),
+            (' INT 21', False),
+            (' INT 1Ah', False),
+            (' INT 3', False),
+            (' NOP ; INT 21h', False),
+            (" DB 0CDh,21h,' INT 21h'", False),
+            (' INT 21h,', None),
+        ):
+            path = self.file('look.asm', main.format(code))
+            self.assertIs(services.is_served(path), is_one, code)
+            self.assertIs(services.is_served(self.file('reset.asm', main.format(code) + reset)), is_one and False, code)
+        behind = 'SEGMENT R AT 0FFFEh\n ORG 0Fh\n DW 0\nENDS\n'  # its second byte stands at FFFF:0000
+        self.assertIs(services.is_served(self.file('behind.asm', main.format(' INT 21h') + behind)), False)
+        self.assertIsNone(services.is_served(f'{self.room}/nothing.asm'))
+
+    def test_every_tool_takes_it_without_a_word(self) -> None:
+        """And says once that it did; with --services, which is no guess, it says nothing."""
+        path, page = self.file('it.asm', SOURCE), self.file('it.page', 'exit = 3\n')
+        for words, wanted in (
+            (['try', path], 'ended with exit code 3'),
+            (['why', 'run', path], 'Hello'),
+            (['dbg', path], 'Hello'),
+            (['trace', path], '| 6: INT 21h'),
+            (['judge', page, path], '1 met, 0 not'),
+            (['moments', page, path, '--key', '1E', '--at', '100000..100002'], '2 of 2 moments tried, 0 failed'),
+            (['moments', '--measure', 'start', path, '--key', '1E', '--at', '1000..1002'], '2 came to start'),
+            (['picture', '--ansi', '--of', path, self.file('run.json', text_of({**DEFAULTS, 'ram': 640}))], 'Hello'),
+        ):
+            ran = self.tool if words[0] == 'moments' else self.called  # which has processes of its own
+            out, err = ran(*words, given='go\nscreen\n')
+            self.assertIn(wanted, out, words)
+            self.assertEqual(err, f'{words[0]}: {path} runs with the services (docs/services.md); --bare runs it without\n')
+            self.assertEqual(ran(*words, '--services', given='go\nscreen\n'), (out, ''), words)
+        for words in (['try', path], ['why', 'run', path], ['dbg', path], ['trace', path]):
+            out, err = self.called(*words, '--bare', given='go\nstate\n')
+            self.assertNotIn('with the services (', err)
+            self.assertIn('jammed', out + err)
+        for more in (['--services'], ['--com'], ['--args', 'x']):
+            self.assertIn('--bare goes without', self.called('try', path, '--bare', *more, status=2)[1])
+
+    def test_what_is_refused_has_the_same_words(self) -> None:
+        """Of a line that the program refuses; no tool runs anything then, so none of the services' own words come first."""
+        bad = self.file('bad.asm', SOURCE.replace('MOV AH,9', 'MUL [BX]'))
+        page, sized = self.file('it.page', 'exit = 3\n'), 'hint: nothing tells the size'
+        for words in (['try', bad], ['why', 'run', bad], ['try', bad, '--keep', 'kept', '--output', 'out'], ['try', bad, '--args', 'x']):
+            out, err = self.called(*words, status=1)
+            self.assertIn(sized, err)
+            self.assertEqual(self.called(*words, '--services', status=1), (out, err))
+        plain = self.called('judge', page, bad, '--bare', status=1)
+        self.assertIn('refused: fault 5 BadForm line 4', plain[0])
+        for words in ([], ['--services']):
+            self.assertEqual(self.called('judge', page, bad, *words, status=1), plain)
+            room = f'{self.room}/told{len(words)}'
+            self.called('judge', '--class', page, bad, *words, '--feedback', room, status=1)
+            with open(f'{room}/bad/feedback.txt', encoding='utf-8') as file:
+                self.assertIn(sized, file.read())
+        self.assertFalse(os.path.exists(f'{self.room}/kept.hex'))
+
+    def test_feedback_runs_as_printed(self) -> None:
+        """The two commands of a submission that failed, typed in the folder that holds it."""
+        page, path = self.file('it.page', 'exit = 4\n'), self.file('it.asm', SOURCE)
+        for words in ([], ['--services']):
+            room = f'{self.room}/told{len(words)}'
+            self.called('judge', '--class', page, path, *words, '--feedback', room, status=1)
+            with open(f'{room}/it/feedback.txt', encoding='utf-8') as file:
+                printed = [shlex.split(line) for line in file.read().splitlines() if line.startswith('  tools/')]
+            ran = [subprocess.run([f'{TOOLS}/../{command}', *rest], cwd=room, capture_output=True, text=True, check=False) for command, *rest in printed]
+            self.assertEqual([one.returncode for one in ran], [1, 0], [one.stderr for one in ran])
+            self.assertIn('came ended with exit code 3', ran[0].stdout)
+            self.assertIn('ended with exit code 3', ran[1].stdout)
+
+    def test_lines_are_those_of_the_source(self) -> None:
+        """In a table, and where a label of the services stands, no line is."""
+        path = self.file('it.asm', SOURCE + '; Ende – fin\n')
+        out, _ = self.called('trace', path)
+        self.assertEqual([int(line.split(' | ')[1].split(':')[0]) for line in out.splitlines()[:-1]], [3, 4, 5, 6, 7, 8])
+        self.assertIn('FE00:0000', self.called('trace', path, '--all', '--to', '100')[0])
+        self.assertEqual(self.called('trace', path, '--coverage')[0], '6 of 6 lines of code ran\n')
+        profile = self.called('trace', path, '--profile')[0].splitlines()
+        self.assertEqual([line.split('|')[1] for line in profile if line.endswith('the services')], [' the services'])
+        self.assertEqual(len(profile), 1 + 6 + 1)
+        out, _ = self.called('dbg', path, given='list 11\nlist bios_over 2\n')
+        self.assertIn('fin', out)
+        self.assertIn('no line of the source begins there', out)
 
     def test_args(self) -> None:
         """The tail at 80h, by INT 21h function 40h."""
@@ -161,7 +271,7 @@ class Guests(ToolCase):
         self.assertIn('2 met', self.called('judge', typed, echo)[0])
         source = self.file('s.asm', 'SEGMENT MAIN AT 100h\n ORG 100h\nstart: MOV AX,4C07h\n INT 21h\nENDS\n')
         self.assertIn('1 met', self.called('judge', self.file('e.page', 'exit = 7\n'), source, '--services')[0])
-        self.assertIn('no services', self.called('judge', self.file('e.page', 'exit = 7\n'), source, status=1)[0])
+        self.assertIn('no services', self.called('judge', self.file('e.page', 'exit = 7\n'), source, '--bare', status=1)[0])
         lines = self.binary('two.com', bytes.fromhex('BA0B01B409CD21CD209090') + b'one\r\n\ttwo\r\n$')
         self.assertIn('1 met', self.called('judge', self.file('l.page', 'output = one\\n\\ttwo\n'), lines)[0])
         for line, why in (('exit = x', 'no exit code'), ('exit = 256', 'no exit code'), ('output =', 'no expectation')):

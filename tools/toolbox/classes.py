@@ -118,7 +118,7 @@ def why_not(status: int, err: str) -> str:
 
 def words_of(given: argparse.Namespace) -> list[str]:
     """The words that each file's judge is given too."""
-    words = [f'--{option}' for option in ('hex', 'services', 'com') if getattr(given, option)]
+    words = [f'--{option}' for option in ('hex', 'services', 'com', 'bare') if getattr(given, option)]
     return words + ([f'--args={given.args}'] if given.args is not None else []) + [f'--memory={given.memory or limits.MEMORY}']
 
 

@@ -9,37 +9,47 @@ import shutil
 import subprocess
 import sys
 import tempfile
-from dataclasses import dataclass
+from dataclasses import dataclass, replace
 from typing import Any, Iterator
 
 from toolbox import loading
 from toolbox.command import Sorry, handed_on, read_bytes, write_bytes
 from toolbox.loading import Loaded, check_ram
-from toolbox.program import Files, is_hex_name, limited
+from toolbox.program import Files, Refusal, is_hex_name, limited
 from toolbox.runfile import DEFAULTS, read_run_file, text_of, with_run_file
-from toolbox.services import MOST_RAM
+from toolbox.services import MOST_RAM, is_served
 from toolbox.shown import bounded
 
 BINARIES = ('.com', '.exe', '.bin')
 COMPILERS = {'nasm': ('nasm', 'nasm'), 'bcc': ('bcc', 'bcc elks-libc')}  # the command, and Debian's packages
 FIRST_OF_BCC = 'crt0.o'  # what stands before a program, of bcc's library
 LONGEST = 1 << 20  # bytes of a program, which is all that the processor reaches
+_told = set[str]()
 
 
 @dataclass(frozen=True)
 class Guest:
-    """A file as it was given, and how it is taken: the command's tail, `--services` or `--com`, and the compiler."""
+    """A file as it was given, and how it is taken: the command's tail, as a source with services or by `--com`, and the compiler; whether
+    the look of a source has told its services, and whether the program refuses it."""
 
     file: str
     args: str | None = None
     is_served: bool = False
     is_com: bool = False
     compiler: str | None = None
+    is_bare: bool = False
+    is_seen: bool = False
+    is_refused: bool = False
 
     @property
     def is_one(self) -> bool:
         """Whether it needs the services."""
-        return bool(self.is_served or self.is_com or self.compiler) or ending(self.file) in BINARIES
+        return not self.is_bare and (self.is_served or self.is_com or bool(self.compiler) or ending(self.file) in BINARIES)
+
+    @property
+    def is_source(self) -> bool:
+        """Whether it is a source of the dialect."""
+        return not (self.is_com or self.compiler or ending(self.file) in BINARIES)
 
 
 def ending(path: str) -> str:
@@ -49,20 +59,52 @@ def ending(path: str) -> str:
 
 def add_words(reader: argparse.ArgumentParser) -> None:
     """The words by which a tool's FILE may be such a program."""
-    reader.add_argument('--services', action='store_true', help='FILE is a source that uses INT 10h, 16h, 21h and the like (docs/services.md)')
+    reader.add_argument(
+        '--bare', action='store_true', help='no services: else a source that calls INT 10h, 16h, 20h or 21h and has nothing at FFFF:0000 has them'
+    )
+    reader.add_argument('--services', action='store_true', help='FILE is a source with services, whatever it calls (docs/services.md)')
     reader.add_argument('--com', action='store_true', help='FILE is a .COM program, whatever its name')
     reader.add_argument('--args', metavar='TEXT', help="the command's tail of a program with services")
 
 
 def guest_of(given: argparse.Namespace, file: str | None = None) -> Guest:
-    """What those words say."""
+    """What those words say, and else the look of the file."""
     compiler = next((name for name in COMPILERS if getattr(given, name, False)), None)
-    found = Guest(file or given.file, given.args, given.services, given.com, compiler)
-    if given.args is not None and not found.is_one:
-        raise Sorry('--args goes with a .COM or .EXE program, or with --services')
-    if found.is_one and getattr(given, 'hex', False):
+    found = Guest(file or given.file, given.args, given.services, given.com, compiler, given.bare)
+    is_hex = getattr(given, 'hex', False)
+    if found.is_bare and (found.is_served or found.is_com or compiler or given.args is not None):
+        raise Sorry('--bare goes without the words that a program with services has: --services, --com, --args, --nasm, --bcc')
+    if found.is_one and is_hex:
         raise Sorry(f'--hex goes without --services and --com, and {found.file} is no Intel HEX')
+    if not (found.is_one or found.is_bare or is_hex or is_hex_name(found.file)):
+        found = looked_at(found)
+    if given.args is not None and not found.is_one and not found.is_refused:
+        raise Sorry('--args goes with a .COM or .EXE program, or a source that calls INT 10h, 16h, 20h or 21h')
     return found
+
+
+def words_of(guest: Guest) -> list[str]:
+    """The words by which another process takes the file so too."""
+    them = {'services': guest.is_served and not guest.is_seen, 'com': guest.is_com, 'bare': guest.is_bare}
+    return [f'--{name}' for name, is_said in them.items() if is_said] + ([f'--args={guest.args}'] if guest.args is not None else [])
+
+
+def looked_at(guest: Guest) -> Guest:
+    """A source, with services if its look tells them."""
+    look = is_served(guest.file)
+    return replace(guest, is_served=bool(look), is_seen=bool(look), is_refused=look is None)
+
+
+def say(guest: Guest) -> None:
+    """Tells once that a source has the services by its look."""
+    if guest.is_seen and guest.file not in _told:
+        _told.add(guest.file)
+        print(f'{os.path.basename(sys.argv[0])}: {said_of(guest.file)}', file=sys.stderr)
+
+
+def said_of(file: str) -> str:
+    """That a source has the services by its look, as a sentence."""
+    return f'{file} runs with the services (docs/services.md); --bare runs it without'
 
 
 def asked(given: argparse.Namespace) -> tuple[Guest, Files]:
@@ -77,7 +119,6 @@ def loaded(guest: Guest, ram: int, room: str) -> Loaded:
         return of_bytes(guest, read_bytes(compiled(guest, room), LONGEST), ram, '')
     if guest.is_com or ending(guest.file) in BINARIES:
         return of_bytes(guest, read_bytes(guest.file, LONGEST), ram, '.com' if guest.is_com else ending(guest.file))
-    read_bytes(guest.file, LONGEST)
     return loading.source(guest.file, args, ram)
 
 
@@ -129,7 +170,7 @@ def written(guest: Guest, fields: dict[str, Any], room: str) -> Files:
     for path, text in ((f'{stem}.hex', found.hex), (f'{stem}.json', text_of(fields)), (f'{stem}.symbols', '\n'.join(found.rows) + '\n')):
         with open(path, 'w', encoding='utf-8', errors='surrogateescape') as file:
             file.write(text)
-    return Files(f'{stem}.hex', f'{stem}.json', True, f'{stem}.symbols')
+    return Files(f'{stem}.hex', f'{stem}.json', True, f'{stem}.symbols', os.path.abspath(guest.file) if guest.is_source else None)
 
 
 def kept(guest: Guest, run_file: str | None, symbols: str | None, name: str | None) -> tuple[str, str, str]:
@@ -150,11 +191,23 @@ def kept(guest: Guest, run_file: str | None, symbols: str | None, name: str | No
 @contextlib.contextmanager
 def prepared(guest: Guest, files: Files, more: dict[str, Any] | None = None) -> Iterator[Files]:
     """The files that a tool runs: `files` themselves, or what is made of them where they need the services; then `more` has fields
-    that stand before RUN's. RUN may be missing (empty)."""
-    if not guest.is_one:
+    that stand before RUN's. RUN may be missing (empty). A source that the program refuses stays what it is."""
+    with tempfile.TemporaryDirectory(prefix='zebludor-') as room:
+        made = made_of(guest, files, more, room) if guest.is_one else None
+        if made:
+            say(guest)
+            yield made
+            return
         with with_run_file(files) as found:
             yield found
-        return
-    with tempfile.TemporaryDirectory(prefix='zebludor-') as room:
+
+
+def made_of(guest: Guest, files: Files, more: dict[str, Any] | None, room: str) -> Files | None:
+    """What is made of a program with services, or None of a source that the program refuses, as it then does by itself."""
+    try:
         made = written(guest, fields_for(guest, files.run_file or None, more), room)
-        yield Files(made.file, made.run_file, True, files.symbols or made.symbols)
+        return replace(made, symbols=files.symbols, source=None) if files.symbols else made
+    except Refusal:
+        if guest.is_source:
+            return None
+        raise

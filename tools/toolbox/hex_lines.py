@@ -39,9 +39,9 @@ def is_of(path: str, lines: list[Line]) -> bool:
     return all(one.number <= len(own) and own[one.number - 1].split() == one.text.split() for one in lines)
 
 
-def with_source(found: Listing, path: str) -> Listing:
-    """A listing of NASM's with the file that its lines are of."""
-    source = source_beside(path, found.lines)
+def with_source(found: Listing, path: str, source: str | None = None) -> Listing:
+    """A listing with the file that its lines are of: the source that is told, else one beside it."""
+    source = source or source_beside(path, found.lines)
     lines = filled([replace(one, source=source) for one in found.lines])
     return replace(found, lines=lines, at={where: replace(one, source=source) for where, one in found.at.items()}, files={source: lines})
 

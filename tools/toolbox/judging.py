@@ -34,18 +34,18 @@ def room_for_keys(fields: dict[str, Any], planned: Planned, run_file: str | None
     return {'budget': min(max(fields['budget'], 2 * fields['keys'][-1][0]), LAST_CLOCK)}
 
 
-def fields_with_services(planned: Planned, guest: Guest, run_file: str | None) -> dict[str, Any]:
-    """The same for a program with services, to which keys come later and more slowly."""
+def served_fields_of(planned: Planned, guest: Guest, run_file: str | None, usual: dict[str, Any] | None = None) -> dict[str, Any]:
+    """Those of a program with services, to which keys come later and more slowly."""
     more = planned.fields | ({'keys': stamped(planned.strokes, *TYPING)} if planned.strokes else {})
-    fields = guests.fields_for(guest, run_file, more)
-    return more | room_for_keys(fields, planned, run_file)
+    fields = guests.fields_for(guest, run_file, more if run_file else (usual or {}) | more)
+    return fields | room_for_keys(fields, planned, run_file)
 
 
 @contextlib.contextmanager
 def files_of(planned: Planned, guest: Guest, run_file: str | None, is_hex: bool, symbols: str | None = None) -> Iterator[Files]:
     """The files of a planned run: RUN itself, or a copy with the page's fields; or a program with services."""
     if guest.is_one:
-        with prepared(guest, Files(guest.file, run_file or '', False, symbols), fields_with_services(planned, guest, run_file)) as files:
+        with prepared(guest, Files(guest.file, run_file or '', False, symbols), served_fields_of(planned, guest, run_file)) as files:
             yield files
         return
     if run_file and not planned.fields:

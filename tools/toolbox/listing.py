@@ -132,7 +132,7 @@ def listing_of(files: Files) -> Listing:
         from toolbox.symbols import image_of, symbols_of  # which stand on this module
 
         image = image_of(read_text(files.file))
-        return replace(symbols_of(files.symbols, image) if files.symbols else Listing(), parts=parts_of(image))
+        return replace(symbols_of(files.symbols, image, files.source) if files.symbols else Listing(), parts=parts_of(image))
     if files.symbols:
         raise Sorry(f'{files.file} is a source, which has its own labels; --symbols goes with --hex')
     rows, own = answer_of(['asm', '--list', '--', handed(files.file)]).split('\n')[:-1], own_lines(files.file)

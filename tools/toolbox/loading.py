@@ -8,7 +8,7 @@ from dataclasses import dataclass
 
 from toolbox import services
 from toolbox.command import Sorry, tool
-from toolbox.comments import handed
+from toolbox.comments import handed, own_lines
 from toolbox.listing import line_of, physical
 from toolbox.program import TOP, answer_of
 from toolbox.services import LEAST_RAM, MOST_RAM, SPAN
@@ -201,8 +201,8 @@ def source(name: str, args: str, ram: int) -> Loaded:
     psp = place_of(name, image, start, ram)
     environment = psp - ROOM_BEFORE + 1
     found = served(image | prefix_of(psp, environment, name, args) | begins(psp, start, (psp, 0xFFFE), environment), start)
-    plain = [' ' * 28 + row[28:] if is_reset(row) else row for row in rows]
-    return Loaded(found.image, found.services, plain + services.rows_of('bios') + services.rows_of('dos'))
+    own = [(' ' * 28 if is_reset(row) else row[:28].ljust(28)) + text for row, text in zip(rows, own_lines(name))]
+    return Loaded(found.image, found.services, own + found.rows[1:])
 
 
 def is_reset(row: str) -> bool:

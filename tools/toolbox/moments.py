@@ -24,7 +24,8 @@ from toolbox.comments import handed
 from toolbox.command import PYTHON, Sorry, read_text, tool, write_text
 from toolbox.events import first_start
 from toolbox.expectations import Planned, page_of
-from toolbox.judging import fields_of, outcomes_of, subject_of
+from toolbox.guests import Guest, words_of
+from toolbox.judging import fields_of, outcomes_of, served_fields_of, subject_of
 from toolbox.listing import Listing, code_of, label_in, listing_of
 from toolbox.places import event_of, far_of, line_at
 from toolbox.poking import Count
@@ -37,6 +38,7 @@ LONGEST_KEPT = 1 << 28  # bytes of the file that keeps what was tried
 
 # Each of the many runs is short, where nothing says how long it is.
 SHORT = DEFAULTS | {'budget': 100_000}
+SERVED = {'budget': 1_000_000}  # of a program that the services begin, at about 60,000
 
 
 @dataclass(frozen=True)
@@ -58,8 +60,10 @@ class Asked:
 class Plan:
     """What is to be tried: moments, of which each is a count, if there is one to try, and a clock for each key."""
 
-    def __init__(self, asked: Asked, files: Files, keys: list[Key], sample: int, seed: int, count: Count | None = None) -> None:
-        self.asked, self.files, self.count = asked, files, count
+    def __init__(
+        self, asked: Asked, guest: Guest, given: Files, files: Files, keys: list[Key], sample: int, seed: int, count: Count | None = None
+    ) -> None:
+        self.asked, self.guest, self.given, self.files, self.count = asked, guest, given, files, count
         self.keys, self.sample, self.seed = keys, sample, seed
         self.axes: list[Count | Key] = [*([count] if count else []), *keys]
         self.runs = page_of(asked.page) if asked.page else [Planned()]
@@ -71,7 +75,8 @@ class Plan:
         if not 0 <= sample <= total:
             raise Sorry(f'--sample {sample}: there are {total} moments')
         self.moments: Sequence[int] = sorted(random.Random(seed).sample(range(total), sample)) if sample else range(total)
-        self._run = {id(planned): fields_of(planned, files.run_file or None, SHORT) for planned in self.runs}
+        fields = (lambda planned: served_fields_of(planned, guest, given.run_file or None, SERVED)) if guest.is_one else None
+        self._run = {id(planned): fields(planned) if fields else fields_of(planned, given.run_file or None, SHORT) for planned in self.runs}
 
     def values(self, moment: int) -> tuple[int, ...]:
         """The count, if there is one to try, and the clocks of the moment of this number."""
@@ -117,8 +122,8 @@ class Plan:
         if self.count:
             keys += ['--first-count', f'{self.count.values.start}..{self.count.values.stop}', '--poke', self.count.named]
         sample = ['--sample', str(self.sample), '--seed', str(self.seed)] if self.sample else []
-        files = self.files
-        form = [*(['--hex'] if files.is_hex else []), *(['--symbols', files.symbols] if files.symbols else [])]
+        files = self.given
+        form = [*(['--hex'] if files.is_hex else []), *(['--symbols', files.symbols] if files.symbols else []), *words_of(self.guest)]
         what = ['--measure', self.asked.place] if self.asked.place else []
         names = [each for each in (self.asked.page, files.file, files.run_file) if each]
         return [PYTHON, '-S', tool, '--worker', room, *what, *keys, *sample, *form, '--', *names]

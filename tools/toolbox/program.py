@@ -22,6 +22,7 @@ __all__ = [
     'Files',
     'ProbeSession',
     'Ran',
+    'Refusal',
     'Session',
     'answer_of',
     'copied',
@@ -65,12 +66,14 @@ def given_text(words: list[str], text: str) -> Ran:
 
 @dataclass(frozen=True)
 class Files:
-    """What a board is built from: a source or Intel HEX, and a run file; and of Intel HEX the file that tells its symbols."""
+    """What a board is built from: a source or Intel HEX, and a run file; and of Intel HEX the file that tells its symbols, and the source
+    that it was made of, if its lines are told."""
 
     file: str
     run_file: str
     is_hex: bool = False
     symbols: str | None = None
+    source: str | None = None
 
     def words(self, task: str) -> list[str]:
         """The command line of a task on these files. `--` lets a name begin with a hyphen."""
@@ -87,11 +90,15 @@ def copied(files: Files, room: str) -> Files:
     return made
 
 
+class Refusal(Sorry):
+    """What the program refuses, as a sentence."""
+
+
 def answer_of(words: list[str]) -> str:
-    """What the program prints, or its refusal as a sentence."""
+    """What the program prints, or its refusal."""
     ran = run(words)
     if ran.status:
-        raise Sorry(refusal(ran.status, ran.err))
+        raise Refusal(refusal(ran.status, ran.err))
     return ran.out
 
 

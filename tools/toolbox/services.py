@@ -7,9 +7,11 @@ import re
 import struct
 from dataclasses import dataclass
 
+from toolbox import reading
 from toolbox.command import Sorry
+from toolbox.comments import handed
 from toolbox.listing import Line, label_in, line_of
-from toolbox.program import TOP, Files, Session, answer_of
+from toolbox.program import TOP, Files, Session, answer_of, run
 from toolbox.runfile import read_run_file
 from toolbox.symbols import image_of
 from toolbox.walk import Talker
@@ -19,6 +21,10 @@ KEPT = 0xFC00  # so many bytes of what was written; behind them stands the rest
 OVER = 0xFE00, 6  # where every end of a program goes by, and how long its notes then take
 CLOCKS_OF_AN_END = 1000
 MARK, SIGNED, SIGNATURE = 0x5A53, 0xFE009, b'services of Zebludor'
+# The interrupts by whose calls a source is known as one with services, and a row of the listing that calls one.
+CALLED = (0x10, 0x16, 0x20, 0x21)
+CALL = re.compile(rf'^.{{10}}CD({"|".join(f"{number:02X}" for number in CALLED)}) .*?\s(?:\w+\s*:\s*)?INT\s', re.I | re.M)
+RESET = 0xFFFF0  # where the processor begins
 # The first key of typed text, how long a key is held, and from a key up to the next one down: the services begin first.
 TYPING = 200_000, 20_000, 80_000
 ENDS = {
@@ -30,6 +36,20 @@ ENDS = {
     0x27: 'ended by INT 27h, and nothing goes on beside it',
     0x4C: 'ended with exit code {code}',
 }
+
+
+def is_served(path: str) -> bool | None:
+    """Whether a source is one with services: it calls INT 10h, 16h, 20h or 21h, and places no byte at FFFF:0000, where the processor
+    would begin. None if it can't be read, or is refused."""
+    try:
+        if not re.search(rb'\bINT\b', reading.read_whole(path), re.I):
+            return False
+    except OSError:
+        return None
+    listed, made = run(['asm', '--list', '--', handed(path)]), run(['asm', '--', handed(path)])
+    if listed.status or made.status:
+        return None
+    return CALL.search(listed.out) is not None and RESET not in image_of(made.out)
 
 
 @functools.cache

@@ -49,8 +49,8 @@ def path_of(given: str) -> str:
     return next((path for path in (given, without_ram) if os.path.exists(path)), re.sub(PLACE, '', given))
 
 
-def symbols_of(given: str, image: dict[int, int]) -> Listing:
-    """The lines and labels of such a file."""
+def symbols_of(given: str, image: dict[int, int], source: str | None = None) -> Listing:
+    """The lines and labels of such a file, which are those of a source, if it is told."""
     path = path_of(given)
     place = re.search(PLACE, given[len(path) :])
     assert place
@@ -61,8 +61,8 @@ def symbols_of(given: str, image: dict[int, int]) -> Listing:
         found = of_a_map(rows, far, ram)
     elif filled and all(re.match(r' *\d{1,7} ', row) for row in filled):
         found = with_source(of_nasm(filled, far, ram), path)
-    elif filled and all(re.match(OURS, row) for row in filled):
-        found = with_source(of_ours(rows), path)
+    elif filled and re.match(OURS, filled[0]) and all(re.match(OURS, row) or FAR_LABEL.fullmatch(row) for row in filled):
+        found = with_source(of_ours(rows), path, source)
     else:
         found = with_modules(of_labels(filled, far if place[1] else None, ram), path, filled)
     if not found.lines and not found.labels and not found.absent:
@@ -75,8 +75,10 @@ def symbols_of(given: str, image: dict[int, int]) -> Listing:
 
 
 def of_ours(rows: list[str]) -> Listing:
-    """A listing of the board's own assembler. A label stands at the next byte."""
-    found = Listing([line_of(number, row) for number, row in enumerate(rows, 1)])
+    """A listing of the board's own assembler, behind whose rows may stand labels as a person writes them. A label stands at the next
+    byte."""
+    more = list(takewhile(FAR_LABEL.fullmatch, reversed(rows)))
+    found = Listing([line_of(number, row) for number, row in enumerate(rows[: len(rows) - len(more)], 1)])
     waiting: list[str] = []
     for line in found.lines:
         label = label_in(line.text)
@@ -84,6 +86,7 @@ def of_ours(rows: list[str]) -> Listing:
         if line.address:
             found.labels.update(dict.fromkeys(waiting, line.address))
             waiting = []
+    found.labels.update(of_labels(more[::-1], None, None).labels)
     return found
 
 
