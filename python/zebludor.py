@@ -329,11 +329,50 @@ def _files(source: Source, fields: dict[str, Any] | None = None) -> Iterator[lis
         yield ['--', *names]
 
 
-def run(source: Source, *, is_hex: bool = False, **fields: Any) -> Report:
+def run(source: Source, *, is_hex: bool = False, services: bool | None = None, **fields: Any) -> Report:
     """Runs a source, or Intel HEX (a path that ends in .hex, or is_hex): a text, or a path to one. The fields are a run file's: `keys`, pairs of a clock and a scan
-    code; `budget`, `ram`, `sw1`, `sw2`, `timer`, `clocks`; what isn't said is as tools/runfile has it."""
-    with _files(source, _fields(fields)) as names:
-        return read_report(_answer(['run', *_hex_words(source, is_hex), *names]))
+    code; `budget`, `ram`, `sw1`, `sw2`, `timer`, `clocks`; what isn't said is as tools/runfile has it. What docs/services.md calls a
+    program with services has them, and 640 KB; `services` says otherwise, as --services and --bare do."""
+    with _made(source, is_hex, services, fields) as words:
+        return read_report(_answer(['run', *words]))
+
+
+def toolbox(*names: str) -> list[Any]:
+    """Modules of the tools, which stand in the folder beside this file's. ImportError if it isn't there."""
+    import importlib
+
+    if f'{TOP}/tools' not in sys.path:
+        sys.path.append(f'{TOP}/tools')
+    return [importlib.import_module(f'toolbox.{name}') for name in names]
+
+
+@contextlib.contextmanager
+def _made(source: Source, is_hex: bool, services: bool | None, given: dict[str, Any]) -> Iterator[list[str]]:
+    """The words that name the program its files: the source and the run file, or what is made of a program with services."""
+    words = _hex_words(source, is_hex)
+    with _files(source, _fields(given)) as names, tempfile.TemporaryDirectory() as room:
+        made = _served(names[1], services, given, room) if not words and services is not False else None
+        yield ['--hex', '--', *made] if made else [*words, *names]
+
+
+def _served(path: str, services: bool | None, given: dict[str, Any], room: str) -> list[str] | None:
+    """The image and the run file of a program with services; None of what is none, or is refused. Where the tools aren't, none is."""
+    with open(path, 'rb') as file:
+        if not (services or path[-4:].lower() in ('.com', '.exe', '.bin') or re.search(rb'\bINT\b', file.read(), re.I)):
+            return None
+    try:
+        guests, command = toolbox('guests', 'command')
+    except ImportError as error:
+        if services:
+            raise Unfit(f"services want the tools, and {TOP}/tools hasn't them: {error}") from None
+        return None
+    try:
+        guest, fields = guests.Guest(path, is_served=bool(services)), _fields({'ram': guests.MOST_RAM} | given)
+        guest = guest if guest.is_one else guests.looked_at(guest)
+        made = guests.made_with(guest, fields, room) if guest.is_one else None
+    except command.Sorry as sorry:
+        raise Unfit(str(sorry)) from None
+    return made and [made.file, made.run_file]
 
 
 def assemble(source: Source) -> str:
@@ -737,13 +776,10 @@ class Places:
     @functools.cached_property
     def _tools(self) -> Any:
         """The tools' modules, which stand in the folder beside this file's."""
-        if f'{TOP}/tools' not in sys.path:
-            sys.path.append(f'{TOP}/tools')
         try:
-            from toolbox import command, listing as listings, places, program as programs
+            return toolbox('command', 'listing', 'places', 'program')
         except ImportError as error:
             raise Unfit(f"labels and lines want the tools, and {TOP}/tools hasn't them: {error}") from None
-        return command, listings, places, programs
 
     @functools.cached_property
     def _listing(self) -> Any:
@@ -765,15 +801,16 @@ class Places:
 class Session:
     """A session of the debugger, as a context manager: a board at clock 0 that goes forth and back. Stops are numbered from 1,
     and stay for the whole session; what goes to a stop answers the number of the one that holds, or None. Its commands are
-    those of docs/debugger.md; a refused one is raised as Fault. `source` tells where labels and lines stand. With `probe` it is
+    those of docs/debugger.md; a refused one is raised as Fault. Services are as for `run`. `source` tells where labels and lines stand. With `probe` it is
     one of pcprobe, which has `events`, `key`, `watch` and `stop_when`. Any thread may use it: a command waits until those of
     others are answered, and so does `close`, after which each is Unfit."""
 
-    def __init__(self, source: Source, *, is_hex: bool = False, symbols: str | os.PathLike | None = None, probe: bool = False, **fields: Any) -> None:
+    def __init__(
+        self, source: Source, *, is_hex: bool = False, symbols: str | os.PathLike | None = None, probe: bool = False, services: bool | None = None, **fields: Any
+    ) -> None:
         self.source, self._is_probe = Places(source, is_hex=is_hex, symbols=symbols), probe
         self._lock, self._is_closed = threading.Lock(), False
-        with _files(source, _fields(fields)) as names:
-            words = [*_hex_words(source, is_hex), *names]
+        with _made(source, is_hex, services, fields) as words:
             called = called_of(words)
             if called:
                 self._dialogue: Dialogue = called

@@ -141,6 +141,26 @@ class Runs(ToolCase):
         self.assertEqual((done.stderr, lines[:3], len(lines)), ('', ['H halted 63040', '1 2138', 'MOV AH,007h'], 14))
         self.assertEqual((lines[3], lines[13]), ('1800 tkttKtttttt', '2800 ttkttKttttt'))
 
+    def test_services(self) -> None:
+        """By the look of a text, or of a file; labels are the source's, and a refusal is that of the source."""
+        text = "SEGMENT MAIN AT 100h\n ORG 100h\nstart: MOV AX,0E41h\n INT 10h\n INT 20h\nENDS\n"
+        path = pathlib.Path(self.file('it.asm', text))
+        for source in (text, text.encode(), path):
+            self.assertEqual(zebludor.run(source).text, 'A')
+            self.assertEqual(zebludor.run(source, services=False).state, 'jammed')
+        com = pathlib.Path(self.room, 'it.com')
+        com.write_bytes(bytes.fromhex('B8420ECD10CD20'))  # MOV AX,0E42h; INT 10h; INT 20h
+        self.assertEqual(zebludor.run(com).text, 'B')
+        self.assertEqual(zebludor.run(text.replace('INT 10h', 'NOP').replace('20h', '27h'), services=True).state, 'halted')
+        with zebludor.Session(text, probe=True) as session:
+            self.assertEqual(session.stop_at('start'), session.go(1_000_000))
+            self.assertEqual((session.source.line(5), session.byte('start')), ((0x100, 0x105), 0xB8))
+        with self.assertRaises(zebludor.Fault) as refused:
+            zebludor.run(text.replace('MOV AX', 'MUV AX'))
+        self.assertEqual(refused.exception.line, 3)
+        with self.assertRaisesRegex(zebludor.Unfit, '144 to 640 KB of RAM'):
+            zebludor.run(text, ram=64)
+
     def test_labels_and_lines(self) -> None:
         """Of a path and of a text; of Intel HEX by its symbols."""
         path = pathlib.Path(example('ticks')[0])

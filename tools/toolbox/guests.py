@@ -193,20 +193,20 @@ def prepared(guest: Guest, files: Files, more: dict[str, Any] | None = None) -> 
     """The files that a tool runs: `files` themselves, or what is made of them where they need the services; then `more` has fields
     that stand before RUN's. RUN may be missing (empty). A source that the program refuses stays what it is."""
     with tempfile.TemporaryDirectory(prefix='zebludor-') as room:
-        made = made_of(guest, files, more, room) if guest.is_one else None
+        made = made_with(guest, fields_for(guest, files.run_file or None, more), room) if guest.is_one else None
         if made:
             say(guest)
-            yield made
+            yield replace(made, symbols=files.symbols, source=None) if files.symbols else made
             return
         with with_run_file(files) as found:
             yield found
 
 
-def made_of(guest: Guest, files: Files, more: dict[str, Any] | None, room: str) -> Files | None:
-    """What is made of a program with services, or None of a source that the program refuses, as it then does by itself."""
+def made_with(guest: Guest, fields: dict[str, Any], room: str) -> Files | None:
+    """What is made in a folder of a program with services, or None of a source that the program refuses, as it then does by itself."""
+    check_ram(fields['ram'], guest.file)
     try:
-        made = written(guest, fields_for(guest, files.run_file or None, more), room)
-        return replace(made, symbols=files.symbols, source=None) if files.symbols else made
+        return written(guest, fields, room)
     except Refusal:
         if guest.is_source:
             return None

@@ -46,10 +46,10 @@ def is_served(path: str) -> bool | None:
             return False
     except OSError:
         return None
-    listed, made = run(['asm', '--list', '--', handed(path)]), run(['asm', '--', handed(path)])
-    if listed.status or made.status:
+    made = run(['asm', '--', handed(path)])
+    if made.status:
         return None
-    return CALL.search(listed.out) is not None and RESET not in image_of(made.out)
+    return RESET not in image_of(made.out) and CALL.search(answer_of(['asm', '--list', '--', handed(path)])) is not None
 
 
 @functools.cache
