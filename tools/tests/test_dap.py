@@ -258,6 +258,44 @@ class Sessions(ToolCase):
         self.assertEqual(client.leave(), 0)
         self.assertEqual(rooms_in(self.room), [])
 
+    def test_a_program_with_services(self) -> None:
+        """It begins at its first line, steps go over what the services do, forth and back, and its end is told."""
+        lines = ' MOV AH,9', ' MOV DX,text', ' INT 21h', ' MOV AX,4C03h', ' INT 21h', "text: DB 'Hello$'", 'ENDS'
+        source = self.file('it.asm', '\n'.join(('SEGMENT MAIN AT 100h', ' ORG 100h', 'start: NOP', *lines, '')))
+        client = self.client()
+        points = client.launch(source, 7, stopOnEntry=True)
+        self.assertEqual([(point['verified'], point['line']) for point in points], [(True, 7)])
+        self.assertIn('it.asm runs with the services (docs/services.md); "services": false runs it without', client.event('output')['output'])
+        self.assertEqual((client.event('stopped')['reason'], client.line()), ('entry', 3))
+        for command, line in (('stepIn', 4), ('next', 5), ('stepIn', 6), ('stepIn', 7), ('stepBack', 6), ('stepBack', 5), ('continue', 7), ('next', 8)):
+            client.move(command)
+            self.assertEqual(client.line(), line, command)
+        self.assertIn('Hello', client.event('output')['output'])
+        stop = client.move('continue')
+        self.assertIn('ended with exit code 3', stop['text'])
+        clock = client.clock()
+        self.assertLess(clock, 100_000)
+        self.assertEqual((client.move('stepBack')['reason'], client.line()), ('step', 8))
+        self.assertIn('ended with exit code 3', client.move('stepIn')['text'])
+        self.assertEqual(client.clock(), clock)
+        client.move('stepBack')
+        client.ask('stepIn', threadId=1, granularity='instruction')
+        client.event('stopped')
+        self.assertEqual(client.ask('stackTrace', threadId=1)['stackFrames'][0]['name'], 'dos_dos')
+        self.assertEqual(client.leave(), 0)
+        self.assertEqual(rooms_in(self.room), [])
+
+    def test_services_said_otherwise(self) -> None:
+        source = self.file('it.asm', 'SEGMENT MAIN AT 100h\n ORG 100h\nstart: MOV AH,8\n INT 21h\n INT 20h\nENDS\n')
+        client = self.client()
+        client.launch(source, keys='x', services=True, args='tail')
+        self.assertIn('ended by INT 20h', client.event('stopped')['text'])
+        self.assertEqual(client.leave(), 0)
+        bare = self.client()
+        bare.launch(source, services=False)
+        self.assertIn('the run ends at clock 10000000, jammed', bare.event('stopped')['text'])
+        self.assertEqual(bare.leave(), 0)
+
     def test_random_walks(self) -> None:
         """Forty moves forth and back each; at some of them the board is held against a session that goes there directly."""
         for name, line in (('ticks', 44), ('fibonacci', 48), ('clock', 41), ('strings', 20)):

@@ -197,6 +197,24 @@ class Guests(ToolCase):
         self.assertIn('fin', out)
         self.assertIn('no line of the source begins there', out)
 
+    def test_steps_go_over_the_services(self) -> None:
+        """Forth, back and to the end, which is told; `in` goes into them, and the trail has them by `all` alone."""
+        path = self.file('it.asm', SOURCE)
+        said = 'step\nstep 3\nstep\ntrail 2\nback 2\nto 10000000\nwhere\nstate\nback\nstep in\ntrail 1\ntrail all\nfinish\nlabels\n'
+        out = self.called('dbg', path, given=said)[0].splitlines()
+        shown = ['3: start: NOP', '6: INT 21h', '7: MOV AX,4C03h', '5: MOV DX,text', '6: INT 21h', '5: MOV DX,text']
+        self.assertEqual([line.split(' | ')[-1] for line in out[:6]], shown)
+        self.assertRegex(out[6], r'^clock 10000000: ended with exit code 3, FE00:')
+        self.assertEqual(out[6], out[7])
+        self.assertRegex(out[8], r'^clock 10000000: ended with exit code 3, halted since clock \d{5}$')
+        rest = '\n'.join(out[9:]).split('\n')
+        at = next(number for number, line in enumerate(rest) if line.endswith('| 8: INT 21h'))
+        self.assertIn('dos_dos', rest[at + 1])
+        self.assertTrue(rest[at + 2].endswith('| 8: INT 21h'))
+        self.assertTrue(any('bios_done' in line for line in rest[at + 3 : at + 35]))
+        self.assertRegex(rest[at + 35], 'ended with exit code 3')
+        self.assertEqual([line.split()[1] for line in rest[at + 36 :]], ['start', 'text'])
+
     def test_args(self) -> None:
         """The tail at 80h, by INT 21h function 40h."""
         # MOV CL,[80h]; MOV CH,0; MOV DX,81h; MOV BX,1; MOV AH,40h; INT 21h; INT 20h

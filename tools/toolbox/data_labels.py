@@ -93,10 +93,10 @@ def values_of(data: list[Datum], dump: Callable[[int, int], bytes]) -> list[dict
 
 def labels_of_data(files: Files, listing: Listing) -> list[Datum]:
     """The labels of data of a board's program."""
-    if not files.is_hex:
+    if not files.is_hex or files.source:
         from toolbox.symbols import image_of  # which stands on listings, as this does
 
-        return data_of(listing, image_of(answer_of(['asm', '--', handed(files.file)])))
+        return data_of(listing, image_of(read_text(files.file) if files.is_hex else answer_of(['asm', '--', handed(files.file)])))
     return of_nasm(listing) + of_c(listing)
 
 

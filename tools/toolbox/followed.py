@@ -3,14 +3,14 @@ from __future__ import annotations
 
 from toolbox.effects import Far
 from toolbox.following import Follower, Frame, Mark, Marks, Start, State, states_in
-from toolbox.session_board import SessionBoard
+from toolbox.served_board import ServedBoard
 
 STACKED = 'starts entries'  # what calls and returns are followed by
 LOOKED_BACK = 100_000  # clocks in which calls that are under way are looked for
 MOST_PIECE = 1 << 20  # clocks that are followed at once
 
 
-class FollowedBoard(SessionBoard):
+class FollowedBoard(ServedBoard):
     """A board that knows the calls under way, as far as the last clocks tell them."""
 
     def _forget(self, is_other: bool = True) -> None:

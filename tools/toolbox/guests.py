@@ -102,9 +102,9 @@ def say(guest: Guest) -> None:
         print(f'{os.path.basename(sys.argv[0])}: {said_of(guest.file)}', file=sys.stderr)
 
 
-def said_of(file: str) -> str:
-    """That a source has the services by its look, as a sentence."""
-    return f'{file} runs with the services (docs/services.md); --bare runs it without'
+def said_of(file: str, without: str = '--bare') -> str:
+    """That a source has the services by its look, and what runs it without, as a sentence."""
+    return f'{file} runs with the services (docs/services.md); {without} runs it without'
 
 
 def asked(given: argparse.Namespace) -> tuple[Guest, Files]:

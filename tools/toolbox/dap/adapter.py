@@ -9,6 +9,7 @@ import re
 import subprocess
 from typing import Any, Callable
 
+from toolbox import guests
 from toolbox.command import PYTHON, Sorry
 from toolbox.conditions import Asked, count_of
 from toolbox.dap.board import ENDS, IF, MOST_BREAKPOINTS, Machine
@@ -18,12 +19,14 @@ from toolbox.dap.variables import Variables
 from toolbox.data_labels import labels_of_data
 from toolbox.effects import Far
 from toolbox.framing import Broken, Read
+from toolbox.guests import Guest
 from toolbox.keying import key_lines, type_words
 from toolbox.listing import Line, Listing, listing_of, physical
 from toolbox.places import far_of, far_of_address
 from toolbox.program import LAST_CLOCK, TOP, Files, copied, is_hex_name
 from toolbox.runfile import DEFAULTS, budget_of, text_of
 from toolbox.scancodes import stamped, strokes_of
+from toolbox.services import TYPING
 from toolbox.session_board import Gone, Left, Paused, SessionBoard, break_at, place_of
 from toolbox.watches import NO_READS, changed, watch_of, what_was_seen
 
@@ -240,9 +243,11 @@ class Adapter:
         self.program = os.path.realpath(path_in(field(given, 'program', str)))
         is_hex = field(given, 'hex', bool, is_hex_name(self.program))
         self.is_entry = field(given, 'stopOnEntry', bool, False)
-        run_file = self.run_file(given)
+        guest = self.guest(given, is_hex)
+        run_file = self.run_file(given, guest)
         symbols = field(given, 'symbols', str, '')
-        files = copied(Files(self.program, run_file, is_hex, os.path.realpath(symbols) if symbols else None), self.room)
+        made = guests.made_with(guest, guests.fields_for(guest, run_file), self.room) if guest.is_one else None
+        files = made or copied(Files(self.program, run_file, is_hex, os.path.realpath(symbols) if symbols else None), self.room)
         try:
             budget, listing = budget_of(files), listing_of(files)
             places = [os.path.realpath(path_in(source)) for source in field(given, 'sources', list, []) if isinstance(source, str)]
@@ -256,13 +261,24 @@ class Adapter:
 
     on_attach = on_launch
 
-    def run_file(self, given: Fields) -> str:
+    def guest(self, given: Fields, is_hex: bool) -> Guest:
+        """The program as its name, its look or the launch says that it has services, or none; by its look that is told."""
+        services, args = given.get('services'), field(given, 'args', str, '')
+        guest = Guest(self.program, args or None, services is True, is_bare=services is False or is_hex)
+        if guest.is_one or guest.is_bare:
+            return guest
+        guest = guests.looked_at(guest)
+        if guest.is_one:
+            self.output(guests.said_of(os.path.basename(self.program), '"services": false') + '\n')
+        return guest
+
+    def run_file(self, given: Fields, guest: Guest) -> str:
         """The run file that is named, or one of the keys and budget that are."""
         if given.get('run'):
             return os.path.realpath(field(given, 'run', str))
-        fields = dict(DEFAULTS)
+        fields = DEFAULTS | ({'ram': guests.MOST_RAM} if guest.is_one else {})
         if keys := field(given, 'keys', str, ''):
-            fields['keys'] = stamped(strokes_of(keys), 2000, 500, 1500)
+            fields['keys'] = stamped(strokes_of(keys), *(TYPING if guest.is_one else (2000, 500, 1500)))
             fields['budget'] = max(fields['budget'], 2 * fields['keys'][-1][0])
         fields['budget'] = field(given, 'budget', int, fields['budget'])
         path = f'{self.room}/own.json'
@@ -292,8 +308,14 @@ class Adapter:
         return Sorry(first)
 
     def on_configurationDone(self, _: Fields) -> tuple[Fields, Callable[[], tuple[str, str]]]:
-        self.board()
-        return {}, (lambda: ('entry', 'the start of the run')) if self.is_entry else self.run_on
+        board = self.board()
+
+        def begin() -> tuple[str, str]:
+            if board.is_before:
+                board.step_own()
+            return 'entry', 'the start of the program' if board.clock else 'the start of the run'
+
+        return {}, begin if self.is_entry else self.run_on
 
     def on_disconnect(self, _: Fields) -> Fields:
         self.is_over = True
@@ -435,15 +457,16 @@ class Adapter:
             name = f'{kinds[0]} breakpoint' if kinds and kinds[0] in ('function', 'instruction', 'data') else 'breakpoint'
             what = '' if place_of(met) else f', {what_was_seen(self.board(), self.board().listing, met)}'
             return name, f'clock {self.board().clock}: {name}{what}'
-        if self.board().clock >= self.board().budget:
-            return 'pause', f'the run ends at clock {self.board().clock}, {self.board().state()}'
+        ending = self.board().ending()
+        if ending or self.board().clock >= self.board().budget:
+            return 'pause', f'the run ends at clock {self.board().clock}, {ending or self.board().state()}'
         return reason, f'clock {self.board().clock}: {text}'
 
     def told_of_a_way(self, met: str | None, text: str) -> tuple[str, str]:
         """Why a way over or out of a routine ended."""
         board = self.board()
         if board.why in ENDS:
-            return 'pause', f'clock {board.clock}: {ENDS[board.why]}'
+            return 'pause', f'clock {board.clock}: {board.ending() or ENDS[board.why]}'
         return self.why_stopped(met, 'step', text)
 
     def run_on(self) -> tuple[str, str]:
@@ -452,6 +475,8 @@ class Adapter:
             # Breakpoints may change while it runs.
             met = board.run(self.wanted(), board.budget)
             met = met if met in self.wanted() else None
+        if met is None and board.ending():
+            board.go_to_the_end(begun)
         return self.exception(begun) or self.why_stopped(met, 'pause', 'the run ends')
 
     def exception(self, begun: int) -> tuple[str, str] | None:
@@ -505,9 +530,9 @@ class Adapter:
 
         def step() -> None:
             board.why = 'returned'
-            board.step()
+            board.step() if given.get('granularity') == 'instruction' else board.step_own()  # pylint: disable=expression-not-assigned
 
-        return {}, lambda: self.why_stopped(self.way(lambda: self.by_lines(given, step)), 'step', 'step')
+        return {}, lambda: self.told_of_a_way(self.way(lambda: self.by_lines(given, step)), 'step')
 
     def on_stepOut(self, _: Fields) -> tuple[Fields, Callable[[], tuple[str, str]]]:
         board = self.unless_ended()

@@ -52,9 +52,25 @@ class Machine(FollowedBoard):
         self.one('step')
         return next((event for event in self.trail() if event.clock >= here), None)
 
+    def step_own(self) -> Event | None:
+        """As `step`, but over what the services do, and from power-on to where the program begins."""
+        self.why = 'returned'
+        if self.is_before:
+            self.run([self.first_stop()], self.budget)
+            return None
+        is_own, begun = not self.is_served_here, self.step()
+        if begun and is_own and self.is_served_here:
+            self.over(begun)
+            self.why = self._ended(begun.clock) if self.why == 'far' else self.why
+        return begun
+
     def back(self) -> None:
-        """To where the processor was free before; within a halt to its HLT."""
-        if self.is_halted:
+        """To where the processor was free before, within a halt to its HLT, and from the program's own instructions or its end to the
+        last of these."""
+        own = self.own_trail() if self.ram_end and (not self.is_served_here or self.ending()) else []
+        if own:
+            self.go_to(own[-1].clock)
+        elif self.is_halted:
             self.go_to(self.trail()[-1].clock)
         elif self.one('back step') == BEFORE_START:
             raise Sorry('this is the start of the run')
@@ -83,6 +99,9 @@ class Machine(FollowedBoard):
 
     def _over(self) -> None:
         """Over the next instruction."""
+        if self.is_before:
+            self.step_own()
+            return
         here, self.why = self.clock, 'returned'
         while begun := self.step():
             self.over(begun)
@@ -170,6 +189,10 @@ class Machine(FollowedBoard):
                 return
             stack.level = level + signed(now['SP'] - level)
             self.poll()
+
+    def go_to_the_end(self, here: int) -> None:
+        """Back to where the processor has halted for good since a clock, if it has."""
+        self._ended(here)
 
     def _ended(self, here: int) -> str:
         """What ended a way that led from a clock to no return: `jammed` and `halted for good` at the clock at which

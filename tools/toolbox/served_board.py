@@ -1,0 +1,74 @@
+"""A board on which a program with services may run: where that begins, how it has ended, and which instructions are its own."""
+from __future__ import annotations
+
+from functools import cached_property
+
+from toolbox.disassembly import instruction
+from toolbox.effects import Far
+from toolbox.listing import physical
+from toolbox.loading import BLOCK, SECTOR
+from toolbox.places import Event
+from toolbox.runfile import read_run_file
+from toolbox.services import SIGNATURE, SIGNED, Served, left_at
+from toolbox.session_board import SessionBoard, break_at
+from toolbox.walk import SERVICES, Part
+
+TRAIL = 32  # events
+LOOKED_BACK = 100_000, 3_000_000, 30_000_000  # clocks in which the program's own instructions are looked for; a wait for a key has few
+
+
+class ServedBoard(SessionBoard):
+    """A board that knows the services in its ROM. Without them every instruction is the program's own."""
+
+    @cached_property
+    def ram_end(self) -> int:
+        """RAM's end, if the services stand in ROM, else 0."""
+        ram = read_run_file(self._files.run_file).get('ram') if self.dump(SIGNED, len(SIGNATURE)) == SIGNATURE else None
+        return 1024 * ram if isinstance(ram, int) else 0
+
+    def left(self) -> Served | None:
+        """What the services have left here, or None."""
+        return left_at(self, self.ram_end) if self.ram_end else None
+
+    def ending(self) -> str:
+        """How the program has ended, in words, or nothing."""
+        left = self.left()
+        return left.ending if left else ''
+
+    @property
+    def is_served_here(self) -> bool:
+        """Whether the processor is in the services."""
+        return bool(self.ram_end) and physical(*self.place()) >= SERVICES
+
+    @property
+    def is_before(self) -> bool:
+        """Whether the services haven't begun the program yet."""
+        left = self.left() if self.is_served_here else None
+        return self.is_served_here and not (left and left.phase)
+
+    def first_stop(self) -> str:
+        """The stop at which the program begins."""
+        octets = self.dump(BLOCK + 2, 4)
+        offset, segment = int.from_bytes(octets[:2], 'little'), int.from_bytes(octets[2:], 'little')
+        first: Far = (0, SECTOR) if octets == b'\xFF' * 4 else (segment, offset)
+        return break_at(first)
+
+    def own_trail(self) -> list[Event]:
+        """The last instruction starts and entries without those of the services, as far as the last clocks tell them; before the program
+        begins there is none."""
+        found = self.trail()
+        own = [event for event in found if event.address < SERVICES] if self.ram_end else found
+        here = self.clock
+        for number, span in enumerate(LOOKED_BACK if len(own) < len(found) else ()):
+            if len(own) == TRAIL or number and own:
+                break
+            self.go_to(max(0, here - span))
+            events = Part.of(self.lines(here - self.clock, 'starts')).events
+            own = [self._with_text(event) for event in [event for event in events if event.address < SERVICES][-TRAIL:]]
+        return own
+
+    @staticmethod
+    def _with_text(event: Event) -> Event:
+        """An instruction with its text."""
+        listed = instruction(event.offset, event.octets)
+        return event._replace(text=listed.text if listed else '')
