@@ -392,6 +392,27 @@ class Terminals(ToolCase):
         self.assertIn('tools/try', self.leave(terminal))
         self.assertIn('Yes', self.tool('try', source, '--run', self.out, '--services')[0])
 
+    def test_an_end_is_told(self) -> None:
+        """In the last line, at the prompt and behind the session; steps go over what the services do."""
+        lines = ' MOV AH,9', ' MOV DX,text', ' INT 21h', ' MOV AX,4C03h', ' INT 21h', "text: DB 'Hello$'", 'ENDS'
+        source = self.file('it.asm', '\n'.join(('SEGMENT MAIN AT 100h', ' ORG 100h', 'start: NOP', *lines, '')))
+        terminal = self.begin(source, rows=27)
+        self.assertTrue(terminal.until(lambda each: each.lines()[0] == 'Hello' and 'ended with exit code 3  clock' in each.lines()[-1]), terminal.grid.lines())
+        terminal.type(PROMPT + 'to 0' + ENTER + 'step' + ENTER)
+        self.assertTrue(terminal.until(lambda each: any('| 3: start: NOP' in line for line in each.lines())), terminal.grid.lines())
+        terminal.type('step 4' + ENTER)
+        self.assertTrue(terminal.until(lambda each: any('| 7:' in line for line in each.lines())), terminal.grid.lines())
+        terminal.type('step 2' + ENTER)
+        self.assertTrue(terminal.until(lambda each: any(': ended with exit code 3, FE00:' in line for line in each.lines())), terminal.grid.lines())
+        terminal.type('back' + ENTER)
+        self.assertTrue(terminal.until(lambda each: any('| 8:' in line for line in each.lines())), terminal.grid.lines())
+        terminal.type('to 100000' + ENTER)
+        self.assertTrue(terminal.until(lambda each: any('clock 100,000: ended' in line for line in each.lines())), terminal.grid.lines())
+        self.assertIn('ended with exit code 3, clock 1', self.leave(terminal))
+        jammed = self.begin(self.file('jam.asm', 'SEGMENT R AT 0FFFFh\n DB 0Fh,0FFh\nENDS\n'), rows=27)
+        self.assertTrue(jammed.until(lambda each: 'the processor has jammed  clock' in each.lines()[-1]), jammed.grid.lines())
+        self.leave(jammed)
+
     def test_refusals(self) -> None:
         """Without a terminal, or with one that isn't known; and a place where nothing can be written, before anything is typed."""
         source = example('keys')[0]

@@ -68,6 +68,12 @@ class Chips:
         return self.lines[line][word]
 
     @property
+    def state(self) -> str:
+        """Running, halted, halted for good, or jammed."""
+        state = self.value('processor', 'state')
+        return 'halted for good' if state == 'halted' and not self.is_open else state
+
+    @property
     def controller(self) -> Controller:
         """The interrupt controller."""
         return Controller(self.lines['controller'])

@@ -18,6 +18,7 @@ HERTZ = 4_772_727
 TICK = 1 / 30  # seconds from one look at the screen to the next
 MOST_BEHIND = 0.25  # seconds; a machine that is slower lets the board fall behind
 FIRST_PIECE, MOST_PIECE = 1 << 17, 1 << 28  # clocks of a tick of a fast run
+OVER = {'jammed': 'the processor has jammed', 'halted for good': 'halted with interrupts off'}
 BUSY = 0.9  # of a fast run's tick
 MOST_HALTED = 1 << 24  # of a board that halts now and then: a hundred times its pace, so that it isn't soon at the last clock
 
@@ -111,8 +112,13 @@ class Live(Machine):
             self.back()
             self.poll()
 
+    def over_text(self, state: str) -> str:
+        """Why nothing more will happen, in words, of a processor in this state; or nothing."""
+        return (self.ending() or OVER[state]) if state in OVER else ''
+
     def place_text(self) -> str:
         """Where the board stands: clock, place, label and source line."""
         segment, offset = self.place()
         line, label = self.listing.line_from(physical(segment, offset)), self.listing.label_before(segment, offset)
-        return f'clock {self.clock:,}: {segment:04X}:{offset:04X} {label} {f"| {self.listing.source_text(line)}" if line else ""}'.rstrip()
+        ending = f'{self.ending()}, ' if self.ending() else ''
+        return f'clock {self.clock:,}: {ending}{segment:04X}:{offset:04X} {label} {f"| {self.listing.source_text(line)}" if line else ""}'.rstrip()

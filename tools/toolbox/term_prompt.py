@@ -49,9 +49,12 @@ class Commands:
     do_q = do_quit
 
     def do_step(self, times: str = '1') -> list[str]:
-        """step [N]: makes one instruction, or N; of a halted or jammed processor a clock"""
-        for _ in range(counted(times)):
-            self._board.one('step')
+        """step [N], step in: makes one instruction, or N, over the services or into them; of a halted or jammed processor a clock"""
+        for _ in range(1 if times == 'in' else counted(times)):
+            if times == 'in' or not self._board.ram_end or self._board.ending():
+                self._board.one('step')
+            else:
+                self._board.step_own()
             self._board.poll()
         return [self._board.place_text()]
 
@@ -140,9 +143,10 @@ class Commands:
         """regs: the registers, and the next instruction's place"""
         return [*self._board.many('regs'), self._board.place_text()]
 
-    def do_trail(self) -> list[str]:
-        """trail: the last 32 instruction starts and interrupts, with their source lines"""
-        return [event_text(self._board.listing, each) for each in self._board.trail()] or ['nothing yet']
+    def do_trail(self, which: str = '') -> list[str]:
+        """trail, trail all: the last 32 instruction starts and interrupts, with their source lines, without the services' or with them"""
+        trail = self._board.trail() if which == 'all' else self._board.own_trail()
+        return [event_text(self._board.listing, each) for each in trail] or ['nothing yet']
 
     def do_chips(self) -> list[str]:
         """chips: what the chips hold; docs/probe.md tells the words"""

@@ -25,10 +25,12 @@ PLAIN = {'HORIZONTAL': '-', 'VERTICAL': '|'}  # lines where a terminal has no li
 
 @dataclass(frozen=True)
 class Look:
-    """What the adapter shows: the bytes of its 25 rows, and the cursor's row and column, if it is on the screen."""
+    """What the adapter shows: the bytes of its 25 rows, and the cursor's row and column, if it is on the screen; and the processor's
+    state."""
 
     octets: bytes
     cursor: tuple[int, int] | None
+    state: str = 'running'
 
 
 def look_at(board: SessionBoard) -> Look:
@@ -37,12 +39,13 @@ def look_at(board: SessionBoard) -> Look:
     count = 2 * WORDS // 16
     if len(lines) <= count:
         raise Sorry(f'the board refuses to show its screen: {lines[-1]}')
-    adapter = Chips(lines[count:]).lines['adapter']
+    chips = Chips(lines[count:])
+    adapter = chips.lines['adapter']
     start, cursor = int(adapter['start'], 16) % WORDS, int(adapter['cursor'], 16) % WORDS
     place = (cursor - start) % WORDS
     memory = bytes.fromhex(''.join([each[7:] for each in lines[:count]]))
     octets = (memory + memory)[2 * start : 2 * start + ROWS * ROW] if adapter['video'] == '1' else bytes(ROWS * ROW)
-    return Look(octets, divmod(place, COLUMNS) if place < ROWS * COLUMNS else None)
+    return Look(octets, divmod(place, COLUMNS) if place < ROWS * COLUMNS else None, chips.state)
 
 
 def shown(code: int, attribute: int) -> str:

@@ -168,6 +168,8 @@ class Machine(FollowedBoard):
                 self.go_to(ended)
                 self.one('step')
                 return
+            if not lines and self._ends():
+                break
             if self.clock - here > MOST_PIECE:
                 self._skip(out)
         self.why = 'far'
@@ -194,14 +196,16 @@ class Machine(FollowedBoard):
         """Back to where the processor has halted for good since a clock, if it has."""
         self._ended(here)
 
+    def _ends(self) -> str:
+        """`jammed` or `halted for good`, if nothing more will happen, or nothing."""
+        if self.is_halted:
+            return '' if self.registers()['FL'] & IF else 'halted for good'
+        return 'jammed' if self.state() == 'jammed' else ''
+
     def _ended(self, here: int) -> str:
         """What ended a way that led from a clock to no return: `jammed` and `halted for good` at the clock at which
         that began, else `far`."""
-        trail = self.trail()
-        if self.is_halted:
-            kind = 'far' if self.registers()['FL'] & IF else 'halted for good'
-        else:
-            kind = 'jammed' if self.state() == 'jammed' else 'far'
+        trail, kind = self.trail(), self._ends() or 'far'
         if kind != 'far' and trail and trail[-1].clock >= here:
             self.go_to(trail[-1].clock)
             self.one('step')

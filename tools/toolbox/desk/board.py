@@ -235,7 +235,7 @@ class Board:
 
     def _back_to_the_end(self, here: int) -> None:
         """Where the processor has halted for good since a clock: back to where it did, so that the run isn't full of nothing."""
-        if state_of(self._chips()) == 'halted for good':
+        if self._chips().state == 'halted for good':
             self.machine.go_to(min(max(here, self.machine.trail()[-1].clock + CLOCKS_OF_HLT + 1), self.clock))
 
     def step(self, seen: int) -> Fields:
@@ -252,7 +252,7 @@ class Board:
 
     def _from_a_halt(self, seen: int) -> Fields | None:
         """A step of a halted processor: into the interrupt that ends the halt; where none can, a clock. None of one that runs."""
-        here, state = self.clock, state_of(self._chips())
+        here, state = self.clock, self._chips().state
         if state == 'running':
             return None
         if state != 'halted':
@@ -328,7 +328,7 @@ class Board:
         self._was_at, self.furthest = self.clock, max(self.furthest, self.clock)
         registers, trail = self.machine.registers(), self.machine.trail()
         place, chips = (registers['CS'], registers['IP']), self._chips()
-        state = state_of(chips)
+        state = chips.state
         # A halted processor is still at its HLT: what stands behind it may never run.
         line = line_at(self.listing, trail[-1]) if state.startswith('halted') else self.listing.at.get(physical(*place))
         found: Fields = {
@@ -588,12 +588,6 @@ class Board:
                 lines = session.lines(min(MARKED_AT_ONCE, until - session.clock), 'entries')
                 found += [(int(clock), int(kind, 16)) for clock, _, kind in map(bytes.split, lines)]
             return found[:MOST_MARKS], found[MOST_MARKS][0] if len(found) > MOST_MARKS else session.clock
-
-
-def state_of(chips: Chips) -> str:
-    """Running, halted, halted for good, or jammed."""
-    state = chips.value('processor', 'state')
-    return 'halted for good' if state == 'halted' and not chips.is_open else state
 
 
 def is_key_list(given: Any) -> bool:
