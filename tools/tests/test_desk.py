@@ -4,6 +4,7 @@ from __future__ import annotations
 import concurrent.futures as futures
 import contextlib
 import gc
+import glob
 import http.client
 import json
 import os
@@ -38,7 +39,7 @@ from toolbox.events import events
 from toolbox.listing import line_of
 from toolbox.program import Files, Session
 from toolbox.report import registers_of, report_of
-from toolbox.runfile import text_of
+from toolbox.runfile import DEFAULTS, text_of
 
 Fields = dict[str, Any]
 PAGE = f'{TOOLS}/toolbox/desk/page'
@@ -492,7 +493,7 @@ class Boards(Served):
 
     def test_every_example(self) -> None:
         """Its screen at its end is the report's, and so are the registers; what is saved repeats it."""
-        for program in examples():
+        for program in (one for one in examples() if not one.name.startswith('books/')):
             answer = self.client.open(program.name)
             board = answer['board']
             shown = self.client.ask('run', board=board, to=answer['budget'], past=True, ms=200)
@@ -510,6 +511,48 @@ class Boards(Served):
             entries = [[one.clock, one.entry] for one in events(Files(*example(program.name)), 0, report.clock) if one.entry is not None]
             self.assertEqual((marks['interrupts'], marks['interrupts up to']), (entries, report.clock), program.name)
             self.client.ask('close', board=board)
+
+    def test_a_program_with_services(self) -> None:
+        """It is written, run, stopped by line, and gone back in, with its own instructions in the trail and its end as its state."""
+        self.assertEqual(sum(one.name.startswith('books/') for one in examples()), len(glob.glob(f'{TOP}/examples/books/*.asm')))
+        given = self.client.ask('example', name='books/hello')
+        text = given['source'].replace('4C00h', '4C05h')
+        lines = [code.partition(';')[0].split() for code in text.split('\n')]
+        first, call, last = (lines.index(words) + 1 for words in (['start:', 'MOV', 'DX,hello'], ['INT', '21h'], ['MOV', 'AX,4C05h']))
+        answer = self.client.ask('open', source=text, run={**given['run'], 'ram': 64}, hex=False)
+        board = answer['board']
+        self.assertEqual(answer['lines'][str(call)], '0100:0105')
+        self.assertIn('runs with the services', answer['services'])
+        shown = self.client.ask('run', board=board, to=answer['budget'], past=True, ms=200)
+        self.assertEqual((shown['state'], shown['line'], shown['clock']), ('ended with exit code 5', last + 1, answer['budget']))
+        self.assertEqual(text_of_screen(shown['screen'])[0].rstrip(), 'Hello, world!')
+        self.assertEqual([row[4] for row in shown['trail']], [first, first + 1, call, last, last + 1])
+        self.client.ask('stops', board=board, stops=[f':{call}'])
+        shown = self.client.ask('last', board=board)
+        self.assertEqual((shown['why'], shown['line']), ('stop', call))
+        for word, line in (('over', last), ('back', call), ('step', last), ('step', last + 1), ('back', last), ('step', last + 1)):
+            self.assertEqual(self.client.ask(word, board=board)['line'], line, word)
+        shown = self.client.ask('step', board=board)
+        self.assertEqual((shown['why'], shown['state']), ('halted for good', 'ended with exit code 5'))
+        self.assertLess(shown['clock'], 100_000)
+        self.assertEqual(self.client.ask('back', board=board)['line'], last + 1)
+        self.assertEqual(self.client.ask('go to', board=board, clock=0)['trail'], [])
+        self.assertEqual(self.client.ask('step', board=board)['line'], first)
+        data = self.client.ask('data', board=board)['data']
+        self.assertEqual([(one['name'], bytes.fromhex(one['bytes'])[:5]) for one in data], [('hello', b'Hello')])
+        refused = self.client.ask('open', source=text.replace('MOV AH,9', 'MUL [BX]'), run=given['run'], hex=False, instead=board)['refused']
+        self.assertEqual([one['line'] for one in refused], [first + 1])
+
+    def test_a_wait_for_a_key_within_the_services(self) -> None:
+        """The line of the call is shown while it waits, a step says what it lacks, and a key leads on."""
+        text = 'SEGMENT MAIN AT 100h\n ORG 100h\nstart: MOV AH,0\n INT 16h\n INT 20h\nENDS\n'
+        board = self.client.ask('open', source=text, run=DEFAULTS, hex=False)['board']
+        shown = self.client.ask('run', board=board, to=1_000_000, past=True, ms=200)
+        self.assertEqual((shown['state'], shown['line']), ('halted', 4))
+        self.client.ask('type', board=board, codes=[0x1E, 0x9E])
+        self.assertEqual(self.client.ask('step', board=board)['line'], 5)
+        shown = self.client.ask('step', board=board)
+        self.assertEqual((shown['state'], shown['line']), ('ended by INT 20h', 5))
 
     def test_forth_and_back(self) -> None:
         answer = self.client.open('fibonacci')

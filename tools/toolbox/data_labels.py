@@ -6,6 +6,7 @@ import re
 from dataclasses import dataclass
 from typing import Any, Callable
 
+from toolbox.command import read_text
 from toolbox.comments import handed
 from toolbox.listing import Line, Listing, code_of, label_in, physical
 from toolbox.program import Files, answer_of

@@ -53,15 +53,14 @@ class Machine(FollowedBoard):
         return next((event for event in self.trail() if event.clock >= here), None)
 
     def step_own(self) -> Event | None:
-        """As `step`, but over what the services do, and from power-on to where the program begins."""
+        """As `step`, but over what the services do, out of them, and from power-on to where the program begins."""
         self.why = 'returned'
         if self.is_before:
             self.run([self.first_stop()], self.budget)
             return None
-        is_own, begun = not self.is_served_here, self.step()
-        if begun and is_own and self.is_served_here:
-            self.over(begun)
-            self.why = self._ended(begun.clock) if self.why == 'far' else self.why
+        begun = None if self.is_served_here else self.step()
+        while self.is_served_here and self.why == 'returned' and not self.ending():
+            self._out()
         return begun
 
     def back(self) -> None:

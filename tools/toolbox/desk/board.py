@@ -10,6 +10,7 @@ import time
 from dataclasses import dataclass, replace
 from typing import Any, Callable, Collection
 
+from toolbox import guests
 from toolbox.chips import Chips, ends_before, facts
 from toolbox.command import Sorry
 from toolbox.dap.board import ENDS, MOST_BREAKPOINTS, Machine
@@ -18,18 +19,21 @@ from toolbox.desk.sound import MOST_SAMPLES, Speaker
 from toolbox.desk.work import Fields, Helpers, Job
 from toolbox.disassembly import instructions
 from toolbox.effects import Far
+from toolbox.guests import Guest
 from toolbox.listing import labels_alone, listing_of, physical
 from toolbox.asking import lines_of
 from toolbox.nowhere import told_of_run
 from toolbox.places import address_of, far_of, is_repeated, line_at, number_of
 from toolbox.program import LAST_CLOCK, Files, path
 from toolbox.report import REGISTERS, Report, report_of
-from toolbox.runfile import text_of, with_budget
+from toolbox.runfile import DEFAULTS, text_of, with_budget
 from toolbox.scancodes import names
+from toolbox.services import LEAST_RAM, MOST_RAM
 from toolbox.session_board import Paused, break_at, place_of
 from toolbox.text_memory import TEXT_MEMORY, WORDS, Cell, cells_at, plain_cells, starts
 from toolbox.watches import changed, watch_of, watch_size, watched_by, what_was_seen
 
+GUEST = Guest('')  # whose look decides
 # A typed key reaches the keyboard so many clocks on, and lies so many behind the one before: a handler takes some hundred.
 AHEAD, GAP = 1000, 1000
 # A step goes at most so far on, to the interrupt that ends a halt or over a call: ten of the board's seconds.
@@ -79,7 +83,7 @@ def stretches(line: list[Cell]) -> list[tuple[str, int]]:
 class Board:
     """The board of one page, at a clock."""
 
-    def __init__(self, room: str, source: str, fields: Fields, is_hex: bool, symbols: str | None = None) -> None:
+    def __init__(self, room: str, source: str, fields: Fields, is_hex: bool, symbols: str | None = None, guest: Guest = GUEST) -> None:
         self.room, self.is_hex, self.symbols, self.used = room, is_hex, symbols, time.monotonic()
         self.source, self._fields = source, {name: value for name, value in fields.items() if name != 'keys'}
         given = fields.get('keys')
@@ -98,11 +102,23 @@ class Board:
         file = os.path.join(room, 'it.hex' if is_hex else 'it.asm')
         with open(file, 'w', encoding='utf-8', errors='surrogatepass', newline='') as to:
             to.write(source)
+        self.guest = self._taken(replace(guest, file=file, is_bare=guest.is_bare or is_hex))
         files = Files(file, self._run_file({} if given is None else {'keys': given}), is_hex, symbols)
+        made = guests.made_with(self.guest, DEFAULTS | self._fields, room) if self.guest.is_one else None
+        files = replace(made, run_file=files.run_file) if made else files
         self.whole = listing_of(files)
         self.listing = labels_alone(self.whole) if is_hex else self.whole
         self.machine = Machine(files, self.listing, 0, self._poll)
         self._helpers.add(self.machine)
+
+    def _taken(self, guest: Guest) -> Guest:
+        """How the source is taken, by its look if no word says it. If it has services and less RAM than they want, it gets all that there
+        can be."""
+        taken = guest if guest.is_one or guest.is_bare else guests.looked_at(guest)
+        ram = self._fields.get('ram')
+        if taken.is_one and isinstance(ram, int) and ram < LEAST_RAM:
+            self._fields['ram'] = MOST_RAM
+        return taken
 
     def _run_file(self, keys: Fields) -> str:
         """A run file with these keys; the first one's are as the page gave them, for the program to judge."""
@@ -240,7 +256,7 @@ class Board:
 
     def step(self, seen: int) -> Fields:
         """Makes one instruction, iteration or entry."""
-        return self._from_a_halt(seen) or self._moved(self.machine.step, seen)
+        return self._from_a_halt(seen) or self._moved(self.machine.step_own, seen)
 
     def over(self, seen: int) -> Fields:
         """Makes one instruction with all that it calls."""
@@ -257,7 +273,7 @@ class Board:
             return None
         if state != 'halted':
             return self._moved(lambda: self.machine.one('step'), seen)
-        found = self._moved(self.machine.step, seen)
+        found = self._moved(self.machine.step_own, seen)
         if found['why'] == 'far':
             self.machine.go_to(here)
             self._was_at, self.furthest = here, max(here, min(self.furthest, found['clock'] - 1))
@@ -282,7 +298,7 @@ class Board:
         """To where the last instruction or interrupt began; of a repeat, the last iteration. The trail tells the clock, to which
         a session goes back sooner than it finds the last boundary."""
         trail = self.machine.trail()
-        if not trail or trail[-1].entry is None and is_repeated(trail[-1].text):
+        if self.machine.ram_end or not trail or trail[-1].entry is None and is_repeated(trail[-1].text):
             self.machine.back()
         else:
             self.machine.go_to(trail[-1].clock)
@@ -326,17 +342,18 @@ class Board:
         looked at while nothing runs."""
         self._turn += self.clock < self._was_at
         self._was_at, self.furthest = self.clock, max(self.furthest, self.clock)
-        registers, trail = self.machine.registers(), self.machine.trail()
+        registers, trail = self.machine.registers(), self.machine.trail() if is_light else self.machine.own_trail()
         place, chips = (registers['CS'], registers['IP']), self._chips()
         state = chips.state
-        # A halted processor is still at its HLT: what stands behind it may never run.
-        line = line_at(self.listing, trail[-1]) if state.startswith('halted') else self.listing.at.get(physical(*place))
+        # A halted processor is still at its HLT, what stands behind it may never run; and a program in the services still at its call.
+        is_there = state.startswith('halted') or self.machine.is_served_here
+        line = line_at(self.listing, trail[-1]) if is_there and trail else self.listing.at.get(physical(*place))
         found: Fields = {
             'why': why,
             'clock': self.clock,
             'furthest': self.furthest,
             'registers': registers,
-            'state': state,
+            'state': (self.machine.ending() if state == 'halted for good' else '') or state,
             'lost': int(chips.value('keyboard', 'lost')),
             'place': '%04X:%04X' % place,
             'line': line.number if line else None,

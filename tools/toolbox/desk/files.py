@@ -15,6 +15,7 @@ from typing import Any, Callable, Iterator
 
 from toolbox import runfile
 from toolbox.command import Sorry
+from toolbox.guests import Guest
 from toolbox.reading import read_whole
 from toolbox.runfile import DEFAULTS, text_of
 from toolbox.writing import finish, is_unfinished, own_folder, write_whole
@@ -30,12 +31,13 @@ class Changed(Exception):
 
 @dataclass(frozen=True)
 class Given:
-    """The files that the command's words name."""
+    """The files that the command's words name, and how they say that sources are taken."""
 
     file: str | None = None
     run_file: str | None = None
     is_hex: bool = False
     symbols: str | None = None
+    guest: Guest = Guest('')
 
 
 def octets_of(path: str) -> bytes | None:

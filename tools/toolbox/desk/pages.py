@@ -6,10 +6,14 @@ import json
 import os
 import re
 from dataclasses import dataclass
+from typing import Any
 
 from toolbox.command import Sorry, read_text
 from toolbox.program import TOP
+from toolbox.runfile import DEFAULTS, read_run_file
+from toolbox.services import MOST_RAM
 
+BOOKS = 'books/'
 NAME = re.compile(r'[a-z0-9_-]+')
 
 
@@ -24,18 +28,25 @@ class Example:
 
 
 def examples() -> list[Example]:
-    """The examples that have a source and a run file, in the order of docs/examples.md. Their first comment says what they are."""
+    """The examples, of which the first comment says what they are: those that have a source and a run file, in the order of
+    docs/examples.md, and behind them textbooks' programs with services."""
     page = read_text(f'{TOP}/docs/examples.md')
     there = sorted(file[:-4] for file in os.listdir(f'{TOP}/examples') if file.endswith('.asm'))
     rows = [line.split('|')[1:4] for line in page.splitlines() if re.match(r'\|[a-z, ]+\|.*\|.*\|$', line)]
     cells_by_name = {name.strip(): cells for cells in rows for name in cells[0].split(',')}
     order = [name for name in cells_by_name if name in there] + [name for name in there if name not in cells_by_name]
-    return [example_of(name, cells_by_name.get(name, ['', '', '']), page) for name in order]
+    books = sorted(f'{BOOKS}{file[:-4]}' for file in os.listdir(f'{TOP}/examples/{BOOKS}') if file.endswith('.asm'))
+    return [example_of(name, cells_by_name.get(name, ['', '', '']), page) for name in order] + [Example(name, shown(name), 'services.md', '') for name in books]
+
+
+def shown(name: str) -> str:
+    """What an example's first comment says."""
+    return read_text(f'{TOP}/examples/{name}.asm').partition('\n')[0].lstrip('; ')
 
 
 def example_of(name: str, cells: list[str], page: str) -> Example:
     """An example, and the place of the pages that its row of the table names, or that is headed by its name."""
-    first = read_text(f'{TOP}/examples/{name}.asm').partition('\n')[0].lstrip('; ')
+    first = shown(name)
     link = re.search(r'\]\((\w[\w.-]*\.md)(?:#([\w-]+))?\)', cells[2])
     if link:
         return Example(name, first, link[1], link[2] or '')
@@ -43,11 +54,12 @@ def example_of(name: str, cells: list[str], page: str) -> Example:
     return Example(name, first, 'examples.md', anchor_of(heads[0]) if heads else '')
 
 
-def files_of(name: str) -> tuple[str, str]:
-    """An example's source and run file."""
+def files_of(name: str) -> tuple[str, dict[str, Any]]:
+    """An example's source, and its run file's fields; a program with services has the usual ones, with all the RAM that there can be."""
     if name not in {example.name for example in examples()}:
         raise Sorry(f'there is no example {name}')
-    return read_text(f'{TOP}/examples/{name}.asm'), read_text(f'{TOP}/examples/{name}.json')
+    path = f'{TOP}/examples/{name}'
+    return read_text(f'{path}.asm'), DEFAULTS | {'ram': MOST_RAM} if name.startswith(BOOKS) else read_run_file(f'{path}.json')
 
 
 def grammar() -> list[dict[str, str]]:

@@ -10,6 +10,7 @@ import time
 from dataclasses import asdict
 from typing import Any, Callable
 
+from toolbox import guests
 from toolbox.command import Sorry, read_text
 from toolbox.desk.board import Board
 from toolbox.desk.drafts import Change, Drafts
@@ -158,8 +159,8 @@ class Desk:
     def on_example(self, fields: Fields) -> Fields:
         """An example's files."""
         name = want(fields, 'name', str)
-        source, _ = files_of(name)
-        return {'name': f'{name}.asm', 'source': source, 'run': read_run_file(f'{TOP}/examples/{name}.json'), 'hex': False}
+        source, run = files_of(name)
+        return {'name': f'{os.path.basename(name)}.asm', 'source': source, 'run': run, 'hex': False}
 
     def on_page(self, fields: Fields) -> Fields:
         """A page of docs/."""
@@ -187,7 +188,7 @@ class Desk:
         board = None
         try:
             os.mkdir(room)
-            board = Board(room, source, run, is_hex, self._symbols(source) if is_hex else None)
+            board = Board(room, source, run, is_hex, self._symbols(source) if is_hex else None, self.given.guest)
         except Gone as gone:
             return {'refused': refusals(Files(self._file(room, is_hex), '', is_hex), str(gone))}
         except Sorry as sorry:
@@ -201,7 +202,8 @@ class Desk:
             if not board:
                 self._end(name, None)
         lines = {str(line.number): '%04X:%04X' % line.address for line in board.listing.lines if line.address}
-        return {'board': name, 'lines': lines, 'budget': board.budget} | board.view('there', 0)
+        told = guests.said_of('the source', 'tools/desk --bare') if board.guest.is_seen else ''
+        return {'board': name, 'lines': lines, 'budget': board.budget, 'services': told} | board.view('there', 0)
 
     def _symbols(self, source: str) -> str | None:
         """The file of symbols that the command's words name, for the bytes of its FILE alone."""

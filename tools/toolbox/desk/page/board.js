@@ -10,6 +10,8 @@ import {speaker} from './sound.js';
 import {begin_line, dragging, draw_marks, drawn, later, look_on, met, span} from './timeline.js';
 const TICK = 60, LONG_TICK = 240, STILL = 10;
 const ENDS = {jammed: 'the processor has jammed: there is no instruction here', 'halted for good': 'halted with interrupts off: nothing more will happen'};
+/* Why nothing more will happen in a state, if so: a program with services has ended. */
+const end_of = state => ENDS[state] || (state && state.startsWith('ended') ? state : '');
 export let board = null, seen = 0, view = null, looked = null, running = null, working = false, queue = Promise.resolve();
 export let lines = {}, stops = [];
 export let wake = () => {};  // ends the wait between two pieces of a run
@@ -37,7 +39,7 @@ export async function move(word, fields = {}) {
   if (answer.sorry) { say(answer.sorry); return answer; }
   if (answer.registers) { show(answer, fields.light); tell_place(); }
   if (answer.told) say(answer.told, true);
-  if (['step', 'over', 'out'].includes(word) && (ENDS[answer.why] || ENDS[answer.state])) say(ENDS[answer.why] || ENDS[answer.state], true);
+  if (['step', 'over', 'out'].includes(word) && (ENDS[answer.why] || end_of(answer.state))) say(end_of(answer.state) || ENDS[answer.why], true);
   if (answer.why === 'far') say('not over after 50,000,000 clocks; press it again to go on');
   return answer;
 }
@@ -68,6 +70,13 @@ export async function acts(action) {
   return act(action);
 }
 
+/* That a source has the services by its look is told once. */
+let services = '', wasTold = false;
+function told_once() {
+  const told = wasTold ? '' : services;
+  wasTold = wasTold || Boolean(services);
+  return told;
+}
 export async function begin(fields, clock = null, text = $('source').value) {
   note_run(fields);
   const answer = await ask('open', {source: text, run: fields, hex: isHex, instead: board});
@@ -77,6 +86,7 @@ export async function begin(fields, clock = null, text = $('source').value) {
   if (answer.sorry || answer.gone) { say(answer.sorry || answer.gone); return; }
   if (answer.refused) { say(refused[0].line ? `${counted(refused.length, 'line')} refused` : 'refused'); lines = {}; draw_paper(); return; }
   board = answer.board; lines = answer.lines; note_assembled(text);
+  services = answer.services;
   $('to').value = answer.budget;
   show(answer);
   await put_stops(stops);
@@ -96,7 +106,7 @@ async function run_to(to) {
   working = false;
   draw_run();
   if (answer.gone) await come_back(answer.gone, 'again');
-  else { say(answer.sorry || ''); act(draw_why); }
+  else { say(answer.sorry || told_once(), !answer.sorry); act(draw_why); }
 }
 async function follow_quietly(answer) {
   while (answer.working) answer = await ask('wait', {board});
@@ -204,7 +214,7 @@ export async function run_on() {
     still = answer.screen || differ(view.registers, answer.registers) ? 0 : still + 1;
     show(answer, true);
     if (answer.why === 'stop') { told = answer.told || 'a stop is met'; break; }
-    if (ENDS[answer.state]) { told = ENDS[answer.state]; break; }
+    if (end_of(answer.state)) { told = end_of(answer.state); break; }
     if (answer.clock >= LAST) break;
     if (isReal) {
       if (speaker.chunk(answer.clock)) still = 0;

@@ -28,7 +28,7 @@ export function draw_rows() {
   const made = rows.map(([place, label, octets, text, line]) => {
     const one = document.createElement('button'), isNow = place === view.place;
     one.textContent = `${place} ${label.padEnd(12)} ${octets.padEnd(14)} ${text.padEnd(26)} ${line ? `| ${line}` : ''}`.trimEnd();
-    one.className = [isNow && (view.state.startsWith('halted') ? 'halted' : 'now'), stopped.has(place) && 'stop'].filter(Boolean).join(' ');
+    one.className = [isNow && (/^(halted|ended)/.test(view.state) ? 'halted' : 'now'), stopped.has(place) && 'stop'].filter(Boolean).join(' ');
     one.setAttribute('aria-pressed', String(stopped.has(place)));
     if (isNow) one.setAttribute('aria-current', 'true');
     one.title = stopped.has(place) ? `a stop at ${place}: a click removes it` : `a click sets a stop at ${place}`;

@@ -38,7 +38,7 @@ export function draw_paper(isFollowed = false) {
   draw_ink(texts, first, last, top, new Set([...bad, ...live_lines().map(it => it.line)]));
 }
 /* A mark behind a line, which says more than its colour where the board has halted. */
-function kind_of(line, now) { return line === now ? view.state.startsWith('halted') ? 'halted' : 'now' : ''; }
+function kind_of(line, now) { return line === now ? /^(halted|ended)/.test(view.state) ? 'halted' : 'now' : ''; }
 function draw_gutter(first, last, top, now, bad) {
   const stopped = new Set(stops.map(it => it.line)), gutter = $('gutter'), shown = [];
   keep_rows(gutter, last - first);
