@@ -279,6 +279,17 @@ class Underlined(ToolCase):
             here.open(lines.replace('INT 60h', f'{sets}\nINT 60h'))
             self.assertNotIn('no-vector', [diagnostic['code'] for diagnostic in here.found[IT]], sets)
 
+    def test_services_by_the_look(self) -> None:
+        """The log tells once that a document runs with them, when its calls are accepted; no warning asks for a far jump then."""
+        here, text = Here(), 'SEGMENT MAIN AT 100h\n ORG 100h\nstart: MOV AX,4C00h\n{}\nENDS\n'
+        messages = []
+        for version, code in enumerate((' NOP', ' INT 21', ' INT 21h,', ' INT 21h', ' INT 21h\n NOP'), 1):
+            here.open(text.format(code)) if version == 1 else here.change({'text': text.format(code)})  # pylint: disable=expression-not-assigned
+            messages.append([message['params'] for message in here.sent if message['method'] == 'window/logMessage'])
+        self.assertEqual(messages[:3] + messages[4:], [[]] * 4)
+        self.assertEqual([(one['type'], 'with the services' in one['message']) for one in messages[3]], [(3, True)])
+        self.assertEqual(here.found[IT], [])
+
     def test_warnings_of_a_line_alone(self) -> None:
         """They stand where what they are about does, and say what why --lines says."""
         here, lines = Here(), 'SEGMENT MAIN AT 50h\nx: INT 21\nREP MOV AX,BX\n CMP AL,X+1\nENDS\n'

@@ -6,6 +6,7 @@ import functools
 import re
 import struct
 from dataclasses import dataclass
+from typing import Callable
 
 from toolbox import reading
 from toolbox.command import Sorry
@@ -49,7 +50,12 @@ def is_served(path: str) -> bool | None:
     made = run(['asm', '--', handed(path)])
     if made.status:
         return None
-    return RESET not in image_of(made.out) and CALL.search(answer_of(['asm', '--list', '--', handed(path)])) is not None
+    return is_one(image_of(made.out), lambda: answer_of(['asm', '--list', '--', handed(path)]))
+
+
+def is_one(image: dict[int, int], listed: Callable[[], str]) -> bool:
+    """Whether bytes and the listing are those of a source with services."""
+    return RESET not in image and CALL.search(listed()) is not None
 
 
 @functools.cache

@@ -7,6 +7,7 @@ from dataclasses import dataclass
 from functools import cached_property
 from typing import Callable
 
+from toolbox import services
 from toolbox.command import Sorry
 from toolbox.comments import plain_of
 from toolbox.every import Copy, refused_in
@@ -93,13 +94,22 @@ class Answers:
         return self.is_known and not self.refused
 
     @cached_property
-    def rows(self) -> dict[int, Placed]:
-        """The lines that place bytes, by their number from 0, of the text without its refused lines; none if these aren't all known."""
+    def listed(self) -> str:
+        """The listing of the text without its refused lines; nothing if these aren't all known."""
         self.finish()
         ran = given_text(['asm', '--list'], self.copy.text) if self.is_known else None
-        if ran is None or ran.status:
-            return {}
-        rows = ran.out.split('\n')[:-1]
+        return '' if ran is None or ran.status else ran.out
+
+    @property
+    def is_served(self) -> bool:
+        """Whether it is a source with services, as the tools take it."""
+        calls = any(line.does('INT') for line in self.source.lines)
+        return calls and self.is_whole and services.is_one(self.image, lambda: self.listed)
+
+    @cached_property
+    def rows(self) -> dict[int, Placed]:
+        """The lines that place bytes, by their number from 0, of the text without its refused lines; none if these aren't all known."""
+        rows = self.listed.split('\n')[:-1]
         found = ((line_of(number, row), '+' in row[:ADDRESS_COLUMNS]) for number, row in enumerate(rows, 1))
         return {self.source.text.line_of(line.number): Placed(line.address, line.shown, more) for line, more in found if line.address}
 

@@ -9,6 +9,7 @@ from typing import Any, Callable
 
 from toolbox.command import Sorry
 from toolbox.framing import Broken, Read
+from toolbox.guests import said_of
 from toolbox.lsp import calls, colours, completing, diagnosing, hovering, layout, naming, outline
 from toolbox.lsp.asked import CANCELLED, FAILED, INTERNAL, INVALID, MOST, NO_METHOD, NOT_BEGUN, PARSE, Unfit, want
 from toolbox.lsp.documents import OWN, Document, Settings
@@ -55,7 +56,7 @@ CAPABILITIES: Fields = {
     'workspaceSymbolProvider': True,
 }
 PATIENCE = 1.0  # so often it looks whether its client is there still
-LOG_ERROR = 1
+LOG_ERROR, LOG_INFORMATION = 1, 3
 
 
 class Left(Exception):
@@ -71,6 +72,7 @@ class Server:
         self.documents, self.folders, self.settings = dict[str, Document](), list[str](), Settings()
         self.due = dict[str, list[Fields] | None]()  # documents that are being judged, with what was told last of this text
         self.client, self.is_begun, self.is_shut, self.is_over, self.logged = 0, False, False, False, ''
+        self.served = set[str]()  # documents of which it was told that they have the services
 
     def serve(self) -> int:
         """Answers messages until the client leaves, and gives the exit status."""
@@ -158,11 +160,11 @@ class Server:
         else:
             self.log(str(unfit))
 
-    def log(self, text: str) -> None:
+    def log(self, text: str, kind: int = LOG_ERROR) -> None:
         """Tells the client's log, once."""
         if text != self.logged:
             self.logged = text
-            self.write({'method': 'window/logMessage', 'params': {'type': LOG_ERROR, 'message': text}})
+            self.write({'method': 'window/logMessage', 'params': {'type': kind, 'message': text}})
 
     def answer(self, method: str, asked: Fields, is_request: bool) -> Any:
         """The result of a request, or what a notification does."""
@@ -280,6 +282,9 @@ class Server:
             found = diagnosing.diagnostics(document)
             if found != published:
                 self.publish(document, found)
+            if not document.note and uri not in self.served and answers.is_served:
+                self.served.add(uri)
+                self.log(said_of(os.path.basename(uri)), LOG_INFORMATION)
             if answers.broken:
                 self.log(answers.broken)
 
