@@ -305,6 +305,11 @@ class Guests(ToolCase):
         out, _ = self.tool('judge', '--class', page, *files, status=1)
         rows = [line.split('\t')[1:] for line in out.splitlines()[1:]]
         self.assertEqual([row[0] for row in rows], ['1', '0', '0'])
+        source = self.file('it.asm', SOURCE.replace('4C03h', '4C07h'))
+        out, err = self.called('judge', '--class', page, source, files[0])
+        self.assertEqual([line.split('\t')[1] for line in out.splitlines()[1:]], ['1', '1'])
+        self.assertIn('judge: 1 of 2 files ran with the services (docs/services.md); --bare runs all without\n', err)
+        self.assertEqual(self.called('judge', '--class', page, source, files[0], '--bare', status=1)[1], '')
         self.assertIn('ends within its header', rows[2][2])
 
     def test_dbg(self) -> None:

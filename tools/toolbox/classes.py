@@ -34,6 +34,7 @@ class Class:
     given: argparse.Namespace
     folder: str  # below which all files stand
     at_work: set[subprocess.Popen[Any]] = field(default_factory=set)
+    served: list[str] = field(default_factory=list)  # the files that have services by their look
     is_over: bool = False
 
     @property
@@ -63,6 +64,7 @@ class Class:
         def own(text: str) -> str:
             return text.replace(copy, file)
 
+        self.served += [file] if answer.get('services') else []
         them = [Outcome(*fields) for fields in answer['outcomes']] if 'outcomes' in answer else self.outcomes
         outcomes = [replace(each, but=own(each.but)) if each.but else each for each in them]
         return Row(file, outcomes, own(answer.get('why', '')), answer.get('image', ''))
@@ -160,6 +162,8 @@ def table(page: str, planned: list[Planned], files: list[str], given: argparse.N
     finally:
         for group in tell_copies(rows):
             print(f'judge: the same bytes: {", ".join(map(cell, group))}', file=sys.stderr)
+        if them.served:
+            print(f'judge: {len(them.served)} of {len(files)} files ran with the services (docs/services.md); --bare runs all without', file=sys.stderr)
         for path, text in ((given.csv, as_csv(said, rows)), (given.junit, as_junit(page, rows))):
             if path:
                 write_text(path, text)

@@ -24,6 +24,7 @@ from toolbox.messages import messages
 from toolbox.program import LAST_CLOCK, TOP, Files
 from toolbox.runfile import DEFAULTS, read_run_file
 from toolbox.scancodes import stamped, strokes_of
+from toolbox.services import TYPING
 from toolbox.session_board import Gone
 from toolbox.symbols import image_of
 
@@ -338,7 +339,7 @@ class Desk:
             text = want(fields, 'text', str)
             if len(text) > MOST_TYPED:
                 raise Sorry(f'{len(text):,} characters are too many to type at once: {MOST_TYPED:,} are the most, and none was typed')
-            keys = stamped(strokes_of(text, want(fields, 'plain', bool, False)), 0, HOLD, PAUSE)
+            keys = stamped(strokes_of(text, want(fields, 'plain', bool, False)), 0, *(TYPING[1:] if board.guest.is_one else (HOLD, PAUSE)))
             clocks, codes = [clock for clock, _ in keys], [code for _, code in keys]
             pauses = [b - a for a, b in zip([0, *clocks], clocks)]
         else:
