@@ -21,8 +21,8 @@ from toolbox.desk.pages import examples, files_of, grammar, page_of
 from toolbox.desk.work import Fields
 from toolbox.faults import fault_in
 from toolbox.messages import messages
-from toolbox.program import LAST_CLOCK, TOP, Files
-from toolbox.runfile import DEFAULTS, read_run_file
+from toolbox.program import LAST_CLOCK, Files
+from toolbox.runfile import DEFAULTS
 from toolbox.scancodes import stamped, strokes_of
 from toolbox.services import TYPING
 from toolbox.session_board import Gone
