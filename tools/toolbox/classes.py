@@ -14,7 +14,7 @@ from dataclasses import dataclass, field, replace
 from itertools import zip_longest
 from typing import Any, Iterator
 
-from toolbox import feedback, limits, submissions
+from toolbox import feedback, guests, limits, submissions
 from toolbox.command import PYTHON, waiting, write_bytes, write_text
 from toolbox.expectations import Outcome, Planned
 from toolbox.marks import Row, as_csv, as_junit, cell, line_of, tell_copies
@@ -120,8 +120,7 @@ def why_not(status: int, err: str) -> str:
 
 def words_of(given: argparse.Namespace) -> list[str]:
     """The words that each file's judge is given too."""
-    words = [f'--{option}' for option in ('hex', 'services', 'com', 'bare') if getattr(given, option)]
-    return words + ([f'--args={given.args}'] if given.args is not None else []) + [f'--memory={given.memory or limits.MEMORY}']
+    return [*(['--hex'] if given.hex else []), *guests.words_of(given), f'--memory={given.memory or limits.MEMORY}']
 
 
 def rows_of(them: Class, files: list[str], folders: list[str]) -> Iterator[Row]:

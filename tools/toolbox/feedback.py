@@ -121,8 +121,12 @@ def commands(folder: str, name: str, words: list[str], number: int) -> list[str]
         return []
     under = os.path.basename(folder)
     file, more = f'{under}/{name}', ''.join(f' {shlex.quote(word)}' for word in words)
-    plain = ''.join(f' {shlex.quote(word)}' for word in words if not word.startswith('--memory'))
-    return [f'  {tool("judge")} {under}/{number}.page {file} {under}/{number}.json{more}', f'  {tool("try")} {file} --run {under}/{number}.json{plain}']
+    return [f'  {tool("judge")} {under}/{number}.page {file} {under}/{number}.json{more}', f'  {tool("try")} {file} --run {under}/{number}.json{quoted(words)}']
+
+
+def quoted(words: list[str]) -> str:
+    """The words that tools/try takes as tools/judge does."""
+    return ''.join(f' {shlex.quote(word)}' for word in words if not word.startswith('--memory'))
 
 
 def drop(folder: str, number: int) -> None:
@@ -168,17 +172,17 @@ def close(folder: str, row: Row, words: list[str], copy: str) -> None:
         tell(folder, [plain_name(row.file), ''])
     if row.why:
         at = max((int(name[:-5]) for name in os.listdir(folder) if re.fullmatch('[0-9]+[.]json', name)), default=0) if os.path.isdir(folder) else 0
-        again = commands(folder, plain_name(row.file), words, at) or not_begun(folder, copy)
+        again = commands(folder, plain_name(row.file), words, at) or not_begun(folder, copy, words)
         tell(folder, [f'Not judged: {scrubbed(row.why, row.file)}', *again, ''])
     tell(folder, [f'Mark: {row.mark} of {row.of}'])
 
 
-def not_begun(folder: str, copy: str) -> list[str]:
+def not_begun(folder: str, copy: str, words: list[str]) -> list[str]:
     """The command that repeats the refusal of a file of which no run began, with the file itself, if it could be read."""
     name = plain_name(copy)
     if not os.path.isfile(copy) or os.path.exists(os.path.join(folder, name)):
         return []
     with contextlib.suppress(OSError):
         copy_whole(copy, os.path.join(folder, name))
-        return [f'  {tool("try")} {os.path.basename(folder)}/{name}']
+        return [f'  {tool("try")} {os.path.basename(folder)}/{name}{quoted(words)}']
     return []

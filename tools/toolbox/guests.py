@@ -83,10 +83,9 @@ def guest_of(given: argparse.Namespace, file: str | None = None) -> Guest:
     return found
 
 
-def words_of(guest: Guest) -> list[str]:
-    """The words by which another process takes the file so too."""
-    them = {'services': guest.is_served and not guest.is_seen, 'com': guest.is_com, 'bare': guest.is_bare}
-    return [f'--{name}' for name, is_said in them.items() if is_said] + ([f'--args={guest.args}'] if guest.args is not None else [])
+def words_of(given: argparse.Namespace) -> list[str]:
+    """Those words, for another command."""
+    return [f'--{name}' for name in ('services', 'com', 'bare') if getattr(given, name)] + ([f'--args={given.args}'] if given.args is not None else [])
 
 
 def looked_at(guest: Guest) -> Guest:

@@ -24,7 +24,7 @@ from toolbox.comments import handed
 from toolbox.command import PYTHON, Sorry, read_text, tool, write_text
 from toolbox.events import first_start
 from toolbox.expectations import Planned, page_of
-from toolbox.guests import Guest, words_of
+from toolbox.guests import Guest
 from toolbox.judging import fields_of, outcomes_of, served_fields_of, subject_of
 from toolbox.listing import Listing, code_of, label_in, listing_of
 from toolbox.places import event_of, far_of, line_at
@@ -61,9 +61,9 @@ class Plan:
     """What is to be tried: moments, of which each is a count, if there is one to try, and a clock for each key."""
 
     def __init__(
-        self, asked: Asked, guest: Guest, given: Files, files: Files, keys: list[Key], sample: int, seed: int, count: Count | None = None
+        self, asked: Asked, guest: Guest, how: list[str], given: Files, files: Files, keys: list[Key], sample: int, seed: int, count: Count | None = None
     ) -> None:
-        self.asked, self.guest, self.given, self.files, self.count = asked, guest, given, files, count
+        self.asked, self.guest, self.how, self.given, self.files, self.count = asked, guest, how, given, files, count
         self.keys, self.sample, self.seed = keys, sample, seed
         self.axes: list[Count | Key] = [*([count] if count else []), *keys]
         self.runs = page_of(asked.page) if asked.page else [Planned()]
@@ -123,7 +123,7 @@ class Plan:
             keys += ['--first-count', f'{self.count.values.start}..{self.count.values.stop}', '--poke', self.count.named]
         sample = ['--sample', str(self.sample), '--seed', str(self.seed)] if self.sample else []
         files = self.given
-        form = [*(['--hex'] if files.is_hex else []), *(['--symbols', files.symbols] if files.symbols else []), *words_of(self.guest)]
+        form = [*(['--hex'] if files.is_hex else []), *(['--symbols', files.symbols] if files.symbols else []), *self.how]
         what = ['--measure', self.asked.place] if self.asked.place else []
         names = [each for each in (self.asked.page, files.file, files.run_file) if each]
         return [PYTHON, '-S', tool, '--worker', room, *what, *keys, *sample, *form, '--', *names]

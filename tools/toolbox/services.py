@@ -11,7 +11,7 @@ from typing import Callable
 from toolbox import reading
 from toolbox.command import Sorry
 from toolbox.comments import handed
-from toolbox.listing import Line, label_in, line_of
+from toolbox.listing import label_in, line_of
 from toolbox.program import TOP, Files, Session, answer_of, run
 from toolbox.runfile import read_run_file
 from toolbox.symbols import image_of
@@ -71,26 +71,16 @@ def bytes_of(name: str) -> dict[int, int]:
 
 
 @functools.cache
-def rows_of(name: str) -> list[str]:
-    """The listing of `bios` or `dos`, whose labels have this name before them: a program may have the same ones."""
-    rows = answer_of(['asm', '--list', '--', f'{TOP}/services/{name}.asm']).split('\n')[:-1]
-    return [re.sub(r'^(.{28})(\w+:)', rf'\g<1>{name}_\2', row) for row in rows]
-
-
-@functools.cache
 def labels_of(name: str) -> list[str]:
-    """Its labels, in lines SEGMENT:OFFSET NAME."""
+    """Its labels, in lines SEGMENT:OFFSET NAME. They have its own name before them: a program may have the same ones."""
     found, waiting = list[str](), list[str]()
-    for line in (line_of(0, row) for row in rows_of(name)):
-        waiting += [label for label in [label_in(line.text)] if label]
-        found += labels_at(line, waiting)
-        waiting = [] if line.address else waiting
+    for row in answer_of(['asm', '--list', '--', f'{TOP}/services/{name}.asm']).split('\n')[:-1]:
+        line = line_of(0, row)
+        waiting += [f'{name}_{label}' for label in [label_in(line.text)] if label]
+        if line.address:
+            found += [f'{line.address[0]:04X}:{line.address[1]:04X} {label}' for label in waiting]
+            waiting = []
     return found
-
-
-def labels_at(line: Line, waiting: list[str]) -> list[str]:
-    """The labels that stand at a line's bytes."""
-    return [f'{line.address[0]:04X}:{line.address[1]:04X} {label}' for label in waiting] if line.address else []
 
 
 @dataclass(frozen=True)
