@@ -208,6 +208,34 @@ class OnePage(ToolCase):
         page.settled('view.clock===500')
         self.fine(page)
 
+    def test_a_program_with_services(self) -> None:
+        """One of the books is chosen, changed and run; its end is told, and it is gone back in by lines."""
+        page = self.opened()
+        if page is None:
+            return
+        browser = page.browser
+        browser.run("$('example').value='books/hello';$('example').dispatchEvent(new Event('change'));0")
+        page.settled("$('name').textContent==='hello.asm'&&view.state==='ended with exit code 0'")
+        self.assertIn('runs with the services', browser.run("$('said').textContent"))
+        self.assertIn('ended with exit code 0', browser.run("$('where').textContent"))
+        self.assertEqual(browser.run("document.querySelector('#gutter .halted').textContent"), '8')
+        page.write(browser.run("$('source').value").replace('4C00h', '4C05h').replace('Hello', 'Howdy'))
+        browser.press('Enter', CONTROL)
+        page.settled("view.state==='ended with exit code 5'")
+        self.assertEqual(page.screen()[0].rstrip(), 'Howdy, world!')
+        self.assertNotIn('runs with the services', browser.run("$('said').textContent"))
+        page.click('#start', 'view.clock===0')
+        page.click('#step', 'view.line===4')
+        page.click('#gutter [data-line="6"]', 'stops.length===1')
+        page.click('#run', 'view.line===6')
+        page.click('#step', 'view.line===7')
+        page.click('#back', 'view.line===6')
+        page.click('#run', "view.state==='ended with exit code 5'")
+        self.assertEqual(browser.run("$('said').textContent"), 'ended with exit code 5')
+        self.assertEqual(browser.run('view.trail.map(it=>it[4])'), [4, 5, 6, 7, 8])
+        page.click('#last', 'view.line===6')
+        self.fine(page)
+
     def test_the_margin(self) -> None:
         """A click beside a line counts, although the lines are drawn anew between press and release."""
         page = self.opened()
