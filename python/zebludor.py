@@ -350,8 +350,8 @@ def toolbox(*names: str) -> list[Any]:
 def _made(source: Source, is_hex: bool, services: bool | None, given: dict[str, Any]) -> Iterator[list[str]]:
     """The words that name the program its files: the source and the run file, or what is made of a program with services."""
     words = _hex_words(source, is_hex)
-    with _files(source, _fields(given)) as names, tempfile.TemporaryDirectory() as room:
-        made = _served(names[1], services, given, room) if not words and services is not False else None
+    with _files(source, _fields(given)) as names:
+        made = _served(names[1], services, given, os.path.dirname(names[2])) if not words and services is not False else None
         yield ['--hex', '--', *made] if made else [*words, *names]
 
 
@@ -371,7 +371,7 @@ def _served(path: str, services: bool | None, given: dict[str, Any], room: str) 
         guest = guest if guest.is_one else guests.looked_at(guest)
         made = guests.made_with(guest, fields, room) if guest.is_one else None
     except command.Sorry as sorry:
-        raise Unfit(str(sorry)) from None
+        raise Unfit(str(sorry).replace(f'{room}/source', 'the source')) from None
     return made and [made.file, made.run_file]
 
 

@@ -340,6 +340,8 @@ class Guests(ToolCase):
         seen = self.called('try', path)[0].split('\n')[0]
         self.assertIn(f'\n{seen:80}\n', self.pcboard('run', '--hex', f'{self.room}/kept.hex', f'{self.room}/kept.json').stdout)
         self.assertIn('is there already', self.called('desk', '--no-open', path, '--keep', 'kept', status=2)[1])
+        bad = self.file('bad.asm', SOURCE.replace('MOV AH,9', 'MUL [BX]'))
+        self.assertIn('fault 5 BadForm line 4', self.called('desk', '--no-open', bad, '--services', '--keep', 'bad', status=2)[1])
         for other in (['--keep', 'x'], ['--services'], [example('hello')[0], '--keep', 'x']):
             self.assertIn('go with a program with services', self.called('desk', '--no-open', *other, status=2)[1])
 

@@ -14,8 +14,9 @@ from typing import Any, Iterator
 
 from toolbox import loading
 from toolbox.command import Sorry, handed_on, read_bytes, write_bytes
+from toolbox.comments import handed
 from toolbox.loading import Loaded, check_ram
-from toolbox.program import Files, Refusal, is_hex_name, limited
+from toolbox.program import Files, Refusal, answer_of, is_hex_name, limited
 from toolbox.runfile import DEFAULTS, read_run_file, text_of, with_run_file
 from toolbox.services import MOST_RAM, is_served
 from toolbox.shown import bounded
@@ -181,6 +182,8 @@ def kept(guest: Guest, run_file: str | None, symbols: str | None, name: str | No
     if there:
         raise Sorry(f'{there} is there already; FILE {paths[0]} and RUN {paths[1]} go on with it')
     with prepared(guest, Files(guest.file, run_file or '')) as made:
+        if not made.symbols:  # the program refuses it, and says why
+            answer_of(['asm', '--', handed(guest.file)])
         assert made.symbols
         for path, to in zip((made.file, made.run_file, made.symbols), paths):
             write_bytes(to, read_bytes(path))

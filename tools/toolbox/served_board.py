@@ -54,8 +54,8 @@ class ServedBoard(SessionBoard):
         return break_at(first)
 
     def own_trail(self) -> list[Event]:
-        """The last instruction starts and entries without those of the services, as far as the last clocks tell them; before the program
-        begins there is none."""
+        """The last instruction starts without those of the services, as far as the last clocks tell them, and such entries as `trail`
+        has; before the program begins there is none."""
         found = self.trail()
         own = [event for event in found if event.address < SERVICES] if self.ram_end else found
         here = self.clock
