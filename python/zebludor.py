@@ -337,7 +337,7 @@ def run(source: Source, *, is_hex: bool = False, services: bool | None = None, *
         return read_report(_answer(['run', *words]))
 
 
-def toolbox(*names: str) -> list[Any]:
+def _toolbox(*names: str) -> list[Any]:
     """Modules of the tools, which stand in the folder beside this file's. ImportError if it isn't there."""
     import importlib
 
@@ -355,13 +355,21 @@ def _made(source: Source, is_hex: bool, services: bool | None, given: dict[str, 
         yield ['--hex', '--', *made] if made else [*words, *names]
 
 
+def _has_int(path: str) -> bool:
+    """Whether a source may call an interrupt, by the look of its bytes."""
+    try:
+        with open(path if os.path.isfile(path) else os.devnull, 'rb') as file:
+            return bool(re.search(rb'\bINT\b', file.read(), re.I))
+    except OSError:
+        return False
+
+
 def _served(path: str, services: bool | None, given: dict[str, Any], room: str) -> list[str] | None:
     """The image and the run file of a program with services; None of what is none, or is refused. Where the tools aren't, none is."""
-    with open(path, 'rb') as file:
-        if not (services or path[-4:].lower() in ('.com', '.exe', '.bin') or re.search(rb'\bINT\b', file.read(), re.I)):
-            return None
+    if not (services or path[-4:].lower() in ('.com', '.exe', '.bin') or _has_int(path)):
+        return None
     try:
-        guests, command = toolbox('guests', 'command')
+        guests, command = _toolbox('guests', 'command')
     except ImportError as error:
         if services:
             raise Unfit(f"services want the tools, and {TOP}/tools hasn't them: {error}") from None
@@ -777,7 +785,7 @@ class Places:
     def _tools(self) -> Any:
         """The tools' modules, which stand in the folder beside this file's."""
         try:
-            return toolbox('command', 'listing', 'places', 'program')
+            return _toolbox('command', 'listing', 'places', 'program')
         except ImportError as error:
             raise Unfit(f"labels and lines want the tools, and {TOP}/tools hasn't them: {error}") from None
 

@@ -158,8 +158,10 @@ class Runs(ToolCase):
         with self.assertRaises(zebludor.Fault) as refused:
             zebludor.run(text.replace('MOV AX', 'MUV AX'))
         self.assertEqual(refused.exception.line, 3)
-        with self.assertRaisesRegex(zebludor.Unfit, '144 to 640 KB of RAM'):
+        with self.assertRaisesRegex(zebludor.Unfit, 'the source: the services want 144 to 640 KB of RAM'):
             zebludor.run(text, ram=64)
+        with self.assertRaises(zebludor.Unfit):
+            zebludor.run(pathlib.Path(self.room, 'none.asm'))
 
     def test_labels_and_lines(self) -> None:
         """Of a path and of a text; of Intel HEX by its symbols."""
