@@ -814,7 +814,14 @@ class Session:
     others are answered, and so does `close`, after which each is Unfit."""
 
     def __init__(
-        self, source: Source, *, is_hex: bool = False, symbols: str | os.PathLike | None = None, probe: bool = False, services: bool | None = None, **fields: Any
+        self,
+        source: Source,
+        *,
+        is_hex: bool = False,
+        symbols: str | os.PathLike | None = None,
+        probe: bool = False,
+        services: bool | None = None,
+        **fields: Any,
     ) -> None:
         self.source, self._is_probe = Places(source, is_hex=is_hex, symbols=symbols), probe
         self._lock, self._is_closed = threading.Lock(), False

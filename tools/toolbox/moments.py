@@ -75,8 +75,12 @@ class Plan:
         if not 0 <= sample <= total:
             raise Sorry(f'--sample {sample}: there are {total} moments')
         self.moments: Sequence[int] = sorted(random.Random(seed).sample(range(total), sample)) if sample else range(total)
-        fields = (lambda planned: served_fields_of(planned, guest, given.run_file or None, SERVED)) if guest.is_one else None
-        self._run = {id(planned): fields(planned) if fields else fields_of(planned, given.run_file or None, SHORT) for planned in self.runs}
+        self._run = {id(planned): self._fields_of(planned) for planned in self.runs}
+
+    def _fields_of(self, planned: Planned) -> dict[str, Any]:
+        """A run's run file: RUN's, or what is short, and before it the page's."""
+        run_file = self.given.run_file or None
+        return served_fields_of(planned, self.guest, run_file, SERVED) if self.guest.is_one else fields_of(planned, run_file, SHORT)
 
     def values(self, moment: int) -> tuple[int, ...]:
         """The count, if there is one to try, and the clocks of the moment of this number."""
