@@ -11,7 +11,7 @@ import unittest
 from unittest import mock
 
 from tests import dosbox
-from tests.support import TOOLS, ToolCase, example, is_there
+from tests.support import TOOLS, TOP, ToolCase, example, is_there
 
 from toolbox import loading, program, services
 from toolbox.command import Sorry
@@ -126,6 +126,27 @@ class Guests(ToolCase):
         behind = 'SEGMENT R AT 0FFFEh\n ORG 0Fh\n DW 0\nENDS\n'  # its second byte stands at FFFF:0000
         self.assertIs(services.is_served(self.file('behind.asm', main.format(' INT 21h') + behind)), False)
         self.assertIsNone(services.is_served(f'{self.room}/nothing.asm'))
+
+    def test_the_pages_table(self) -> None:
+        """Each of its rows by files."""
+        with open(f'{TOP}/docs/services.md', encoding='utf-8') as page:
+            table = page.read().partition('\n|FILE|has the services|\n|-|-|\n')[2].partition('\n\n')[0]
+        source, reset = SOURCE, f'{SOURCE}SEGMENT R AT 0FFFFh\n JMP FAR start\nENDS\n'
+        com, ended, jammed = self.binary('it.com', HELLO), '(ended', '(jammed'
+        cases = {
+            '`.com`': [([com], ended), ([self.binary('other', HELLO), '--com'], ended), ([self.binary('it.exe', exe())], ended)],
+            'a source that calls': [([self.file('it.asm', source)], ended)],
+            'a source with a byte there': [([self.file('far.asm', reset), '--services'], ended), ([self.file('no.asm', source.replace('INT 21h', 'INT 27h')), '--services'], ended)],
+            'anything': [([self.file('bare.asm', source), '--bare'], jammed)],
+            'Intel HEX': [([self.file('it.hex', ':00000001FF\n')], jammed)],
+        }
+        rows = [row.strip('|').split('|') for row in table.split('\n')]
+        self.assertEqual(len(rows), len(cases))
+        for (name, answer), (begin, runs) in zip(rows, cases.items()):
+            self.assertTrue(name.startswith(begin), name)
+            self.assertEqual('--services' in answer, '--services' in runs[0][0], name)
+            for words, wanted in runs:
+                self.assertTrue(self.called('try', *words)[0].split('\n')[-2].startswith(wanted), words)
 
     def test_every_tool_takes_it_without_a_word(self) -> None:
         """And says once that it did; with --services, which is no guess, it says nothing."""
