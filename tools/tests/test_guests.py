@@ -13,7 +13,7 @@ from unittest import mock
 from tests import dosbox
 from tests.support import TOOLS, TOP, ToolCase, example, is_there
 
-from toolbox import loading, program, services
+from toolbox import guests, loading, program, services
 from toolbox.command import Sorry
 from toolbox.runfile import DEFAULTS, text_of
 from toolbox.symbols import image_of
@@ -126,6 +126,15 @@ class Guests(ToolCase):
         behind = 'SEGMENT R AT 0FFFEh\n ORG 0Fh\n DW 0\nENDS\n'  # its second byte stands at FFFF:0000
         self.assertIs(services.is_served(self.file('behind.asm', main.format(' INT 21h') + behind)), False)
         self.assertIsNone(services.is_served(f'{self.room}/nothing.asm'))
+
+    def test_the_look_is_within_the_limits(self) -> None:
+        """A stranger's file is assembled under them, also to see whether it calls the services."""
+        path, seen = self.file('it.asm', SOURCE), list[list[int]]()
+        with mock.patch.object(guests, 'is_served', lambda path: seen.append(list(program.zebludor._limits)) or services.is_served(path)):
+            self.called('try', path, '--memory', '100')
+            self.called('why', 'run', path, '--memory', '101')
+            self.called('judge', self.file('it.page', 'exit = 3\n'), path, '--memory', '102')
+        self.assertEqual(seen, [[100], [101], [102]])
 
     def test_the_pages_table(self) -> None:
         """Each of its rows by files."""
