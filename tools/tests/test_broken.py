@@ -2,16 +2,28 @@
 tool itself."""
 from __future__ import annotations
 
+import contextlib
+import json
 import os
 import re
 import subprocess
 import sys
+import tempfile
 import unittest
+from typing import Any, Callable
+from unittest import mock
 
-from tests.support import SECONDS, TOOLS, ToolCase, children, example
+from tests import test_gdb
+from tests.support import RESET, SECONDS, TOOLS, ToolCase, children, example
+from tests.terminal import Terminal
+from tests.test_dap import Client as Editor
 
 from toolbox.command import MISTAKE
+from toolbox.desk.drafts import Drafts
+from toolbox.desk.files import Given
+from toolbox.desk.words import Desk
 from toolbox.program import path
+from toolbox.runfile import DEFAULTS
 
 # In place of a program: it refuses the first command of a name, and hands on all else, as what the tools ask to know where an answer
 # ends. Each answer is known to be whole by what is asked behind it.
@@ -45,6 +57,48 @@ COMMANDS = (
     'break tick\ngo\nnext\nfinish\nstate\nwatch B0000\nlast\nlast B0000\nlast write B0000\nclear all\nwhen writes\ngo\nlog starts 50\nkey a\nkeys\n'
     'moments a 1900 1910 50\nu\nlist\nscreen\ndump 400\nback\nto 100\nuntil tick\ntrail 3\nregs\nchips\nstep 2\n'
 )
+# What an editor asks, with the words of each request; gdb, the desk's page and a terminal. The first of these lets the board run.
+EDITORS = (
+    ('setInstructionBreakpoints', {'breakpoints': [{'instructionReference': '0xF6058', 'condition': 'AX >= 0'}]}),
+    ('continue', {}),
+    ('stackTrace', {}),
+    ('variables', {'variablesReference': 1}),
+    ('variables', {'variablesReference': 4}),
+    ('variables', {'variablesReference': 6}),
+    ('next', {}),
+    ('stepIn', {}),
+    ('stepOut', {}),
+    ('disassemble', {'memoryReference': '0xF6000', 'instructionCount': 4}),
+    ('readMemory', {'memoryReference': '0xB0000', 'count': 4}),
+    ('evaluate', {'expression': 'chips', 'context': 'repl'}),
+    ('evaluate', {'expression': 'key a', 'context': 'repl'}),
+    ('setDataBreakpoints', {'breakpoints': [{'dataId': 'B0000 1'}]}),
+    ('setExceptionBreakpoints', {'filters': ['key lost']}),
+    ('continue', {}),
+    ('stepBack', {}),
+    ('reverseContinue', {}),
+)
+MOVES = ('continue', 'next', 'stepIn', 'stepOut', 'stepBack', 'reverseContinue')
+DEBUGGERS = ('g', 'Z0,f6058,1', 'c', 'mf0000010,40', 's', 'mb0000,4', 'Z2,b0000,1', 'c', 'bs', 'bc', 'z2,b0000,1', 'z0,f6058,1', 's')
+MONITORS = ('regs', 'chips', 'screen', 'trail', 'dump B0000 4', 'key a', 'keys', 'break F600:58', 'go 3000', 'to 400', 'back stop')
+PAGES: tuple[tuple[str, dict[str, Any]], ...] = (
+    ('stops', {'stops': ['tick', 'changes B0000']}),
+    *(('run', {'to': 5000}), ('over', {}), ('out', {}), ('step', {}), ('back', {}), ('last', {}), ('look', {})),
+    *(('memory', {'place': 'SS:SP'}), ('code', {}), ('chips', {}), ('data', {}), ('why', {}), ('marks', {}), ('who', {'address': 0xB0000})),
+    *(('type', {'codes': [30, 158]}), ('run', {'to': 9000, 'past': True}), ('drop keys', {'keys': [0]}), ('go to', {'clock': 300})),
+)
+PROMPTS = 'regs,chips,trail,step,back,to 3000,break tick,byte B0000 41,last,stops,clear all,key a,keys,drop,speed fast,quit'
+# It jams at what it has written.
+JAM = f"""SEGMENT MAIN AT 0F000h
+start:  MOV AX,50h
+        MOV DS,AX
+        MOV SS,AX
+        MOV SP,40h
+        MOV BYTE [0],0Fh
+        PUSH CS
+        PUSH AX
+        JMP FAR 50h:0
+{RESET}"""
 
 
 class Broken(ToolCase):
@@ -66,6 +120,24 @@ class Broken(ToolCase):
         words = [sys.executable, '-S', f'{TOOLS}/{words[0]}', *words[1:]]
         return subprocess.run(words, input=given, env=self.environment(refused), capture_output=True, text=True, timeout=SECONDS, check=False, cwd=self.room)
 
+    def seen(self) -> list[str]:
+        """The names of the commands that were handed on, by what has worked since."""
+        with open(f'{self.room}/seen', encoding='ascii') as file:
+            return sorted(set(file.read().split()) - {'?'})
+
+    def each_of(self, work: Callable[[], str]) -> None:
+        """Each inquiry that something makes, refused once: what it says has a sentence of that, or is what it says else."""
+        self.file('seen', '')
+        with mock.patch.dict(os.environ, self.environment('nothing')):
+            first = work()
+        self.assertNotRegex(first, f'Traceback|{MISTAKE}|refuse')
+        for name in self.seen():
+            with mock.patch.dict(os.environ, self.environment(name)):
+                said = work()
+            self.assertNotRegex(said, f'Traceback|{MISTAKE}', name)
+            self.assertTrue(said == first or re.search('refuse|no memory|fault 53 Memory', said), (name, first, said))
+        self.assertEqual(children(os.getpid()), [])
+
     def test_each_inquiry(self) -> None:
         """Refused once, it is told in a sentence or told to be so, and all ends, soon and without a traceback."""
         source, run = example('ticks')
@@ -80,17 +152,105 @@ class Broken(ToolCase):
             (['moments', '--measure', 'tick', source, run, '--key', '1E', '--at', '100..102', '--jobs', '1'], ''),
         )
         for words, given in tools:
-            open(f'{self.room}/seen', 'w', encoding='ascii').close()
+            self.file('seen', '')
             first = self.came(words, given, 'nothing')
             self.assertIn(first.returncode, (0, 1), first.stderr)
-            with open(f'{self.room}/seen', encoding='ascii') as file:
-                seen = sorted(set(file.read().split()) - {'?'})
-            for name in seen:
+            for name in self.seen():
                 came = self.came(words, given, name)
                 self.assertNotRegex(came.stderr, f'Traceback|{MISTAKE}', (words, name))
                 is_told = re.search('refuse|no memory', came.stdout + came.stderr) or came.stdout == first.stdout
                 self.assertTrue(came.returncode == 2 or is_told, (words, name, came))
         self.assertEqual(children(os.getpid()), [])
+
+    def test_why(self) -> None:
+        """Sentences of a program without an end of interrupt, and of one that jams."""
+        with open(example('ticks')[0], encoding='ascii') as file:
+            mute = self.file('mute.asm', file.read().replace('MOV AL,20h', 'MOV AL,0'))
+        jam = self.file('jam.asm', JAM)
+        for words in (['why', 'run', mute, example('ticks')[1]], ['why', 'run', jam], ['try', mute], ['try', jam]):
+            self.each_of(lambda those=words: self.said_by(those))  # type: ignore[misc]
+
+    @staticmethod
+    def said_by(words: list[str]) -> str:
+        """All that a tool says."""
+        words = [sys.executable, '-S', f'{TOOLS}/{words[0]}', *words[1:]]
+        came = subprocess.run(words, stdin=subprocess.DEVNULL, capture_output=True, text=True, timeout=SECONDS, check=False)
+        return re.sub(r'(?m)^\w+: .*, \d+ s\n', '', came.stdout + came.stderr)  # without how long it has been at work
+
+    def test_editors(self) -> None:
+        def work() -> str:
+            source, run = example('ticks')
+            client, said = Editor(self.room), list[Any]()
+
+            def ask(command: str, **arguments: Any) -> None:
+                said.append(client.response(client.send(command, **arguments)))
+                while said[-1]['success'] and command in (*MOVES, 'configurationDone'):
+                    if any(event['event'] in ('stopped', 'terminated') for event in client.events):
+                        break
+                    client.events.append(client.read())
+                said.extend(client.events)
+                client.events.clear()
+
+            ask('initialize', adapterID='zebludor')
+            ask('launch', program=source, run=run, stopOnEntry=True)
+            ask('configurationDone')
+            for command, arguments in EDITORS:
+                ask(command, **{'threadId': 1} if command in MOVES else {}, **arguments)
+            ask('disconnect')
+            status = client.end()
+            return f'{json.dumps(said)} {status} {client.complaints}'
+
+        self.each_of(work)
+
+    def test_gdb(self) -> None:
+        def work() -> str:
+            words, said = [sys.executable, '-S', f'{TOOLS}/gdb', '--serve', *example('ticks')], list[str]()
+            tool = subprocess.Popen(words, stdout=subprocess.PIPE, stderr=subprocess.PIPE, text=True, env=os.environ | {'XDG_RUNTIME_DIR': self.room})
+            assert tool.stdout
+            if script := tool.stdout.readline():
+                with open(script.split()[-1], encoding='utf-8') as text:
+                    client = test_gdb.Client(int(text.read().strip().rpartition(':')[2]))
+                with contextlib.suppress(EOFError, OSError):
+                    said += map(client.ask, DEBUGGERS)
+                    said.append(client.shown)
+                    said += map(client.monitor, MONITORS)
+                    said.append(client.ask('D;1'))
+                said.append(client.shown)
+                client.close()
+            return '\n'.join([*said, tool.communicate(timeout=SECONDS)[1]])
+
+        self.each_of(work)
+
+    def test_desk(self) -> None:
+        def work() -> str:
+            with tempfile.TemporaryDirectory(dir=self.room) as room, contextlib.closing(Desk(room, Given(), Drafts(f'{room}/drafts'))) as desk:
+                with open(example('ticks')[0], encoding='ascii') as file:
+                    found = desk.answer({'do': 'open', 'source': file.read(), 'run': DEFAULTS | {'budget': 9000}})
+                board, said = found.pop('board', ''), [found]
+                for word, fields in PAGES if board else ():
+                    found = desk.answer({'do': word, 'board': board, **fields})
+                    while found.get('working'):
+                        found = desk.answer({'do': 'wait', 'board': board})
+                    said.append(found)
+                return json.dumps(said)
+
+        self.each_of(work)
+
+    def test_term(self) -> None:
+        def work() -> str:
+            words = [sys.executable, '-S', f'{TOOLS}/term', *example('ticks')]
+            terminal = Terminal(words, rows=200, HOME=self.room, XDG_STATE_HOME='', TMPDIR=self.room)
+            terminal.until(lambda each: 'Ctrl+]: prompt' in each.lines()[-1] or each.lines()[-1] == 'term>')
+            with contextlib.suppress(OSError):
+                terminal.type('\x1d')
+                terminal.until(lambda each: each.lines()[-1] == 'term>')
+                terminal.type(PROMPTS.replace(',', '\r') + '\r')
+            status = terminal.ended()
+            terminal.close()
+            told = f'Traceback|{MISTAKE}|refuse|no memory'
+            return '\n'.join([*(line for line in terminal.grid.lines() if re.search(told, line)), str(status)])
+
+        self.each_of(work)
 
     def test_a_mistake(self) -> None:
         """One of the tool itself is told in a sentence, with its place; what it has started ends."""

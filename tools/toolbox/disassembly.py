@@ -7,7 +7,6 @@ import tempfile
 from typing import Callable, Iterator
 
 from toolbox.asking import answers_of
-from toolbox.command import Sorry
 from toolbox.listing import physical
 from toolbox.program import Files
 from toolbox.runfile import DEFAULTS, text_of
@@ -44,8 +43,6 @@ def listed(offset: int, octets: bytes, count: int) -> Iterator[tuple[int, bytes,
     """As many instructions of these bytes as pcprobe lists."""
     with tempfile.TemporaryDirectory() as room:
         lines = answers_of(written(room, offset, octets), (f'list {PARAGRAPH:X}:{offset:X} {count}',))
-    if lines[0].startswith('fault'):
-        raise Sorry(f'pcprobe refuses: {lines[0]}')
     for line in lines:
         place, digits, text = line.split(' ', 2)
         yield int(place[5:], 16), bytes.fromhex(digits), NONE if text.startswith('DB ') else text

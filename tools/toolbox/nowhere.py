@@ -15,12 +15,12 @@ from toolbox.later import later
 from toolbox.listing import Line, Listing, code_of, listing_of, physical
 from toolbox.places import Event, event_of, line_at
 from toolbox.program import LAST_CLOCK, Files, ProbeSession
-from toolbox.report import COLUMNS, ROWS, Report
+from toolbox.report import A_SECOND, COLUMNS, ROWS, Report
 from toolbox.runfile import read_run_file
 from toolbox.scancodes import names
 from toolbox.services import left_at, mark_of
 from toolbox.text_memory import TEXT_MEMORY, shown
-from toolbox.walk import A_SECOND, DATA, REACH, RETURNS, TEXT, TEXT_END, Run, go_to_end, is_for_good, is_push, is_short, opcode, registers_at, statement_of, trail_at
+from toolbox.walk import DATA, REACH, RETURNS, TEXT, TEXT_END, Run, go_to_end, is_for_good, is_push, is_short, opcode, registers_at, statement_of, trail_at
 
 TRAIL, LONGEST_LOOP, ZEROS, NEAR, SOON, FEW = 32, 8, 4, 32, 40, 8
 IF, TF, SPACE = 0x200, 0x100, 0x39
@@ -57,7 +57,7 @@ def told_of_run(report: Report, files: Files, listing: Listing | None = None, re
         ram = read_run_file(files.run_file).get('ram')
         ram_end = 1024 * ram if isinstance(ram, int) else 0
         served = left_at(session, ram_end)
-        trail = [event_of(line) for line in session.many('trail')]
+        trail = [event_of(line) for line in session.answers(['trail'])]
         is_ended = bool(served and served.phase == 2)
         run = Run(report, files, session, listing or listing_of(files), trail, ram_end, mark_of(ram_end) if served else 0, is_ended)
         found = [one for remark in (served.remarks() if served else []) for one in run.tell('services', remark=remark, address=run.mark - 2)]
@@ -109,7 +109,7 @@ def last_change(run: Run, condition: str, before: int | None = None) -> Event | 
     with ProbeSession(run.files) as session:
         session.go_to(run.report.clock if before is None else before)
         session.stop(condition)
-        return event_of(session.many('trail')[-1]) if session.one('back stop').startswith('stop') and session.clock else None
+        return event_of(session.answers(['trail'])[-1]) if session.one('back stop').startswith('stop') and session.clock else None
 
 
 def of_changed_code(run: Run, line: Line, octets: bytes) -> list[Told]:
@@ -433,10 +433,10 @@ def of_a_round(run: Run, period: int) -> str | None:
     with ProbeSession(run.files) as session:
         session.go_to(run.report.clock)
         session.one('step')
-        first = session.many('regs')
+        first = session.answers(['regs'])
         for _ in range(period):
             session.one('step')
-        return first[0] if session.many('regs') == first else None
+        return first[0] if session.answers(['regs']) == first else None
 
 
 def of_a_port(run: Run, ports: set[int]) -> list[Told]:
@@ -569,7 +569,7 @@ def of_the_chips(run: Run) -> list[Told]:
     """What keeps an interrupt or a key away, a second later too."""
     if is_for_good(run.report) or run.report.state == 'jammed' or run.report.clock + A_SECOND > LAST_CLOCK:
         return []
-    chips = Chips(run.session.many('chips'))
+    chips = Chips(run.session.answers(['chips']))
     base = int(chips.value('controller', 'vector'), 16) & 0xF8
     vectors = run.session.dump(4 * base, 32) if chips.controller.is_ready else bytes(32)
     has_vector = [any(vectors[4 * level : 4 * level + 4]) for level in range(8)]

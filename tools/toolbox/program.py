@@ -16,6 +16,7 @@ from toolbox.command import Sorry, handed_on, read_bytes, tool, write_bytes
 from toolbox.comments import handed
 
 __all__ = [
+    'BEFORE_START',
     'CLOCKS_OF_A_TRAIL',
     'LAST_CLOCK',
     'TOP',
@@ -38,7 +39,8 @@ __all__ = [
 CLOCKS_OF_A_TRAIL = 60
 MOST_READ = 1 << 26  # bytes of an answer
 ASKED = 200  # questions that are asked at once: their answers fit in the pipe
-ENDING, ENDED = f'back {LAST_CLOCK + 1}', b'fault 54 BeforeStart\n'  # ends an answer of any length, as nothing else is answered
+BEFORE_START = 'fault 54 BeforeStart'
+ENDING, ENDED = f'back {LAST_CLOCK + 1}', f'{BEFORE_START}\n'.encode()  # ends an answer of any length, as nothing else is answered
 
 
 def path(name: str = 'pcboard') -> str:

@@ -5,10 +5,10 @@ from zebludor import COLUMNS, REGISTERS, ROWS, Fault, Report, Unfit, read_report
 
 from toolbox.command import Sorry, tool
 
-__all__ = ['COLUMNS', 'HERTZ', 'NANOSECONDS', 'REGISTERS', 'ROWS', 'Report', 'registers_of', 'report_of']
+__all__ = ['A_SECOND', 'COLUMNS', 'HERTZ', 'NANOSECONDS', 'REGISTERS', 'ROWS', 'Report', 'registers_of', 'report_of']
 # The real board's clock is a third of 14.318180 MHz.
 HERTZ = 14318180 / 3
-NANOSECONDS = 210
+NANOSECONDS, A_SECOND = 210, 4_772_727  # of a clock, and in clocks
 
 
 def report_of(text: str, name: str = 'standard input') -> Report:

@@ -12,7 +12,7 @@ from toolbox.effects import Far
 from toolbox.listing import physical
 from toolbox.places import Event, event_of, operation_of
 from toolbox.faults import fault_in
-from toolbox.program import LAST_CLOCK, Files, ProbeSession
+from toolbox.program import BEFORE_START, LAST_CLOCK, Files, ProbeSession
 from toolbox.report import registers_of
 from toolbox.runfile import add_keys
 from toolbox.way_back import last_stop, paced
@@ -26,7 +26,6 @@ FIRST_PIECE = 1 << 16
 LOGGED_AT_ONCE = 100_000  # clocks
 PASSED_AT_ONCE = 1 << 20  # clocks that are gone past stops without a new session
 TRIED_AT_ONCE = 100  # clocks of a key
-BEFORE_START = 'fault 54 BeforeStart'
 T = TypeVar('T')
 HLT, ROM = b'\xF4', 0xF0000  # from there on no byte changes
 KEY_REFUSED = {

@@ -37,7 +37,7 @@ def look_at(board: SessionBoard) -> Look:
     """The board's screen now, by one question."""
     lines = board.many(f'dump {TEXT_MEMORY:X} {2 * WORDS}\nchips')
     count = 2 * WORDS // 16
-    if len(lines) <= count:
+    if len(lines) <= count or lines[count].startswith('fault'):
         raise Sorry(f'the board refuses to show its screen: {lines[-1]}')
     chips = Chips(lines[count:])
     adapter = chips.lines['adapter']

@@ -14,7 +14,7 @@ from toolbox.comments import handed
 from toolbox.listing import Line, Listing, code_of, physical
 from toolbox.places import Event, event_of, line_at
 from toolbox.program import Files, ProbeSession, answer_of
-from toolbox.report import Report, registers_of
+from toolbox.report import A_SECOND, Report, registers_of
 from toolbox.symbols import image_of
 
 FIRST, LAST = 50_000, 5_000  # the clocks that are looked at
@@ -22,7 +22,7 @@ REACH = 100_000_000  # so many clocks are made again, and of a longer run all
 MOST_STARTS, SAMPLE = 5_000_000, 1_000_000  # if about so few instructions begin after them, by those that do in so many clocks
 OFTEN = 64  # so many times an instruction is looked at
 LONG, LONGEST = 1000, 2_000_000  # no instruction takes so many clocks, and no repeated one
-WAKES, A_SECOND = 0x300, 4_772_727  # IF and TF; clocks
+WAKES = 0x300  # IF and TF
 ROM, TEXT, TEXT_END, SERVICES = 0xF0000, 0xB0000, 0xB0FFF, 0xF6000
 DATA = ('DB', 'DW', 'DD')
 # What writes its first operand.
@@ -187,7 +187,7 @@ class Run:
         with ProbeSession(self.files) as session:
             for clock in clocks:
                 session.go_to(clock)
-                yield registers_of(session.many('regs'))
+                yield registers_of(session.answers(['regs']))
 
     @cached_property
     def image(self) -> set[int]:
@@ -242,7 +242,7 @@ def trail_at(files: Files, clock: int) -> list[Event]:
     """The trail at a clock."""
     with ProbeSession(files) as session:
         session.go_to(clock)
-        return [event_of(line) for line in session.many('trail')]
+        return [event_of(line) for line in session.answers(['trail'])]
 
 
 def is_for_good(report: Report) -> bool:
@@ -272,4 +272,4 @@ def registers_at(files: Files, clock: int) -> dict[str, int]:
     """The registers at a clock."""
     with ProbeSession(files) as session:
         session.go_to(clock)
-        return registers_of(session.many('regs'))
+        return registers_of(session.answers(['regs']))

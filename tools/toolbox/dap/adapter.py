@@ -200,10 +200,13 @@ class Adapter:
     def stopped(self, reason: str, text: str) -> None:
         """Tells a stop, and the screen if it is another."""
         self.tell_edited()
+        here, lines = list[str](), list[str]()
         try:
             here, lines = self.holding(reason), self.board().many('screen')
         except Gone as gone:
             return self.end(gone)
+        except Sorry as sorry:
+            self.output(f'{sorry}\n', 'important')
         screen = '\n'.join(line.rstrip() for line in lines).rstrip()
         if screen != self.screen:
             self.screen = screen

@@ -12,8 +12,8 @@ from toolbox.followed import MOST_PIECE, STACKED, FollowedBoard
 from toolbox.following import CALLING, Out
 from toolbox.listing import Listing, physical
 from toolbox.places import Event, is_repeated
-from toolbox.program import Files
-from toolbox.session_board import BEFORE_START, MOST_STOPS, place_of
+from toolbox.program import BEFORE_START, Files
+from toolbox.session_board import MOST_STOPS, place_of
 from toolbox.watches import MEMORY, watch_of
 from toolbox.way_back import paced
 

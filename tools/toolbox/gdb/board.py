@@ -5,8 +5,8 @@ from dataclasses import dataclass
 from typing import Iterable
 
 from toolbox.followed import FollowedBoard
-from toolbox.program import LAST_CLOCK, Files
-from toolbox.session_board import BEFORE_START, Paused
+from toolbox.program import BEFORE_START, LAST_CLOCK, Files
+from toolbox.session_board import Paused
 from toolbox.watches import changed, watched_by
 
 
