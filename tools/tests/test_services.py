@@ -25,7 +25,7 @@ SERVED = {
     '10h': '00 01 02 03 05 06 07 08 09 0A 0E 0F 13',
     '16h': '00 01 02',
     '1Ah': '00 01',
-    '21h': '00 01 02 06 07 08 09 0A 0B 0C 19 25 2A 2C 30 35 3F 40 44 48 49 4A 4C',
+    '21h': '00 01 02 06 07 08 09 0A 0B 0C 19 1A 25 2A 2C 2F 30 31 35 3C 3D 3E 3F 40 41 42 43 44 48 49 4A 4C 4E 4F 56',
 }
 # Values in all registers but those that a call takes, to see that they stay.
 BEFORE = 'MOV BX,1234h\n MOV CX,2345h\n MOV DX,3456h\n MOV SI,4567h\n MOV DI,5678h\n MOV BP,6789h\n'
@@ -316,8 +316,8 @@ class Board(ServiceCase):
         self.assertEqual((left.notes, left.how), (0, 0x20))
 
     def test_two_are_counted_and_the_first_kept(self) -> None:
-        _, left = self.whole(' MOV AH,3Dh\n INT 21h\n MOV AH,3Eh\n INT 21h\n INT 33h')
-        self.assertEqual((left.notes, left.note), (3, (0x21, 0x3D00, 0x104, 0x100)))
+        _, left = self.whole(' MOV AH,39h\n INT 21h\n MOV AH,3Ah\n INT 21h\n INT 33h')
+        self.assertEqual((left.notes, left.note), (3, (0x21, 0x3900, 0x104, 0x100)))
 
 
 class Keys(ServiceCase):
@@ -471,6 +471,7 @@ class Dos(ServiceCase):
 
     def test_ends(self) -> None:
         wanted = {' INT 20h': (0x20, 0), ' MOV AX,4C05h\n INT 21h': (0x4C, 5), ' MOV AX,0\n INT 21h': (0x20, 0), ' MOV DX,200h\n INT 27h': (0x27, 0)}
+        wanted[' MOV AX,3107h\n MOV DX,20h\n INT 21h'] = (0x31, 7)
         wanted |= {' MOV AX,1\n MOV BL,0\n DIV BL': (0, 0xFF), ' INT 23h': (0x23, 0), ' MOV AX,4CFFh\n INT 21h': (0x4C, 0xFF)}
         for lines, (how, code) in wanted.items():
             report, left = self.whole(lines)
@@ -622,13 +623,13 @@ class Dos(ServiceCase):
             self.assertEqual((wrong.registers['AX'], wrong.flags & CARRY), (9, CARRY))
 
     def test_others_set_carry(self) -> None:
-        for function in (3, 4, 5, 0x0D, 0x0E, 0x0F, 0x1A, 0x2B, 0x2D, 0x31, 0x33, 0x3C, 0x3D, 0x3E, 0x42, 0x4B, 0x4D, 0x62, 0xFF):
+        for function in (3, 4, 5, 0x0D, 0x0E, 0x1F, 0x2B, 0x2D, 0x33, 0x39, 0x3B, 0x45, 0x47, 0x4B, 0x4D, 0x57, 0x62, 0xFF):
             seen = self.after(f'{BEFORE} MOV AX,{256 * function}\n CLC\n INT 21h')
             self.assertEqual((seen.registers['AX'], seen.flags & CARRY), (1, CARRY), function)
             self.assertEqual({name: seen.registers[name] for name in STAY}, STAY)
             self.assertEqual(seen.screen, [''] * 25)
-        _, left = self.whole(' MOV AX,3D02h\n INT 21h')
-        self.assertEqual(left.remarks(), ["INT 21h function 3Dh, called at 0100:0103, isn't among the services (docs/services.md)"])
+        _, left = self.whole(' MOV AX,4B02h\n INT 21h')
+        self.assertEqual(left.remarks(), ["INT 21h function 4Bh, called at 0100:0103, isn't among the services (docs/services.md)"])
 
     def test_interrupts_beside(self) -> None:
         """24h fails, 25h and 26h leave the flags on the stack, 28h returns, 29h shows AL."""

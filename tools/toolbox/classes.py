@@ -120,7 +120,8 @@ def why_not(status: int, err: str) -> str:
 
 def words_of(given: argparse.Namespace) -> list[str]:
     """The words that each file's judge is given too."""
-    return [*(['--hex'] if given.hex else []), *guests.words_of(given), f'--memory={given.memory or limits.MEMORY}']
+    words = [*(['--hex'] if given.hex else []), *guests.words_of(given)]
+    return words + [f'--file={path}' for path in given.files or []] + [f'--memory={given.memory or limits.MEMORY}']
 
 
 def rows_of(them: Class, files: list[str], folders: list[str]) -> Iterator[Row]:

@@ -12,7 +12,7 @@ import tempfile
 from dataclasses import dataclass, replace
 from typing import Any, Iterator
 
-from toolbox import loading
+from toolbox import disk, loading
 from toolbox.command import Sorry, handed_on, read_bytes, write_bytes
 from toolbox.comments import handed
 from toolbox.loading import Loaded, check_ram
@@ -31,7 +31,8 @@ _told = set[str]()
 @dataclass(frozen=True)
 class Guest:
     """A file as it was given, and how it is taken: the command's tail, as a source with services or by `--com`, and the compiler; whether
-    the look of a source has told its services, and whether the program refuses it."""
+    the look of a source has told its services, and whether the program refuses it; and the files on its disk: by None it gets one if it
+    may use it."""
 
     file: str
     args: str | None = None
@@ -41,6 +42,7 @@ class Guest:
     is_bare: bool = False
     is_seen: bool = False
     is_refused: bool = False
+    files: tuple[str, ...] | None = None
 
     @property
     def is_one(self) -> bool:
@@ -66,21 +68,26 @@ def add_words(reader: argparse.ArgumentParser) -> None:
     reader.add_argument('--services', action='store_true', help='FILE is a source with services, whatever it calls (docs/services.md)')
     reader.add_argument('--com', action='store_true', help='FILE is a .COM program, whatever its name')
     reader.add_argument('--args', metavar='TEXT', help="the command's tail of a program with services")
+    reader.add_argument('--file', metavar='NAME', action='append', dest='files', help='put a file on the disk of a program with services; several')
 
 
 def guest_of(given: argparse.Namespace, file: str | None = None) -> Guest:
     """What those words say, and else the look of the file."""
     compiler = next((name for name in COMPILERS if getattr(given, name, False)), None)
-    found = Guest(file or given.file, given.args, given.services, given.com, compiler, given.bare)
+    is_disk = given.files or getattr(given, 'files_out', None)
+    files = tuple(given.files or ()) if is_disk else None
+    found = Guest(file or given.file, given.args, given.services, given.com, compiler, given.bare, files=files)
     is_hex = getattr(given, 'hex', False)
-    if found.is_bare and (found.is_served or found.is_com or compiler or given.args is not None):
-        raise Sorry('--bare goes without the words that a program with services has: --services, --com, --args, --nasm, --bcc')
+    if found.is_bare and (found.is_served or found.is_com or compiler or given.args is not None or is_disk):
+        raise Sorry('--bare goes without the words that a program with services has: --services, --com, --args, --file, --files-out, --nasm, --bcc')
     if found.is_one and is_hex:
         raise Sorry(f'--hex goes without --services and --com, and {found.file} is no Intel HEX')
     if not (found.is_one or found.is_bare or is_hex or is_hex_name(found.file)):
         found = looked_at(found)
     if given.args is not None and not found.is_one and not found.is_refused:
         raise Sorry('--args goes with a .COM or .EXE program, or a source that calls INT 10h, 16h, 20h or 21h')
+    if is_disk and not found.is_one and not found.is_refused:
+        raise Sorry('--file and --files-out go with a .COM or .EXE program, or a source that calls INT 10h, 16h, 20h or 21h')
     return found
 
 
@@ -113,6 +120,11 @@ def asked(given: argparse.Namespace) -> tuple[Guest, Files]:
 
 
 def loaded(guest: Guest, ram: int, room: str) -> Loaded:
+    """The program with the services in memory, and with its disk."""
+    return disk.beside(without_disk(guest, ram, room), guest.file, guest.files, ram)
+
+
+def without_disk(guest: Guest, ram: int, room: str) -> Loaded:
     """The program with the services in memory."""
     args = guest.args or ''
     if guest.compiler:

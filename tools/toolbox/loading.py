@@ -26,11 +26,13 @@ SERVICES_OWN = SPAN // 16  # paragraphs of RAM at its end
 
 @dataclass
 class Loaded:
-    """A program in memory: its bytes by address, the services before it, and the rows of a file of symbols."""
+    """A program in memory: its bytes by address, the services before it, the rows of a file of symbols, and the paragraph up to which
+    it wants memory."""
 
     image: dict[int, int]
     services: tuple[str, ...]
     rows: list[str]
+    end: int = 0
 
     @property
     def hex(self) -> str:
@@ -74,13 +76,14 @@ def begins(psp: int, code: tuple[int, int], stack: tuple[int, int], environment:
     return placed(BLOCK, struct.pack('<6H', psp, code[1], code[0], stack[1], stack[0], environment))
 
 
-def served(image: dict[int, int], start: tuple[int, int], is_dos: bool = True) -> Loaded:
-    """A program with the services, whose label `start` is where it begins; bytes of both at one address are refused."""
-    names = ('bios', 'dos') if is_dos else ('bios',)
+def served(image: dict[int, int], start: tuple[int, int], end: int = 0) -> Loaded:
+    """A program with the services, whose label `start` is where it begins, and that wants memory up to a paragraph, or no DOS; bytes
+    of both at one address are refused."""
+    names = ('bios', 'dos') if end else ('bios',)
     clash = min((address for name in names for address in image.keys() & services.bytes_of(name).keys()), default=None)
     if clash is not None:
         raise Sorry(f'the program has a byte at {clash:05X}h, where the services stand: from {SERVICES:05X}h on all is theirs')
-    return Loaded(image, names, [f'{start[0]:04X}:{start[1]:04X} start', *(label for name in names for label in services.labels_of(name))])
+    return Loaded(image, names, [f'{start[0]:04X}:{start[1]:04X} start', *(label for name in names for label in services.labels_of(name))], end)
 
 
 def check_com(name: str, octets: bytes) -> None:
@@ -136,14 +139,14 @@ def com(name: str, octets: bytes, args: str) -> Loaded:
     check_com(name, octets)
     at = 16 * PSP
     image = prefix_of(PSP, ENVIRONMENT, name, args) | placed(at + 0x100, octets) | placed(at + 0xFFFE, b'\0\0')
-    return served(image | begins(PSP, (PSP, 0x100), (PSP, 0xFFFE), ENVIRONMENT), (PSP, 0x100))
+    return served(image | begins(PSP, (PSP, 0x100), (PSP, 0xFFFE), ENVIRONMENT), (PSP, 0x100), PSP + 0x1000)
 
 
 def sector(name: str, octets: bytes) -> Loaded:
     """A diskette's first sector."""
     if len(octets) != 512 or octets[-2:] != b'\x55\xAA':
         raise Sorry(f'{name} is no first sector, which has 512 bytes and ends in 55 AA; --com takes it as a .COM program')
-    return served(placed(SECTOR, octets), (0, SECTOR), False)
+    return served(placed(SECTOR, octets), (0, SECTOR))
 
 
 def exe(name: str, octets: bytes, args: str, ram: int) -> Loaded:
@@ -167,7 +170,8 @@ def exe(name: str, octets: bytes, args: str, ram: int) -> Loaded:
         raise Sorry(f'{name}: its stack ends at {ss:04X}:{sp:04X}, behind the memory that is there with {ram} KB of RAM')
     image = prefix_of(PSP, ENVIRONMENT, name, args) | placed(16 * at, bytes(module))
     code = (at + cs) % 0x10000, ip
-    return served(image | begins(PSP, code, ((at + ss) % 0x10000, sp), ENVIRONMENT), code)
+    end = at + max((len(module) + 15) // 16 + least, ss + ((sp or 0x10000) + 15) // 16)
+    return served(image | begins(PSP, code, ((at + ss) % 0x10000, sp), ENVIRONMENT), code, end)
 
 
 def relocate(name: str, octets: bytes, module: bytearray, at: int, table: int, count: int) -> None:
@@ -200,9 +204,11 @@ def source(name: str, args: str, ram: int) -> Loaded:
         raise Sorry(f'{name} has no bytes but at FFFF:0000')
     psp = place_of(name, image, start, ram)
     environment = psp - ROOM_BEFORE + 1
-    found = served(image | prefix_of(psp, environment, name, args) | begins(psp, start, (psp, 0xFFFE), environment), start)
+    found = served(
+        image | prefix_of(psp, environment, name, args) | begins(psp, start, (psp, 0xFFFE), environment), start, psp + 0x1000
+    )
     own = [(' ' * 28 if is_reset(row) else row[:28].ljust(28)) + text for row, text in zip(rows, own_lines(name))]
-    return Loaded(found.image, found.services, own + found.rows[1:])
+    return Loaded(found.image, found.services, own + found.rows[1:], found.end)
 
 
 def is_reset(row: str) -> bool:

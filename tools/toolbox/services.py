@@ -2,11 +2,12 @@
 their RAM, which is the upper 64 KB: what the program wrote by DOS, and from offset FC00h on how it ended."""
 from __future__ import annotations
 
+import contextlib
 import functools
 import re
 import struct
 from dataclasses import dataclass
-from typing import Callable
+from typing import Callable, Iterator
 
 from toolbox import reading
 from toolbox.command import Sorry
@@ -35,6 +36,7 @@ ENDS = {
     0x20: 'ended by INT 20h',
     0x23: 'ended by Ctrl-C',
     0x27: 'ended by INT 27h, and nothing goes on beside it',
+    0x31: 'ended by function 31h with exit code {code}, and nothing goes on beside it',
     0x4C: 'ended with exit code {code}',
 }
 
@@ -87,7 +89,7 @@ def labels_of(name: str) -> list[str]:
 class Served:
     """What the services left at a clock: whether the program runs (phase 1) or has ended (2), how, with which exit code and when;
     how many bytes it wrote, and those that were kept; how many calls weren't served, and the first one's number, AX and CS:IP
-    behind it; how many keys found the buffer full."""
+    behind it; how many keys found the buffer full; the paragraph of the disk of files, or 0."""
 
     phase: int
     how: int
@@ -98,6 +100,7 @@ class Served:
     notes: int
     note: tuple[int, int, int, int]
     lost: int
+    disk: int = 0
 
     @property
     def ending(self) -> str:
@@ -130,13 +133,20 @@ class Served:
 
 def served_of(files: Files, clock: int) -> Served | None:
     """What the services left at a clock, or None where they aren't in the program, or haven't begun."""
+    with at_the_end(files, clock) as (_, served):
+        return served
+
+
+@contextlib.contextmanager
+def at_the_end(files: Files, clock: int) -> Iterator[tuple[Session, Served | None]]:
+    """A session at a clock, and what the services left there."""
     ram = read_run_file(files.run_file).get('ram')
     with Session(files) as session:
         session.stop(f'break {OVER[0]:X}:{OVER[1]:X}')
         ended = session.clock if session.go(clock).startswith('stop') else None
         if ended is not None:
             session.go(min(CLOCKS_OF_AN_END, clock - ended))
-        return left_at(session, 1024 * ram if isinstance(ram, int) else 0, ended)
+        yield session, left_at(session, 1024 * ram if isinstance(ram, int) else 0, ended)
 
 
 def mark_of(ram_end: int) -> int:
@@ -150,9 +160,11 @@ def left_at(session: Talker, ram_end: int, ended: int | None = None) -> Served |
     base = ram_end - SPAN
     if not 1024 * LEAST_RAM <= ram_end <= 1024 * MOST_RAM or session.dump(SIGNED, len(SIGNATURE)) != SIGNATURE:
         return None
-    state = session.dump(base + KEPT, 0x16)
-    mark, phase, how, code, written, notes, number, *place, lost = struct.unpack('<HHBBIHHHHHH', state)
+    state = session.dump(base + KEPT, 0x30)
+    mark, phase, how, code, written, notes, number, *place, lost = struct.unpack_from('<HHBBIHHHHHH', state)
+    (paragraph,) = struct.unpack_from('<H', state, 0x2E)
     if mark != MARK:
         return None
     output = session.dump(base, min(written, KEPT)) if written else b''
-    return Served(phase, how, code, ended if phase == 2 else None, written, output, notes, (number, place[0], place[1], place[2]), lost)
+    note = number, place[0], place[1], place[2]
+    return Served(phase, how, code, ended if phase == 2 else None, written, output, notes, note, lost, paragraph)

@@ -1,0 +1,132 @@
+"""The disk of files of a program with services: memory below the services' own, laid out as services/dos.asm has it. Files are put on
+it before a run and taken off it after; of the host's files the program reaches none."""
+from __future__ import annotations
+
+import contextlib
+import os
+import re
+import struct
+from dataclasses import replace
+from typing import Callable
+
+from toolbox import services
+from toolbox.command import Sorry, read_bytes, tool
+from toolbox.loading import BLOCK, ROM, SERVICES_OWN, Loaded, placed
+
+KB = 192  # of all of it
+CLUSTER, CLUSTERS, FIRST, END = 1024, 192, 2, 0xFF
+DIRECTORY, ENTRIES, ENTRY = 0x200, 48, struct.Struct('<11sB10xHHHI')
+DATE, ARCHIVE = 0x221, 0x20  # 1 January 1981
+MOST = (CLUSTERS - FIRST) * CLUSTER
+NAME = re.compile(r"([A-Z0-9!#$%&'()@^_`{}~-]{1,8})(?:\.([A-Z0-9!#$%&'()@^_`{}~-]{1,3}))?")
+# MOV AH or MOV AX with the number of a function on files.
+CALLS = re.compile(rb'\xB4[\x3C-\x43\x4E\x4F\x56]|\xB8.[\x3C-\x43\x4E\x4F\x56]', re.DOTALL)
+
+
+def name_of(path: str) -> str:
+    """The name that a file has on the disk: its own in capital letters, of eight and three characters."""
+    name = os.path.basename(path).upper()
+    if not NAME.fullmatch(name):
+        raise Sorry(f'--file {path}: a name under DOS has at most eight characters, a dot and three more, and no blank or other sign: copy it to such a name')
+    return name
+
+
+def read_all(paths: tuple[str, ...]) -> dict[str, bytes]:
+    """The files that are put on a disk, by their names there."""
+    found = dict[str, bytes]()
+    for path in paths:
+        name = name_of(path)
+        if name in found:
+            raise Sorry(f'--file {path}: {name} is on the disk already')
+        found[name] = read_bytes(path, MOST)
+    taken = sum((len(octets) + CLUSTER - 1) // CLUSTER for octets in found.values())
+    if len(found) > ENTRIES or taken > CLUSTERS - FIRST:
+        raise Sorry(f'--file: the disk has room for {ENTRIES} files and {CLUSTERS - FIRST} KB, and here are {len(found)} and {taken}')
+    return found
+
+
+def laid_out(files: dict[str, bytes]) -> bytes:
+    """A disk with these files, up to its last byte that isn't 0."""
+    chain, entries, data = bytearray(256), list[bytes](), bytearray()
+    chain[:FIRST] = bytes([END]) * FIRST
+    for name, octets in files.items():
+        first, count = FIRST + len(data) // CLUSTER, (len(octets) + CLUSTER - 1) // CLUSTER
+        chain[first : first + count] = [*range(first + 1, first + count), END] if count else []
+        stem, _, ending = name.partition('.')
+        entries.append(ENTRY.pack(f'{stem:8}{ending:3}'.encode('ascii'), ARCHIVE, 0, DATE, first if count else END, len(octets)))
+        data += octets.ljust(CLUSTER * count, b'\0')
+    head = bytes(chain).ljust(DIRECTORY, b'\0') + b''.join(entries)
+    return (head.ljust(FIRST * CLUSTER, b'\0') + data).rstrip(b'\0')
+
+
+def uses_files(image: dict[int, int]) -> bool:
+    """Whether the number of a function on files is loaded somewhere."""
+    octets = bytearray(max(image, default=0) + 1)
+    for address, octet in image.items():
+        octets[address] = octet
+    return bool(CALLS.search(octets))
+
+
+def beside(found: Loaded, name: str, paths: tuple[str, ...] | None, ram: int) -> Loaded:
+    """A program with these files on a disk. By None it gets an empty one if it may use it, and if there is room."""
+    if paths is None and not uses_files(found.image):
+        return found
+    if 'dos' not in found.services:
+        if paths is None:
+            return found
+        raise Sorry(f"{name} is a first sector, which has no DOS: --file and --files-out go with programs of DOS")
+    base = 64 * ram - SERVICES_OWN - 64 * KB
+    last = max((address for address in found.image if address < ROM), default=0) // 16
+    if max(last + 1, found.end) > base:
+        if paths is None:
+            return found
+        least = (max(last + 1, found.end) + 63) // 64 + KB + SERVICES_OWN // 64
+        raise Sorry(f'{name} leaves no room for the disk of files with {ram} KB of RAM: it wants {least}')
+    segment, _, offset = next(label for label in services.labels_of('dos') if label.endswith(' dos_beside')).split()[0].partition(':')
+    octets = bytes(found.image[BLOCK + at] for at in range(12))
+    block = struct.pack('<2s2H', octets[:2], int(offset, 16), int(segment, 16)) + octets[6:] + octets[2:6]
+    return replace(found, image=found.image | placed(BLOCK, block) | placed(16 * base, laid_out(read_all(paths or ()))))
+
+
+def files_on(dump: Callable[[int, int], bytes], base: int) -> dict[str, bytes]:
+    """The files on a disk that begins at an address. A program may have written over it, which is told."""
+    head = dump(base, FIRST * CLUSTER)
+    found = dict[str, bytes]()
+    for at in range(DIRECTORY, FIRST * CLUSTER, ENTRY.size):
+        if not head[at]:
+            continue
+        octets, _, _, _, first, size = ENTRY.unpack_from(head, at)
+        stem, ending = octets[:8].decode('latin-1').rstrip(), octets[8:].decode('latin-1').rstrip()
+        name = f'{stem}.{ending}' if ending else stem
+        clusters = chain_of(head, first)
+        if not NAME.fullmatch(name) or name in found or clusters is None or len(clusters) != (size + CLUSTER - 1) // CLUSTER:
+            raise Sorry(f'the program has written over the disk of files, whose directory stands at {base + DIRECTORY:05X}h')
+        found[name] = b''.join(dump(base + CLUSTER * cluster, CLUSTER) for cluster in clusters)[:size]
+    return found
+
+
+def chain_of(head: bytes, cluster: int) -> list[int] | None:
+    """A file's clusters, or None if they lead nowhere."""
+    found = list[int]()
+    while cluster != END:
+        if not FIRST <= cluster < CLUSTERS or cluster in found:
+            return None
+        found.append(cluster)
+        cluster = head[cluster]
+    return found
+
+
+def check_folder(path: str) -> None:
+    """Refuses a folder for files that has something in it, or is none."""
+    if os.path.lexists(path) and (os.path.islink(path) or not os.path.isdir(path) or os.listdir(path)):
+        raise Sorry(f'--files-out wants a folder that is new or empty, and {path} is neither')
+
+
+def take_off(files: dict[str, bytes], path: str) -> None:
+    """Writes the files of a disk to a folder that is new or empty."""
+    check_folder(path)
+    with contextlib.suppress(FileExistsError):
+        os.mkdir(path)
+    for name, octets in files.items():
+        with open(os.path.join(path, name), 'xb') as file:
+            file.write(octets)
