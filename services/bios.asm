@@ -11,6 +11,8 @@ how     EQU 0FC04h              ; by which interrupt it ended
 code    EQU 0FC05h              ; its exit code
 notes   EQU 0FC0Ah              ; how many calls weren't served, and of the first its number, AX, IP, CS
 lostkeys EQU 0FC14h             ; how many keys found the buffer full
+list    EQU 0FE00h              ; 24 calls that weren't served, of 10 bytes: their number, 0, AX, IP, CS, how often from there
+listend EQU 0FEF0h
 
 SEGMENT BIOS AT 0FE00h
         JMP begin
@@ -141,7 +143,7 @@ nothing: PUSH BP
         JNE no_note
         MOV AL,[BX-1]
         CALL note
-no_note: JMP done
+no_note: JMP breaks
 
 ; Notes that the call AL, with the caller's AX, isn't served.
 note:   PUSH DS
@@ -158,9 +160,7 @@ note:   PUSH DS
         MOV [notes+6],BX
         MOV BX,[BP+20]
         MOV [notes+8],BX
-noted:  POP BX
-        POP DS
-        RET
+noted:  JMP listed
 note_far: CALL note
         RETF
 
@@ -1003,6 +1003,59 @@ controls: DB 0FFh,27,0FFh,0,0FFh,0FFh,0FFh,30,0FFh,0FFh,0FFh,0FFh,31,0FFh,127,0F
         DB 26,24,3,22,2,14,13,0FFh,0FFh,0FFh,0FFh,0,0FFh,' ',0FFh
 digits: DB '789-456+1230.'
 far_moves: DB 77h,0,84h,0,73h,0,74h,0,75h,0,76h,0,0
+
+; -- What came later stands here, so that the calls stay where they are, and take the clocks that they took
+
+; Of a call that isn't served the list has each place.
+listed: PUSH SI
+        MOV SI,list
+lists:  CMP WORD [SI+8],0
+        JE lists_new
+        CMP [SI],AL
+        JNE lists_other
+        MOV BH,[BP+1]
+        CMP [SI+3],BH
+        JNE lists_other
+        MOV BX,[BP+18]
+        CMP [SI+4],BX
+        JNE lists_other
+        MOV BX,[BP+20]
+        CMP [SI+6],BX
+        JE lists_one
+lists_other: ADD SI,10
+        CMP SI,listend
+        JB lists
+        JMP SHORT is_listed
+lists_new: MOV [SI],AL
+        MOV BX,[BP]
+        MOV [SI+2],BX
+        MOV BX,[BP+18]
+        MOV [SI+4],BX
+        MOV BX,[BP+20]
+        MOV [SI+6],BX
+lists_one: INC WORD [SI+8]
+        JNZ is_listed
+        DEC WORD [SI+8]
+is_listed: POP SI
+        POP BX
+        POP DS
+        RET
+
+; INT 3 without a handler ends the program, by either of its forms, and is listed. A single step after a byte 0CCh is none.
+breaks: TEST BYTE [BP+23],1
+        JNZ goes_on
+        CMP BYTE [BX-2],0CDh
+        JE by_int
+        CMP BYTE [BX-1],0CCh
+        JNE goes_on
+        MOV AL,3
+        CALL note
+        JMP SHORT ends_by_3
+by_int: CMP BYTE [BX-1],3
+        JNE goes_on
+ends_by_3: MOV AX,3
+        JMP over
+goes_on: JMP done
 ENDS
 
 SEGMENT RESET AT 0FFFFh

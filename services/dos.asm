@@ -819,13 +819,14 @@ open:   AND AL,7
         CALL free_handle
         JC refused
         CALL look
-        JC refused
+        JC no_file
         MOV AL,[BP]
         AND AL,7
         JZ opens
         TEST BYTE ES:[BX+11],1
         JNZ denied
         JMP SHORT opens
+no_file: JMP wrong                ; tools stop here
 no_access: MOV AX,12
         JMP wrong
 

@@ -50,6 +50,11 @@ ROWS = {
     'scan code': " MOV AL,99h\n OUT 63h,AL\n MOV AL,40h\n OUT 61h,AL\npoll: IN AL,60h\n TEST AL,AL\n JZ poll\n SUB AL,'0'\n HLT",
     'words from bytes': IN_RAM + ' MOV SI,list\n MOV CX,4\nmore: LODSW\n LOOP more\n HLT\nlist: DB 3,1,4,1\n' + STACK,
 }
+# So too, for programs with services.
+SERVED_ROWS = {
+    'asked for': ' MOV AX,13h\n INT 10h\n INT 20h',
+    'services': ' INT 33h\n INT 20h',
+}
 
 
 class Accusing(ToolCase):
@@ -117,7 +122,10 @@ class Accusing(ToolCase):
             is_hex = name == 'past the end'
             source = self.file('it.hex', answer_of(['asm', source])) if is_hex else source
             self.assertIn(name, [one.name for one in self.of_files(Files(source, run, is_hex))])
-        self.drawn |= {'services'}  # which test_services draws
+        for name, lines in SERVED_ROWS.items():
+            source = self.file('served.asm', f'SEGMENT MAIN AT 100h\n ORG 100h\nstart:\n{lines}\nENDS\n')
+            with prepared(Guest(source, None, True), Files(source, '')) as files:
+                self.assertIn(name, [one.name for one in self.of_files(files)])
         self.assertEqual(set(rows()) - self.drawn, set())
 
     def test_a_user_can_ask_again(self) -> None:

@@ -373,8 +373,10 @@ class Script:
 
     def data(self) -> str:
         """The names, and what keeps the answers."""
-        log = 'log_sum: MOV DX,0\n PUSHF\n JC logged\n MOV CX,AX\n JCXZ logged\n MOV SI,6000h\n MOV BX,0\nsums: MOV BL,[SI]\n ADD DX,BX\n INC SI\n LOOP sums\n'
-        log += ' JMP SHORT logged\nlog: MOV DX,0\n PUSHF\nlogged: POP CX\n MOV SI,[0BF0h]\n MOV [SI],AX\n MOV [SI+2],CX\n MOV [SI+4],DX\n ADD WORD [0BF0h],6\n RET\n'
+        log = 'log_sum: MOV DX,0\n PUSHF\n JC logged\n MOV CX,AX\n JCXZ logged\n MOV SI,6000h\n MOV BX,0\n'
+        log += 'sums: MOV BL,[SI]\n ADD DX,BX\n INC SI\n LOOP sums\n'
+        log += ' JMP SHORT logged\nlog: MOV DX,0\n PUSHF\nlogged: POP CX\n MOV SI,[0BF0h]\n MOV [SI],AX\n MOV [SI+2],CX\n'
+        log += ' MOV [SI+4],DX\n ADD WORD [0BF0h],6\n RET\n'
         return log + ''.join(f"n{number}: DB '{name}',0\n" for number, name in enumerate(self.NAMES))
 
 
@@ -501,6 +503,25 @@ class Host(DiskCase):
         for words, sentence in wanted.items():
             _, err = self.tool('try', self.source(), '--services', *words, status=2)
             self.assertTrue(err.startswith(sentence), err)
+
+    def test_programs_without_dos_have_none(self) -> None:
+        self.host_file('a.txt', b'')
+        sector = self.host_file('first.bin', bytes(510) + b'\x55\xAA')
+        _, err = self.tool('try', sector, '--file', 'a.txt', status=2)
+        self.assertEqual(err, f'try: {sector} is a first sector, which has no DOS: --file and --files-out go with programs of DOS\n')
+        _, err = self.tool('try', self.file('it.hex', ':00000001FF\n'), '--files-out', 'out', status=2)
+        self.assertEqual(err, 'try: --file and --files-out go with a .COM or .EXE program, or with --services\n')
+        self.assertFalse(os.path.exists(f'{self.room}/out'))
+
+    def test_it_goes_with_every_front(self) -> None:
+        """A judge's run has the file too, and a class of them."""
+        page = self.file('page.txt', 'output = hello\nexit = 0\n')
+        lines = call(0x3D, al=0, dx='a') + call(0x3F, bx=5, cx=5, dx='300h') + call(0x40, bx=1, cx=5, dx='300h') + ' MOV AX,4C00h\n INT 21h\n'
+        source = self.file('type.asm', f'SEGMENT MAIN AT 100h\n ORG 100h\nstart:\n{lines}{DATA}ENDS\n')
+        self.host_file('a.txt', b'hello')
+        self.tool('judge', page, source, '--services', '--file', 'a.txt')
+        out, _ = self.tool('judge', '--class', page, source, '--services', '--file', 'a.txt')
+        self.assertEqual(out.splitlines()[1].split('\t')[1], '2')
 
     def test_too_much(self) -> None:
         paths = tuple(self.host_file(f'{number}', bytes(5000)) for number in range(40))

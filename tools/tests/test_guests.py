@@ -301,9 +301,9 @@ class Guests(ToolCase):
         self.assertIn("can't be written", self.called('try', path, '--keep', 'no/kept', status=2)[1])
 
     def test_what_is_not_served_is_told(self) -> None:
-        # MOV AH,3Dh; INT 21h; INT 20h
-        out, err = self.called('try', self.binary('open.com', bytes.fromhex('B43DCD21CD20')), '--keep', 'kept')
-        wanted = "why: INT 21h function 3Dh, called at 0100:0102, isn't among the services (docs/services.md)\n"
+        # MOV AH,4Bh; INT 21h; INT 20h
+        out, err = self.called('try', self.binary('open.com', bytes.fromhex('B44BCD21CD20')), '--keep', 'kept')
+        wanted = "why: INT 21h function 4Bh, called at 0100:0102, isn't among the services (docs/services.md)\n"
         self.assertEqual((out.split(' at clock')[0], err), ('(ended by INT 20h,', wanted))
         self.assertEqual(self.called('why', 'run', '--hex', 'kept.hex', 'kept.json')[1], wanted)
         lost = self.called('try', self.binary('wait.com', bytes.fromhex('EBFE')), '--keys', 'x' * 20)[1]

@@ -312,8 +312,31 @@ class Board(ServiceCase):
             self.assertEqual((left.notes, left.note), (1, (interrupt, 0x1234, 0x105, 0x100)))
 
     def test_one_that_is_raised_without_int_is_not_noted(self) -> None:
-        _, left = self.whole(' INT3\n MOV AX,7FFFh\n ADD AX,1\n INTO')
+        _, left = self.whole(' MOV AX,7FFFh\n ADD AX,1\n INTO')
         self.assertEqual((left.notes, left.how), (0, 0x20))
+
+    def test_int_3_ends(self) -> None:
+        for lines in (' INT3', ' INT 3'):
+            report, left = self.whole(lines)
+            self.assertEqual((left.how, left.phase, report.state, left.calls[0].at[0]), (3, 2, 'halted', 0x100))
+        own = ' MOV AX,2503h\n MOV DX,own\n INT 21h\n INT3\n INT 3\n JMP SHORT seen\nown: INC BYTE CS:[times]\n IRET\ntimes: DB 0\n'
+        self.assertEqual(self.whole(own)[1].how, 0x20)
+        steps = ' MOV AX,302h\n PUSH AX\n POPF\n MOV AL,0CCh\n NOP\n MOV AX,202h\n PUSH AX\n POPF'
+        self.assertEqual((self.whole(steps)[1].how, self.whole(steps)[1].notes), (0x20, 0))
+
+    def test_each_place_is_listed(self) -> None:
+        """24 of them, with how often; the count goes no further than a word."""
+        one = ' MOV AX,3900h\n INT 21h\n'
+        left = self.whole(one * 2 + ' MOV CX,3\nmore: MOV AX,0F55h\n INT 21h\n LOOP more\n INT 33h')[1]
+        wanted = [(0x21, 0x39, 0x103, 1), (0x21, 0x39, 0x108, 1), (0x21, 0x0F, 0x110, 3), (0x33, 0x0F, 0x114, 1)]
+        self.assertEqual([(call.number, call.ax >> 8, call.at[1], call.times) for call in left.calls], wanted)
+        left = self.whole(one * 30)[1]
+        self.assertEqual((len(left.calls), left.notes), (24, 30))
+        self.assertIn('6 more calls', left.remarks()[-1])
+        unlisted = self.whole(one + ' MOV AX,9000h\n MOV DS,AX\n MOV WORD [0FE08h],0')[1]
+        self.assertEqual([(call.number, call.ax >> 8, call.at[1], call.times) for call in unlisted.calls], [(0x21, 0x39, 0x103, 1)])
+        left = self.whole(' MOV BX,2\nagain: MOV CX,40000\nmore: INT 33h\n LOOP more\n DEC BX\n JNZ again', budget=150_000_000)[1]
+        self.assertEqual((left.calls[0].times, left.how), (0xFFFF, 0x20))
 
     def test_two_are_counted_and_the_first_kept(self) -> None:
         _, left = self.whole(' MOV AH,39h\n INT 21h\n MOV AH,3Ah\n INT 21h\n INT 33h')
@@ -656,6 +679,46 @@ class Dos(ServiceCase):
 
 class Pages(ServiceCase):
     """What stands on its page."""
+
+    # Of each row of the table of what is told a program, and what is typed.
+    TOLD = {
+        "calls what isn't among the services": (' MOV AH,4Bh\n INT 21h', ''),
+        'calls functions on file control blocks': (' MOV AH,0Fh\n INT 21h', ''),
+        'writes a text of more than 2,000 signs by 09h, mostly for want of `$`': (" MOV DX,text\n MOV AH,9\n INT 21h\n JMP SHORT seen\ntext: DB 'One'\n", ''),
+        'writes DL 0 by 02h, with a sign in AL': (" MOV AL,'A'\n MOV AH,2\n INT 21h", ''),
+        "opens a file that isn't on its disk, nor at the end": (" MOV DX,text\n MOV AX,3D00h\n INT 21h\n JMP SHORT seen\ntext: DB 'c:\\one.txt',0\n", ''),
+        'sets a mode of graphics': (' MOV AX,13h\n INT 10h', ''),
+        'writes to B8000h, by DS or ES': (' MOV AX,0B800h\n MOV DS,AX\n MOV WORD [0],741h', ''),
+        'divides, and there is no quotient': (' MOV BL,0\n DIV BL', ''),
+        "waits for a key that doesn't come": (' MOV AH,1\n INT 21h', ''),
+        'runs into INT 3, to which no handler is set': (' INT3', ''),
+        'ends by 31h or INT 27h, to stay in memory': (' MOV AX,3100h\n INT 21h', ''),
+        'reads keys more slowly than they are typed': ('more: JMP more', 'x' * 20),
+    }
+
+    def test_what_is_told(self) -> None:
+        """With the line of the call, where one is told."""
+        with open(f'{TOP}/docs/services.md', encoding='utf-8') as file:
+            table = file.read().split('|What the program does|What is told|\n|-|-|\n')[1].split('\n\n')[0]
+        told = {row.split('|')[1]: row.split('|')[2].strip('`') for row in table.splitlines()}
+        self.assertEqual(told.keys(), self.TOLD.keys())
+        for name, (lines, keys) in self.TOLD.items():
+            path = self.file('it.asm', f'SEGMENT MAIN AT 100h\n ORG 100h\nstart:\n{lines}\nseen: INT 20h\nENDS\n')
+            out, err = self.tool('try', path, '--services', *(['--keys', keys] if keys else []))
+            self.assertIn(told[name], out + err, name)
+            if 'called' in err:
+                self.assertIn('called by line', err)
+
+    def test_a_file_may_be_made_later(self) -> None:
+        lines = " MOV DX,text\n MOV AX,3D00h\n INT 21h\n MOV CX,0\n MOV AH,3Ch\n INT 21h\n JMP SHORT seen\ntext: DB 'c:\\one.txt',0\n"
+        path = self.file('it.asm', f'SEGMENT MAIN AT 100h\n ORG 100h\nstart:\n{lines}\nseen: INT 20h\nENDS\n')
+        self.assertEqual(self.tool('try', path, '--services')[1], '')
+
+    def test_nothing_is_told_of_right_calls(self) -> None:
+        text = "text: DB 1990 DUP('x'),'$'\n"
+        right = " MOV DX,text\n MOV AH,9\n INT 21h\n MOV DL,'A'\n MOV AL,'B'\n MOV AH,2\n INT 21h\n MOV AX,3\n INT 10h\n MOV AX,7\n INT 10h\n JMP ready\n"
+        path = self.file('it.asm', f'SEGMENT MAIN AT 100h\n ORG 100h\nstart:\n{right}{text}ready: INT 20h\nENDS\n')
+        self.assertEqual(self.tool('try', path, '--services')[1], '')
 
     def test_every_call_is_in_the_table(self) -> None:
         with open(f'{TOP}/docs/services.md', encoding='utf-8') as file:

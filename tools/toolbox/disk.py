@@ -9,9 +9,9 @@ import struct
 from dataclasses import replace
 from typing import Callable
 
-from toolbox import services
-from toolbox.command import Sorry, read_bytes, tool
+from toolbox.command import Sorry, read_bytes
 from toolbox.loading import BLOCK, ROM, SERVICES_OWN, Loaded, placed
+from toolbox.services import address_of
 
 KB = 192  # of all of it
 CLUSTER, CLUSTERS, FIRST, END = 1024, 192, 2, 0xFF
@@ -82,9 +82,9 @@ def beside(found: Loaded, name: str, paths: tuple[str, ...] | None, ram: int) ->
             return found
         least = (max(last + 1, found.end) + 63) // 64 + KB + SERVICES_OWN // 64
         raise Sorry(f'{name} leaves no room for the disk of files with {ram} KB of RAM: it wants {least}')
-    segment, _, offset = next(label for label in services.labels_of('dos') if label.endswith(' dos_beside')).split()[0].partition(':')
+    segment, offset = address_of('dos_beside')
     octets = bytes(found.image[BLOCK + at] for at in range(12))
-    block = struct.pack('<2s2H', octets[:2], int(offset, 16), int(segment, 16)) + octets[6:] + octets[2:6]
+    block = struct.pack('<2s2H', octets[:2], offset, segment) + octets[6:] + octets[2:6]
     return replace(found, image=found.image | placed(BLOCK, block) | placed(16 * base, laid_out(read_all(paths or ()))))
 
 

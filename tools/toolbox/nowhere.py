@@ -2,13 +2,17 @@
 been so, by the report, by the trail, and by `events` of the run's first clocks and its last ones, and pcprobe is asked whether it is."""
 from __future__ import annotations
 
+import contextlib
 import re
+from functools import partial
 from itertools import takewhile
 from typing import Any, Iterator
 
+from toolbox import disk
+from toolbox.asked_calls import doubtful
 from toolbox.asking import Raw, Told
 from toolbox.chips import Chips, ends_before, of_chips
-from toolbox.command import tool
+from toolbox.command import Sorry, tool
 from toolbox.doubts import doubts
 from toolbox.effects import ends_with_call, target_of
 from toolbox.later import later
@@ -18,9 +22,26 @@ from toolbox.program import LAST_CLOCK, Files, ProbeSession
 from toolbox.report import A_SECOND, COLUMNS, ROWS, Report
 from toolbox.runfile import read_run_file
 from toolbox.scancodes import names
-from toolbox.services import left_at, mark_of
+from toolbox.services import at_place, left_at, mark_of
 from toolbox.text_memory import TEXT_MEMORY, shown
-from toolbox.walk import DATA, REACH, RETURNS, TEXT, TEXT_END, Run, go_to_end, is_for_good, is_push, is_short, opcode, registers_at, statement_of, trail_at
+from toolbox.walk import (
+    COLOUR,
+    COLOUR_END,
+    DATA,
+    REACH,
+    RETURNS,
+    TEXT,
+    TEXT_END,
+    Run,
+    go_to_end,
+    is_for_good,
+    is_push,
+    is_short,
+    opcode,
+    registers_at,
+    statement_of,
+    trail_at,
+)
 
 TRAIL, LONGEST_LOOP, ZEROS, NEAR, SOON, FEW = 32, 8, 4, 32, 40, 8
 IF, TF, SPACE = 0x200, 0x100, 0x39
@@ -60,12 +81,39 @@ def told_of_run(report: Report, files: Files, listing: Listing | None = None, re
         trail = [event_of(line) for line in session.answers(['trail'])]
         is_ended = bool(served and served.phase == 2)
         run = Run(report, files, session, listing or listing_of(files), trail, ram_end, mark_of(ram_end) if served else 0, is_ended)
-        found = [one for remark in (served.remarks() if served else []) for one in run.tell('services', remark=remark, address=run.mark - 2)]
+        remarks = served.remarks(partial(by_line, run)) if served else []
+        found = [one for remark in remarks for one in run.tell('services', remark=remark, address=run.mark - 2)]
         if run.is_ended:
-            return found + (of_a_division(run) if served and not served.how else of_an_early_end(run)) + of_the_source(run)
-        found += of_the_end(run, was_at_zero)
+            ends = of_a_division(run) if served and not served.how else of_an_early_end(run)
+            return found + of_calls(run) + ends + of_lost_writes(run) + of_the_source(run)
+        found += of_calls(run) + of_the_end(run, was_at_zero)
         is_port_told = any(one.name == 'no port' for one in found)
         return found + [one for one in of_the_source(run) if not (is_port_told and one.name == 'unanswered port')] + of_the_chips(run)
+
+
+def by_line(run: Run, place: tuple[int, int]) -> str:
+    """By which line of the source, or at which place, a call was made. INT3 has one byte."""
+    line = run.listing.at.get(physical(*place)) or run.listing.at.get(physical(place[0], place[1] + 1))
+    return f'by line {line.number} ({code_of(line.text).strip()})' if line else at_place(place)
+
+
+def of_calls(run: Run) -> list[Told]:
+    """Calls that ask for what isn't there, each by the first time that its place made it."""
+    found = dict[str, list[Told]]()
+    for call in doubtful(run.files, run.end) if run.mark else ():
+        remark = call.says.replace('{place}', by_line(run, call.place))
+        if remark not in found and not (call.file and is_on_disk(run, call.file)):
+            found[remark] = run.tell('asked for', at=call.clock, remark=remark, address=call.address, count=call.count, **call.registers)
+    return [one for them in found.values() for one in them]
+
+
+def is_on_disk(run: Run, path: str) -> bool:
+    """Whether a program's disk has a file at the run's end. One that was written over has none."""
+    served = left_at(run.session, run.ram_end)
+    with contextlib.suppress(Sorry):
+        if served and served.disk:
+            return re.sub(r'^(.:)?[\\/]?', '', path.upper()) in disk.files_on(run.session.dump, 16 * served.disk)
+    return False
 
 
 def of_the_end(run: Run, was_at_zero: int | None) -> list[Told]:
@@ -345,7 +393,8 @@ def of_lost_writes(run: Run) -> list[Told]:
             known.add(event[1:])
             if len(found) < 3:
                 does, advice = ('pushes to', FOR_A_STACK) if is_push(event) else ('writes to', IN_RAM)
-                found += run.tell('lost write', event, address=address, does=does, wrong=wrong, advice='' if found else advice)
+                is_told = found or COLOUR <= address < COLOUR_END
+                found += run.tell('lost write', event, address=address, does=does, wrong=wrong, advice='' if is_told else advice)
                 found += of_direction(run, event) + of_a_count(run, event) if len(found) == 1 else []
     return found
 

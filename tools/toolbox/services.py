@@ -29,8 +29,12 @@ CALL = re.compile(rf'^.{{10}}CD({"|".join(f"{number:02X}" for number in CALLED)}
 RESET = 0xFFFF0  # where the processor begins
 # The first key of typed text, how long a key is held, and from a key up to the next one down: the services begin first.
 TYPING = 200_000, 20_000, 80_000
+LIST = 0x200, 24, struct.Struct('<BxHHHH')  # behind the state: how many calls, and each
+FCBS = (*range(0x0F, 0x18), *range(0x21, 0x25), *range(0x27, 0x2A))
+WITH_DISK = (*range(0x3C, 0x44), 0x4E, 0x4F, 0x56)
 ENDS = {
     0x00: 'ended by a division without a quotient',
+    0x03: 'ended by INT 3, to which no handler is set',
     0x18: 'ended by INT 18h: there is nothing else to begin',
     0x19: 'ended by INT 19h: there is no diskette to begin from',
     0x20: 'ended by INT 20h',
@@ -85,11 +89,65 @@ def labels_of(name: str) -> list[str]:
     return found
 
 
+def address_of(label: str) -> tuple[int, int]:
+    """Where a label of the services stands, such as `dos_write_text`."""
+    row = next(row for row in labels_of(label.partition('_')[0]) if row.endswith(f' {label}'))
+    return int(row[:4], 16), int(row[5:9], 16)
+
+
+def waits_for_key(registers: dict[str, int]) -> bool:
+    """Whether INT 16h waits, by these registers."""
+    (segment, first), (_, end) = address_of('bios_wait_key'), address_of('bios_has_key')
+    return registers['CS'] == segment and first <= registers['IP'] < end
+
+
+def at_place(place: tuple[int, int]) -> str:
+    """A place without a source."""
+    return 'at {:04X}:{:04X}'.format(*place)
+
+
+def times(place: str, count: int) -> str:
+    """A place, and how often."""
+    return f'{place} ({count:,} times)' if count > 1 else place
+
+
+@dataclass(frozen=True)
+class Call:
+    """A call that wasn't served: its interrupt, AX, where it was made, and how often from there."""
+
+    number: int
+    ax: int
+    offset: int
+    segment: int
+    times: int
+
+    @property
+    def at(self) -> tuple[int, int]:
+        """Where its INT stands, or INT3 of one byte."""
+        return self.segment, self.offset - 2 & 0xFFFF
+
+    @property
+    def name(self) -> str:
+        """Its interrupt and its function."""
+        return 'INT 3' if self.number == 3 else f'INT {self.number:02X}h function {self.ax >> 8:02X}h'
+
+    @property
+    def why(self) -> str:
+        """What there is in its place."""
+        if self.number == 3:
+            return 'has no handler, and ended the program'
+        if self.number == 0x21 and self.ax >> 8 in FCBS:
+            return "is one of file control blocks (FCBs), which aren't among the services: handles are, by 3Ch to 42h (docs/services.md)"
+        if self.number == 0x21 and self.ax >> 8 in WITH_DISK and self.ax >> 8 != 0x40:
+            return 'wants a disk, which --file or --files-out gives to the program (docs/services.md)'
+        return "isn't among the services (docs/services.md)"
+
+
 @dataclass(frozen=True)
 class Served:
     """What the services left at a clock: whether the program runs (phase 1) or has ended (2), how, with which exit code and when;
-    how many bytes it wrote, and those that were kept; how many calls weren't served, and the first one's number, AX and CS:IP
-    behind it; how many keys found the buffer full; the paragraph of the disk of files, or 0."""
+    how many bytes it wrote, and those that were kept; how many calls weren't served, the first one's number, AX and CS:IP
+    behind it, and the first 24 of other places or functions; how many keys found the buffer full; the paragraph of the disk of files, or 0."""
 
     phase: int
     how: int
@@ -101,6 +159,7 @@ class Served:
     note: tuple[int, int, int, int]
     lost: int
     disk: int = 0
+    calls: tuple[Call, ...] = ()
 
     @property
     def ending(self) -> str:
@@ -118,14 +177,15 @@ class Served:
             raise Sorry(f'the program wrote {self.written:,} bytes, and the services keep the first {KEPT:,}')
         return self.output
 
-    def remarks(self) -> list[str]:
-        """What a person has to know besides, as sentences."""
-        found = list[str]()
-        if self.notes:
-            number, ax, offset, segment = self.note
-            more = f'; calls like it were made {self.notes} times' if self.notes > 1 else ''
-            place = f'{segment:04X}:{(offset - 2) % 0x10000:04X}'
-            found.append(f"INT {number:02X}h function {ax >> 8:02X}h, called at {place}, isn't among the services (docs/services.md){more}")
+    def remarks(self, place_of: Callable[[tuple[int, int]], str] = at_place) -> list[str]:
+        """What a person has to know besides, as sentences: of each call that wasn't served all places."""
+        them = dict[str, list[Call]]()
+        for call in self.calls:
+            them.setdefault(call.name, []).append(call)
+        found = [f'{name}, called {" and ".join(times(place_of(call.at), call.times) for call in calls)}, {calls[0].why}' for name, calls in them.items()]
+        more = self.notes - sum(call.times for call in self.calls)
+        if self.calls and more > 0:
+            found.append(f"{more:,} more calls that weren't served are of places for which the list of {len(self.calls)} has no room")
         if self.lost:
             found.append(f"{self.lost} keys were lost: the keyboard's buffer, which holds 15, was full")
         return found
@@ -167,4 +227,10 @@ def left_at(session: Talker, ram_end: int, ended: int | None = None) -> Served |
         return None
     output = session.dump(base, min(written, KEPT)) if written else b''
     note = number, place[0], place[1], place[2]
-    return Served(phase, how, code, ended if phase == 2 else None, written, output, notes, note, lost, paragraph)
+    calls = (calls_of(session.dump(base + KEPT + LIST[0], LIST[1] * LIST[2].size)) or (Call(*note, notes),)) if notes else ()
+    return Served(phase, how, code, ended if phase == 2 else None, written, output, notes, note, lost, paragraph, calls)
+
+
+def calls_of(octets: bytes) -> tuple[Call, ...]:
+    """The list of calls that weren't served. Images of earlier services have none."""
+    return tuple(call for call in (Call(*row) for row in LIST[2].iter_unpack(octets)) if call.times)

@@ -24,6 +24,7 @@ OFTEN = 64  # so many times an instruction is looked at
 LONG, LONGEST = 1000, 2_000_000  # no instruction takes so many clocks, and no repeated one
 WAKES = 0x300  # IF and TF
 ROM, TEXT, TEXT_END, SERVICES = 0xF0000, 0xB0000, 0xB0FFF, 0xF6000
+COLOUR, COLOUR_END = 0xB8000, 0xC0000
 DATA = ('DB', 'DW', 'DD')
 # What writes its first operand.
 WRITERS = set('MOV ADD ADC SUB SBB AND OR XOR INC DEC NEG NOT SHL SAL SHR SAR ROL ROR RCL RCR XCHG POP'.split())
@@ -233,6 +234,8 @@ class Run:
         """What is wrong with writing at an address: nothing, or a clause."""
         if address >= ROM:
             return 'which is ROM: what is written there is lost'
+        if COLOUR <= address < COLOUR_END:
+            return 'where a colour adapter has its text, and none is here: what is written there is lost; text memory begins at paragraph 0B000h'
         if self.ram_end <= address < TEXT:
             return f'and nothing answers there (RAM ends at {self.ram_end - 1:05X}h): what is written there is lost'
         return 'and nothing answers there: what is written there is lost' if address > TEXT_END else ''
