@@ -9,7 +9,7 @@ import struct
 from dataclasses import replace
 from typing import Callable
 
-from toolbox.command import Sorry, read_bytes
+from toolbox.command import Sorry, read_bytes, write_bytes
 from toolbox.loading import BLOCK, ROM, SERVICES_OWN, Loaded, placed
 from toolbox.services import address_of
 
@@ -128,5 +128,4 @@ def take_off(files: dict[str, bytes], path: str) -> None:
     with contextlib.suppress(FileExistsError):
         os.mkdir(path)
     for name, octets in files.items():
-        with open(os.path.join(path, name), 'xb') as file:
-            file.write(octets)
+        write_bytes(os.path.join(path, name), octets)
