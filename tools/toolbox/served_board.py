@@ -3,7 +3,7 @@ from __future__ import annotations
 
 from functools import cached_property
 
-from toolbox.disassembly import instruction
+from toolbox.disassembly import NONE, listed
 from toolbox.effects import Far
 from toolbox.listing import physical
 from toolbox.loading import BLOCK, SECTOR
@@ -70,5 +70,5 @@ class ServedBoard(SessionBoard):
     @staticmethod
     def _with_text(event: Event) -> Event:
         """An instruction with its text."""
-        listed = instruction(event.offset, event.octets)
-        return event._replace(text=listed.text if listed else '')
+        _, _, text = next(listed(event.offset, event.octets, 1))
+        return event._replace(text='' if text == NONE else text)
