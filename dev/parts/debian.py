@@ -1,5 +1,5 @@
-"""A release as a Debian package: all of it below /usr/lib/zebludor, with the commands pcboard, pcprobe and zebludor, their pages for
-man, what completes their words, the module for Python, and the libraries where compilers and pkg-config look for them."""
+"""A release as a Debian package: all of it below /usr/lib/zebludor, with the commands pcboard, pcprobe, pcmasm and zebludor, their
+pages for man, what completes their words, the module for Python, and the libraries where compilers and pkg-config look for them."""
 from __future__ import annotations
 
 import gzip
@@ -158,7 +158,7 @@ def links() -> dict[str, str]:
     made |= {f'usr/share/bash-completion/completions/{each}': 'zebludor' for each in PROGRAMS}
     made['usr/lib/python3/dist-packages/zebludor.py'] = '../../zebludor/python/zebludor.py'
     made['usr/include/zebludor.h'] = '../lib/zebludor/c/zebludor.h'
-    made[f'{ROOM}/pcprobe'] = 'pcboard'
+    made |= {f'{ROOM}/{each}': 'pcboard' for each in PROGRAMS[1:]}
     return made | {f'{DOCS}/{each}': f'../../../lib/zebludor/{each}' for each in LINKED}
 
 
@@ -193,7 +193,7 @@ def ar_of(parts: dict[str, bytes]) -> bytes:
 
 def made(found: Files, version: str, maintainer: str) -> bytes:
     """The package of a release's files."""
-    kept = {path: each for path, each in found.items() if path not in ('SHA256SUMS', 'pcprobe') and not path.endswith(('.a', '.pc'))} | programs(found)
+    kept = {path: each for path, each in found.items() if path not in ('SHA256SUMS', *PROGRAMS[1:]) and not path.endswith(('.a', '.pc'))} | programs(found)
     files = {f'{ROOM}/{path}': (for_debian(octets), is_program) for path, (octets, is_program) in kept.items()}
     files |= library_files(found) | share_files(found, version, maintainer)
     size = sum(-(-len(octets) // 1024) for octets, _ in files.values())

@@ -1,5 +1,5 @@
-"""A release as a wheel: all of it in the folder zebludor_files, the module zebludor beside that, and the commands pcboard, pcprobe
-and zebludor."""
+"""A release as a wheel: all of it in the folder zebludor_files, the module zebludor beside that, and the commands pcboard, pcprobe,
+pcmasm and zebludor."""
 from __future__ import annotations
 
 import base64
@@ -10,7 +10,7 @@ import zipfile
 TAG = 'py3-none-manylinux_2_34_x86_64'  # the programs need glibc 2.34
 TIME = (1980, 1, 1, 0, 0, 0)
 FILES = 'zebludor_files'
-START = '''"""The commands pcboard, pcprobe and zebludor."""
+START = '''"""The commands pcboard, pcprobe, pcmasm and zebludor."""
 import os
 import sys
 
@@ -37,12 +37,18 @@ def pcprobe():
     os.execv(f'{TOP}/pcprobe', [f'{TOP}/pcprobe', *sys.argv[1:]])
 
 
+def pcmasm():
+    """The launcher of pcmasm."""
+    _begin()
+    os.execv(f'{TOP}/pcmasm', [f'{TOP}/pcmasm', *sys.argv[1:]])
+
+
 def zebludor():
     """The command over the tools."""
     _begin()
     os.execv(sys.executable, [sys.executable, f'{TOP}/tools/zebludor', *sys.argv[1:]])
 '''
-COMMANDS = '[console_scripts]\n' + ''.join(f'{each} = zebludor_start:{each}\n' for each in ('pcboard', 'pcprobe', 'zebludor'))
+COMMANDS = '[console_scripts]\n' + ''.join(f'{each} = zebludor_start:{each}\n' for each in ('pcboard', 'pcprobe', 'pcmasm', 'zebludor'))
 METADATA = """Metadata-Version: 2.1
 Name: zebludor
 Version: {version}

@@ -1,4 +1,4 @@
-"""A repository of two programs over a crate or two, and a kit whose commands only write what a build leaves: for tests of what
+"""A repository of three programs over a crate or two, and a kit whose commands only write what a build leaves: for tests of what
 proves and builds."""
 from __future__ import annotations
 
@@ -13,7 +13,7 @@ KIT, LOGIC = 'rattle-kit-1', '0123456789abcdef'
 RT = f"""#!/bin/sh
 [ "$1" != version ] || echo "{KIT} logic {LOGIC}"
 """
-CRATES = 'low:\npcboard: low\nprobe: low\npcprobe: low probe\nother:\n'
+CRATES = 'low:\npcboard: low\nprobe: low\npcprobe: low probe\npcmasm: low\nother:\n'
 # It leaves what was to be built, and tells a verdict; a program, which the linker makes, is a script that tells how it was called.
 RATTLE = r"""#!/bin/sh
 echo "${PWD##*/}" >> "$(dirname "$0")/proved"
@@ -39,8 +39,9 @@ class Repository(ToolCase):
         parts = (f'dev/parts/{stem}.py' for stem in ('__init__', 'building'))
         for name in ('pcboard', 'VERSION', 'README.md', 'dev/build', *parts, *shared):
             shutil.copy(f'{TOP}/{name}', f'{self.room}/top/{name}')
-        os.symlink('pcboard', f'{self.room}/top/pcprobe')
-        for name in ('low', 'pcboard', 'probe', 'pcprobe', 'other'):
+        for name in ('pcprobe', 'pcmasm'):
+            os.symlink('pcboard', f'{self.room}/top/{name}')
+        for name in ('low', 'pcboard', 'probe', 'pcprobe', 'pcmasm', 'other'):
             os.makedirs(f'{self.room}/top/crates/{name}/src')
             self.file(f'top/crates/{name}/src/{"main" if name.startswith("pc") else "lib"}.rt', '// nothing\n')
         self.file('top/crates.txt', CRATES)

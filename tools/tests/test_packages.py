@@ -296,9 +296,9 @@ class Package(Installed):
                     target = os.path.normpath(os.path.join(os.path.dirname(each.name), each.linkname))
                     self.assertTrue(f'./{target}' in names, f'{each.name} leads to {each.linkname}')
         self.assertEqual(listed, {})
-        self.assertEqual(sorted(os.path.basename(each) for each in names if each.startswith('./usr/bin/')), ['pcboard', 'pcprobe', 'zebludor'])
+        self.assertEqual(sorted(os.path.basename(each) for each in names if each.startswith('./usr/bin/')), ['pcboard', 'pcmasm', 'pcprobe', 'zebludor'])
         for path in (
-            *(f'bash-completion/completions/{each}' for each in ('pcboard', 'pcprobe', 'zebludor')),
+            *(f'bash-completion/completions/{each}' for each in ('pcboard', 'pcprobe', 'pcmasm', 'zebludor')),
             'zsh/vendor-completions/_zebludor',
             'fish/vendor_completions.d/zebludor.fish',
             'doc/zebludor/examples',
@@ -307,7 +307,7 @@ class Package(Installed):
         for path in ('include/zebludor.h', 'lib/python3/dist-packages/zebludor.py'):
             self.assertIn(f'./usr/{path}', names)
         pages = {each.rpartition('/')[2] for each in names if '/man1/' in each}
-        self.assertEqual(pages, {f'{each}.1.gz' for each in ('pcboard', 'pcprobe', 'zebludor', *(f'zebludor-{each}' for each in manual.names()))})
+        self.assertEqual(pages, {f'{each}.1.gz' for each in ('pcboard', 'pcprobe', 'pcmasm', 'zebludor', *(f'zebludor-{each}' for each in manual.names()))})
 
     def test_links_lead_somewhere(self) -> None:
         self.assertEqual(dead_links(self.content()), [])

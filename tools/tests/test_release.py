@@ -24,7 +24,7 @@ from toolbox.sources import sum_of, sum_of_sources
 
 VERDICT = 'logic=proved functions=1 sum=0123456789abcdef native=nat'
 LIBRARIES = ('zebludor_chips', 'zebludor_run', 'zebludor_session')
-CRATES = {it: {'low', it} for it in ('pcboard', *LIBRARIES)} | {'pcprobe': {'low', 'probe', 'pcprobe'}}
+CRATES = {it: {'low', it} for it in ('pcboard', *LIBRARIES)} | {'pcprobe': {'low', 'probe', 'pcprobe'}, 'pcmasm': {'low', 'pcmasm'}}
 NAME = release.name()
 MADE = (f'{NAME}.tar.gz', wheel.name(release.version()), debian.name(release.version()), 'Containerfile')
 HAS_CC = is_there('cc', 'a release', 'gcc')  # without it none is made, and no case here is run
@@ -108,7 +108,7 @@ class Unpacked(Repository):
             shutil.copy(program.path(name), f'{self.top}/stored/{name}')
         self.file(
             'top/crates.txt',
-            'low:\npcboard: low\nprobe: low\npcprobe: low probe\nzebludor_chips staticlib: low\nzebludor_run staticlib: low\nzebludor_session staticlib: low\n',
+            'low:\npcboard: low\nprobe: low\npcprobe: low probe\npcmasm: low\nzebludor_chips staticlib: low\nzebludor_run staticlib: low\nzebludor_session staticlib: low\n',
         )
         for name in release.LIBRARIES:
             for part in ('src', 'out'):
@@ -254,7 +254,9 @@ class Release(Unpacked):
         for path in (
             'pcboard',
             'stored/pcboard',
+            'pcmasm',
             'pcprobe',
+            'stored/pcmasm',
             'stored/pcprobe',
             'tools/try',
             'python/zebludor.py',
@@ -284,7 +286,7 @@ class Release(Unpacked):
         self.assertEqual(
             lines[3:8], [f'made {os.path.relpath(path, top)} {sum_of(path)} sources {sum_of_sources(CRATES[crate], self.top)}' for path, crate in made]
         )
-        self.assertEqual(lines[8:], [f'{it}: {VERDICT} of={it}' for it in ('low', 'pcboard', 'pcprobe', 'probe', *LIBRARIES)])
+        self.assertEqual(lines[8:], [f'{it}: {VERDICT} of={it}' for it in ('low', 'pcboard', 'pcmasm', 'pcprobe', 'probe', *LIBRARIES)])
 
     def test_sums(self) -> None:
         top = self.unpacked()

@@ -21,15 +21,15 @@ from toolbox.sources import sum_of, sum_of_sources
 
 VERDICT = 'logic=proved functions=1 sum=0123456789abcdef native=nat'
 AT_ONCE = (0, 'it runs run\n')
-NAMES = ('pcboard', 'pcprobe')
-BELOW = {'pcboard': ['low', 'pcboard'], 'pcprobe': ['low', 'pcprobe', 'probe']}
-ALL = sorted({*BELOW['pcboard'], *BELOW['pcprobe']})
-# What `rt ci` prints and leaves, where it proves the crates of both programs and keeps another one.
+NAMES = ('pcboard', 'pcprobe', 'pcmasm')
+BELOW = {'pcboard': ['low', 'pcboard'], 'pcprobe': ['low', 'pcprobe', 'probe'], 'pcmasm': ['low', 'pcmasm']}
+ALL = sorted({crate for below in BELOW.values() for crate in below})
+# What `rt ci` prints and leaves, where it proves the crates of all programs and keeps another one.
 CI = rf"""#!/bin/sh
 [ "$1" != version ] || {{ echo "{KIT} logic {LOGIC}"; exit; }}
 printf '== low\nfn it: proved\n{VERDICT}\nrt: low proved\nrt: other is kept: as before\n'
 printf '== low: its tests\nlogic=proved tests=1 functions=9\nrt: low: its tests are proved\n== probe\n{VERDICT}\nrt: probe proved\n'
-for name in pcboard pcprobe; do
+for name in pcboard pcprobe pcmasm; do
     printf '== %s\n{VERDICT}\nrt: %s proved\n' $name $name
     mkdir -p crates/$name/out
     printf '#!/bin/sh\n# %s\n[ "$1" != --help ] || exit 2\necho "it runs $*"\n' $name > crates/$name/out/$name
@@ -55,7 +55,7 @@ class Stored(Repository):
         self.assertEqual(ran.returncode, 0, ran.stderr)
         return ran.stdout + ran.stderr
 
-    def build_both(self) -> None:
+    def build_all(self) -> None:
         for name in NAMES:
             self.build(name)
 
@@ -68,7 +68,7 @@ class Stored(Repository):
     def store(self) -> None:
         """Leaves a clone as it is made from a repository in which programs were built and stored, which is done once for all cases."""
         if not Stored.made:
-            self.build_both()
+            self.build_all()
             self.build('--store')
             for name in NAMES:
                 shutil.rmtree(f'{self.top}/crates/{name}/out')
@@ -81,7 +81,7 @@ class Stored(Repository):
             os.chmod(self.file(f'top/stored/{name}', text), 0o755)
 
     def at_once(self, top: str = '') -> str:
-        """What standard error has where both run at once, with Rattle and without."""
+        """What standard error has where all run at once, with Rattle and without."""
         found = ''
         for name in NAMES:
             for has_rt in (False, True):
@@ -102,7 +102,7 @@ class Stored(Repository):
         self.store()
         said = self.launch(has_rt=False).stderr
         self.assertEqual(said.count('\n'), 1)
-        for words in ('stored/pcboard and stored/pcprobe were proved elsewhere', KIT, 'dev/build pcboard proves this one here'):
+        for words in ('the programs in stored/ were proved elsewhere', KIT, 'dev/build pcboard proves this one here'):
             self.assertIn(words, said)
         self.assertEqual(self.at_once(), '')
         shutil.rmtree(f'{self.room}/cache')
@@ -118,9 +118,9 @@ class Stored(Repository):
                     self.assertEqual((ran.returncode, ran.stdout), AT_ONCE)
                     self.assertRegex(ran.stderr, rf'\A{name}: the programs [^\n]*proved elsewhere[^\n]*\n\Z')
 
-    def test_the_launcher_has_two_names(self) -> None:
+    def test_the_launcher_has_three_names(self) -> None:
         """A link of any name to one of them starts what that one starts."""
-        self.assertEqual(os.readlink(f'{TOP}/pcprobe'), 'pcboard')
+        self.assertEqual([os.readlink(f'{TOP}/{name}') for name in NAMES[1:]], ['pcboard', 'pcboard'])
         self.store()
         os.makedirs(f'{self.room}/links')
         for link, to in (
@@ -129,10 +129,11 @@ class Stored(Repository):
             ('three', '../links/two'),
             ('pcprobe', f'{self.top}/pcprobe'),
             ('board', '../top/pcboard'),
+            ('masm', f'{self.top}/pcmasm'),
         ):
             os.symlink(to, f'{self.room}/links/{link}')
-        for link in ('one', 'two', 'three', 'pcprobe', 'board'):
-            name = 'pcboard' if link == 'board' else 'pcprobe'
+        for link in ('one', 'two', 'three', 'pcprobe', 'board', 'masm'):
+            name = {'board': 'pcboard', 'masm': 'pcmasm'}.get(link, 'pcprobe')
             ran = self.start(
                 '/bin/sh', '-c', 'cd "$1" && "$2" --version && bash "$2" --version && PATH=$1:$PATH "${2#./}" --version', '', f'{self.room}/links', f'./{link}'
             )
@@ -348,7 +349,7 @@ class Stored(Repository):
         self.assertNotIn('stored', self.launch(has_rt=False).stderr)
 
     def test_one_that_is_missing_or_damaged_leaves_the_other(self) -> None:
-        for gone, other in (NAMES, NAMES[::-1]):
+        for gone, other in zip(NAMES, (*NAMES[1:], NAMES[0])):
             self.store()
             for damage, why in (
                 (lambda: os.truncate(f'{self.stored}/{gone}', 9), 'its SHA-256 is another'),
@@ -506,7 +507,7 @@ class Stored(Repository):
     def test_one_that_the_environment_names(self) -> None:
         self.store()
         self.launch()
-        os.chmod(self.file('mine', '#!/bin/sh\necho "mine, $PCBOARD$PCPROBE $*"\n'), 0o755)
+        os.chmod(self.file('mine', '#!/bin/sh\necho "mine, $PCBOARD$PCPROBE$PCMASM $*"\n'), 0o755)
         for path in (f'{self.room}/mine', 'mine', './mine', '../' + os.path.basename(self.room) + '/mine'):
             for name in NAMES:
                 ran = self.named(path, name=name)
@@ -522,7 +523,7 @@ class Stored(Repository):
         os.symlink('a link', f'{self.room}/a link to it')
         os.link(f'{self.top}/pcboard', f'{self.room}/another name')
         os.chmod(self.file('a script', f'#!/bin/sh\nexec "{self.top}/pcboard" "$@"\n'), 0o755)
-        for path in (f'{self.top}/pcboard', 'top/../top/pcboard', f'{self.top}/pcprobe', 'a link', 'a link to it', 'another name', 'a script'):
+        for path in (f'{self.top}/pcboard', 'top/../top/pcboard', f'{self.top}/pcprobe', f'{self.top}/pcmasm', 'a link', 'a link to it', 'another name', 'a script'):
             ran = self.named(path)
             self.assertEqual((ran.returncode, ran.stdout, ran.stderr), (*AT_ONCE, ''), path)
 
@@ -619,24 +620,26 @@ class Stored(Repository):
         self.build('pcboard')
         self.assertIn('crates/pcprobe/out has no program; tools/test makes one, and so do rt ci and dev/build pcprobe', self.refused())
         self.build('pcprobe')
-        self.assertIn(f'stored/PROVED: {KIT}, 4 verdicts', self.build('--store'))
+        self.assertIn('crates/pcmasm/out has no program', self.refused())
+        self.build('pcmasm')
+        self.assertIn(f'stored/PROVED: {KIT}, 5 verdicts', self.build('--store'))
         with open(f'{self.stored}/PROVED', encoding='utf-8') as file:
             lines = file.read().splitlines()
         made = [f'made {name} {sum_of(f"{self.stored}/{name}")} sources {sum_of_sources(BELOW[name], self.top)}' for name in NAMES]
         self.assertEqual(lines, [f'kit {KIT}', f'logic {LOGIC}', *made, *(f'{crate}: {VERDICT}' for crate in ALL)])
-        self.assertEqual(sorted(os.listdir(self.stored)), ['PROVED', *NAMES])
+        self.assertEqual(sorted(os.listdir(self.stored)), ['PROVED', *sorted(NAMES)])
         for name in NAMES:
             self.assertEqual(os.stat(f'{self.stored}/{name}').st_mode & 0o777, 0o755)
             self.assertEqual(sum_of(f'{self.stored}/{name}'), sum_of(f'{self.top}/crates/{name}/out/{name}'))
 
-    def test_both_are_renewed_or_none(self) -> None:
-        self.build_both()
+    def test_all_are_renewed_or_none(self) -> None:
+        self.build_all()
         self.build('--store')
         for gone in NAMES:
             os.rename(f'{self.top}/crates/{gone}/out', f'{self.room}/out')
             self.assertIn(f'crates/{gone}/out has no program', self.refused())
             os.rename(f'{self.room}/out', f'{self.top}/crates/{gone}/out')
-        for crate, stale in (('pcprobe', 'pcprobe'), ('probe', 'pcprobe'), ('pcboard', 'pcboard'), ('low', 'pcboard')):
+        for crate, stale in (('pcprobe', 'pcprobe'), ('probe', 'pcprobe'), ('pcboard', 'pcboard'), ('pcmasm', 'pcmasm'), ('low', 'pcboard')):
             put_back = self.change_text(f'crates/{crate}/src/New.rt')
             self.assertIn(f'crates/{stale}/out/{stale} is not made of the present sources', self.refused())
             put_back()
@@ -645,23 +648,26 @@ class Stored(Repository):
         self.build('--store')
         self.assertEqual(self.proved(self.stored).made['pcprobe'].sources, sum_of_sources(BELOW['pcprobe'], self.top))
 
-    def test_one_kit_makes_both(self) -> None:
+    def test_one_kit_makes_all(self) -> None:
         self.build('pcboard')
         self.file('bin/rt', '#!/bin/sh\necho "rattle-kit-2 logic 0"\n')
-        self.build('pcprobe')
-        self.assertIn(f'{KIT} made crates/pcboard/out/pcboard and rattle-kit-2 made crates/pcprobe/out/pcprobe; one kit has to make both', self.refused())
+        for name in NAMES[1:]:
+            self.build(name)
+        made = f'{KIT} made crates/pcboard/out/pcboard and rattle-kit-2 made crates/pcprobe/out/pcprobe and rattle-kit-2 made crates/pcmasm/out/pcmasm'
+        self.assertIn(f'{made}; one kit has to make all of them', self.refused())
         self.build('pcboard')
         shutil.rmtree(f'{self.room}/cache')
         self.file('bin/rt', f'#!/bin/sh\necho "{KIT} logic {LOGIC}"\n')
-        self.assertIn('rattle-kit-2, 4 verdicts', self.build('--store'))
+        self.assertIn('rattle-kit-2, 5 verdicts', self.build('--store'))
         self.file('top/crates/pcprobe/out/PROVED', self.proved(f'{self.top}/crates/pcprobe/out').text().replace(f'low: {VERDICT}\n', ''))
         self.assertIn("was built by rattle-kit-2, which isn't the kit that is here", self.refused())
 
     def test_a_crate_whose_verdict_is_lost_is_proved_again(self) -> None:
-        self.build_both()
+        self.build_all()
         shutil.rmtree(f'{self.room}/cache/zebludor/verdicts')
         self.assertIn('2 of 2: pcboard', self.build('pcboard'))
         self.assertIn('3 of 3: pcprobe', self.build('pcprobe'))
+        self.assertIn('2 of 2: pcmasm', self.build('pcmasm'))
         self.build('--store')
 
     def test_verdicts_that_are_unknown_can_be_proved_alone(self) -> None:
@@ -714,7 +720,7 @@ class Stored(Repository):
         self.file('bin/rt', CI)
         printed = self.start('/bin/sh', '-c', 'cd "$1" && rt ci', '', self.top).stdout
         self.assertIn('nothing here has seen the verdicts of low, pcboard; ', self.refused())
-        self.assertEqual(self.build('--seen', self.file('log', printed), self.top), f'4 verdicts: {" ".join(ALL)}\n')
+        self.assertEqual(self.build('--seen', self.file('log', printed), self.top), f'5 verdicts: {" ".join(ALL)}\n')
         for name in NAMES:
             self.assertFalse(os.path.exists(f'{self.top}/crates/{name}/out/PROVED'))
         self.touch('crates/low/src/lib.rt')
@@ -761,7 +767,7 @@ class Checkout(ToolCase):
             return
         top, text = f'{self.room}/top', b'one\r\ntwo\nthree\0\n'
         git = ['git', '-c', 'core.autocrlf=true', '-c', 'user.name=it', '-c', 'user.email=it', '-c', 'commit.gpgsign=false']
-        paths = ('stored/pcboard', 'stored/pcprobe', 'stored/PROVED', 'crates.txt', 'crates/isa/src/lib.rt', 'crates/isa/specs/Lib.antt')
+        paths = (*(f'stored/{name}' for name in NAMES), 'stored/PROVED', 'crates.txt', 'crates/isa/src/lib.rt', 'crates/isa/specs/Lib.antt')
         for path in paths:
             os.makedirs(f'{top}/{os.path.dirname(path)}', exist_ok=True)
             with open(f'{top}/{path}', 'wb') as file:
@@ -785,7 +791,7 @@ class Gate(ToolCase):
         """By the same kit of the same sources. A stored program that is older than the sources is told, and no failure."""
         stored = proved.read(f'{TOP}/stored')
         assert stored
-        self.assertEqual(sorted(stored.made), [*NAMES], 'stored/PROVED tells of others than the stored programs')
+        self.assertEqual(sorted(stored.made), sorted(NAMES), 'stored/PROVED tells of others than the stored programs')
         for name in NAMES:
             self.compare(name, stored)
 

@@ -115,7 +115,7 @@ class Glossary(unittest.TestCase):
         """An identifier, or a file of the repository."""
         quoted = {name for said in rows().values() for name in re.findall(r'`([^`]+)`', said)}
         self.assertGreater(len(quoted), 30)
-        programs = {'pcboard', 'pcprobe'}
+        programs = {'pcboard', 'pcprobe', 'pcmasm'}
         files = {name for name in quoted if '/' in name and pathlib.Path(TOP, name.split()[0]).is_file()}
         self.assertEqual(sorted(quoted - programs - files - set(names())), [])
 

@@ -19,7 +19,7 @@ from toolbox.program import TOP
 
 TOOLS = f'{TOP}/tools'
 NOT_OURS = ('test', 'zebludor')
-PROGRAMS = {'pcboard': ('', 'run', 'asm', 'debug'), 'pcprobe': ('',)}  # and their tasks
+PROGRAMS = {'pcboard': ('', 'run', 'asm', 'debug'), 'pcprobe': ('',), 'pcmasm': ('',)}  # and their tasks
 SIGNS = {'\\': r'\e', '-': r'\-', '`': r'\(ga', "'": r'\(aq', '^': r'\(ha', '~': r'\(ti'}
 
 

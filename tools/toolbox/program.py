@@ -44,19 +44,19 @@ ENDING, ENDED = f'back {LAST_CLOCK + 1}', f'{BEFORE_START}\n'.encode()  # ends a
 
 
 def path(name: str = 'pcboard') -> str:
-    """The program pcboard or pcprobe: the one that $PCBOARD or $PCPROBE names, else the one that the launcher takes, or one that was
-    built of other sources."""
+    """The program of this name: the one that $PCBOARD, $PCPROBE or $PCMASM names, else the one that the launcher takes, or one that
+    was built of other sources."""
     try:
         return zebludor.program(name)
     except Unfit as unfit:
         raise Sorry(str(unfit)) from None
 
 
-def run(words: list[str], given: bytes = b'') -> Ran:
-    """Runs the program to its end."""
-    path()
+def run(words: list[str], given: bytes = b'', name: str = 'pcboard') -> Ran:
+    """Runs a program to its end."""
+    path(name)
     try:
-        return zebludor.ran(words, given, MOST_READ)
+        return zebludor.ran(words, given, MOST_READ, name)
     except Unfit as unfit:
         raise Sorry(f'{unfit}; the speaker changes often there, so a smaller budget has less') from None
 

@@ -14,7 +14,7 @@ from toolbox.command import Sorry, write_text
 from toolbox.crates import CACHE, TOP, Crates, want_rattle
 from toolbox.sources import files, stamps, sum_of, sum_of_sources
 
-PROGRAMS = ('pcboard', 'pcprobe')  # which are stored together
+PROGRAMS = ('pcboard', 'pcprobe', 'pcmasm')  # which are stored together
 STORED = f'{TOP}/stored'
 REMEMBERED = f'{CACHE}/zebludor/verdicts'
 VERDICT = 'logic=proved '
@@ -215,7 +215,7 @@ def store() -> Proved:
     """Makes the stored programs those that were built here. Nothing is stored where one of them can't be."""
     built = [built_here(name) for name in PROGRAMS]
     if len({(each.kit, each.logic) for each in built}) > 1:
-        raise Sorry(' and '.join(f'{each.kit} made crates/{name}/out/{name}' for name, each in zip(PROGRAMS, built)) + '; one kit has to make both')
+        raise Sorry(' and '.join(f'{each.kit} made crates/{name}/out/{name}' for name, each in zip(PROGRAMS, built)) + '; one kit has to make all of them')
     whole = Proved(built[0].kit, built[0].logic, {}, {})
     for each in built:
         whole.made.update(each.made)
