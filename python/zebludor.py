@@ -213,8 +213,8 @@ class Ran:
 
 
 def program(name: str = 'pcboard') -> str:
-    """The program pcboard or pcprobe: the one that $PCBOARD or $PCPROBE names, else the one that the repository's launcher takes, or
-    one that was built of other sources."""
+    """The program pcboard, pcprobe or pcmasm: the one that $PCBOARD, $PCPROBE or $PCMASM names, else the one that the repository's
+    launcher takes, or one that was built of other sources."""
     chosen = os.environ.get(name.upper())
     found = chosen or taken(name)
     if not os.access(found, os.X_OK):
@@ -253,10 +253,10 @@ def limited(words: list[str]) -> list[str]:
     return ['/bin/sh', '-c', f'ulimit -v {1024 * _limits[0]} 2>/dev/null; exec "$0" "$@"', *words] if _limits else words
 
 
-def ran(words: list[str], given: bytes = b'', most: int = sys.maxsize) -> Ran:
-    """Runs the program to its end. An answer of more than `most` bytes isn't read, which is told as Unfit."""
+def ran(words: list[str], given: bytes = b'', most: int = sys.maxsize, name: str = 'pcboard') -> Ran:
+    """Runs a program to its end. An answer of more than `most` bytes isn't read, which is told as Unfit."""
     with tempfile.TemporaryFile() as err:
-        process = subprocess.Popen(limited([program(), *words]), stdin=subprocess.PIPE, stdout=subprocess.PIPE, stderr=err)
+        process = subprocess.Popen(limited([program(name), *words]), stdin=subprocess.PIPE, stdout=subprocess.PIPE, stderr=err)
         assert process.stdin and process.stdout
         try:
             with contextlib.suppress(BrokenPipeError), process.stdin as to:
@@ -355,18 +355,19 @@ def _made(source: Source, is_hex: bool, services: bool | None, given: dict[str, 
         yield ['--hex', '--', *made] if made else [*words, *names]
 
 
-def _has_int(path: str) -> bool:
-    """Whether a source may call an interrupt, by the look of its bytes."""
+def _may_be_served(path: str) -> bool:
+    """Whether a source may have services, by the look of its bytes: it calls an interrupt, or has no segment of the dialect."""
     try:
         with open(path if os.path.isfile(path) else os.devnull, 'rb') as file:
-            return bool(re.search(rb'\bINT\b', file.read(), re.I))
+            text = file.read()
     except OSError:
         return False
+    return bool(text and (re.search(rb'\bINT\b', text, re.I) or not re.search(rb'\bSEGMENT\s+\w+\s+AT\b', text, re.I)))
 
 
 def _served(path: str, services: bool | None, given: dict[str, Any], room: str) -> list[str] | None:
     """The image and the run file of a program with services; None of what is none, or is refused. Where the tools aren't, none is."""
-    if not (services or path[-4:].lower() in ('.com', '.exe', '.bin') or _has_int(path)):
+    if not (services or path[-4:].lower() in ('.com', '.exe', '.bin') or _may_be_served(path)):
         return None
     try:
         guests, command = _toolbox('guests', 'command')
@@ -794,7 +795,11 @@ class Places:
         command, listings, _, programs = self._tools
         with _files(self._source) as names:
             try:
-                return listings.listing_of(programs.Files(names[-1], '', self._is_hex, self._symbols))
+                guest = None if self._is_hex or self._symbols else _toolbox('guests')[0].guest_in(names[-1])
+                if guest is None:
+                    return listings.listing_of(programs.Files(names[-1], '', self._is_hex, self._symbols))
+                with _toolbox('guests')[0].prepared(guest, programs.Files(names[-1], '')) as files:
+                    return listings.listing_of(files)
             except command.Sorry as sorry:
                 raise Unfit(str(sorry)) from None
 

@@ -378,8 +378,10 @@ class Strangers(ToolCase):
             self.assertTrue(until(lambda begun=file.read().split(): not any(is_running(int(number)) for number in begun)))
 
     def test_no_other_assembler_is_called(self) -> None:
+        page = self.file('page', 'exit = 0\n')
         for word in ('--nasm', '--bcc'):
-            self.assertIn('unrecognized arguments', self.called('judge', '--class', word, 'page', 'it.asm', status=2)[1])
+            _, err = self.called('judge', '--class', word, page, 'it.asm', status=2)
+            self.assertIn('another assembler may read any file', err)
 
 
 if __name__ == '__main__':

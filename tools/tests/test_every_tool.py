@@ -98,8 +98,9 @@ class EveryTool(ToolCase):
         self.file('places', 'runs = start\n')
         self.file('hello.hex', self.pcboard('asm', f'{EXAMPLES}/hello.asm').stdout)
         from toolbox import program
+        from toolbox.proved import PROGRAMS
 
-        self.environment = {'PATH': '/usr/bin:/bin', 'HOME': self.room, 'PCBOARD': program.path(), 'PCPROBE': program.path('pcprobe')}
+        self.environment = {'PATH': '/usr/bin:/bin', 'HOME': self.room} | {name.upper(): program.path(name) for name in PROGRAMS}
 
     def begin(self, tool: str, *words: str, out: int = subprocess.PIPE, given: int = subprocess.DEVNULL, by: tuple[str, ...] = ()) -> subprocess.Popen[str]:
         """Starts a tool, whose standard input is empty where nothing is said; by another command, if one is named."""

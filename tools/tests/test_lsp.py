@@ -314,8 +314,6 @@ class Underlined(ToolCase):
             ('; it\n section .text\n', IT, 'NASM'),
             ('%define x 5', IT, 'NASM'),
             ('bits 16', IT, 'NASM'),
-            ('.model small', IT, 'MASM'),
-            ('main proc\n', IT, 'MASM'),
             (' .text\n', IT, 'gas'),
         ):
             here = Here()

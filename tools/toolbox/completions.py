@@ -1,4 +1,4 @@
-"""What completes the words of zebludor, pcboard and pcprobe in bash, zsh and fish, by the options that their --help tells."""
+"""What completes the words of zebludor, pcboard, pcprobe and pcmasm in bash, zsh and fish, by the options that their --help tells."""
 from __future__ import annotations
 
 import re
@@ -8,7 +8,7 @@ from toolbox import manual
 from toolbox.manual import PROGRAMS, Option
 
 FILES = re.compile(r'FILE|RUN|OUT|PAGE|REPORT|LISTING|FOLDER|NAME|CSV|ROOM|PICTURE|WAVE')
-BASH = r"""# bash completion of zebludor, pcboard and pcprobe, made by zebludor --completion bash
+BASH = r"""# bash completion of zebludor, pcboard, pcprobe and pcmasm, made by zebludor --completion bash
 _zebludor_words() {
     case "$1" in
 %s    esac
@@ -29,7 +29,7 @@ _zebludor() {
 complete -o default -F _zebludor zebludor pcboard pcprobe
 """
 ZSH = r"""#compdef zebludor pcboard pcprobe
-# zsh completion of zebludor, pcboard and pcprobe, made by zebludor --completion zsh
+# zsh completion of zebludor, pcboard, pcprobe and pcmasm, made by zebludor --completion zsh
 _zebludor() {
     local at="$service"
     local -a tasks
@@ -51,7 +51,7 @@ else
     compdef _zebludor zebludor pcboard pcprobe
 fi
 """
-FISH = """# fish completion of zebludor, pcboard and pcprobe, made by zebludor --completion fish
+FISH = """# fish completion of zebludor, pcboard, pcprobe and pcmasm, made by zebludor --completion fish
 function __zebludor_at
     set -l words (commandline -opc)
     set -l second ''

@@ -8,7 +8,7 @@ from typing import Any, Callable
 
 from toolbox.command import read_text
 from toolbox.comments import handed
-from toolbox.listing import Line, Listing, code_of, label_in, physical
+from toolbox.listing import Line, Listing, code_of, label_in, own_name, physical
 from toolbox.program import Files, answer_of
 
 SIZES = {'DB': 1, 'DW': 2, 'DD': 4}
@@ -52,17 +52,17 @@ def data_of(listing: Listing, image: dict[int, int]) -> list[Datum]:
     """The labels of data in the order of the source. A label's data are its statement and those of its kind behind it, up to the
     next label or another statement."""
     found, labelled = list[Datum](), list[str]()
-    lines = listing.lines
+    lines = listing.rows or listing.lines
     for at, line in enumerate(lines):
-        name = label_in(line.text)
+        name = label_in(line.said)
         if name:
-            labelled.append(name)
-        kind = kind_in(line.text)
+            labelled.append(own_name(name) if line.dialect else name)
+        kind = kind_in(line.said)
         if kind and line.address and labelled:
-            end = next((n for n in range(at + 1, len(lines)) if not goes_on(lines[n].text, kind)), len(lines))
+            end = next((n for n in range(at + 1, len(lines)) if not goes_on(lines[n].said, kind)), len(lines))
             length = length_of(lines[at:end], lines[end:], image)
             found += [Datum(label, line.number, kind, line.address, length) for label in labelled]
-        if kind or not is_empty(line.text):
+        if kind or not is_empty(line.said):
             labelled.clear()
     return found
 
@@ -94,7 +94,7 @@ def values_of(data: list[Datum], dump: Callable[[int, int], bytes]) -> list[dict
 
 def labels_of_data(files: Files, listing: Listing) -> list[Datum]:
     """The labels of data of a board's program."""
-    if not files.is_hex or files.source:
+    if not files.is_hex or files.source or listing.rows:
         from toolbox.symbols import image_of  # which stands on listings, as this does
 
         return data_of(listing, image_of(read_text(files.file) if files.is_hex else answer_of(['asm', '--', handed(files.file)])))

@@ -12,17 +12,20 @@ import tempfile
 from dataclasses import dataclass, replace
 from typing import Any, Iterator
 
-from toolbox import disk, loading
-from toolbox.command import Sorry, handed_on, read_bytes, write_bytes
+from toolbox import disk, foreign, loading, services
+from toolbox.command import Sorry, handed_on, read_bytes, read_text, write_bytes
 from toolbox.comments import handed
+from toolbox.listing import physical
 from toolbox.loading import Loaded, check_ram
 from toolbox.program import Files, Refusal, answer_of, is_hex_name, limited
 from toolbox.runfile import DEFAULTS, read_run_file, text_of, with_run_file
 from toolbox.services import MOST_RAM, is_served
 from toolbox.shown import bounded
+from toolbox.symbols import of_nasm
 
 BINARIES = ('.com', '.exe', '.bin')
 COMPILERS = {'nasm': ('nasm', 'nasm'), 'bcc': ('bcc', 'bcc elks-libc')}  # the command, and Debian's packages
+LANGUAGES = {'masm': 'of MASM, TASM or emu8086', 'nasm': 'for NASM', 'bcc': 'in C, for bcc', 'dialect': "of the board's own dialect"}
 FIRST_OF_BCC = 'crt0.o'  # what stands before a program, of bcc's library
 LONGEST = 1 << 20  # bytes of a program, which is all that the processor reaches
 _told = set[str]()
@@ -31,8 +34,9 @@ _told = set[str]()
 @dataclass(frozen=True)
 class Guest:
     """A file as it was given, and how it is taken: the command's tail, as a source with services or by `--com`, and the compiler; whether
-    the look of a source has told its services, and whether the program refuses it; and the files on its disk: by None it gets one if it
-    may use it."""
+    the look of a source has told its services or its compiler, and whether the program refuses it; whether it is of the dialect,
+    whatever its look; the folder of what it includes, if that isn't its own; whether nothing is told of it; and the files on its disk:
+    by None it gets one if it may use it."""
 
     file: str
     args: str | None = None
@@ -42,6 +46,9 @@ class Guest:
     is_bare: bool = False
     is_seen: bool = False
     is_refused: bool = False
+    is_own: bool = False
+    home: str = ''
+    is_quiet: bool = False
     files: tuple[str, ...] | None = None
 
     @property
@@ -53,6 +60,11 @@ class Guest:
     def is_source(self) -> bool:
         """Whether it is a source of the dialect."""
         return not (self.is_com or self.compiler or ending(self.file) in BINARIES)
+
+    @property
+    def is_text(self) -> bool:
+        """Whether it is a source that is translated line by line, or needs no translation: its own lines are known."""
+        return self.is_source or self.compiler == 'masm'
 
 
 def ending(path: str) -> str:
@@ -69,20 +81,24 @@ def add_words(reader: argparse.ArgumentParser) -> None:
     reader.add_argument('--com', action='store_true', help='FILE is a .COM program, whatever its name')
     reader.add_argument('--args', metavar='TEXT', help="the command's tail of a program with services")
     reader.add_argument('--file', metavar='NAME', action='append', dest='files', help='put a file on the disk of a program with services; several')
+    for name, what in LANGUAGES.items():
+        reader.add_argument(f'--{name}', action='store_true', help=f'FILE is a source {what}, whatever stands in it')
 
 
 def guest_of(given: argparse.Namespace, file: str | None = None) -> Guest:
     """What those words say, and else the look of the file."""
-    compiler = next((name for name in COMPILERS if getattr(given, name, False)), None)
+    name, is_hex, language = file or given.file, getattr(given, 'hex', False), language_of(given)
+    compiler, is_own = (None, True) if language == 'dialect' else (language, False)
     is_disk = given.files or getattr(given, 'files_out', None)
     files = tuple(given.files or ()) if is_disk else None
-    found = Guest(file or given.file, given.args, given.services, given.com, compiler, given.bare, files=files)
-    is_hex = getattr(given, 'hex', False)
+    found = Guest(name, given.args, given.services, given.com, compiler, given.bare, is_own=is_own, files=files)
     if found.is_bare and (found.is_served or found.is_com or compiler or given.args is not None or is_disk):
-        raise Sorry('--bare goes without the words that a program with services has: --services, --com, --args, --file, --files-out, --nasm, --bcc')
+        raise Sorry(
+            '--bare goes without the words that a program with services has: --services, --com, --args, --file, --files-out, --masm, --nasm, --bcc'
+        )
     if found.is_one and is_hex:
         raise Sorry(f'--hex goes without --services and --com, and {found.file} is no Intel HEX')
-    if not (found.is_one or found.is_bare or is_hex or is_hex_name(found.file)):
+    if found.is_source and not (found.is_bare or is_hex or is_hex_name(found.file)):
         found = looked_at(found)
     if given.args is not None and not found.is_one and not found.is_refused:
         raise Sorry('--args goes with a .COM or .EXE program, or a source that calls INT 10h, 16h, 20h or 21h')
@@ -93,25 +109,48 @@ def guest_of(given: argparse.Namespace, file: str | None = None) -> Guest:
 
 def words_of(given: argparse.Namespace) -> list[str]:
     """Those words, for another command."""
-    return [f'--{name}' for name in ('services', 'com', 'bare') if getattr(given, name)] + ([f'--args={given.args}'] if given.args is not None else [])
+    names = ('services', 'com', 'bare', *LANGUAGES)
+    return [f'--{name}' for name in names if getattr(given, name)] + ([f'--args={given.args}'] if given.args is not None else [])
 
 
 def looked_at(guest: Guest) -> Guest:
-    """A source, with services if its look tells them."""
+    """A source as its look tells: one of MASM, or with services, or none of these."""
+    if not guest.is_own and foreign.seen(guest.file):
+        return replace(guest, compiler='masm', is_seen=True)
+    if guest.is_served:
+        return guest
     look = is_served(guest.file)
     return replace(guest, is_served=bool(look), is_seen=bool(look), is_refused=look is None)
 
 
+def guest_in(file: str) -> Guest | None:
+    """A source of MASM by its look, of which nothing is told; None of another one."""
+    found = looked_at(Guest(file))
+    return replace(found, is_seen=False, is_quiet=True) if found.compiler else None
+
+
 def say(guest: Guest) -> None:
-    """Tells once that a source has the services by its look."""
+    """Tells once how a source is taken by its look, and what is noted of one of MASM."""
+    if guest.compiler == 'masm' and not guest.is_quiet:
+        foreign.tell(foreign.translated(guest.file, guest.home))
     if guest.is_seen and guest.file not in _told:
         _told.add(guest.file)
-        print(f'{os.path.basename(sys.argv[0])}: {said_of(guest.file)}', file=sys.stderr)
+        print(f'{os.path.basename(sys.argv[0])}: {said_of(guest, guest.file)}', file=sys.stderr)
 
 
-def said_of(file: str, without: str = '--bare') -> str:
-    """That a source has the services by its look, and what runs it without, as a sentence."""
+def said_of(guest: Guest, file: str, without: str = '--bare', otherwise: str = '--nasm or --dialect') -> str:
+    """How a source is taken by its look, and what takes it otherwise, as a sentence."""
+    if guest.compiler:
+        return f'{file} is a source of MASM, TASM or emu8086, and runs with the services (docs/masm.md); {otherwise} takes it otherwise'
     return f'{file} runs with the services (docs/services.md); {without} runs it without'
+
+
+def language_of(given: argparse.Namespace) -> str | None:
+    """Which language the words say that a source is in."""
+    named = [name for name in LANGUAGES if getattr(given, name, False)]
+    if len(named) > 1:
+        raise Sorry(f'a source is in one language, and here are --{" and --".join(named)}')
+    return named[0] if named else None
 
 
 def asked(given: argparse.Namespace) -> tuple[Guest, Files]:
@@ -127,11 +166,29 @@ def loaded(guest: Guest, ram: int, room: str) -> Loaded:
 def without_disk(guest: Guest, ram: int, room: str) -> Loaded:
     """The program with the services in memory."""
     args = guest.args or ''
+    if guest.compiler == 'masm':
+        return translated(guest, ram, room)
     if guest.compiler:
-        return of_bytes(guest, read_bytes(compiled(guest, room), LONGEST), ram, '')
+        made = compiled(guest, room)
+        return with_lines(guest, of_bytes(guest, read_bytes(made, LONGEST), ram, ''), f'{made}.lst')
     if guest.is_com or ending(guest.file) in BINARIES:
         return of_bytes(guest, read_bytes(guest.file, LONGEST), ram, '.com' if guest.is_com else ending(guest.file))
     return loading.source(guest.file, args, ram)
+
+
+def translated(guest: Guest, ram: int, room: str) -> Loaded:
+    """A source of MASM, with the rows of its own lines and names."""
+    translation = foreign.translated(guest.file, guest.home)
+    path = os.path.join(tempfile.mkdtemp(dir=room), os.path.basename(guest.file))
+    write_bytes(path, translation.text.encode('ascii', 'replace'))
+    try:
+        found = loading.source(path, guest.args or '', ram)
+    except Sorry as sorry:
+        foreign.listed(translation)  # which tells what is refused, as of the user's line
+        raise Sorry(str(sorry).replace(path, guest.file)) from None
+    rows = found.rows[: len(translation.lines)]
+    labels = [label for name in found.services for label in services.labels_of(name)]
+    return replace(found, rows=[*translation.rows(rows), *foreign.label_rows(rows), *labels])
 
 
 def of_bytes(guest: Guest, octets: bytes, ram: int, kind: str) -> Loaded:
@@ -154,7 +211,7 @@ def compiled(guest: Guest, room: str) -> str:
     command, package = COMPILERS[guest.compiler]
     stem, folder = os.path.splitext(os.path.basename(handed_on(guest.file)))[0], os.path.dirname(guest.file) or '.'
     made = os.path.join(room, f'{stem}.com')
-    words = {'nasm': ['-f', 'bin', f'-I{folder}/', '-o', made, guest.file], 'bcc': ['-Md', f'-I{folder}', '-o', made, guest.file]}[guest.compiler]
+    words = {'nasm': ['-f', 'bin', f'-I{folder}/', '-l', f'{made}.lst', '-o', made, guest.file], 'bcc': ['-Md', f'-I{folder}', '-o', made, guest.file]}[guest.compiler]
     if not shutil.which(command):
         raise Sorry(f"{command} isn't there; install it (Debian: apt-get install {package})")
     ran = subprocess.run(limited([command, *words]), stdin=subprocess.DEVNULL, capture_output=True, text=True, errors='replace', check=False)
@@ -166,6 +223,17 @@ def compiled(guest: Guest, room: str) -> str:
     if messages:
         print(messages, file=sys.stderr)
     return made
+
+
+def with_lines(guest: Guest, found: Loaded, listing: str) -> Loaded:
+    """A program with the lines and labels of its assembler's listing, if there is one that fits: it counts from where the program begins,
+    but for an .EXE program, of which it doesn't tell where its parts stand."""
+    if not os.path.isfile(listing):
+        return found
+    segment, offset = (int(part, 16) for part in found.rows[0].split()[0].split(':'))
+    lines = of_nasm(read_text(listing).removesuffix('\n').split('\n'), (segment, offset), None)
+    is_right = all(found.image.get(physical(*line.address) + place) == octet for line in lines.at.values() if line.address for place, octet in enumerate(line.shown))
+    return replace(found, rows=[*foreign.rows_of(guest.file, lines), *found.rows[1:]]) if is_right and lines.at else found
 
 
 def fields_for(guest: Guest, run_file: str | None, more: dict[str, Any] | None = None) -> dict[str, Any]:

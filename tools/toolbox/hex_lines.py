@@ -1,5 +1,5 @@
-"""Of which files the lines of Intel HEX are; and those of C and of as86's assembler, which ld86's map of names tells together with
-as86's listings of its modules."""
+"""Of which files the lines of Intel HEX are; those of sources of MASM; and those of C and of as86's assembler, which ld86's map of names
+tells together with as86's listings of its modules."""
 from __future__ import annotations
 
 import os
@@ -7,10 +7,11 @@ import re
 from dataclasses import replace
 
 from toolbox.command import Sorry, read_text
-from toolbox.listing import Line, Listing, physical
+from toolbox.listing import ADDRESS_COLUMNS, Line, Listing, line_of, physical
 
 MOST_LINES = 1 << 20  # of a source that a listing tells
 SOURCES = ('.asm', '.nasm', '.s', '.inc')
+PLACED = re.compile(r'([^\n]*?):(\d+):\t([^\t\n]*)\t(.*)')  # of a source of MASM: file, line, row of the dialect's listing, the file's own line
 ROW = re.compile(r'\d{5} ([0-9A-F]{4}|    ) (.{36}) ?(.*)')  # of as86: offset, bytes, text
 OF_MODULE = re.compile(r' *(\S+) +(\S+) +0 +([0-9A-Fa-f]{8})')  # of ld86: a name of code
 OF_C, FILE_OF_C, SECTION = re.compile(r'! (\d+) ?(.*)'), re.compile(r'# (\d+) "([^"]*)"'), re.compile(r'\.(text|data|bss)\b', re.I)
@@ -44,6 +45,26 @@ def with_source(found: Listing, path: str, source: str | None = None) -> Listing
     source = source or source_beside(path, found.lines)
     lines = filled([replace(one, source=source) for one in found.lines])
     return replace(found, lines=lines, at={where: replace(one, source=source) for where, one in found.at.items()}, files={source: lines})
+
+
+def of_places(rows: list[str], found: Listing) -> Listing:
+    """The lines of a source of MASM and of what it includes, by rows of the dialect's listing behind their places, with these labels. A
+    line of which nothing comes has an empty row; the source stands first."""
+    lines, files = list[Line](), dict[str, dict[int, Line]]()
+    for row in filter(None, map(PLACED.fullmatch, rows)):
+        placed = line_of(int(row[2]), row[3], row[4])
+        line = replace(placed, source=row[1], dialect=row[3][ADDRESS_COLUMNS:])
+        known = files.setdefault(row[1], {}).get(line.number)
+        lines += [line] if row[3] else []
+        if known is None or line.address and not known.address:
+            files[row[1]][line.number] = line
+    whole = {source: filled(list(them.values())) for source, them in files.items()}
+    first = next(iter(whole), '')
+    at, modules = dict[int, Line](), dict[int, Line]()
+    for line in lines:
+        if line.address:
+            (at if line.source == first else modules).setdefault(physical(*line.address), line)
+    return Listing(whole.get(first, []), at, found.labels, files=whole, modules=modules, rows=[line for line in lines if line.dialect])
 
 
 def with_modules(found: Listing, path: str, rows: list[str]) -> Listing:

@@ -5,15 +5,15 @@ import contextlib
 import hashlib
 from typing import Any, Iterator
 
-from toolbox import guests
+from toolbox import foreign, guests
 from toolbox.command import Sorry, read_bytes
 from toolbox.comments import handed
 from toolbox.expectations import Outcome, Planned, Subject
 from toolbox.faults import fault_in
 from toolbox.feedback import Feedback
-from toolbox.guests import BINARIES, LONGEST, Guest, ending, prepared
+from toolbox.guests import LONGEST, Guest, prepared
 from toolbox.listing import parts_of
-from toolbox.program import LAST_CLOCK, Files, refusal, run
+from toolbox.program import LAST_CLOCK, Files, given_text, refusal, run
 from toolbox.report import report_of
 from toolbox.runfile import DEFAULTS, read_run_file, with_fields
 from toolbox.scancodes import stamped
@@ -97,11 +97,21 @@ def judge_file(
 def sum_of(guest: Guest, is_hex: bool) -> str:
     """A sum of a program's bytes at their addresses, whatever its text is like: empty if it has none, or is refused."""
     octets = read_bytes(guest.file, LONGEST)
-    if is_hex or not (guest.is_com or guest.compiler or ending(guest.file) in BINARIES):
-        ran = None if is_hex else run(['asm', '--', handed(guest.file)])
-        octets = repr(parts_of(image_of(octets.decode('ascii', 'replace') if ran is None else ran.out))).encode()
+    text = octets.decode('ascii', 'replace') if is_hex else image_text(guest)
+    if text is not None:
+        octets = repr(parts_of(image_of(text))).encode()
         octets = b'' if octets == b'{}' else octets
     return hashlib.sha256(octets).hexdigest() if octets else ''
+
+
+def image_text(guest: Guest) -> str | None:
+    """The Intel HEX of a source, empty if it is refused; None of what is no source, or another compiler's."""
+    if guest.compiler == 'masm':
+        try:
+            return given_text(['asm'], foreign.translated(guest.file).text).out
+        except foreign.Refused:
+            return ''
+    return run(['asm', '--', handed(guest.file)]).out if guest.is_source else None
 
 
 def keep(page: list[Planned], guest: Guest, run_file: str | None, is_hex: bool, name: str) -> None:

@@ -12,6 +12,7 @@ from toolbox.program import Files, answer_of, given_text
 ADDRESS_COLUMNS = 28
 PLACED = re.compile(r'([0-9A-F]{4}):([0-9A-F]{4}) ((?:[0-9A-F]{2})*)\+? ')
 PROBE_NAME = 'PROBE_OF_LABELS'
+REMADE = re.compile(r'_([A-P])([A-P])')
 
 
 def physical(segment: int, offset: int) -> int:
@@ -22,13 +23,19 @@ def physical(segment: int, offset: int) -> int:
 @dataclass(frozen=True, slots=True)
 class Line:
     """A line of a source that places bytes, or none (then its address is None). Of Intel HEX it names its file: by the full path, or
-    by a bare name if no file has that text."""
+    by a bare name if no file has that text. Of a source of MASM it has what the line is in the dialect."""
 
     number: int
     text: str
     address: tuple[int, int] | None
     shown: bytes
     source: str = ''
+    dialect: str = ''
+
+    @property
+    def said(self) -> str:
+        """What the line says in the dialect."""
+        return self.dialect or self.text
 
 
 @dataclass(frozen=True)
@@ -43,6 +50,7 @@ class Listing:
     absent: set[str] = field(default_factory=set)  # labels of sections without bytes, of which nothing says where they stand
     files: dict[str, list[Line]] = field(default_factory=dict)  # of Intel HEX the lines of each file, from its first on
     modules: dict[int, Line] = field(default_factory=dict)  # of several files those that place bytes, by physical address
+    rows: list[Line] = field(default_factory=list)  # of a source of MASM what becomes of it, in the order of the dialect's lines
 
     def of_file(self, source: str) -> list[Line]:
         """The lines of a file, or of the program's own source."""
@@ -91,6 +99,13 @@ def label_in(line: str) -> str | None:
     """The label that a line defines, or none. A segment's prefix is no label."""
     found = re.match(r'\s*([A-Za-z_]\w*)\s*:', code_of(line)) if ':' in line else None
     return found[1] if found and found[1].upper() not in ('ES', 'CS', 'SS', 'DS') else None
+
+
+def own_name(written: str) -> str:
+    """A name of a source of MASM as its user has it: pcmasm writes M_.. what the dialect can't have."""
+    if not written.startswith('M_'):
+        return written
+    return REMADE.sub(lambda found: chr(16 * (ord(found[1]) - 65) + ord(found[2]) - 65), written[2:])
 
 
 def line_of(number: int, row: str, own: str | None = None) -> Line:

@@ -9,7 +9,7 @@ from dataclasses import replace
 from itertools import takewhile
 
 from toolbox.command import Sorry, read_text
-from toolbox.hex_lines import with_modules, with_source
+from toolbox.hex_lines import PLACED, of_places, with_modules, with_source
 from toolbox.listing import Line, Listing, label_in, line_of, physical
 
 MEMORY = 1 << 20
@@ -59,6 +59,8 @@ def symbols_of(given: str, image: dict[int, int], source: str | None = None) -> 
     filled = [row for row in rows if row]
     if any(row.startswith('- NASM Map file') for row in filled[:1]):
         found = of_a_map(rows, far, ram)
+    elif filled and re.match(PLACED, filled[0]):
+        found = of_places(filled, of_labels([row for row in filled if FAR_LABEL.fullmatch(row)], None, None))
     elif filled and all(re.match(r' *\d{1,7} ', row) for row in filled):
         found = with_source(of_nasm(filled, far, ram), path)
     elif filled and re.match(OURS, filled[0]) and all(re.match(OURS, row) or FAR_LABEL.fullmatch(row) for row in filled):
@@ -234,4 +236,4 @@ def finished(found: Listing, image: dict[int, int]) -> Listing:
         if line.address:
             at.setdefault(physical(*line.address), line)
     modules = {where: as_loaded(source_line) for where, source_line in found.modules.items()}
-    return Listing(lines, at, found.labels, absent=found.absent, files=files, modules=modules)
+    return Listing(lines, at, found.labels, absent=found.absent, files=files, modules=modules, rows=list(map(as_loaded, found.rows)))

@@ -51,7 +51,7 @@ class Talker(Protocol):
 
 def statement_of(line: Line | None) -> str:
     """The first word of a line's statement."""
-    found = re.match(r'\s*(?:\w+\s*:(?!\s*\[))?\s*(?:(?:LOCK|REPN?[EZ]?|[ECSD]S:)\s*)*(\w+)', code_of(line.text), re.I) if line else None
+    found = re.match(r'\s*(?:\w+\s*:(?!\s*\[))?\s*(?:(?:LOCK|REPN?[EZ]?|[ECSD]S:)\s*)*(\w+)', code_of(line.said), re.I) if line else None
     return found[1].upper() if found else ''
 
 

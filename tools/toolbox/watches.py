@@ -37,7 +37,7 @@ def watched_by(stop: str) -> range:
 def watch_size(listing: Listing, address: int) -> int:
     """How many bytes a value has that begins at an address: as its line's DB, DW or DD says, else one."""
     line = listing.at.get(address)
-    return SIZES.get(kind_in(line.text) or '', 1) if line else 1
+    return SIZES.get(kind_in(line.said) or '', 1) if line else 1
 
 
 def kind_of(text: str, address: Callable[[str], int]) -> str:

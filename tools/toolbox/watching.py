@@ -40,7 +40,7 @@ def watched_of(listing: Listing, text: str) -> Watched:
         raise Sorry(f'--watch {text}: write PLACE, PLACE,byte or PLACE,word')
     address = address_of(listing, place)
     line = listing.at.get(address)
-    is_word = size == 'word' or not size and line is not None and kind_in(line.text) == 'DW'
+    is_word = size == 'word' or not size and line is not None and kind_in(line.said) == 'DW'
     watch_of(address, 1 + is_word)
     return Watched(re.sub(r'\s', '_', place), range(address, address + 1 + is_word))
 

@@ -267,12 +267,16 @@ class Adapter:
     def guest(self, given: Fields, is_hex: bool) -> Guest:
         """The program as its name, its look or the launch says that it has services, or none; by its look that is told."""
         services, args = given.get('services'), field(given, 'args', str, '')
-        guest = Guest(self.program, args or None, services is True, is_bare=services is False or is_hex)
-        if guest.is_one or guest.is_bare:
+        language = field(given, 'language', str, '')
+        if language and language not in guests.LANGUAGES:
+            raise Sorry(f'"language" is one of {", ".join(guests.LANGUAGES)}')
+        compiler, is_own = (None, True) if language == 'dialect' else (language or None, False)
+        guest = Guest(self.program, args or None, services is True, compiler=compiler, is_bare=services is False or is_hex, is_own=is_own)
+        if guest.is_bare or not guest.is_source:
             return guest
         guest = guests.looked_at(guest)
-        if guest.is_one:
-            self.output(guests.said_of(os.path.basename(self.program), '"services": false') + '\n')
+        if guest.is_seen:
+            self.output(guests.said_of(guest, os.path.basename(self.program), '"services": false', '"language": "nasm" or "dialect"') + '\n')
         return guest
 
     def run_file(self, given: Fields, guest: Guest) -> str:

@@ -189,7 +189,7 @@ class Expression:
 
 def is_code(line: Line) -> bool:
     """Whether a line places an instruction, and not data."""
-    return line.address is not None and not DATA.match(code_of(line.text).strip())
+    return line.address is not None and not DATA.match(code_of(line.said).strip())
 
 
 @dataclass(frozen=True)

@@ -1,29 +1,35 @@
 """What the language server's modules tell the desk's editor of its text: refused lines, a word's meaning, and what completes one."""
 from __future__ import annotations
 
+import os
+import pathlib
 import threading
 
+from toolbox import foreign
 from toolbox.command import Sorry
 from toolbox.desk.pages import as_html
 from toolbox.desk.work import Fields
 from toolbox.lsp.asked import Unfit
 from toolbox.lsp.completing import completion
-from toolbox.lsp.diagnosing import of_a_fault
+from toolbox.lsp.diagnosing import of_a_fault, of_masm
 from toolbox.lsp.documents import OWN, Document, Settings
+from toolbox.lsp.foreign import is_masm
 from toolbox.lsp.hovering import hover
 
 
 class Language:
-    """The text that was asked about last, and what the program said of it."""
+    """The text that was asked about last, and what the program said of it. What a source of MASM includes stands in the folder `home`."""
 
-    def __init__(self) -> None:
+    def __init__(self, home: str = '') -> None:
+        self._path = os.path.join(home or foreign.OWN, 'the source')
         self._lock = threading.Lock()
         self._document: Document | None = None
 
     def _of(self, source: str) -> Document:
         """The document of a text."""
         if self._document is None or self._document.text.whole != source:
-            self._document = Document('desk', source, None, Settings(dialect=OWN), lambda: None)
+            settings = Settings() if is_masm(source) else Settings(dialect=OWN)
+            self._document = Document(pathlib.Path(self._path).as_uri(), source, None, settings, lambda: None)
         return self._document
 
     def answer(self, what: str, source: str, line: int, column: int) -> Fields:
@@ -39,6 +45,7 @@ class Language:
                     return {'items': sorted(completion(document, place)['items'], key=lambda item: str(item['sortText']))}
             except Unfit as unfit:
                 raise Sorry(str(unfit)) from None
-            document.answers.finish()
-            them = [of_a_fault(document, *refusal) for refusal in document.answers.refused]
+            if not document.note:
+                document.answers.finish()
+            them = of_masm(document) if document.note else [of_a_fault(document, *refusal) for refusal in document.answers.refused]
             return {'refused': [{'line': diagnostic['range']['start']['line'] + 1, 'text': diagnostic['message']} for diagnostic in them]}

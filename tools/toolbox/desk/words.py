@@ -10,7 +10,7 @@ import time
 from dataclasses import asdict
 from typing import Any, Callable
 
-from toolbox import guests
+from toolbox import foreign, guests
 from toolbox.command import Sorry, read_text
 from toolbox.desk.board import Board
 from toolbox.desk.drafts import Change, Drafts
@@ -66,7 +66,7 @@ class Desk:
     def __init__(self, room: str, given: Given, drafts: Drafts) -> None:
         self.room, self.given, self.drafts = room, given, drafts
         self.idle_seconds, self.least_idle = float(IDLE_SECONDS), LEAST_IDLE
-        self.files, self.language = Kept(given, drafts.folder), Language()
+        self.files, self.language = Kept(given, drafts.folder), Language(given.guest.home)
         self._lock, self._boards = threading.Lock(), dict[str, Board | None]()
 
     def close(self) -> None:
@@ -192,6 +192,8 @@ class Desk:
             board = Board(room, source, run, is_hex, self._symbols(source) if is_hex else None, self.given.guest)
         except Gone as gone:
             return {'refused': refusals(Files(self._file(room, is_hex), '', is_hex), str(gone))}
+        except foreign.Refused as refused:
+            return {'refused': foreign.in_lines(refused, self._file(room, is_hex))[:MOST_MESSAGES]}
         except Sorry as sorry:
             return {'refused': refusals(Files(self._file(room, is_hex), '', is_hex), str(sorry))}
         finally:
@@ -203,7 +205,7 @@ class Desk:
             if not board:
                 self._end(name, None)
         lines = {str(line.number): '%04X:%04X' % line.address for line in board.listing.lines if line.address}
-        told = guests.said_of('the source', 'tools/desk --bare') if board.guest.is_seen else ''
+        told = guests.said_of(board.guest, 'the source', 'tools/desk --bare', 'tools/desk --dialect') if board.guest.is_seen else ''
         return {'board': name, 'lines': lines, 'budget': board.budget, 'services': told} | board.view('there', 0)
 
     def _symbols(self, source: str) -> str | None:

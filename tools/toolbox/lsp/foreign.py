@@ -1,16 +1,18 @@
-"""Sources of other assemblers, by their names and by what stands at a line's head."""
+"""Sources of other assemblers, by their names and by what stands at a line's head; and those of MASM, as pcmasm tells."""
 from __future__ import annotations
 
 import re
 from dataclasses import dataclass
 
+from toolbox import foreign
+from toolbox.command import Sorry
 from toolbox.lsp.source import Source
 
 LOOKS = (
     ('NASM', r'\s*(%\w+|section\s+[.\w]+\s*$|bits\s+\d+\s*$|\[\s*(bits|org|section|cpu)\b|(global|extern)\s+\w)'),
-    ('MASM', r'\s*(\.(model|stack|data\??|code|const|[1-6]86)\b|proc\b(?!\s*(:|equ\b))|\w+\s+(proc|endp)\b|assume\s+\w)'),
     ('gas', r'\s*(\.(text|globl|global|section|intel_syntax|att_syntax|code16|align|ascii|asciz|byte|word)\b)'),
 )
+MASM = 'MASM'
 PATTERNS = [(name, re.compile(look, re.I)) for name, look in LOOKS]
 
 
@@ -24,6 +26,8 @@ class Note:
     @property
     def text(self) -> str:
         """A sentence for the user."""
+        if self.name == MASM:
+            return 'this is a source of MASM, TASM or emu8086 (docs/masm.md): what is refused of it is underlined, and a line shows what it becomes'
         return (
             f"this file seems to be {self.name}'s; the language server knows Zebludor's dialect alone (docs/dialect.md). "
             'The setting "dialect": "zebludor" says that it is of that'
@@ -39,4 +43,12 @@ def seems(uri: str, source: Source) -> Note | None:
             for name, pattern in PATTERNS:
                 if pattern.match(line.partition(';')[0]):
                     return Note(name, number)
-    return None
+    return Note(MASM, 0) if is_masm(source.text.whole) else None
+
+
+def is_masm(text: str) -> bool:
+    """Whether a text is one of MASM."""
+    try:
+        return foreign.origin_of(text.encode('utf-8', 'surrogatepass')).name == 'masm'
+    except Sorry:
+        return False

@@ -9,7 +9,7 @@ from typing import Any, Callable
 
 from toolbox.command import Sorry
 from toolbox.framing import Broken, Read
-from toolbox.guests import said_of
+from toolbox.guests import Guest, said_of
 from toolbox.lsp import calls, colours, completing, diagnosing, hovering, layout, naming, outline
 from toolbox.lsp.asked import CANCELLED, FAILED, INTERNAL, INVALID, MOST, NO_METHOD, NOT_BEGUN, PARSE, Unfit, want
 from toolbox.lsp.documents import OWN, Document, Settings
@@ -284,7 +284,7 @@ class Server:
                 self.publish(document, found)
             if not document.note and uri not in self.served and answers.is_served:
                 self.served.add(uri)
-                self.log(said_of(os.path.basename(uri)), LOG_INFORMATION)
+                self.log(said_of(Guest(uri), os.path.basename(uri)), LOG_INFORMATION)
             if answers.broken:
                 self.log(answers.broken)
 
