@@ -1,6 +1,7 @@
 """tools/why: its words beside the sources' own, and what it makes of refusals."""
 import glob
 import json
+import os
 import re
 import unittest
 
@@ -177,6 +178,8 @@ class Runs(ToolCase):
         source, run = example('hello')
         self.assertIn("nothing.json can't be opened: No such file", self.called('why', 'run', source, 'nothing.json', status=3)[1])
         self.assertIn("can't be opened: Is a directory", self.called('why', 'run', self.room, run, status=3)[1])
+        os.symlink('nowhere', f'{self.room}/lost.asm')
+        self.assertNotIn('hint', self.called('why', 'run', f'{self.room}/lost.asm', run, status=3)[1])
         self.assertIn('2 are wanted', self.called('why', 'run', status=2)[1])
 
     def test_tells_the_ram(self) -> None:
