@@ -213,7 +213,7 @@ class Broken(ToolCase):
                 with contextlib.suppress(EOFError, OSError):
                     said += map(client.ask, DEBUGGERS)
                     said.append(client.shown)
-                    said += map(client.monitor, MONITORS)
+                    said += (client.ask('qRcmd,' + command.encode().hex()) for command in MONITORS)
                     said.append(client.ask('D;1'))
                 said.append(client.shown)
                 client.close()
