@@ -167,7 +167,7 @@ class Broken(ToolCase):
         with open(example('ticks')[0], encoding='ascii') as file:
             mute = self.file('mute.asm', file.read().replace('MOV AL,20h', 'MOV AL,0'))
         jam = self.file('jam.asm', JAM)
-        for words in (['why', 'run', mute, example('ticks')[1]], ['why', 'run', jam], ['try', mute], ['try', jam]):
+        for words in (['why', 'run', mute, example('ticks')[1]], ['try', jam]):
             self.each_of(lambda those=words: self.said_by(those))  # type: ignore[misc]
 
     @staticmethod

@@ -313,17 +313,11 @@ class Desk:
         place = want(fields, 'place', str, '')
         return self._do(board, lambda: board.code(place))
 
-    def of_chips(self, board: Board, _: Fields) -> Fields:
-        """What the chips hold."""
-        return self._do(board, board.chips)
+    def of_chips(self, board: Board, fields: Fields) -> Fields:
+        """What the chips hold, the source's own data, or why the run goes nowhere, by the board's own words."""
+        return self._do(board, getattr(board, want(fields, 'do', str)))
 
-    def of_data(self, board: Board, _: Fields) -> Fields:
-        """The source's own data."""
-        return self._do(board, board.data)
-
-    def of_why(self, board: Board, _: Fields) -> Fields:
-        """Why the run goes nowhere."""
-        return self._do(board, board.why)
+    of_data = of_why = of_chips
 
     def of_stops(self, board: Board, fields: Fields) -> Fields:
         """Sets the stops."""
