@@ -145,7 +145,10 @@ class Guests(ToolCase):
         cases = {
             '`.com`': [([com], ended), ([self.binary('other', HELLO), '--com'], ended), ([self.binary('it.exe', exe())], ended)],
             'a source that calls': [([self.file('it.asm', source)], ended)],
-            'a source with a byte there': [([self.file('far.asm', reset), '--services'], ended), ([self.file('no.asm', source.replace('INT 21h', 'INT 27h')), '--services'], ended)],
+            'a source with a byte there': [
+                ([self.file('far.asm', reset), '--services'], ended),
+                ([self.file('no.asm', source.replace('INT 21h', 'INT 27h')), '--services'], ended),
+            ],
             'anything': [([self.file('bare.asm', source), '--bare'], jammed)],
             'Intel HEX': [([self.file('it.hex', ':00000001FF\n')], jammed)],
         }
