@@ -284,9 +284,9 @@ class Release(Unpacked):
         self.assertEqual(lines[:3], heads)
         made = [(f'{top}/{path}', crate) for path, crate in (*((f'stored/{it}', it) for it in PROGRAMS), *((f'lib/lib{it}.a', it) for it in LIBRARIES))]
         self.assertEqual(
-            lines[3:8], [f'made {os.path.relpath(path, top)} {sum_of(path)} sources {sum_of_sources(CRATES[crate], self.top)}' for path, crate in made]
+            lines[3:9], [f'made {os.path.relpath(path, top)} {sum_of(path)} sources {sum_of_sources(CRATES[crate], self.top)}' for path, crate in made]
         )
-        self.assertEqual(lines[8:], [f'{it}: {VERDICT} of={it}' for it in ('low', 'pcboard', 'pcmasm', 'pcprobe', 'probe', *LIBRARIES)])
+        self.assertEqual(lines[9:], [f'{it}: {VERDICT} of={it}' for it in ('low', 'pcboard', 'pcmasm', 'pcprobe', 'probe', *LIBRARIES)])
 
     def test_sums(self) -> None:
         top = self.unpacked()
