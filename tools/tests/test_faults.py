@@ -49,7 +49,13 @@ class Faults(Planted):
     """Of some tasks, for the gate's sake; the rest takes minutes."""
 
     def test_nothing_is_found(self) -> None:
-        for task, hows in (('a save', 'EIO,kill'), ('a draft anew', 'ENOSPC,short'), ('a seal', 'EINTR'), ('typed keys that are kept', 'EIO'), ('moments anew', 'kill')):
+        for task, hows in (
+            ('a save', 'EIO,kill'),
+            ('a draft anew', 'ENOSPC,short'),
+            ('a seal', 'EINTR'),
+            ('typed keys that are kept', 'EIO'),
+            ('moments anew', 'kill'),
+        ):
             out, _ = self.tool('dev/faults', task, '--only', hows)
             self.assertRegex(out, rf'^{task}: [1-9]\d+ calls, 0 finds\n0 finds\n$')
 

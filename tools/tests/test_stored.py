@@ -523,7 +523,16 @@ class Stored(Repository):
         os.symlink('a link', f'{self.room}/a link to it')
         os.link(f'{self.top}/pcboard', f'{self.room}/another name')
         os.chmod(self.file('a script', f'#!/bin/sh\nexec "{self.top}/pcboard" "$@"\n'), 0o755)
-        for path in (f'{self.top}/pcboard', 'top/../top/pcboard', f'{self.top}/pcprobe', f'{self.top}/pcmasm', 'a link', 'a link to it', 'another name', 'a script'):
+        for path in (
+            f'{self.top}/pcboard',
+            'top/../top/pcboard',
+            f'{self.top}/pcprobe',
+            f'{self.top}/pcmasm',
+            'a link',
+            'a link to it',
+            'another name',
+            'a script',
+        ):
             ran = self.named(path)
             self.assertEqual((ran.returncode, ran.stdout, ran.stderr), (*AT_ONCE, ''), path)
 

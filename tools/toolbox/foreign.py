@@ -325,7 +325,9 @@ def rows_by_line(path: str, octets: bytes) -> dict[int, list[str]]:
 
 def in_lines(refusal: Refused, path: str) -> list[dict[str, Any]]:
     """What is refused of a text that stands at a path, by its lines; of what it includes without a line."""
-    return [{'line': one.number, 'text': one.words} if one.path == path else {'line': None, 'text': ' '.join(sentences(one)), 'of': ''} for one in refusal.remarks]
+    return [
+        {'line': one.number, 'text': one.words} if one.path == path else {'line': None, 'text': ' '.join(sentences(one)), 'of': ''} for one in refusal.remarks
+    ]
 
 
 def label_rows(rows: list[str]) -> list[str]:
@@ -338,4 +340,3 @@ def label_rows(rows: list[str]) -> list[str]:
             found += [f'{line.address[0]:04X}:{line.address[1]:04X} {name}' for name in waiting]
             waiting = []
     return found
-

@@ -93,9 +93,7 @@ def guest_of(given: argparse.Namespace, file: str | None = None) -> Guest:
     files = tuple(given.files or ()) if is_disk else None
     found = Guest(name, given.args, given.services, given.com, compiler, given.bare, is_own=is_own, files=files)
     if found.is_bare and (found.is_served or found.is_com or compiler or given.args is not None or is_disk):
-        raise Sorry(
-            '--bare goes without the words that a program with services has: --services, --com, --args, --file, --files-out, --masm, --nasm, --bcc'
-        )
+        raise Sorry('--bare goes without the words that a program with services has: --services, --com, --args, --file, --files-out, --masm, --nasm, --bcc')
     if found.is_one and is_hex:
         raise Sorry(f'--hex goes without --services and --com, and {found.file} is no Intel HEX')
     if found.is_source and not (found.is_bare or is_hex or is_hex_name(found.file)):
@@ -211,7 +209,9 @@ def compiled(guest: Guest, room: str) -> str:
     command, package = COMPILERS[guest.compiler]
     stem, folder = os.path.splitext(os.path.basename(handed_on(guest.file)))[0], os.path.dirname(guest.file) or '.'
     made = os.path.join(room, f'{stem}.com')
-    words = {'nasm': ['-f', 'bin', f'-I{folder}/', '-l', f'{made}.lst', '-o', made, guest.file], 'bcc': ['-Md', f'-I{folder}', '-o', made, guest.file]}[guest.compiler]
+    words = {'nasm': ['-f', 'bin', f'-I{folder}/', '-l', f'{made}.lst', '-o', made, guest.file], 'bcc': ['-Md', f'-I{folder}', '-o', made, guest.file]}[
+        guest.compiler
+    ]
     if not shutil.which(command):
         raise Sorry(f"{command} isn't there; install it (Debian: apt-get install {package})")
     ran = subprocess.run(limited([command, *words]), stdin=subprocess.DEVNULL, capture_output=True, text=True, errors='replace', check=False)
@@ -232,7 +232,9 @@ def with_lines(guest: Guest, found: Loaded, listing: str) -> Loaded:
         return found
     segment, offset = (int(part, 16) for part in found.rows[0].split()[0].split(':'))
     lines = of_nasm(read_text(listing).removesuffix('\n').split('\n'), (segment, offset), None)
-    is_right = all(found.image.get(physical(*line.address) + place) == octet for line in lines.at.values() if line.address for place, octet in enumerate(line.shown))
+    is_right = all(
+        found.image.get(physical(*line.address) + place) == octet for line in lines.at.values() if line.address for place, octet in enumerate(line.shown)
+    )
     return replace(found, rows=[*foreign.rows_of(guest.file, lines), *found.rows[1:]]) if is_right and lines.at else found
 
 

@@ -204,9 +204,7 @@ def source(name: str, args: str, ram: int) -> Loaded:
         raise Sorry(f'{name} has no bytes but at FFFF:0000')
     psp = place_of(name, image, start, ram)
     environment = psp - ROOM_BEFORE + 1
-    found = served(
-        image | prefix_of(psp, environment, name, args) | begins(psp, start, (psp, 0xFFFE), environment), start, psp + 0x1000
-    )
+    found = served(image | prefix_of(psp, environment, name, args) | begins(psp, start, (psp, 0xFFFE), environment), start, psp + 0x1000)
     own = [(' ' * 28 if is_reset(row) else row[:28].ljust(28)) + text for row, text in zip(rows, own_lines(name))]
     return Loaded(found.image, found.services, own + found.rows[1:], found.end)
 

@@ -112,8 +112,8 @@ def cases(seed: int, count: int) -> list[bytes]:
 
 def ours(offset: int, octets: bytes) -> tuple[str, int]:
     """This board's text, and of how many bytes."""
-    found = disassembly.instruction(offset, octets)
-    return (found.text, len(found.octets)) if found else ('no instruction of the 8086', 1)
+    _, found, text = next(disassembly.listed(offset, octets, 1))
+    return text, len(found)
 
 
 def theirs(program: str, made: list[bytes]) -> list[tuple[str, int]]:

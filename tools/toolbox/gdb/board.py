@@ -88,4 +88,3 @@ class Board(FollowedBoard):
         if met.how == 'woken':
             self.one('step')
         return met
-
