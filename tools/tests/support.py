@@ -218,9 +218,9 @@ class ToolCase(unittest.TestCase):
         out, err, held = io.StringIO(), io.StringIO(), (sys.argv, sys.stdin)
         handlers = {sign: signal.getsignal(sign) for sign in (signal.SIGINT, signal.SIGTERM, signal.SIGHUP)}
         sys.argv, sys.stdin = [f'{TOOLS}/{name}', *words], io.TextIOWrapper(io.BytesIO(given.encode()))
-        anew, told = mock.patch.multiple(comments, _copies={}, _told=set()), mock.patch.object(guests, '_told', set())
+        anew, unsaid = mock.patch.multiple(comments, _copies={}, _told=set()), mock.patch.object(guests, '_told', set())
         try:
-            with contextlib.redirect_stdout(out), contextlib.redirect_stderr(err), contextlib.chdir(self.room), anew, told:
+            with contextlib.redirect_stdout(out), contextlib.redirect_stderr(err), contextlib.chdir(self.room), anew, unsaid:
                 try:
                     came = status_of(main_of(name))
                 except Sorry as sorry:

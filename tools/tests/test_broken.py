@@ -247,8 +247,8 @@ class Broken(ToolCase):
                 terminal.type(PROMPTS.replace(',', '\r') + '\r')
             status = terminal.ended()
             terminal.close()
-            told = f'Traceback|{MISTAKE}|refuse|no memory'
-            return '\n'.join([*(line for line in terminal.grid.lines() if re.search(told, line)), str(status)])
+            words = f'Traceback|{MISTAKE}|refuse|no memory'
+            return '\n'.join([*(line for line in terminal.grid.lines() if re.search(words, line)), str(status)])
 
         self.each_of(work)
 

@@ -700,12 +700,12 @@ class Pages(ServiceCase):
         """With the line of the call, where one is told."""
         with open(f'{TOP}/docs/services.md', encoding='utf-8') as file:
             table = file.read().split('|What the program does|What is told|\n|-|-|\n')[1].split('\n\n')[0]
-        told = {row.split('|')[1]: row.split('|')[2].strip('`') for row in table.splitlines()}
-        self.assertEqual(told.keys(), self.TOLD.keys())
+        notes = {row.split('|')[1]: row.split('|')[2].strip('`') for row in table.splitlines()}
+        self.assertEqual(notes.keys(), self.TOLD.keys())
         for name, (lines, keys) in self.TOLD.items():
             path = self.file('it.asm', f'SEGMENT MAIN AT 100h\n ORG 100h\nstart:\n{lines}\nseen: INT 20h\nENDS\n')
             out, err = self.tool('try', path, '--services', *(['--keys', keys] if keys else []))
-            self.assertIn(told[name], out + err, name)
+            self.assertIn(notes[name], out + err, name)
             if 'called' in err:
                 self.assertIn('called by line', err)
 

@@ -205,8 +205,8 @@ class Desk:
             if not board:
                 self._end(name, None)
         lines = {str(line.number): '%04X:%04X' % line.address for line in board.listing.lines if line.address}
-        told = guests.said_of(board.guest, 'the source', 'tools/desk --bare', 'tools/desk --dialect') if board.guest.is_seen else ''
-        return {'board': name, 'lines': lines, 'budget': board.budget, 'services': told} | board.view('there', 0)
+        served = guests.said_of(board.guest, 'the source', 'tools/desk --bare', 'tools/desk --dialect') if board.guest.is_seen else ''
+        return {'board': name, 'lines': lines, 'budget': board.budget, 'services': served} | board.view('there', 0)
 
     def _symbols(self, source: str) -> str | None:
         """The file of symbols that the command's words name, for the bytes of its FILE alone."""
