@@ -510,7 +510,7 @@ class Host(DiskCase):
         _, err = self.tool('try', sector, '--file', 'a.txt', status=2)
         self.assertEqual(err, f'try: {sector} is a first sector, which has no DOS: --file and --files-out go with programs of DOS\n')
         _, err = self.tool('try', self.file('it.hex', ':00000001FF\n'), '--files-out', 'out', status=2)
-        self.assertEqual(err, 'try: --file and --files-out go with a .COM or .EXE program, or with --services\n')
+        self.assertEqual(err, 'try: --file and --files-out go with a .COM or .EXE program, or a source that calls INT 10h, 16h, 20h or 21h\n')
         self.assertFalse(os.path.exists(f'{self.room}/out'))
 
     def test_it_goes_with_every_front(self) -> None:
