@@ -98,7 +98,7 @@ class Guests(ToolCase):
             self.assertIn(wrong, self.called('try', '--services', path, status=2)[1])
         high = self.file('high.asm', 'SEGMENT MAIN AT 8F00h\nstart: NOP\nENDS\n')
         self.assertIn('no room', self.called('try', '--services', high, status=2)[1])
-        bad = self.file('bad.asm', 'MOV AX,0x1\n INT 21h\n')
+        bad = self.file('bad.asm', 'SEGMENT MAIN AT 100h\n MOV AX,0x1\n INT 21h\nENDS\n')
         refused = self.called('try', bad, '--bare', status=1)
         self.assertIn('fault 3', refused[1])
         for words in ([], ['--services']):
