@@ -38,7 +38,7 @@ class StandIn(ToolCase):
         os.chmod(program, 0o755)
         self.enterContext(mock.patch.dict(os.environ, {'PCBOARD': program}))
         run = f'{{"version":1,"ram":64,"sw1":0,"sw2":0,"budget":900,"keys":{keys}}}'
-        return [self.file('page', 'line 1 = T\n'), self.file('it.asm', 'x'), self.file('it.json', run)]
+        return [self.file('page', 'line 1 = T\n'), self.file('it.asm', 'SEGMENT MAIN AT 0\nENDS\n'), self.file('it.json', run)]
 
     def enterContext(self, context: 'mock._patch_dict') -> None:  # of Python 3.11
         context.start()
