@@ -228,13 +228,19 @@ class Broken(ToolCase):
                     found = desk.answer({'do': 'open', 'source': file.read(), 'run': DEFAULTS | {'budget': 9000}})
                 board, said = found.pop('board', ''), [found]
                 for word, fields in PAGES if board else ():
-                    found = desk.answer({'do': word, 'board': board, **fields})
-                    while found.get('working'):
-                        found = desk.answer({'do': 'wait', 'board': board})
-                    said.append(found)
-                return json.dumps(said)
+                    said.append(self.whole(desk, {'do': word, 'board': board, **fields}))
+                return json.dumps([{name: value for name, value in found.items() if name != 'screen number'} for found in said])
 
         self.each_of(work)
+
+    def whole(self, desk: Desk, words: dict[str, Any]) -> dict[str, Any]:
+        """What words of a page come to; what was paused on a busy machine goes on."""
+        found: dict[str, Any] = {'why': 'paused'}
+        while found.get('why') == 'paused':
+            found = desk.answer(words)
+            while found.get('working'):
+                found = desk.answer({'do': 'wait', 'board': words['board']})
+        return found
 
     def test_term(self) -> None:
         def work() -> str:

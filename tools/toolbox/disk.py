@@ -17,7 +17,7 @@ KB = 192  # of all of it
 CLUSTER, CLUSTERS, FIRST, END = 1024, 192, 2, 0xFF
 DIRECTORY, ENTRIES, ENTRY = 0x200, 48, struct.Struct('<11sB10xHHHI')
 DATE, ARCHIVE = 0x221, 0x20  # 1 January 1981
-MOST = (CLUSTERS - FIRST) * CLUSTER
+MOST = 190 * 1024  # bytes: all clusters but the first two
 NAME = re.compile(r"([A-Z0-9!#$%&'()@^_`{}~-]{1,8})(?:\.([A-Z0-9!#$%&'()@^_`{}~-]{1,3}))?")
 # MOV AH or MOV AX with the number of a function on files.
 CALLS = re.compile(rb'\xB4[\x3C-\x43\x4E\x4F\x56]|\xB8.[\x3C-\x43\x4E\x4F\x56]', re.DOTALL)
