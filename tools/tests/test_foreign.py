@@ -112,6 +112,7 @@ main ENDP
 END main
 """
 WRONG = '.MODEL SMALL\n.CODE\nmain: MOV AX,none\n  PUSHA\n  MOV AX,4C00h\n  INT 21h\nEND main\n'
+TEXTBOOKS = f'{TOP}/tools/tests/textbooks'
 NONE, LATER = 'a name that nothing defines', 'no 8086 has this instruction or register'
 WIDE = '.MODEL SMALL\n.CODE\nmain: MOV AX,1\n  MOV AL,1234h\n  JMP SHORT there\n  DB 200 DUP(0)\nthere: MOV AX,4C00h\n  INT 21h\nEND main\n'
 
@@ -126,6 +127,24 @@ def has_pcmasm() -> bool:
     return True
 
 
+# Programs typed after textbooks, in textbooks/: the words, the screen's rows that aren't blank, and the end, all as the
+# books tell them.
+BOOKS: dict[str, tuple[list[str], list[str], str]] = {
+    'abel_exe': ([], [], 'ended with exit code 0'),
+    'abel_macro': ([], ['Customer name?', 'Customer address?'], 'ended with exit code 0'),
+    'brey_tiny': ([], ['0123456789'], 'ended with exit code 0'),
+    'emu_addsub': (['--keys', 'x'], ['00001110b'], 'ended by INT 20h'),
+    'emu_hello': (['--keys', 'x'], ['Hello, World!'], 'ended by INT 20h'),
+    'emu_hiworld': (['--keys', 'x'], [], 'ended by INT 20h'),
+    'emu_pali': (['--keys', 'x'], ['able was ere ere saw elba', '  this is palindrome!'], 'ended by INT 20h'),
+    'irvine_hello': ([], ['Hello, world!'], 'ended with exit code 0'),
+    'irvine_type': (['--file', 'my_text.txt'], ['Call me Ishmael.', 'Some years ago'], 'ended with exit code 0'),
+    'lafore_binihex': ([], ['1A2F'], 'ended by INT 20h'),
+    'mazidi_screen': ([], [' ' * 28 + 'This is a test of the display routine'], 'ended with exit code 36'),
+    'norton_dispsec': ([], ['3F'], 'ended with exit code 0'),
+}
+
+
 @unittest.skipUnless(has_pcmasm(), 'no pcmasm')
 class Foreign(ToolCase):
     """By the tools, as a user runs them."""
@@ -135,6 +154,18 @@ class Foreign(ToolCase):
             out, err = self.called('try', self.file('it.asm', text), *words)
             *lines, last = out.splitlines()
             self.assertEqual((lines, f'({end}, at clock' in last), (screen, True), f'{name}: {out}{err}')
+
+    def test_textbooks_programs_run_as_they_stand(self) -> None:
+        self.file('my_text.txt', 'Call me Ishmael.\r\nSome years ago\r\n')
+        self.assertEqual(sorted(BOOKS), sorted(name[:-4] for name in os.listdir(TEXTBOOKS)))
+        for name, (words, rows, end) in BOOKS.items():
+            out, err = self.called('try', f'{TEXTBOOKS}/{name}.asm', *words)
+            *lines, last = out.splitlines()
+            self.assertEqual([line for line in lines if line], rows, f'{name}: {err}')
+            self.assertIn(f'({end}, at clock', last, name)
+            self.assertEqual('where a colour adapter has its text, and none is here' in err, name == 'emu_hiworld', f'{name}: {err}')
+        out, _ = self.called('dbg', f'{TEXTBOOKS}/abel_exe.asm', given='go\ndump FLDF 2\nquit\n')
+        self.assertRegex(out, r': 54 01\b', 'a word that becomes 340')
 
     def test_what_is_noted_is_told_once(self) -> None:
         _, err = self.tool('try', self.file('it.asm', FORMS['a model'][0]))
