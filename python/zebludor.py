@@ -576,7 +576,11 @@ class Dialogue:
             odd = next(it for it in octets.decode('ascii', 'replace').splitlines() if re.match(r'(?!clock )\D', it))
             raise fault_in(odd) or Unfit(odd)
         self.clock, self.is_idle = int(parts.pop()), True
-        return [part.split(b'\n')[1:] for part in parts]
+        answers = [part.split(b'\n')[1:] for part in parts]
+        refused = next((line.decode('ascii', 'replace') for lines in answers for line in lines if line.startswith(b'fault ')), None)
+        if refused:
+            raise fault_in(refused) or Unfit(refused)
+        return answers
 
     def dump(self, address: int, count: int) -> bytes:
         """Bytes from a physical address on, as many as there are below 100000h."""
