@@ -89,8 +89,10 @@ class Contracts(ToolCase):
         printed = [re.fullmatch(r'(\w+): crates/(\w+)/src/(\w+)\.rt: (.*)', line) for line in self.tool('dev/contracts', '--one-sided')[0].splitlines()]
         found = [(match[1], match[2], match[3], name) for match in printed if match for name in match[4].split(', ')]
         self.assertGreater(len(found), 100)
-        for worst, _, file, name in found:
-            self.assertTrue(f'`{name}`' in of[worst] or f'`{file}.rt`' in of[worst] or f'`{name}`' in rows.replace(row, ''), (worst, file, name))
+        others = rows.replace(row, '')
+        for worst, crate, file, name in found:
+            is_named = f'`{name}`' in of[worst] or f'`{file}.rt`' in of[worst] or f'`{name}`' in others
+            self.assertTrue(is_named or f'`{crate}`' in others, (worst, crate, file, name))  # by itself, or its whole crate
         self.assertEqual(set(re.findall(r'`([^`]+)`', row)) - {name for _, _, _, name in found}, OTHERS)
 
     def test_forms_of_clauses(self) -> None:

@@ -11,6 +11,7 @@ import unittest
 from tests.support import TOP, ToolCase
 
 from toolbox import program
+from toolbox.proved import PROGRAMS
 
 # What dev/faults and dev/fuzz need of the repository.
 PARTS = ('dev', 'tools', 'python', 'examples', 'docs', 'services', 'editors')
@@ -39,7 +40,7 @@ class Planted(ToolCase):
 
     def finds(self, top: str, *words: str) -> str:
         """What a program of the copy prints that finds something."""
-        env = os.environ | {name.upper(): program.path(name) for name in ('pcboard', 'pcprobe')}
+        env = os.environ | {name.upper(): program.path(name) for name in PROGRAMS}
         ran = subprocess.run([sys.executable, '-S', f'{top}/{words[0]}', *words[1:]], capture_output=True, text=True, cwd=self.room, env=env, check=False)
         self.assertEqual(ran.returncode, 1, ran.stdout + ran.stderr)
         return ran.stdout

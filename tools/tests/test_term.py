@@ -230,7 +230,7 @@ class Terminals(ToolCase):
         self.assertTrue(terminal.until(lambda each: each.lines()[0] == 'THI THERE' and each.lines()[-1] == 'term>'), terminal.grid.lines())
         screen = terminal.grid.lines()[:25]
         said = self.leave(terminal)
-        self.assertIn(f'./pcboard run {source} {self.out}'.replace('\n', ''), said.replace('\n', ''))
+        self.assertIn(''.join(f'./pcboard run {source} {self.out}'.split()), ''.join(said.split()), 'a row may end with a blank')
         with open(self.out, encoding='utf-8') as file:
             fields = json.load(file)
         self.assertEqual((fields['ram'], len(fields['keys'])), (128, 2 + 2 * len('hi there')))
