@@ -2,16 +2,15 @@
 emu8086's library does what its manual says."""
 from __future__ import annotations
 
-import os
 import pathlib
 import random
 import re
 import subprocess
 import unittest
 
-from tests.support import TOP, ToolCase, is_there, not_run
+from tests.support import TOP, ToolCase, is_there
+from toolbox.program import path as program_path
 
-PROGRAM = os.environ.get('PCMASM', f'{TOP}/crates/pcmasm/out/pcmasm')
 SEED, COUNT = 8086, 40  # of random instructions of each kind
 BYTES, WORDS = 'AL CL DL BL AH CH DH BH'.split(), 'AX CX DX BX SP BP SI DI'.split()
 PLACES = ['BX', 'BP', 'SI', 'DI', 'BX SI', 'BX DI', 'BP SI', 'BP DI', '']
@@ -164,16 +163,10 @@ END
 class Translated(ToolCase):
     """What pcmasm prints."""
 
-    def setUp(self) -> None:
-        super().setUp()
-        if not os.path.isfile(PROGRAM):
-            not_run('pcmasm; dev/build pcmasm')
-            self.skipTest('no pcmasm')
-
     def translated(self, text: str, *included: str) -> str:
         """The dialect's text of a source of MASM."""
         path = self.file('it.asm', text)
-        done = subprocess.run([PROGRAM, path, *included], capture_output=True, text=True, check=False)
+        done = subprocess.run([program_path('pcmasm'), path, *included], capture_output=True, text=True, check=False)
         self.assertEqual((done.returncode, done.stderr), (0, ''))
         return done.stdout
 
