@@ -1,4 +1,4 @@
-"""CONTRIBUTING's list for adding a deed, followed in a copy with one that isn't there: NOT of a word in memory."""
+"""CONTRIBUTING's list for adding a deed, followed backwards: a copy that has lost NOT of a word in memory in these places is proved."""
 from __future__ import annotations
 
 import os
@@ -14,25 +14,13 @@ PROVED = ('decode_cache', 'execute_slots', 'execute')  # those that hold the pla
 VARIANT, CHOICE = (f'crates/decode_cache/src/{stem}.rt' for stem in ('slot', 'slot_for'))
 ROW = 'crates/decode_cache/specs/Slots.antt'
 ARM, STILL = (f'crates/execute/src/{stem}.rt' for stem in ('by_slot', 'still'))
-# In each place a line, after one that stands there.
+# In each place what stands there, and what is left of it without the deed.
 STEPS = (
-    (VARIANT, '    IncMW,\n', '    NotMW,\n'),
-    (
-        ROW,
-        'deed_row condition deeds.IncMW = row (operations.Unary unaries.Inc) WordInMemory Untold\n',
-        'deed_row condition deeds.NotMW = row (operations.Unary unaries.Not) WordInMemory Untold\n',
-    ),
-    (
-        CHOICE,
-        '        Unary WordInMemory Untold: Inc IncMW, Dec DecMW;\n',
-        '        Unary WordInMemory Untold: Not NotMW;\n',
-    ),
-    (
-        ARM,
-        '        change ByteInMemory: IncMB Inc, DecMB Dec;\n',
-        '        change WordInMemory: NotMW Not;\n',
-    ),
-    (STILL, '        StoreW | StoreB | IncMW | DecMW | IncMB | DecMB => false,\n', '        NotMW => false,\n'),
+    (VARIANT, '    NotMW,\n', ''),
+    (ROW, 'deed_row condition deeds.NotMW = row (operations.Unary unaries.Not) WordInMemory Untold\n', ''),
+    (CHOICE, ' Dec DecMW, Not NotMW, Neg NegMW;\n', ' Dec DecMW, Neg NegMW;\n'),
+    (ARM, '        change WordInMemory: NotMW Not, NegMW Neg;\n', '        change WordInMemory: NegMW Neg;\n'),
+    (STILL, '        NotMW | NegMW ', '        NegMW '),
 )
 
 
@@ -57,8 +45,8 @@ class Places(ToolCase):
             self.assertTrue(os.path.exists(f'{TOP}/{path}'), path)
 
 
-class MadeUpDeed(ToolCase):
-    """A copy in which a deed is added in these places and nowhere else, over the libraries that the gate left."""
+class LostDeed(ToolCase):
+    """A copy from which a deed is taken in these places and nowhere else, over the libraries that the gate left."""
 
     def setUp(self) -> None:
         super().setUp()
@@ -69,16 +57,16 @@ class MadeUpDeed(ToolCase):
                 shutil.copytree(f'{TOP}/crates/{name}', f'{self.room}/crates/{name}', ignore=shutil.ignore_patterns('out', 'must-fail', 'refused'))
             else:
                 os.symlink(f'{TOP}/crates/{name}', f'{self.room}/crates/{name}')
-        for path, before, new in STEPS:
+        for path, stands, left in STEPS:
             text = read(f'{self.room}/{path}')
-            self.assertEqual(text.count(before), 1, before)
-            self.file(path, text.replace(before, before + new))
+            self.assertEqual(text.count(stands), 1, stands)
+            self.file(path, text.replace(stands, left))
 
     def test_both_crates_are_proved(self) -> None:
         crates = Crates(self.room)
         lacking = [name for name in crates.below('execute') - {*PROVED} if not os.path.exists(crates.rlib(name))]
         if lacking or not shutil.which('rt'):
-            not_run('the proof of a made-up deed; it wants Rattle, and the libraries that rt ci leaves')
+            not_run('the proof without a deed; it wants Rattle, and the libraries that rt ci leaves')
             return
         for name in PROVED:
             os.makedirs(os.path.dirname(crates.rlib(name)))

@@ -2,6 +2,7 @@ pub mod IpRange
 pub mod Arrivals
 pub mod TrailEntries
 pub mod TrailLines
+pub mod Doings
 pub mod TrailState
 pub mod HeldBack
 pub mod UneventfulClocks

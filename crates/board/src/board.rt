@@ -22,13 +22,14 @@ ghost use Rattle.board.specs.Turns.{AreStepsOn, IsActOn, IsLeapOn, IsTurnOn};
 ghost use Rattle.board_plain.specs.Work.{steps_in, work_in, work_next};
 ghost use Rattle.board_types.specs.LineLevel.{from_bool};
 ghost use Rattle.events.specs.Accesses.{accesses_next};
+ghost use Rattle.board.specs.Doings.{act_of};
 
+use crate::doing::Doing;
 use crate::engine::Engine;
 use crate::one_turn::Begun;
 use crate::stop::{IpRange, all_await_free};
 use crate::trail::Trail;
 use crate::watch::{Nothing, Watch};
-use board_plain::act::Act;
 use board_plain::config::Config;
 use board_plain::fault::BoardFault;
 use board_plain::speaker::SpeakerChange;
@@ -381,15 +382,15 @@ impl<A: Allocator> Board<A> {
                     notes.none();
                     return Ok(None);
                 }
-                self.act(&Act::Nothing, notes, over_edges, within)
+                self.act(&Doing::Nothing, notes, over_edges, within)
             }
             Boundary::Instruction => {
                 let next = self.engine.instruction();
                 self.act(&next, notes, over_edges, within)
             }
-            Boundary::Request => self.act(&Act::Request, notes, over_edges, within),
-            Boundary::SingleStep => self.act(&Act::SingleStep, notes, over_edges, within),
-            Boundary::Iteration => self.act(&Act::Iteration, notes, over_edges, within),
+            Boundary::Request => self.act(&Doing::Request, notes, over_edges, within),
+            Boundary::SingleStep => self.act(&Doing::SingleStep, notes, over_edges, within),
+            Boundary::Iteration => self.act(&Doing::Iteration, notes, over_edges, within),
         }
     }
 
@@ -418,13 +419,13 @@ impl<A: Allocator> Board<A> {
     #[inline(always)]
     fn act<N: Notes>(
         &mut self,
-        next: &Act,
+        next: &Doing,
         notes: &mut N,
         over_edges: bool,
         within: u64,
     ) -> Result<Option<Begun>, BoardFault>
-        requires next { next.now ≡ next_act self.old.plain }
-        requires exact { IsExact self.old.plain.cpu self.old.plain.chips next.now }
+        requires next { act_of next.now ≡ next_act self.old.plain }
+        requires exact { IsExact self.old.plain.cpu self.old.plain.chips (act_of next.now) }
         requires works { 1 ≤ work_next self.old.plain }
         requires before { clock_of self.old.plain < within }
         requires limit { within ≤ 2 ^ 40 }

@@ -8,6 +8,7 @@ mod arrivals;
 mod block_steps;
 pub mod board;
 mod chips;
+mod doing;
 mod engine;
 pub mod one_turn;
 mod pass;

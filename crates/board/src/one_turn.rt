@@ -8,10 +8,11 @@ ghost use Rattle.events.specs.Accesses.{accesses_next};
 ghost use Rattle.board.specs.HeldBack.{IsHeldBack};
 ghost use Rattle.board.specs.TrailState.{IsExact};
 ghost use Rattle.board.specs.OneTurn.{IsOneTurn, begun_of};
+ghost use Rattle.board.specs.Doings.{act_of};
 
 use crate::board::Board;
+use crate::doing::Doing;
 use crate::engine::Engine;
-use board_plain::act::Act;
 use board_plain::fault::BoardFault;
 use board_types::clock::Clock;
 use execute_noted::notes::Notes;
@@ -32,19 +33,19 @@ impl Engine {
     /// What begins by this act, an instruction or the entry of an interrupt, as a turn answers it: as the trail has it,
     /// but without an instruction's bytes. `None` if nothing does.
     #[inline(always)]
-    pub(crate) fn begins(&self, next: &Act) -> Option<Begun>
-        requires exact { IsExact self.now.cpu self.now.chips next.now }
+    pub(crate) fn begins(&self, next: &Doing) -> Option<Begun>
+        requires exact { IsExact self.now.cpu self.now.chips (act_of next.now) }
         ensures begun { option_to_list result
-            ≡ map begun_of (entry_at self.now (event_of self.now.cpu self.now.chips next.now)) }
+            ≡ map begun_of (entry_at self.now (event_of self.now.cpu self.now.chips (act_of next.now))) }
         ensures clock { IfSome result (λ begun. begun.clock ≡ clock_of self.now) }
     {
         match next {
-            Act::Request => Some(self.begun(Some(self.chips.requested_type()))),
-            Act::SingleStep => Some(self.begun(Some(1))),
-            Act::Instruction(decoded) if decoded.length() > 0 => Some(self.begun(None)),
+            Doing::Request => Some(self.begun(Some(self.chips.requested_type()))),
+            Doing::SingleStep => Some(self.begun(Some(1))),
+            Doing::Instruction(decoded) if decoded.length() > 0 => Some(self.begun(None)),
             // no row of the encoding table fits the bytes there, and the processor jams
-            Act::Instruction(_) => None,
-            Act::Nothing | Act::Iteration => None,
+            Doing::Instruction(_) => None,
+            Doing::Nothing | Doing::Iteration => None,
         }
     }
 

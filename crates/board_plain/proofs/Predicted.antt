@@ -136,7 +136,7 @@ act_predicted table cpu busy s Nothing still = refl
 act_predicted table cpu busy s Request still = enter_predicted table cpu (after_acknowledge s) (requested_type s) causes.Request ∙ no_entry_touches s []
 act_predicted table cpu busy s SingleStep still = enter_predicted table cpu s 1 causes.SingleStep
 act_predicted table cpu busy s Iteration still =
-    again_keeps_any chips_bus table (λ (t : ChipsState). is_speaker_high_after t [] ≡ is_speaker_high_after s []) (byte_predicted s) cpu s refl
+    again_keeps_any chips_bus (λ (t : ChipsState). is_speaker_high_after t [] ≡ is_speaker_high_after s []) (byte_predicted s) cpu s refl
 act_predicted table cpu busy s (Instruction decoded) still = step_predicted table cpu s decoded still
 
 clock_predicted : (s : ChipsState) (keys : List StampedKey) → is_speaker_high (chips_after_clock s keys) ≡ is_speaker_high_after s []

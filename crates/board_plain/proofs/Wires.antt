@@ -42,7 +42,7 @@ fixed_after_act table cpu busy s Nothing holds = holds
 fixed_after_act table cpu busy s Request holds =
     fixed_after_enter table cpu (after_acknowledge s) (requested_type s) causes.Request (wires_stay.request s holds)
 fixed_after_act table cpu busy s SingleStep holds = fixed_after_enter table cpu s 1 causes.SingleStep holds
-fixed_after_act table cpu busy s Iteration holds = again_keeps_any chips_bus table FixedWires wires_stay.byte cpu s holds
+fixed_after_act table cpu busy s Iteration holds = again_keeps_any chips_bus FixedWires wires_stay.byte cpu s holds
 fixed_after_act table cpu busy s (Instruction decoded) holds =
     step_keeps_any chips_bus table FixedWires wires_stay.byte wires_stay.input wires_stay.output cpu s decoded holds
 

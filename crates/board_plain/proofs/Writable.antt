@@ -80,7 +80,7 @@ act_takes table cpu busy s Request address =
     ∙ same_writable (after_acknowledge s) s address (same_after_acknowledge s)
 act_takes table cpu busy s SingleStep address = enter_takes table cpu s 1 causes.SingleStep address
 act_takes table cpu busy s Iteration address =
-    again_keeps_any chips_bus table (λ (t : ChipsState). is_writable t address ≡ is_writable s address)
+    again_keeps_any chips_bus (λ (t : ChipsState). is_writable t address ≡ is_writable s address)
     (λ t other byte same. byte_takes s t address other byte same) cpu s refl
 act_takes table cpu busy s (Instruction decoded) address =
     step_keeps_any chips_bus table (λ (t : ChipsState). is_writable t address ≡ is_writable s address)

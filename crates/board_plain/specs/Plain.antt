@@ -67,7 +67,7 @@ after_act table cpu busy chips Nothing = step_result cpu chips busy
 after_act table cpu busy chips Request =
     after_enter chips_bus table cpu (after_acknowledge chips) (pic.vector chips.pic) causes.Request
 after_act table cpu busy chips SingleStep = after_enter chips_bus table cpu chips 1 causes.SingleStep
-after_act table cpu busy chips Iteration = after_again chips_bus table cpu chips
+after_act table cpu busy chips Iteration = after_again chips_bus cpu chips
 after_act table cpu busy chips (Instruction decoded) = after_step chips_bus table cpu chips decoded
 
 -- the codes of the keys that are stamped with a clock, in order

@@ -1,6 +1,6 @@
 //! What the processor does in a clock.
 
-use decode::decoded::Decoded;
+use decode::decoding::Decoding;
 
 /// What the processor does in a clock.
 #[derive(Drop)]
@@ -14,5 +14,5 @@ pub enum Act {
     /// The processor makes the next iteration of a repeat.
     Iteration,
     /// The processor makes the step of the instruction that stands at CS:IP.
-    Instruction(Decoded),
+    Instruction(Decoding),
 }

@@ -22,6 +22,7 @@ use Rattle.isa.specs.declared.register.SegmentRegister.{SegmentRegister}
 use Rattle.isa.specs.declared.form.Instr.{Instr}
 use Rattle.isa.specs.Row.{first_of, operation_of, second_of}
 use Rattle.isa.specs.Clocks.{is_repeated}
+use Rattle.isa.specs.WordCounts.{clocks_in}
 use Rattle.decode.specs.declared.decoding.Decoding.{Decoding as Decoded}
 use Rattle.decode.specs.declared.decoding.Decoding.TheVariants.{Found, NoRow}
 use Rattle.execute_machine.specs.declared.location.OperandLocation.{OperandLocation}
@@ -35,7 +36,7 @@ use Rattle.execute_arith.specs.Shifts.{after_shift}
 use Rattle.execute_arith.specs.declared.numbers.Division.{Division}
 use Rattle.execute_arith.specs.Products as product
 use Rattle.execute_arith.specs.Products.{after_division, after_product}
-use Rattle.execute_strings.specs.StringMeaning.{after_movs, after_cmps, after_stos, after_lods, after_scas, after_element, after_iteration}
+use Rattle.execute_strings.specs.StringMeaning.{after_movs, after_cmps, after_stos, after_lods, after_scas, after_element, after_iteration, source_segment}
 use Rattle.execute_transfer.specs.TransferMeaning.{after_mov, after_xchg, after_lea, after_pointer_load, after_push_operand}
 use Rattle.execute_transfer.specs.TransferMeaning.{after_pop_operand, after_popf, after_xlat, after_byte_input, after_word_input}
 use Rattle.execute_transfer.specs.TransferMeaning.{after_in, after_out, after_transfer, is_ax, outputs_at, outputs_of, port_of}
@@ -44,7 +45,7 @@ use Rattle.execute_meaning.specs.declared.repeating.Repeating.{Repeating}
 use Rattle.execute_meaning.specs.Boundaries.{after_enter}
 use Rattle.execute_meaning.specs.Cpu.{CpuState}
 use Rattle.execute_meaning.specs.Meaning.{StepResult, after_operation, after_whole, after_iterating, after_repeat, after_begun}
-use Rattle.execute_meaning.specs.Meaning.{after_fetch, after_found, after_step, after_again_of, after_again, size_from_last_prefix}
+use Rattle.execute_meaning.specs.Meaning.{after_fetch, after_found, after_step, after_again_of, after_again, iteration_outcome, repeating_of}
 use Rattle.events.specs.declared.access.Access.{Access}
 use Rattle.events.specs.EventLaws.{MakesFewAccesses}
 use Rattle.events.specs.Noting.{Noted, noting, unnoted}
@@ -136,34 +137,34 @@ product_few bus count counts m Imul i = none (count m.bus) 6
 product_few bus count counts m Div i = division_few bus count counts m _ _
 product_few bus count counts m Idiv i = division_few bus count counts m _ _
 
-movs_few : {S : Type 0} (bus : BusMeaning S) (count : S → ℕ) → Counts bus count → (m : Machine S) (width : Width) (i : Instr)
-    → count (after_movs bus m width i).bus ≤ count m.bus + 6
+movs_few : {S : Type 0} (bus : BusMeaning S) (count : S → ℕ) → Counts bus count → (m : Machine S) (width : Width) (from : SegmentRegister)
+    → count (after_movs bus m width from).bus ≤ count m.bus + 6
 unfolding after_movs
-movs_few bus count counts m width i = two_are_few _ _ (put_few bus count counts m _ _)
+movs_few bus count counts m width from = two_are_few _ _ (put_few bus count counts m _ _)
 
 stos_few : {S : Type 0} (bus : BusMeaning S) (count : S → ℕ) → Counts bus count → (m : Machine S) (width : Width)
     → count (after_stos bus m width).bus ≤ count m.bus + 6
 unfolding after_stos
 stos_few bus count counts m width = two_are_few _ _ (put_few bus count counts m _ _)
 
-lods_few : {S : Type 0} (bus : BusMeaning S) (count : S → ℕ) → Counts bus count → (m : Machine S) (width : Width) (i : Instr)
-    → count (after_lods bus m width i).bus ≤ count m.bus + 6
+lods_few : {S : Type 0} (bus : BusMeaning S) (count : S → ℕ) → Counts bus count → (m : Machine S) (width : Width) (from : SegmentRegister)
+    → count (after_lods bus m width from).bus ≤ count m.bus + 6
 unfolding after_lods
-lods_few bus count counts m width i = two_are_few _ _ (put_few bus count counts m _ _)
+lods_few bus count counts m width from = two_are_few _ _ (put_few bus count counts m _ _)
 
-element_few : {S : Type 0} (bus : BusMeaning S) (count : S → ℕ) → Counts bus count → (m : Machine S) (op : Strings) (i : Instr)
-    → count (after_element bus m op i).bus ≤ count m.bus + 6
+element_few : {S : Type 0} (bus : BusMeaning S) (count : S → ℕ) → Counts bus count → (m : Machine S) (op : Strings) (from : SegmentRegister)
+    → count (after_element bus m op from).bus ≤ count m.bus + 6
 unfolding after_element after_cmps after_scas
-element_few bus count counts m Movsb i = movs_few bus count counts m Byte i
-element_few bus count counts m Movsw i = movs_few bus count counts m Word i
-element_few bus count counts m Cmpsb i = none (count m.bus) 6
-element_few bus count counts m Cmpsw i = none (count m.bus) 6
-element_few bus count counts m Stosb i = stos_few bus count counts m Byte
-element_few bus count counts m Stosw i = stos_few bus count counts m Word
-element_few bus count counts m Lodsb i = lods_few bus count counts m Byte i
-element_few bus count counts m Lodsw i = lods_few bus count counts m Word i
-element_few bus count counts m Scasb i = none (count m.bus) 6
-element_few bus count counts m Scasw i = none (count m.bus) 6
+element_few bus count counts m Movsb from = movs_few bus count counts m Byte from
+element_few bus count counts m Movsw from = movs_few bus count counts m Word from
+element_few bus count counts m Cmpsb from = none (count m.bus) 6
+element_few bus count counts m Cmpsw from = none (count m.bus) 6
+element_few bus count counts m Stosb from = stos_few bus count counts m Byte
+element_few bus count counts m Stosw from = stos_few bus count counts m Word
+element_few bus count counts m Lodsb from = lods_few bus count counts m Byte from
+element_few bus count counts m Lodsw from = lods_few bus count counts m Word from
+element_few bus count counts m Scasb from = none (count m.bus) 6
+element_few bus count counts m Scasw from = none (count m.bus) 6
 
 pointer_few : {S : Type 0} (bus : BusMeaning S) (count : S → ℕ) → Counts bus count → (m : Machine S) (segment : SegmentRegister) (i : Instr)
     → count (after_pointer_load bus m segment i).bus ≤ count m.bus + 6
@@ -232,7 +233,7 @@ operation_few bus count counts m (operations.Product op) i = product_few bus cou
 operation_few bus count counts m (operations.Unary op) i = unary_few bus count counts m op i
 operation_few bus count counts m (operations.Jump _) i = none (count m.bus) 6
 operation_few bus count counts m (operations.Looping _) i = none (count m.bus) 6
-operation_few bus count counts m (operations.Strings op) i = element_few bus count counts m op i
+operation_few bus count counts m (operations.Strings op) i = element_few bus count counts m op (source_segment i)
 operation_few bus count counts m (operations.Adjust _) i = none (count m.bus) 6
 operation_few bus count counts m (operations.Transfer op) i = transfer_few bus count counts m op i
 operation_few bus count counts m (operations.Control op) i = control_few bus count counts m op i
@@ -246,9 +247,9 @@ unfolding after_whole
 whole_few bus count counts table p s op i = operation_few bus count counts (machine p.registers s) op i
 
 iterating_few : {S : Type 0} (bus : BusMeaning S) (count : S → ℕ) → Counts bus count
-    → (table : ClockTable) (p : CpuState) (s : S) (op : Strings) (i : Instr) (first : Bool) → count (after_iterating bus table p s op i first).bus ≤ count s + 6
+    → (p : CpuState) (s : S) (r : Repeating) (clocks : ℕ) → count (after_iterating bus p s r clocks).bus ≤ count s + 6
 unfolding after_iterating after_iteration
-iterating_few bus count counts table p s op i first = element_few bus count counts (machine p.registers s) op i
+iterating_few bus count counts p s r clocks = element_few bus count counts (machine p.registers s) r.operation r.segment
 
 if_few : {S : Type 0} (count : S → ℕ) (n : ℕ) (b : Bool) (x y : StepResult S) → count x.bus ≤ n → count y.bus ≤ n → count (if b then x else y).bus ≤ n
 if_few count n true x y first second = first
@@ -257,7 +258,9 @@ if_few count n false x y first second = second
 repeat_few : {S : Type 0} (bus : BusMeaning S) (count : S → ℕ) → Counts bus count → (table : ClockTable) (p : CpuState) (s : S) (op : Strings) (i : Instr)
     → count (after_repeat bus table p s op i).bus ≤ count s + 6
 unfolding after_repeat
-repeat_few bus count counts table p s op i = if_few count _ (p.registers.cx == 0) _ _ (none (count s) 6) (iterating_few bus count counts table p s op i true)
+repeat_few bus count counts table p s op i =
+    if_few count _ (p.registers.cx == 0) _ _ (none (count s) 6)
+    (iterating_few bus count counts p s (repeating_of table op i) (clocks_in table i (iteration_outcome true false)))
 
 begun_few : {S : Type 0} (bus : BusMeaning S) (count : S → ℕ) → Counts bus count → (table : ClockTable) (p : CpuState) (s : S) (op : Operation) (i : Instr)
     → count (after_begun bus table p s op i).bus ≤ count s + 6
@@ -272,10 +275,9 @@ step_few bus count counts table p s NoRow = none (count s) 6
 step_few bus count counts table p s (Found i size) = begun_few bus count counts table (after_fetch p size) s (operation_of i.form.row) i
 
 again_of_few : {S : Type 0} (bus : BusMeaning S) (count : S → ℕ) → Counts bus count
-    → (table : ClockTable) (p : CpuState) (s : S) (repeat : Option Repeating) → count (after_again_of bus table p s repeat).bus ≤ count s + 6
-again_of_few bus count counts table p s None = none (count s) 6
-again_of_few bus count counts table p s (Some r) =
-    iterating_few bus count counts table (after_fetch p (size_from_last_prefix r.instr)) s r.operation r.instr false
+    → (p : CpuState) (s : S) (repeat : Option Repeating) → count (after_again_of bus p s repeat).bus ≤ count s + 6
+again_of_few bus count counts p s None = none (count s) 6
+again_of_few bus count counts p s (Some r) = iterating_few bus count counts (after_fetch p r.size) s r r.clocks
 
 -- the bus that notes accesses has noted no more
 
@@ -297,6 +299,6 @@ pub makes_few : {S : Type 0} (bus : BusMeaning S) → MakesFewAccesses bus
 unfolding after_again after_enter
 makes_few bus = record {
   step = λ table p s decoded. step_few (noting bus) noted_count (counts_noted bus) table p (unnoted s) decoded;
-  again = λ table p s. again_of_few (noting bus) noted_count (counts_noted bus) table p (unnoted s) p.repeat;
+  again = λ p s. again_of_few (noting bus) noted_count (counts_noted bus) p (unnoted s) p.repeat;
   enter = λ table p s kind cause. entry_few (noting bus) noted_count (counts_noted bus) (machine p.registers (unnoted s)) kind;
 }

@@ -60,7 +60,7 @@ makes_accesses bus = record {
   step = λ table p s decoded.
       is_noted bus s _ _ (same_by_step bus (noting bus) table (λ port. true) (λ port. true) (Notes bus s) (notes_alike bus s)
       (notes_ports bus s) p s (unnoted s) decoded (λ k d within. refl) (λ k d within. refl) (notes_none bus s));
-  again = λ table p s. is_noted bus s _ _ (same_by_again bus (noting bus) table (Notes bus s) (notes_alike bus s) p s (unnoted s) (notes_none bus s));
+  again = λ p s. is_noted bus s _ _ (same_by_again bus (noting bus) (Notes bus s) (notes_alike bus s) p s (unnoted s) (notes_none bus s));
   enter = λ table p s kind cause.
       is_noted bus s _ _ (same_by_enter bus (noting bus) table (Notes bus s) (notes_alike bus s) p s (unnoted s) kind cause (notes_none bus s));
 }

@@ -92,7 +92,7 @@ acted_queue table cpu busy s Nothing = same_queue s.keyboard
 acted_queue table cpu busy s Request = queue_then _ _ _ (entered_queue table cpu (after_acknowledge s) (requested_type s) causes.Request) (acknowledged_queue s)
 acted_queue table cpu busy s SingleStep = entered_queue table cpu s 1 causes.SingleStep
 acted_queue table cpu busy s Iteration =
-    again_keeps_any chips_bus table (λ (t : ChipsState). SameQueue t.keyboard s.keyboard)
+    again_keeps_any chips_bus (λ (t : ChipsState). SameQueue t.keyboard s.keyboard)
     (λ t address byte same. queue_then _ _ _ (written_queue t address byte) same) cpu s (same_queue s.keyboard)
 acted_queue table cpu busy s (Instruction decoded) =
     step_keeps_any chips_bus table (λ (t : ChipsState). SameQueue t.keyboard s.keyboard)

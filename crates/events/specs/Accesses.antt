@@ -24,7 +24,7 @@ after_noted table cpu busy chips Request =
     after_enter (noting chips_bus) table cpu (unnoted (after_acknowledge chips)) (requested_type chips) causes.Request
 after_noted table cpu busy chips SingleStep =
     after_enter (noting chips_bus) table cpu (unnoted chips) 1 causes.SingleStep
-after_noted table cpu busy chips Iteration = after_again (noting chips_bus) table cpu (unnoted chips)
+after_noted table cpu busy chips Iteration = after_again (noting chips_bus) cpu (unnoted chips)
 after_noted table cpu busy chips (Instruction decoded) = after_step (noting chips_bus) table cpu (unnoted chips) decoded
 
 -- the accesses of the next clock

@@ -35,8 +35,7 @@ pub record IsNoted {S : Type 0} (bus : BusMeaning S) (s : S)
 pub record MakesAccesses {S : Type 0} (bus : BusMeaning S) : Type 0 where
   pub step : (table : ClockTable) (p : CpuState) (s : S) (decoded : Decoded)
       → IsNoted bus s (after_step bus table p s decoded) (after_step (noting bus) table p (unnoted s) decoded)
-  pub again : (table : ClockTable) (p : CpuState) (s : S)
-      → IsNoted bus s (after_again bus table p s) (after_again (noting bus) table p (unnoted s))
+  pub again : (p : CpuState) (s : S) → IsNoted bus s (after_again bus p s) (after_again (noting bus) p (unnoted s))
   pub enter : (table : ClockTable) (p : CpuState) (s : S) (kind : ℕ) (cause : Cause)
       → IsNoted bus s (after_enter bus table p s kind cause) (after_enter (noting bus) table p (unnoted s) kind cause)
 
@@ -45,7 +44,6 @@ pub record MakesAccesses {S : Type 0} (bus : BusMeaning S) : Type 0 where
 pub record MakesFewAccesses {S : Type 0} (bus : BusMeaning S) : Type 0 where
   pub step : (table : ClockTable) (p : CpuState) (s : S) (decoded : Decoded)
       → length (after_step (noting bus) table p (unnoted s) decoded).bus.accesses ≤ 6
-  pub again : (table : ClockTable) (p : CpuState) (s : S)
-      → length (after_again (noting bus) table p (unnoted s)).bus.accesses ≤ 6
+  pub again : (p : CpuState) (s : S) → length (after_again (noting bus) p (unnoted s)).bus.accesses ≤ 6
   pub enter : (table : ClockTable) (p : CpuState) (s : S) (kind : ℕ) (cause : Cause)
       → length (after_enter (noting bus) table p (unnoted s) kind cause).bus.accesses ≤ 6

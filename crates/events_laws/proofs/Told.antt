@@ -232,7 +232,7 @@ made_by table cpu busy c SingleStep address = record {
 made_by table cpu busy c Iteration address = record {
   start = c;
   same = record { byte = refl; takes = refl };
-  made = ((makes_accesses chips_bus).again table cpu c).made;
+  made = ((makes_accesses chips_bus).again cpu c).made;
 }
 made_by table cpu busy c (Instruction decoded) address = record {
   start = c;

@@ -17,7 +17,7 @@ use Rattle.decode.specs.declared.decoding.Decoding.TheVariants.{Found, NoRow}
 use Rattle.bus.specs.Bus.{BusMeaning}
 use Rattle.execute_machine.specs.RegisterFile.{Registers}
 use Rattle.execute_machine.specs.Locations.{machine}
-use Rattle.execute_strings.specs.StringMeaning.{goes_on}
+use Rattle.execute_strings.specs.StringMeaning.{goes_on, source_segment}
 use Rattle.execute_meaning.specs.declared.boundary.Cause.{Cause}
 use Rattle.execute_meaning.specs.declared.repeating.Repeating.{Repeating}
 use Rattle.execute_meaning.specs.declared.shadow.Shadow.TheVariants.{Nothing}
@@ -26,7 +26,7 @@ use Rattle.execute_meaning.specs.Boundaries.{after_enter, still_due}
 use Rattle.execute_meaning.specs.Cpu.{CpuState}
 use Rattle.execute_meaning.specs.Meaning.{StepResult, after_again, after_again_of, after_begun, after_fetch, after_found}
 use Rattle.execute_meaning.specs.Meaning.{after_iterating, after_operation, after_repeat, after_step, after_whole, is_taken}
-use Rattle.execute_meaning.specs.Meaning.{lacks_quotient, shadow_of, size_from_last_prefix, state_after, with_end, with_repeat}
+use Rattle.execute_meaning.specs.Meaning.{lacks_quotient, shadow_of, repeating_of, state_after, with_end, with_repeat}
 use Rattle.execute_machine.proofs.Related.{Alike, Same, same_by_entry}
 use Rattle.execute_arith.proofs.Related.{same_by_arithmetic, same_by_product, same_by_shift, same_by_unary, same_fault}
 use Rattle.execute_strings.proofs.Related.{same_by_element, same_by_iteration}
@@ -65,7 +65,7 @@ same_by_operation bus other reads writes R alike ports r s t (operations.Unary o
 same_by_operation bus other reads writes R alike ports r s t (operations.Jump _) i read written related = unchanged R _ s t related
 same_by_operation bus other reads writes R alike ports r s t (operations.Looping _) i read written related = unchanged R _ s t related
 same_by_operation bus other reads writes R alike ports r s t (operations.Strings op) i read written related =
-    same_by_element bus other R alike r s t op i related
+    same_by_element bus other R alike r s t op (source_segment i) related
 same_by_operation bus other reads writes R alike ports r s t (operations.Adjust _) i read written related = unchanged R _ s t related
 same_by_operation bus other reads writes R alike ports r s t (operations.Transfer op) i read written related =
     same_by_transfer bus other reads writes R alike ports r s t op i read written related
@@ -94,13 +94,13 @@ same_by_whole bus other table reads writes R alike ports p s t op i read written
           (same_lack bus other R alike p.registers s t op i related);
     }
 
-same_by_iterating : {S T : Type 0} (bus : BusMeaning S) (other : BusMeaning T) (table : ClockTable) (R : S → T → Type 0)
-    → Alike bus other R → (p : CpuState) (s : S) (t : T) (operation : Strings) (i : Instr) (first : Bool) → R s t
-    → SameStep R (after_iterating bus table p s operation i first) (after_iterating other table p t operation i first)
+same_by_iterating : {S T : Type 0} (bus : BusMeaning S) (other : BusMeaning T) (R : S → T → Type 0)
+    → Alike bus other R → (p : CpuState) (s : S) (t : T) (q : Repeating) (clocks : ℕ) → R s t
+    → SameStep R (after_iterating bus p s q clocks) (after_iterating other p t q clocks)
 unfolding after_iterating
-same_by_iterating bus other table R alike p s t operation i first related =
-    let same = same_by_iteration bus other R alike p.registers s t operation i related in record {
-      cpu = ap (λ (r : Registers). if goes_on r operation i then with_repeat p r operation i else with_end p r p.state Nothing) same.registers;
+same_by_iterating bus other R alike p s t q clocks related =
+    let same = same_by_iteration bus other R alike p.registers s t q.operation q.segment related in record {
+      cpu = ap (λ (r : Registers). if goes_on r q.operation q.repeat then with_repeat p r q else with_end p r p.state Nothing) same.registers;
       bus = same.bus;
       clocks = refl;
     }
@@ -116,7 +116,7 @@ same_by_repeat : {S T : Type 0} (bus : BusMeaning S) (other : BusMeaning T) (tab
 unfolding after_repeat
 same_by_repeat bus other table R alike p s t operation i related =
     same_if R (p.registers.cx == 0) _ _ _ _ (record { cpu = refl; bus = related; clocks = refl })
-    (same_by_iterating bus other table R alike p s t operation i true related)
+    (same_by_iterating bus other R alike p s t (repeating_of table operation i) _ related)
 
 same_by_begun : {S T : Type 0} (bus : BusMeaning S) (other : BusMeaning T) (table : ClockTable) (reads writes : ℕ → Bool) (R : S → T → Type 0)
     → Alike bus other R → PortsAlike bus other reads writes R → (p : CpuState) (s : S) (t : T) (op : Operation) (i : Instr)
@@ -168,17 +168,17 @@ same_by_step bus other table reads writes R alike ports p s t NoRow read written
 same_by_step bus other table reads writes R alike ports p s t (Found i size) read written related =
     same_by_found bus other table reads writes R alike ports p s t i size read written related
 
-same_by_again_of : {S T : Type 0} (bus : BusMeaning S) (other : BusMeaning T) (table : ClockTable) (R : S → T → Type 0)
+same_by_again_of : {S T : Type 0} (bus : BusMeaning S) (other : BusMeaning T) (R : S → T → Type 0)
     → Alike bus other R → (p : CpuState) (s : S) (t : T) (repeat : Option Repeating) → R s t
-    → SameStep R (after_again_of bus table p s repeat) (after_again_of other table p t repeat)
-same_by_again_of bus other table R alike p s t None related = record { cpu = refl; bus = related; clocks = refl }
-same_by_again_of bus other table R alike p s t (Some r) related =
-    same_by_iterating bus other table R alike (after_fetch p (size_from_last_prefix r.instr)) s t r.operation r.instr false related
+    → SameStep R (after_again_of bus p s repeat) (after_again_of other p t repeat)
+same_by_again_of bus other R alike p s t None related = record { cpu = refl; bus = related; clocks = refl }
+same_by_again_of bus other R alike p s t (Some r) related =
+    same_by_iterating bus other R alike (after_fetch p r.size) s t r _ related
 
-pub same_by_again : {S T : Type 0} (bus : BusMeaning S) (other : BusMeaning T) (table : ClockTable) (R : S → T → Type 0)
-    → Alike bus other R → (p : CpuState) (s : S) (t : T) → R s t → SameStep R (after_again bus table p s) (after_again other table p t)
+pub same_by_again : {S T : Type 0} (bus : BusMeaning S) (other : BusMeaning T) (R : S → T → Type 0)
+    → Alike bus other R → (p : CpuState) (s : S) (t : T) → R s t → SameStep R (after_again bus p s) (after_again other p t)
 unfolding after_again
-same_by_again bus other table R alike p s t related = same_by_again_of bus other table R alike p s t p.repeat related
+same_by_again bus other R alike p s t related = same_by_again_of bus other R alike p s t p.repeat related
 
 pub same_by_enter : {S T : Type 0} (bus : BusMeaning S) (other : BusMeaning T) (table : ClockTable) (R : S → T → Type 0)
     → Alike bus other R → (p : CpuState) (s : S) (t : T) (kind : ℕ) (cause : Cause) → R s t

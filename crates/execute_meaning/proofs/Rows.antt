@@ -7,6 +7,7 @@ use Rattle.board_types.specs.declared.choice.ClockTable.TheVariants.{C1, C2}
 use Rattle.board_types.specs.declared.state.State.{State}
 use Rattle.board_types.specs.declared.state.State.TheVariants.{Running, Halted, Jammed}
 use Rattle.isa.specs.declared.form.Instr.{Instr}
+use Rattle.isa.specs.declared.form.Repeat.{Repeat}
 use Rattle.isa.specs.declared.form.Repeat.TheVariants.{Repne, Rep}
 use Rattle.isa.specs.declared.operation.Operation.TheVariants as operations
 use Rattle.isa.specs.declared.operation.Transfer.TheVariants.{Mov, Pop, Popf, Les}
@@ -16,7 +17,6 @@ use Rattle.isa.specs.declared.operation.Strings.{Strings}
 use Rattle.isa.specs.declared.operation.Strings.TheVariants.{Movsb, Cmpsb, Scasw}
 use Rattle.isa.specs.declared.row.Kind.TheVariants as kinds
 use Rattle.isa.specs.Encoding.{form_length}
-use Rattle.isa.specs.Prefixes.{repeat_of}
 use Rattle.bus.specs.Bus.{BusMeaning}
 use Rattle.execute_machine.specs.RegisterFile.{Registers}
 use Rattle.execute_strings.specs.StringMeaning.{goes_on}
@@ -27,7 +27,7 @@ use Rattle.execute_meaning.specs.declared.shadow.Shadow.TheVariants as shadows
 use Rattle.execute_meaning.specs.declared.repeating.Repeating.{Repeating}
 use Rattle.execute_meaning.specs.Cpu.{CpuState}
 use Rattle.execute_meaning.specs.Boundaries.{boundary_of, entry_clocks, still_due}
-use Rattle.execute_meaning.specs.Meaning.{after_fetch, after_repeat, shadow_of, with_repeat}
+use Rattle.execute_meaning.specs.Meaning.{after_fetch, after_repeat, repeating_of, shadow_of, with_repeat}
 
 -- a processor with these interrupts let in, in this state and shadow, with a single step due or not
 abbrev cpu : Registers → Bool → State → Shadow → Bool → Option Repeating → CpuState
@@ -156,13 +156,13 @@ step_clocks_by_words : entry_clocks C2 SingleStep ≡ 70
 step_clocks_by_words = refl
 
 -- REP MOVSB at 0100h, and two prefixes before MOVSB at 0000h: between iterations IP is the last prefix's
-at_the_prefix : (p : CpuState) (r : Registers) (i : Instr) → form_length i.form ≡ 1
-    → (with_repeat p (record r { ip = 0x102 }) Movsb i).registers.ip ≡ 0x100
-at_the_prefix p r i one = rw one refl
+at_the_prefix : (table : ClockTable) (p : CpuState) (r : Registers) (i : Instr) → form_length i.form ≡ 1
+    → (with_repeat p (record r { ip = 0x102 }) (repeating_of table Movsb i)).registers.ip ≡ 0x100
+at_the_prefix table p r i one = rw one refl
 
-at_the_last_prefix : (p : CpuState) (r : Registers) (i : Instr) → form_length i.form ≡ 1
-    → (with_repeat p (record r { ip = 3 }) Movsb i).registers.ip ≡ 1
-at_the_last_prefix p r i one = rw one refl
+at_the_last_prefix : (table : ClockTable) (p : CpuState) (r : Registers) (i : Instr) → form_length i.form ≡ 1
+    → (with_repeat p (record r { ip = 3 }) (repeating_of table Movsb i)).registers.ip ≡ 1
+at_the_last_prefix table p r i one = rw one refl
 
 -- with CX 0 a repeat does nothing, and IP is the next instruction's
 empty_repeat : {S : Type 0} (bus : BusMeaning S) (table : ClockTable) (p : CpuState) (r : Registers) (s : S) (op : Strings) (i : Instr)
@@ -176,25 +176,22 @@ unfolding after_repeat
 none_in_progress bus table p r s op i = refl
 
 -- a repeat ends if CX is 0, and one of a comparison also under REPE if ZF is 0, under REPNE if it is 1
-ends_with_cx : (r : Registers) (op : Strings) (i : Instr) → goes_on (record r { cx = 0 }) op i ≡ false
+ends_with_cx : (r : Registers) (op : Strings) (repeat : Repeat) → goes_on (record r { cx = 0 }) op repeat ≡ false
 unfolding goes_on
-ends_with_cx r op i = refl
+ends_with_cx r op repeat = refl
 
-moves_on : (r : Registers) (i : Instr) → repeat_of i.prefixes.items ≡ Some Repne → goes_on (record r { cx = 1 }) Movsb i ≡ true
+moves_on : (r : Registers) → goes_on (record r { cx = 1 }) Movsb Repne ≡ true
 unfolding goes_on
-moves_on r i repne = rw repne refl
+moves_on r = refl
 
-repe_goes_on : (r : Registers) (i : Instr) → repeat_of i.prefixes.items ≡ Some Rep
-    → goes_on (record r { cx = 1; flags = record r.flags { zero = true } }) Cmpsb i ≡ true
+repe_goes_on : (r : Registers) → goes_on (record r { cx = 1; flags = record r.flags { zero = true } }) Cmpsb Rep ≡ true
 unfolding goes_on
-repe_goes_on r i rep = rw rep refl
+repe_goes_on r = refl
 
-repe_ends : (r : Registers) (i : Instr) → repeat_of i.prefixes.items ≡ Some Rep
-    → goes_on (record r { cx = 1; flags = record r.flags { zero = false } }) Cmpsb i ≡ false
+repe_ends : (r : Registers) → goes_on (record r { cx = 1; flags = record r.flags { zero = false } }) Cmpsb Rep ≡ false
 unfolding goes_on
-repe_ends r i rep = rw rep refl
+repe_ends r = refl
 
-repne_ends : (r : Registers) (i : Instr) → repeat_of i.prefixes.items ≡ Some Repne
-    → goes_on (record r { cx = 1; flags = record r.flags { zero = true } }) Scasw i ≡ false
+repne_ends : (r : Registers) → goes_on (record r { cx = 1; flags = record r.flags { zero = true } }) Scasw Repne ≡ false
 unfolding goes_on
-repne_ends r i repne = rw repne refl
+repne_ends r = refl

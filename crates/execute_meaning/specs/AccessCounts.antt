@@ -11,6 +11,7 @@ use Rattle.isa.specs.declared.operation.Arithmetic.TheVariants.{Cmp, Test}
 use Rattle.isa.specs.declared.operation.Transfer.TheVariants.{Mov, Xchg, Les, Lds, Push, Pop, Pushf, Popf}
 use Rattle.isa.specs.declared.operation.Control.TheVariants.{Jmp, Call, Ret, JmpFar, CallFar}
 use Rattle.isa.specs.declared.operation.Control.TheVariants.{Retf, Int3, Int, Into, Iret}
+use Rattle.isa.specs.declared.operation.Strings.{Strings as StringsType}
 use Rattle.isa.specs.declared.operation.Strings.TheVariants.{Movsb, Movsw, Cmpsw, Stosb, Stosw, Lodsw, Scasw}
 use Rattle.isa.specs.declared.row.Kind.{Kind}
 use Rattle.isa.specs.declared.row.Kind.TheVariants.{Rm8, At8}
@@ -164,16 +165,18 @@ found_by bus p s i size = outcome_in bus (after_fetch p size) s (operation_of i.
 abbrev pub bytes_of_writes : Instr → Outcome → ℕ
 bytes_of_writes i o = 2 * written_words i o + written_bytes i o
 
+-- how many bytes an iteration writes
+abbrev pub bytes_of_element : StringsType → ℕ
+bytes_of_element op = 2 * elements_written (Strings op) + byte_elements_written (Strings op)
+
 -- The outcome of a step, of the next iteration of a repeat and of an entry decides their clocks, and how many bytes
 -- they write, even to addresses that take none.
 pub record WritesAreTold {S : Type 0} (bus : BusMeaning S) (count : S → ℕ) : Type 0 where
   pub step : (table : ClockTable) (p : CpuState) (s : S) (i : Instr) (size : ℕ) → IsInstr i
       → ((after_step bus table p s (Found i size)).clocks ≡ clocks_in table i (found_by bus p s i size))
       × (count (after_step bus table p s (Found i size)).bus ≡ count s + bytes_of_writes i (found_by bus p s i size))
-  pub again : (table : ClockTable) (p : CpuState) (s : S) (r : Repeating) → p.repeat ≡ Some r
-      → operation_of r.instr.form.row ≡ Strings r.operation
-      → ((after_again bus table p s).clocks ≡ clocks_in table r.instr (iteration_outcome false false))
-      × (count (after_again bus table p s).bus ≡ count s + bytes_of_writes r.instr (iteration_outcome false false))
+  pub again : (p : CpuState) (s : S) (r : Repeating) → p.repeat ≡ Some r → ((after_again bus p s).clocks ≡ r.clocks)
+      × (count (after_again bus p s).bus ≡ count s + bytes_of_element r.operation)
   pub enter : (table : ClockTable) (p : CpuState) (s : S) (kind : ℕ) (cause : Cause)
       → count (after_enter bus table p s kind cause).bus ≡ count s + 6
 

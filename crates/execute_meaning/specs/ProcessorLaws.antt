@@ -53,7 +53,7 @@ PortWritesTell {S} bus T U =
 -- an iteration of a repeat and an entry reach only memory: what memory writes leave as it is stays
 pub record MemoryAlone {S : Type 0} (bus : BusMeaning S) (T : Type 0) : Type 0 where
   pub again : (part : S → T) → ((s : S) (address byte : ℕ) → part (bus.after_write s address byte) ≡ part s)
-      → (table : ClockTable) (p : CpuState) (s : S) → part (after_again bus table p s).bus ≡ part s
+      → (p : CpuState) (s : S) → part (after_again bus p s).bus ≡ part s
   pub enter : (part : S → T) → ((s : S) (address byte : ℕ) → part (bus.after_write s address byte) ≡ part s)
       → (table : ClockTable) (p : CpuState) (s : S) (kind : ℕ) (cause : Cause)
       → part (after_enter bus table p s kind cause).bus ≡ part s

@@ -99,12 +99,12 @@ step_is_kept bus table p s decoded name held is =
     (same_by_step (noting bus) (holding bus) table (λ port. true) (λ port. true) (Keeps name) (keeps_alike bus name)
     (keeps_ports bus name) p (unnoted s) (unheld name s) decoded (λ k d within. refl) (λ k d within. refl) (keeps_none name s)))
 
-pub again_is_kept : {S : Type 0} (bus : BusMeaning S) (table : ClockTable) (p : CpuState) (s : S) (name : ℕ) (held : StepResult (Held S))
-    → held ≡ after_again (holding bus) table p (unheld name s) → IsKept name (after_again bus table p s) (after_again (noting bus) table p (unnoted s)) held
-again_is_kept bus table p s name held is =
-    subst (IsKept name (after_again bus table p s) (after_again (noting bus) table p (unnoted s))) (sym is)
-    (is_kept bus s name _ _ _ ((makes_accesses bus).again table p s) ((makes_few bus).again table p s)
-    (same_by_again (noting bus) (holding bus) table (Keeps name) (keeps_alike bus name) p (unnoted s) (unheld name s) (keeps_none name s)))
+pub again_is_kept : {S : Type 0} (bus : BusMeaning S) (p : CpuState) (s : S) (name : ℕ) (held : StepResult (Held S))
+    → held ≡ after_again (holding bus) p (unheld name s) → IsKept name (after_again bus p s) (after_again (noting bus) p (unnoted s)) held
+again_is_kept bus p s name held is =
+    subst (IsKept name (after_again bus p s) (after_again (noting bus) p (unnoted s))) (sym is)
+    (is_kept bus s name _ _ _ ((makes_accesses bus).again p s) ((makes_few bus).again p s)
+    (same_by_again (noting bus) (holding bus) (Keeps name) (keeps_alike bus name) p (unnoted s) (unheld name s) (keeps_none name s)))
 
 pub enter_is_kept : {S : Type 0} (bus : BusMeaning S) (table : ClockTable)
     (p : CpuState) (s : S) (kind : ℕ) (cause : Cause) (name : ℕ) (held : StepResult (Held S))

@@ -43,9 +43,9 @@ pub trait Notes {
     /// Makes the next iteration of a repeat, and notes its accesses. Answers the clocks that it takes.
     fn again<B: Bus>(&mut self, cpu: &mut Cpu, bus: &mut B, table: ClockTable) -> u16
         ensures done { step_result cpu.new (B.state bus.new) result
-            ≡ after_again B.meaning table cpu.old (B.state bus.old) }
+            ≡ after_again B.meaning cpu.old (B.state bus.old) }
         ensures noted { are self.new
-            (after_again (noting B.meaning) table cpu.old (unnoted (B.state bus.old))).bus.accesses };
+            (after_again (noting B.meaning) cpu.old (unnoted (B.state bus.old))).bus.accesses };
 
     /// Enters an interrupt of type `kind`, by request or by the single step, and notes its accesses. Answers the clocks
     /// that it takes.

@@ -111,9 +111,9 @@ pub(crate) fn step_noted<B: Bus>(
 /// Makes the next iteration of a repeat over a bus that notes accesses, for `Accesses`. Answers the clocks that it
 /// takes, and its accesses.
 pub(crate) fn again_noted<B: Bus>(cpu: &mut Cpu, bus: &mut B, table: ClockTable) -> (u16, Accesses)
-    ensures done { step_result cpu.new (B.state bus.new) result.0 ≡ after_again B.meaning table cpu.old (B.state bus.old) }
+    ensures done { step_result cpu.new (B.state bus.new) result.0 ≡ after_again B.meaning cpu.old (B.state bus.old) }
     ensures noted { result.1.items
-        ≡ (after_again (noting B.meaning) table cpu.old (unnoted (B.state bus.old))).bus.accesses }
+        ≡ (after_again (noting B.meaning) cpu.old (unnoted (B.state bus.old))).bus.accesses }
 {
     let mut noting = Noting {
         bus,

@@ -1,5 +1,4 @@
 -- MOVS, iteration after iteration.
-use Rattle.std.specs.Prelude.{unwrap_or}
 use Rattle.std.proofs.Common.{◌≡◌, ◌<◌, ◌+◌, ◌*◌, ◌-◌, ◌/◌, ◌%◌, ℕ, zero, suc, Bool, true, false, inl, inr, if◌then◌else◌, refl, sym, ap, ◌∙◌, subst, arith}
 use Rattle.std.proofs.lemmas.Bool.{cases_eq}
 use Rattle.board_types.specs.Address.{physical, offset_after}
@@ -8,8 +7,6 @@ use Rattle.board_types.proofs.Iterate.{iterate_more}
 use Rattle.isa.specs.declared.register.SegmentRegister.{SegmentRegister}
 use Rattle.isa.specs.declared.register.SegmentRegister.TheVariants.{Es, Cs, Ss, Ds}
 use Rattle.isa.specs.declared.register.WordRegister.TheVariants.{Cx, Si, Di}
-use Rattle.isa.specs.declared.form.Instr.{Instr}
-use Rattle.isa.specs.Prefixes.{chosen_segment}
 use Rattle.bus.specs.Bus.{BusMeaning, with_word_at}
 use Rattle.bus.specs.BusPromises.{IsBus}
 use Rattle.execute_machine.specs.declared.width.Width.{Width}
@@ -17,7 +14,7 @@ use Rattle.execute_machine.specs.declared.width.Width.TheVariants as widths
 use Rattle.execute_machine.specs.RegisterFile.{Registers}
 use Rattle.execute_machine.specs.Registers.{segment_register, string_offset_after, word_register}
 use Rattle.execute_machine.specs.declared.location.OperandLocation.{OperandLocation}
-use Rattle.execute_machine.specs.Locations.{Machine, segment_for, value_at, with_value_at, word_at}
+use Rattle.execute_machine.specs.Locations.{Machine, value_at, with_value_at, word_at}
 use Rattle.execute_machine.specs.Memory.{HoldsBytes, HoldsWords}
 use Rattle.execute_machine.proofs.Memory.{word_fixed, word_leaves, word_reads_back}
 use Rattle.execute_strings.specs.StringMeaning.{after_iteration, after_movs, after_element, destination, element_at, element_size, source}
@@ -29,21 +26,21 @@ use Rattle.execute_strings.specs.StringLaws.{CopiesInOrder, IsOutside, TakesElem
 abbrev with_copy : {S : Type 0} → BusMeaning S → Machine S → OperandLocation → OperandLocation → S
 with_copy bus m to from = (with_value_at bus m to (value_at bus m from)).bus
 
-moved : {S : Type 0} (bus : BusMeaning S) (m : Machine S) (width : Width) (i : Instr)
-    → (after_iteration bus m (movs_of width) i).registers ≡ record m.registers {
+moved : {S : Type 0} (bus : BusMeaning S) (m : Machine S) (width : Width) (chosen : SegmentRegister)
+    → (after_iteration bus m (movs_of width) chosen).registers ≡ record m.registers {
       si = string_offset_after m.registers.flags m.registers.si (element_size width);
       di = string_offset_after m.registers.flags m.registers.di (element_size width);
       cx = offset_after m.registers.cx 65535;
     }
 unfolding after_iteration after_element after_movs with_value_at
-moved bus m widths.Byte i = refl
-moved bus m widths.Word i = refl
+moved bus m widths.Byte chosen = refl
+moved bus m widths.Word chosen = refl
 
-copied : {S : Type 0} (bus : BusMeaning S) (m : Machine S) (width : Width) (i : Instr)
-    → (after_iteration bus m (movs_of width) i).bus ≡ with_copy bus m (destination m.registers width) (source m.registers i width)
+copied : {S : Type 0} (bus : BusMeaning S) (m : Machine S) (width : Width) (chosen : SegmentRegister)
+    → (after_iteration bus m (movs_of width) chosen).bus ≡ with_copy bus m (destination m.registers width) (source m.registers chosen width)
 unfolding after_iteration after_element after_movs
-copied bus m widths.Byte i = refl
-copied bus m widths.Word i = refl
+copied bus m widths.Byte chosen = refl
+copied bus m widths.Word chosen = refl
 
 -- what an element's place takes
 
@@ -159,20 +156,20 @@ with_three r si di cx = record r { si = si; di = di; cx = cx }
 three_same : (r : Registers) (si di cx si' di' cx' : ℕ) → si ≡ si' → di ≡ di' → cx ≡ cx' → with_three r si di cx ≡ with_three r si' di' cx'
 three_same r si di cx si' di' cx' e f g = ap (λ x. with_three r x di cx) e ∙ ap (λ x. with_three r si' x cx) f ∙ ap (λ x. with_three r si' di' x) g
 
-registers_at : {S : Type 0} (bus : BusMeaning S) (m : Machine S) (width : Width) (i : Instr) (n : ℕ) → HoldsWords m.registers
-    → (after_copies bus m width i n).registers ≡ at_element m.registers width n
+registers_at : {S : Type 0} (bus : BusMeaning S) (m : Machine S) (width : Width) (chosen : SegmentRegister) (n : ℕ) → HoldsWords m.registers
+    → (after_copies bus m width chosen n).registers ≡ at_element m.registers width n
 unfolding iterate word_register
-registers_at bus m width i zero words =
+registers_at bus m width chosen zero words =
     let r = m.registers in
     sym (three_same r _ _ _ _ _ _ (first_element r.flags.direction width r.si (words Si))
     (first_element r.flags.direction width r.di (words Di)) (first_count r.cx (words Cx)))
-registers_at bus m width i (suc n) words =
+registers_at bus m width chosen (suc n) words =
     let r = m.registers in
-    let before = after_copies bus m width i n in
-    moved bus before width i
+    let before = after_copies bus m width chosen n in
+    moved bus before width chosen
     ∙ ap (λ q.
     with_three q (string_offset_after q.flags q.si (element_size width)) (string_offset_after q.flags q.di (element_size width)) (offset_after q.cx 65535))
-    (registers_at bus m width i n words)
+    (registers_at bus m width chosen n words)
     ∙ three_same r _ _ _ _ _ _ (next_element r.flags.direction width r.si n) (next_element r.flags.direction width r.di n) (next_count r.cx n)
 
 -- all iterations
@@ -184,38 +181,38 @@ segment_stays r si di cx Cs = refl
 segment_stays r si di cx Ss = refl
 segment_stays r si di cx Ds = refl
 
-bus_after : {S : Type 0} (bus : BusMeaning S) (m : Machine S) (width : Width) (i : Instr) (n : ℕ) → HoldsWords m.registers
-    → (after_copies bus m width i (n + 1)).bus
-    ≡ with_copy bus (after_copies bus m width i n) (destination_element m.registers width n) (source_element m.registers width i n)
-bus_after bus m width i n words =
-    let before = after_copies bus m width i n in
+bus_after : {S : Type 0} (bus : BusMeaning S) (m : Machine S) (width : Width) (chosen : SegmentRegister) (n : ℕ) → HoldsWords m.registers
+    → (after_copies bus m width chosen (n + 1)).bus
+    ≡ with_copy bus (after_copies bus m width chosen n) (destination_element m.registers width n) (source_element m.registers width chosen n)
+bus_after bus m width chosen n words =
+    let before = after_copies bus m width chosen n in
     let r = m.registers in
-    let at = registers_at bus m width i n words in
+    let at = registers_at bus m width chosen n words in
     let si = element_offset r.flags.direction r.si (element_size width) n in
-    ap (λ t. t.bus) (iterate_more (λ t. after_iteration bus t (movs_of width) i) n m)
-    ∙ copied bus before width i
-    ∙ ap (λ q. with_copy bus before (destination q width) (source q i width)) at
+    ap (λ t. t.bus) (iterate_more (λ t. after_iteration bus t (movs_of width) chosen) n m)
+    ∙ copied bus before width chosen
+    ∙ ap (λ q. with_copy bus before (destination q width) (source q chosen width)) at
     ∙ ap (λ segment. with_copy bus before (destination_element r width n) (element_at width segment si))
     (segment_stays r si (element_offset r.flags.direction r.di (element_size width) n)
-    ((r.cx + 65536 * n - n) % 65536) (unwrap_or (chosen_segment i.prefixes.items) Ds))
+    ((r.cx + 65536 * n - n) % 65536) chosen)
 
-fixed_after : {S : Type 0} (bus : BusMeaning S) → IsBus bus → (m : Machine S) (width : Width) (i : Instr) (n address : ℕ)
-    → bus.is_writable (after_copies bus m width i n).bus address ≡ bus.is_writable m.bus address
+fixed_after : {S : Type 0} (bus : BusMeaning S) → IsBus bus → (m : Machine S) (width : Width) (chosen : SegmentRegister) (n address : ℕ)
+    → bus.is_writable (after_copies bus m width chosen n).bus address ≡ bus.is_writable m.bus address
 unfolding iterate
-fixed_after bus laws m width i zero address = refl
-fixed_after bus laws m width i (suc n) address =
-    let before = after_copies bus m width i n in
-    ap (λ s. bus.is_writable s address) (copied bus before width i)
-    ∙ fixed_by_copy bus laws before width _ _ (source before.registers i width) address
-    ∙ fixed_after bus laws m width i n address
+fixed_after bus laws m width chosen zero address = refl
+fixed_after bus laws m width chosen (suc n) address =
+    let before = after_copies bus m width chosen n in
+    ap (λ s. bus.is_writable s address) (copied bus before width chosen)
+    ∙ fixed_by_copy bus laws before width _ _ (source before.registers chosen width) address
+    ∙ fixed_after bus laws m width chosen n address
 
-held_after : {S : Type 0} (bus : BusMeaning S) → IsBus bus → (m : Machine S) (width : Width) (i : Instr) (n : ℕ) → HoldsBytes bus m.bus
-    → HoldsBytes bus (after_copies bus m width i n).bus
+held_after : {S : Type 0} (bus : BusMeaning S) → IsBus bus → (m : Machine S) (width : Width) (chosen : SegmentRegister) (n : ℕ) → HoldsBytes bus m.bus
+    → HoldsBytes bus (after_copies bus m width chosen n).bus
 unfolding iterate
-held_after bus laws m width i zero holds = holds
-held_after bus laws m width i (suc n) holds =
-    let before = after_copies bus m width i n in
-    subst (HoldsBytes bus) (sym (copied bus before width i)) (held_by_copy bus laws before width _ _ _ _ (held_after bus laws m width i n holds))
+held_after bus laws m width chosen zero holds = holds
+held_after bus laws m width chosen (suc n) holds =
+    let before = after_copies bus m width chosen n in
+    subst (HoldsBytes bus) (sym (copied bus before width chosen)) (held_by_copy bus laws before width _ _ _ _ (held_after bus laws m width chosen n holds))
 
 takes_after : {S : Type 0} (bus : BusMeaning S) (s t : S) (width : Width) (segment offset : ℕ)
     → ((address : ℕ) → bus.is_writable t address ≡ bus.is_writable s address) → TakesElement bus s (element_at width segment offset)
@@ -223,26 +220,26 @@ takes_after : {S : Type 0} (bus : BusMeaning S) (s t : S) (width : Width) (segme
 takes_after bus s t widths.Byte segment offset fixed takes = fixed _ ∙ takes
 takes_after bus s t widths.Word segment offset fixed takes = record { low = fixed _ ∙ takes.low; high = fixed _ ∙ takes.high }
 
-element_copied : {S : Type 0} (bus : BusMeaning S) → IsBus bus → (m : Machine S) (width : Width) (i : Instr) (n : ℕ)
+element_copied : {S : Type 0} (bus : BusMeaning S) → IsBus bus → (m : Machine S) (width : Width) (chosen : SegmentRegister) (n : ℕ)
     → HoldsWords m.registers → HoldsBytes bus m.bus → TakesElement bus m.bus (destination_element m.registers width n)
-    → value_at bus (after_copies bus m width i (n + 1)) (destination_element m.registers width n)
-    ≡ value_at bus (after_copies bus m width i n) (source_element m.registers width i n)
-element_copied bus laws m width i n words holds takes =
-    let before = after_copies bus m width i n in
+    → value_at bus (after_copies bus m width chosen (n + 1)) (destination_element m.registers width n)
+    ≡ value_at bus (after_copies bus m width chosen n) (source_element m.registers width chosen n)
+element_copied bus laws m width chosen n words holds takes =
+    let before = after_copies bus m width chosen n in
     let r = m.registers in
-    value_stands bus laws before (after_copies bus m width i (n + 1)) width r.es (element_offset r.flags.direction r.di (element_size width) n)
-    (segment_for r i Ds) (element_offset r.flags.direction r.si (element_size width) n)
-    (bus_after bus m width i n words)
+    value_stands bus laws before (after_copies bus m width chosen (n + 1)) width r.es (element_offset r.flags.direction r.di (element_size width) n)
+    (segment_register r chosen) (element_offset r.flags.direction r.si (element_size width) n)
+    (bus_after bus m width chosen n words)
     (element_fits r.flags.direction r.di (element_size width) n)
-    (held_after bus laws m width i n holds)
-    (takes_after bus m.bus before.bus width r.es _ (fixed_after bus laws m width i n) takes)
+    (held_after bus laws m width chosen n holds)
+    (takes_after bus m.bus before.bus width r.es _ (fixed_after bus laws m width chosen n) takes)
 
-others_kept : {S : Type 0} (bus : BusMeaning S) → IsBus bus → (m : Machine S) (width : Width) (i : Instr) (n address : ℕ)
+others_kept : {S : Type 0} (bus : BusMeaning S) → IsBus bus → (m : Machine S) (width : Width) (chosen : SegmentRegister) (n address : ℕ)
     → HoldsWords m.registers → IsOutside address (destination_element m.registers width n)
-    → bus.byte_at (after_copies bus m width i (n + 1)).bus address ≡ bus.byte_at (after_copies bus m width i n).bus address
-others_kept bus laws m width i n address words outside =
-    ap (λ s. bus.byte_at s address) (bus_after bus m width i n words)
-    ∙ others_stay bus laws (after_copies bus m width i n) width m.registers.es _ (source_element m.registers width i n) address outside
+    → bus.byte_at (after_copies bus m width chosen (n + 1)).bus address ≡ bus.byte_at (after_copies bus m width chosen n).bus address
+others_kept bus laws m width chosen n address words outside =
+    ap (λ s. bus.byte_at s address) (bus_after bus m width chosen n words)
+    ∙ others_stay bus laws (after_copies bus m width chosen n) width m.registers.es _ (source_element m.registers width chosen n) address outside
 
 pub copies_in_order : {S : Type 0} (bus : BusMeaning S) → IsBus bus → CopiesInOrder bus
 copies_in_order bus laws = record {

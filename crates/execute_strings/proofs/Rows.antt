@@ -1,10 +1,10 @@
 -- The definitions on worked values: what a comparison of strings leaves, and when a repeat goes on (8086 Family User's
 -- Manual, "String Instructions").
-use Rattle.std.proofs.Common.{◌≡◌, ◌%◌, Bool, true, false, Some, None, refl}
+use Rattle.std.proofs.Common.{◌≡◌, ◌%◌, Bool, true, false, refl}
 use Rattle.std.specs.Prelude.{⊤}
-use Rattle.isa.specs.declared.form.Instr.{Instr}
+use Rattle.isa.specs.declared.register.SegmentRegister.{SegmentRegister}
+use Rattle.isa.specs.declared.register.SegmentRegister.TheVariants.{Ds}
 use Rattle.isa.specs.declared.form.Repeat.TheVariants.{Repne, Rep}
-use Rattle.isa.specs.Prefixes.{chosen_segment}
 use Rattle.bus.specs.Bus.{BusMeaning}
 use Rattle.execute_machine.specs.RegisterFile.{Registers}
 use Rattle.execute_machine.specs.declared.width.Width.TheVariants.{Byte, Word}
@@ -14,26 +14,23 @@ use Rattle.execute_machine.specs.Sums.{with_difference}
 use Rattle.execute_strings.specs.StringMeaning.{after_cmps, after_scas, allows}
 
 -- REPE goes on while the elements are equal, REPNE while they differ, and MOVS, LODS and STOS under either
-repe_equal : allows (Some Rep) true true ≡ true
+repe_equal : allows Rep true true ≡ true
 repe_equal = refl
 
-repe_unequal : allows (Some Rep) true false ≡ false
+repe_unequal : allows Rep true false ≡ false
 repe_unequal = refl
 
-repne_equal : allows (Some Repne) true true ≡ false
+repne_equal : allows Repne true true ≡ false
 repne_equal = refl
 
-repne_unequal : allows (Some Repne) true false ≡ true
+repne_unequal : allows Repne true false ≡ true
 repne_unequal = refl
 
-rep_moves : allows (Some Rep) false false ≡ true
+rep_moves : allows Rep false false ≡ true
 rep_moves = refl
 
-repne_moves : allows (Some Repne) false true ≡ true
+repne_moves : allows Repne false true ≡ true
 repne_moves = refl
-
-no_prefix : allows None true true ≡ false
-no_prefix = refl
 
 -- a memory whose bytes are the low bytes of their addresses
 numbered : BusMeaning ⊤
@@ -56,23 +53,21 @@ abbrev before : Registers → Bool → Machine ⊤
 before r down = machine (record r { ax = 0x0605; ds = 0; es = 0; si = 5; di = 7; flags = record r.flags { direction = down } }) tt
 
 -- CMPS takes the destination from the source: 5 - 7
-cmps_below : (r : Registers) (i : Instr) → chosen_segment i.prefixes.items ≡ None
-    → (after_cmps numbered (before r false) Byte i).registers.flags.carry ≡ true
+cmps_below : (r : Registers) → (after_cmps numbered (before r false) Byte Ds).registers.flags.carry ≡ true
 unfolding on_strings
-cmps_below r i plain = rw plain refl
+cmps_below r = refl
 
-cmps_sign : (r : Registers) (i : Instr) → chosen_segment i.prefixes.items ≡ None
-    → (after_cmps numbered (before r false) Byte i).registers.flags.sign ≡ true
+cmps_sign : (r : Registers) → (after_cmps numbered (before r false) Byte Ds).registers.flags.sign ≡ true
 unfolding on_strings
-cmps_sign r i plain = rw plain refl
+cmps_sign r = refl
 
-cmps_up : (r : Registers) (i : Instr) → (after_cmps numbered (before r false) Word i).registers.si ≡ 7
+cmps_up : (r : Registers) (chosen : SegmentRegister) → (after_cmps numbered (before r false) Word chosen).registers.si ≡ 7
 unfolding on_strings
-cmps_up r i = refl
+cmps_up r chosen = refl
 
-cmps_down : (r : Registers) (i : Instr) → (after_cmps numbered (before r true) Word i).registers.di ≡ 5
+cmps_down : (r : Registers) (chosen : SegmentRegister) → (after_cmps numbered (before r true) Word chosen).registers.di ≡ 5
 unfolding on_strings
-cmps_down r i = refl
+cmps_down r chosen = refl
 
 -- SCAS takes the destination from AL or AX, and SI stays: 5 - 7, and 0605h - 0807h
 scas_below : (r : Registers) → (after_scas numbered (before r false) Byte).registers.flags.carry ≡ true

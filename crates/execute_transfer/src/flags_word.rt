@@ -50,7 +50,7 @@ fn with_low_flags(flags: Flags, low: Flags) -> Flags
 
 /// Performs SAHF: takes CF, PF, AF, ZF and SF from AH, and leaves the other flags.
 #[inline(never)]
-pub(crate) fn perform_sahf(registers: &mut Registers)
+pub fn perform_sahf(registers: &mut Registers)
     ensures { registers.new ≡ record registers.old {
       flags = with_low_flags registers.old.flags (popped_flags (registers.old.ax / 256));
     } }
@@ -62,7 +62,7 @@ pub(crate) fn perform_sahf(registers: &mut Registers)
 
 /// Performs LAHF: puts the low byte of FLAGS into AH.
 #[inline(never)]
-pub(crate) fn perform_lahf(registers: &mut Registers)
+pub fn perform_lahf(registers: &mut Registers)
     ensures { registers.new ≡ with_byte_register registers.old Ah (pushed_word registers.old.flags % 256) }
 {
     let word = registers.flags.get().word();

@@ -8,8 +8,8 @@ use Rattle.execute_noted.proofs.noting.again_noted.Goals as goal
 pub returns-clause-done : goal.returns-clause-done
 returns-clause-done g c =
     let kept = again_is_kept g.B.Bus.meaning
-    c.args.table c.args.cpu.now (g.B.Bus.state c.args.bus.now) c.noting-1.given _ (c.again-clocks.ensures ∙ ap (λ (xs : List Access). after_again
-    (holding g.B.Bus.meaning) c.args.table c.args.cpu.now (record { name = c.noting-1.given; reached = g.B.Bus.state c.args.bus.now; accesses = xs }))
+    c.args.cpu.now (g.B.Bus.state c.args.bus.now) c.noting-1.given _ (c.again-clocks.ensures ∙ ap (λ (xs : List Access). after_again
+    (holding g.B.Bus.meaning) c.args.cpu.now (record { name = c.noting-1.given; reached = g.B.Bus.state c.args.bus.now; accesses = xs }))
     c.new.ensures) in
     ap (λ b. step_result c.again-clocks.new.cpu (g.B.Bus.state b) c.again-clocks.result.0)
     (c.bus-1.given.1 (sym (c.take.ensures.same ∙ kept.same)) ∙ c.take.ensures.bus)
@@ -18,7 +18,7 @@ returns-clause-done g c =
 pub returns-clause-noted : goal.returns-clause-noted
 returns-clause-noted g c =
     let kept = again_is_kept g.B.Bus.meaning
-    c.args.table c.args.cpu.now (g.B.Bus.state c.args.bus.now) c.noting-1.given _ (c.again-clocks.ensures ∙ ap (λ (xs : List Access). after_again
-    (holding g.B.Bus.meaning) c.args.table c.args.cpu.now (record { name = c.noting-1.given; reached = g.B.Bus.state c.args.bus.now; accesses = xs }))
+    c.args.cpu.now (g.B.Bus.state c.args.bus.now) c.noting-1.given _ (c.again-clocks.ensures ∙ ap (λ (xs : List Access). after_again
+    (holding g.B.Bus.meaning) c.args.cpu.now (record { name = c.noting-1.given; reached = g.B.Bus.state c.args.bus.now; accesses = xs }))
     c.new.ensures) in
     c.take.ensures.accesses ∙ kept.all

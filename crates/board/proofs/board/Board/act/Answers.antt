@@ -7,6 +7,7 @@ use Rattle.board_plain.proofs.LastEntries.{last_within}
 use Rattle.events.specs.Accesses.{accesses_next}
 use Rattle.board.specs.UnseenClocks.{PassesOver, WiresStay}
 use Rattle.board.specs.OneTurn.{begun_of}
+use Rattle.board.specs.Doings.{act_of}
 use Rattle.board.proofs.Beginning.{GoesOn, act_on, goes_over}
 use Rattle.board.proofs.OneTurn.{begins_by, passes_within, stay_after_first}
 use Rattle.board.proofs.board.Board.act.Goals as goal
@@ -63,5 +64,5 @@ returns-clause-noted g c =
 pub returns-clause-begun : goal.returns-clause-begun
 returns-clause-begun g c =
     subst (λ (b : BoardState). option_to_list c.begins-begun.result ≡ map begun_of (trail_next b.plain)) c.self.view_is
-    (begins_by c.self.inside.engine c.args.next.now (option_to_list c.begins-begun.result)
-    (subst (λ (b : BoardState). c.args.next.now ≡ next_act b.plain) (sym c.self.view_is) c.requires.next) c.begins-begun.ensures.begun)
+    (begins_by c.self.inside.engine (act_of c.args.next.now) (option_to_list c.begins-begun.result)
+    (subst (λ (b : BoardState). act_of c.args.next.now ≡ next_act b.plain) (sym c.self.view_is) c.requires.next) c.begins-begun.ensures.begun)
