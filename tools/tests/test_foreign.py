@@ -5,6 +5,7 @@ from __future__ import annotations
 import os
 import pathlib
 import resource
+import shlex
 import shutil
 import subprocess
 import sys
@@ -130,18 +131,59 @@ def has_pcmasm() -> bool:
 # Programs typed after textbooks, in textbooks/: the words, the screen's rows that aren't blank, and the end, all as the
 # books tell them.
 BOOKS: dict[str, tuple[list[str], list[str], str]] = {
+    'abel_divide': ([], ['5'], 'ended by INT 20h'),
     'abel_exe': ([], [], 'ended with exit code 0'),
     'abel_macro': ([], ['Customer name?', 'Customer address?'], 'ended with exit code 0'),
+    'brey_echo': (['--keys', 'hi@'], ['hi'], 'ended with exit code 0'),
     'brey_tiny': ([], ['0123456789'], 'ended with exit code 0'),
+    'course_compare': ([], ['strings are equalHELLO'], 'ended with exit code 36'),
+    'course_copy': (['--file', 'in.txt'], ['copied'], 'ended with exit code 0'),
+    'course_fact': ([], ['Factorial: 120'], 'ended with exit code 48'),
+    'course_frame': ([], ['one', 'two', 'three', '9+'], 'ended by INT 20h'),
+    'course_resident': ([], [], 'ended by INT 27h, and nothing goes on beside it'),
+    'duntemann_eat': ([], ["Eat at Joe's!", "Ten million flies can't ALL be wrong!"], 'ended with exit code 0'),
     'emu_addsub': (['--keys', 'x'], ['00001110b'], 'ended by INT 20h'),
+    'emu_bubble': (['--keys', 'x'], ['vector: 1359'], 'ended by INT 20h'),
+    'emu_fact': (['--keys', '5{enter}x'], ['enter the number: 5', 'factorial: 120'], 'ended by INT 20h'),
+    'emu_calculator': (
+        ['--keys', '12{enter}*-3{enter}'],
+        [
+            'note: calculator works with integer values only.',
+            'enter first number: 12',
+            'enter the operator: +  -  *  /     :  *',
+            '-3',
+            '-36 thank you00010000b',
+        ],
+        'ended by INT 20h',
+    ),
     'emu_hello': (['--keys', 'x'], ['Hello, World!'], 'ended by INT 20h'),
     'emu_hiworld': (['--keys', 'x'], [], 'ended by INT 20h'),
     'emu_pali': (['--keys', 'x'], ['able was ere ere saw elba', '  this is palindrome!'], 'ended by INT 20h'),
+    'irvine_fib': ([], ['Fibonacci: 1 1 2 3 5 8 13 21 34 55 89 144'], 'ended with exit code 0'),
     'irvine_hello': ([], ['Hello, world!'], 'ended with exit code 0'),
+    'irvine_rectangle': ([], ['83'], 'ended with exit code 0'),
+    'irvine_sum': ([], ['Sum: +100', '****'], 'ended with exit code 0'),
     'irvine_type': (['--file', 'my_text.txt'], ['Call me Ishmael.', 'Some years ago'], 'ended with exit code 0'),
+    'lab_sort': ([], ['12 36 45 56 99'], 'ended with exit code 32'),
+    'lab_sum': ([], [], 'ended by INT 3, to which no handler is set'),
     'lafore_binihex': ([], ['1A2F'], 'ended by INT 20h'),
+    'masm6_forms': ([], ['done'], 'ended with exit code 6'),
+    'mazidi_bcd': ([], [], 'ended with exit code 0'),
+    'mazidi_line': (['--keys', 'hello{enter}'], ['     Type a line', 'hello', '     You typed: hello'], 'ended with exit code 34'),
     'mazidi_screen': ([], [' ' * 28 + 'This is a test of the display routine'], 'ended with exit code 36'),
     'norton_dispsec': ([], ['3F'], 'ended with exit code 0'),
+    'norton_ticks': ([], ['three ticks'], 'ended by INT 20h'),
+    'tasm_daytime': (['--keys', 'y'], ['Is it after 12 noon (Y/N)?y', 'Good afternoon, world!'], 'ended with exit code 3'),
+    'tasm_locals': ([], ['45'], 'ended with exit code 53'),
+    'tasm_reverse': (['--keys', 'abc{enter}'], ['abc', 'cba'], 'ended with exit code 5'),
+}
+
+# Lines of programs for a later PC or another adapter, and what is told of each.
+LACKING = {
+    'a 386': ('MOV EAX,5\n', 'line 5: no 8086 has this instruction or register'),
+    'graphics': ('MOV AX,13h\nINT 10h\n', 'sets mode 13h, and this adapter has no graphics'),
+    'a mouse': ('MOV AX,0\nINT 33h\n', "INT 33h function 00h, called by line 6 (INT 33h), isn't among the services"),
+    "an AT's port": ('wait1: IN AL,61h\nAND AL,10h\nCMP AL,AH\nJE wait1\n', 'nothing leads out but what port 61h reads'),
 }
 
 
@@ -157,6 +199,7 @@ class Foreign(ToolCase):
 
     def test_textbooks_programs_run_as_they_stand(self) -> None:
         self.file('my_text.txt', 'Call me Ishmael.\r\nSome years ago\r\n')
+        self.file('in.txt', 'copy me, please\r\n')
         self.assertEqual(sorted(BOOKS), sorted(name[:-4] for name in os.listdir(TEXTBOOKS)))
         for name, (words, rows, end) in BOOKS.items():
             out, err = self.called('try', f'{TEXTBOOKS}/{name}.asm', *words)
@@ -164,8 +207,16 @@ class Foreign(ToolCase):
             self.assertEqual([line for line in lines if line], rows, f'{name}: {err}')
             self.assertIn(f'({end}, at clock', last, name)
             self.assertEqual('where a colour adapter has its text, and none is here' in err, name == 'emu_hiworld', f'{name}: {err}')
-        out, _ = self.called('dbg', f'{TEXTBOOKS}/abel_exe.asm', given='go\ndump FLDF 2\nquit\n')
-        self.assertRegex(out, r': 54 01\b', 'a word that becomes 340')
+        # what stands in memory at the end: 340; the sum of five words, and its carry; that of two quadwords
+        for name, label, octets in (('abel_exe', 'FLDF', '54 01'), ('lab_sum', 'RESULT', '7F 34 01'), ('mazidi_bcd', 'DATA3', '74 78 38 09 5D 94')):
+            out, _ = self.called('dbg', f'{TEXTBOOKS}/{name}.asm', given=f'go\ndump {label} {len(octets.split())}\nquit\n')
+            self.assertRegex(out, rf': {octets}\b', name)
+
+    def test_what_no_pc_of_these_years_has_is_told(self) -> None:
+        for name, (body, told) in LACKING.items():
+            source = self.file('it.asm', f'.MODEL SMALL\n.STACK\n.CODE\nmain:\n{body}MOV AH,4Ch\nINT 21h\nEND main\n')
+            err = self.called('try', source, status=int(name == 'a 386'))[1]
+            self.assertIn(told, err, name)
 
     def test_what_is_noted_is_told_once(self) -> None:
         _, err = self.tool('try', self.file('it.asm', FORMS['a model'][0]))
@@ -363,6 +414,23 @@ class Lines(ToolCase):
         self.assertEqual([line.split('\t')[1] for line in out.splitlines()[1:]], ['1', '1', '0'])
         self.assertIn("three.asm includes mine.inc, which isn't beside it", out)
         self.assertIn(f'judge: the same bytes: {names[0]}, {names[1]}', err)
+
+    def test_a_class_includes_what_is_named(self) -> None:
+        """By the name alone; the commands of each text find it too."""
+        for folder in ('teacher', 'other'):
+            os.mkdir(f'{self.room}/{folder}')
+        named = [self.file('teacher/mine.inc', 'answer EQU 1\n'), self.file('teacher/other.inc', 'HALT\n')]
+        page, again = self.file('page', 'exit = 1\n'), self.file('other/MINE.INC', 'answer EQU 2\n')
+        path = self.file('it.asm', 'INCLUDE MINE.INC\norg 100h\nMOV AX,4C00h+answer+1\nINT 21h\nEND\n')
+        words = [f'--include={each}' for each in named]
+        out, _ = self.called('judge', '--class', page, path, *words, '--feedback', 'told', status=1)
+        self.assertIn('came ended with exit code 2', out)
+        self.assertEqual(sorted(os.listdir(f'{self.room}/told/it')), ['1.json', '1.page', 'feedback.txt', 'it.asm', 'mine.inc', 'other.inc'])
+        with open(f'{self.room}/told/it/feedback.txt', encoding='utf-8') as file:
+            words = next(shlex.split(line) for line in file if line.startswith('  tools/judge'))
+        self.assertIn('came ended with exit code 2', self.called('judge', *(f'told/{word}' for word in words[1:]), status=1)[0])
+        self.assertIn('have the same one', self.called('judge', '--class', page, path, f'--include={again}', f'--include={named[0]}', status=2)[1])
+        self.assertIn('goes with --class', self.called('judge', page, path, f'--include={named[0]}', status=2)[1])
 
     def test_nasms_lines(self) -> None:
         if not is_there('nasm', "NASM's lines", 'nasm'):

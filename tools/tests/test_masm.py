@@ -159,6 +159,46 @@ DEFINE_GET_STRING
 END
 """
 
+IRVINE = """INCLUDE Irvine16.inc
+.data
+name1 BYTE 9 DUP(?)
+list  WORD 1,0ABCDh
+.code
+main PROC
+ mov ax,@data
+ mov ds,ax
+ call Clrscr
+ mov dx,OFFSET name1
+ mov cx,SIZEOF name1 - 1
+ call ReadString
+ call WriteString
+ call WriteDec
+ call Crlf
+ call ReadInt
+ call WriteInt
+ call Crlf
+ call ReadInt
+ mov ax,-2
+ call WriteBin
+ call Crlf
+ call ReadDec
+ call WriteHex
+ call DumpRegs
+ mov si,OFFSET list
+ mov cx,LENGTHOF list
+ mov bx,TYPE list
+ call DumpMem
+ mov dx,1414h
+ call Gotoxy
+ mov al,'*'
+ call WriteChar
+ mov ax,200
+ call Delay
+ exit
+main ENDP
+END main
+"""
+
 
 class Translated(ToolCase):
     """What pcmasm prints."""
@@ -176,6 +216,17 @@ class Translated(ToolCase):
         out, _ = self.tool('tools/try', path, '--services', '--keys=-x12{backspace}34{enter}abcdefg{enter}')
         self.assertEqual(out.splitlines()[:5], ['Number: -134', '-268!', 'here it is', 'a text', 'abcd'])
         self.assertIn(20 * ' ' + 'abcd', out.splitlines())
+
+    def test_the_library_of_irvine(self) -> None:
+        # a name, the smallest number with a sign, none, and the largest without
+        path = self.file('it.asm', IRVINE)
+        out, _ = self.tool('tools/try', path, '--keys=Anna{enter}-32768{enter}x{enter}65535{enter}')
+        lines = out.splitlines()
+        self.assertEqual(lines[:6], ['Anna', 'Anna4', '-32768', '-32768', 'x', ' <invalid integer>'])
+        self.assertEqual(lines[6:9], ['1111 1111 1111 1110', '65535', 'FFFF'])
+        self.assertRegex(lines[9], r'^  AX=FFFF  BX=[0-9A-F]{4}  CX=0008  DX=[0-9A-F]{4}$')
+        self.assertRegex(lines[11], r'^  IP=[0-9A-F]{4}  FL=F[0-9A-F]{3}  CF=0  SF=[01]  ZF=[01]  OF=0$')
+        self.assertRegex('\n'.join(lines[12:]), r'^Dump of offset [0-9A-F]{4}\n0001 ABCD\n {20}\*\n\(ended with exit code 0, at clock ')
 
     def test_random_instructions_have_nasms_bytes(self) -> None:
         if not is_there('nasm', 'pcmasm beside nasm', 'nasm'):

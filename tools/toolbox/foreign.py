@@ -15,12 +15,10 @@ from typing import Any, Iterator
 from toolbox import reading
 from toolbox.command import Sorry, read_bytes
 from toolbox.comments import text_of
-from toolbox.every import Copy, refused_in
 from toolbox.faults import Fault, fault_in
-from toolbox.listing import Listing, label_in, line_of, own_name
-from toolbox.messages import what_to_do
+from toolbox.listing import Listing, line_of, own_name, placed_labels
 from toolbox.program import TOP, Ran, given_text, run
-from toolbox.shown import bounded
+from toolbox.shown import LONGEST_LINE, bounded, clipped
 
 MADE = re.compile(r'[.?]+\d+')  # a label that pcmasm makes, of @@, of LOCAL, or of $
 OWN = f'{TOP}/services/masm'  # what programs may include that their own folder hasn't
@@ -97,7 +95,7 @@ class Translation:
 
 def sentences(one: Remark) -> list[str]:
     """What is told of a line, and the line."""
-    return [f'{one.path}, line {one.number}: {one.words}', f'  {one.number:5} | {one.line}'.rstrip()]
+    return [f'{one.path}, line {one.number}: {clipped(one.words)}', f'  {one.number:5} | {clipped(one.line, LONGEST_LINE)}'.rstrip()]
 
 
 def origin_of(octets: bytes) -> Origin:
@@ -255,6 +253,8 @@ def remark_in(texts: dict[str, list[str]], row: str) -> Remark | None:
 
 def of_fault(translation: Translation, fault: Fault) -> Remark:
     """What pcboard refuses of a translation, as of the user's line."""
+    from toolbox.messages import what_to_do  # of which most sources need nothing
+
     number = fault.line or 1
     written = translation.lines[number - 1].strip()
     return translation.remark(number, f'{what_to_do(translation.lines, fault)} (fault {fault.number}, {fault.kind.name}, of the dialect\'s line {written})')
@@ -279,6 +279,8 @@ def refused(path: str, octets: bytes | None = None) -> Iterator[Remark]:
     except Refused as refusal:
         yield from refusal.remarks
         return
+    from toolbox.every import Copy, refused_in
+
     known = set[tuple[str, int]]()
     for fault, _ in filter(None, refused_in(Copy(translation.text))):
         remark = of_fault(translation, fault)
@@ -332,11 +334,5 @@ def in_lines(refusal: Refused, path: str) -> list[dict[str, Any]]:
 
 def label_rows(rows: list[str]) -> list[str]:
     """The labels of a translation by its listing, in rows SEGMENT:OFFSET NAME, with the names that the user has."""
-    found, waiting = list[str](), list[str]()
-    for line in (line_of(0, row) for row in rows):
-        label = own_name(label_in(line.text) or '')
-        waiting += [label] if label and not MADE.fullmatch(label) else []
-        if line.address:
-            found += [f'{line.address[0]:04X}:{line.address[1]:04X} {name}' for name in waiting]
-            waiting = []
-    return found
+    placed = ((own_name(label), place) for label, place in placed_labels(line_of(0, row) for row in rows))
+    return [f'{segment:04X}:{offset:04X} {name}' for name, (segment, offset) in placed if not MADE.fullmatch(name)]

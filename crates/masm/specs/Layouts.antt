@@ -3,6 +3,7 @@
 use Rattle.std.specs.Prelude.{List}
 use Rattle.std.specs.List.{All}
 use Rattle.masm_text.specs.UserLines.{AreNotes, AreRefusals, AreTranslated, IsLine}
+use Rattle.masm_text.specs.declared.place.Line.{Line}
 use Rattle.masm_text.specs.declared.place.Text.{Text}
 use Rattle.masm.specs.declared.layout.Placed.{Placed}
 use Rattle.masm.specs.declared.translation.Translation.{Translation}
@@ -11,6 +12,10 @@ use Rattle.masm.specs.declared.writing.Made.{Made}
 -- each line comes from one of the user's lines
 abbrev pub ArePlaced : List Text → List Placed → Type 0
 ArePlaced texts placed = All (λ (one : Placed). IsLine texts one.line.place) placed
+
+-- so do those that are laid out, and those that aren't yet
+abbrev pub AreLaid : List Text → List Placed → List Line → Type 0
+AreLaid texts placed lines = ArePlaced texts placed × AreTranslated texts lines
 
 -- all that is made so far comes from the user's lines
 abbrev pub AreMade : List Text → Made → Type 0

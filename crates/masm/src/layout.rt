@@ -1,13 +1,13 @@
 //! The lines of each segment, and how they become one text.
 ghost use Rattle.std.specs.Prelude.{IfOk, IfErr, IfSome};
 ghost use Rattle.masm_text.specs.UserLines.{AreTranslated, IsFailure, IsLine};
-ghost use Rattle.masm.specs.Layouts.{ArePlaced};
+ghost use Rattle.masm.specs.Layouts.{AreLaid, ArePlaced};
 
 use masm_line::output::{write_name, write_spelled};
 use masm_text::name::Name;
 use masm_text::number::Spelling;
 use masm_text::place::{Line, Place, Text};
-use masm_text::refusal::{Failure, Reason, Refusal, Stop};
+use masm_text::refusal::{Failure, Reason, Refusal, Stop, refused};
 use masm_value::symbol::Symbols;
 use std::alloc::Global;
 
@@ -50,24 +50,11 @@ pub fn lay(
     match laid {
         Ok(lines) => Ok(lines),
         Err(Stop::Memory) => Err(Failure::Memory),
-        Err(Stop::Refused(reason)) => refused(alloc, texts, place, reason),
+        Err(Stop::Refused(reason)) => {
+            let refusal = Refusal { place, reason };
+            Err(refused(texts, Vec::new(alloc), refusal)?)
+        }
     }
-}
-
-/// The failure of one line.
-fn refused(
-    alloc: Global,
-    texts: &[Text],
-    place: Place,
-    reason: Reason,
-) -> Result<Vec<Line>, Failure>
-    requires { IsLine texts.now place }
-    ensures ok { IfOk result (λ lines. AreTranslated texts.now lines.items) }
-    ensures err { IfErr result (IsFailure texts.now) }
-{
-    let mut refusals = Vec::new(alloc);
-    refusals.push(Refusal { place, reason })?;
-    Err(Failure::Refused(refusals))
 }
 
 /// Puts a line after the others.
@@ -104,8 +91,7 @@ fn push_segment(
     placed: &[Placed],
     number: usize,
 ) -> Result<(), Stop>
-    requires placed { ArePlaced texts.now placed.now }
-    requires lines { AreTranslated texts.now lines.old.items }
+    requires { AreLaid texts.now placed.now lines.old.items }
     ensures { AreTranslated texts.now lines.new.items }
 {
     for one in placed {
@@ -124,8 +110,7 @@ fn push_group(
     placed: &[Placed],
     leader: usize,
 ) -> Result<(), Stop>
-    requires placed { ArePlaced texts.now placed.now }
-    requires lines { AreTranslated texts.now lines.old.items }
+    requires { AreLaid texts.now placed.now lines.old.items }
     ensures { AreTranslated texts.now lines.new.items }
 {
     for number in 0..plan.symbols.segments.len() {
@@ -144,8 +129,7 @@ fn push_whole(
     placed: &[Placed],
     leader: usize,
 ) -> Result<(), Stop>
-    requires placed { ArePlaced texts.now placed.now }
-    requires lines { AreTranslated texts.now lines.old.items }
+    requires { AreLaid texts.now placed.now lines.old.items }
     ensures { AreTranslated texts.now lines.new.items }
 {
     let Some(segment) = plan.symbols.segments.get(leader) else {
@@ -210,8 +194,7 @@ fn push_elsewhere(
     lines: &mut Vec<Line>,
     placed: &[Placed],
 ) -> Result<(), Stop>
-    requires placed { ArePlaced texts.now placed.now }
-    requires lines { AreTranslated texts.now lines.old.items }
+    requires { AreLaid texts.now placed.now lines.old.items }
     ensures { AreTranslated texts.now lines.new.items }
 {
     for number in 0..plan.symbols.segments.len() {

@@ -38,13 +38,13 @@ fn origin_of_line(line: &[u8]) -> Option<Origin> {
             _ => None,
         };
     };
-    if first.text().starts_with(b".") {
-        let is_masm = !after.starts_with(b":") && is_among(first, MASM_DOTS);
-        return if is_masm {
-            Some(Origin::Masm)
-        } else {
-            Some(Origin::Nasm)
-        };
+    let is_dotted = first.text().starts_with(b".");
+    if after.starts_with(b":") {
+        return if is_dotted { Some(Origin::Nasm) } else { None };
+    }
+    if is_dotted {
+        let is_masm = is_among(first, MASM_DOTS);
+        return Some(if is_masm { Origin::Masm } else { Origin::Nasm });
     }
     if is_among(first, NASM) {
         Some(Origin::Nasm)
@@ -58,10 +58,13 @@ fn origin_of_line(line: &[u8]) -> Option<Origin> {
 }
 
 /// First words that only MASM, TASM or emu8086 takes.
-const MASM: &str = "TITLE ASSUME PAGE PUBLIC INCLUDE REPT NAME COMMENT END";
+const MASM: &str =
+    "TITLE SUBTTL ASSUME PAGE PUBLIC EXTRN INCLUDE REPT IRP NAME COMMENT END DOSSEG LOCALS IDEAL CODESEG DATASEG";
 
 /// First words of MASM that begin with a dot; NASM has local labels so.
-const MASM_DOTS: &str = ".MODEL .STACK .DATA .CODE .STARTUP .EXIT .8086 .186 .286 .386";
+const MASM_DOTS: &str =
+    ".MODEL .STACK .DATA .DATA? .CONST .CODE .STARTUP .EXIT .DOSSEG .RADIX .LIST .NOLIST .XLIST .LISTALL .SALL .LALL \
+    .8086 .8087 .186 .286 .386 .486 .586";
 
 /// First words that only NASM takes.
 const NASM: &str = "SECTION BITS GLOBAL EXTERN CPU TIMES RESB RESW ISTRUC";

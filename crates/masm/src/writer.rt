@@ -1,6 +1,6 @@
 //! How a line becomes lines of the dialect.
 use crate::layout::Plan;
-use masm_line::data::{count_of_items, data_text};
+use masm_line::data::{count_of_items, data_text, dup_count};
 use masm_line::instruction::{Around, Assumed, instruction_lines};
 use masm_line::output::{write_name, write_number, write_spelled};
 use masm_line::statement::{Statement, is_mark, split_item, split_label, statement_of, word_of};
@@ -14,9 +14,13 @@ use masm_value::symbol::{Field, Symbol, Symbols};
 use masm_value::value::{Value, Width};
 use std::alloc::{AllocError, Global};
 
+/// How many lines of data may come of a line of structures, but for the last of them.
+const LINE_LIMIT: usize = 0x1_0000;
+
 /// A procedure whose end hasn't come.
 #[derive(Drop)]
 struct Procedure {
+    name: Name,
     is_far: bool,
     /// The registers that USES names, in the order in which they are pushed.
     saved: Vec<Name>,
@@ -28,6 +32,7 @@ pub struct Writer {
     alloc: Global,
     symbols: Symbols,
     entry: Option<Name>,
+    has_startup: bool,
     /// The numbers of the constants in the order of their lines, and how many lines came so far.
     constants: Vec<Option<i64>>,
     constant: usize,
@@ -50,6 +55,7 @@ impl Writer {
         let Names {
             symbols,
             entry,
+            has_startup,
             constants,
             ..
         } = names;
@@ -57,6 +63,7 @@ impl Writer {
             alloc,
             symbols,
             entry,
+            has_startup,
             constants,
             constant: 0,
             segment: 0,
@@ -109,7 +116,7 @@ impl Writer {
     /// The line of a label.
     fn label(&mut self, name: Name) -> Result<Vec<u8>, Stop> {
         if !name.is(b"@@") {
-            return label_text(self.alloc, name);
+            return label_text(self.alloc, self.light()?.known_as(name)?);
         }
         self.anonymous = self.anonymous.saturating_add(1);
         label_text(self.alloc, anonymous_name(self.alloc, self.anonymous)?)
@@ -122,6 +129,7 @@ impl Writer {
             symbols: &self.symbols,
             here: here(b"$", None)?,
             anonymous: self.anonymous,
+            procedure: self.procedures.last().map(|procedure| procedure.name),
         })
     }
 
@@ -147,7 +155,7 @@ impl Writer {
                 self.assumed.stack = data;
                 Ok(())
             }
-            Statement::Segment(name, _) => self.open(name),
+            Statement::Segment(name, _) => self.open(texts, name),
             Statement::Assume(tokens) => {
                 self.assume(tokens);
                 Ok(())
@@ -162,8 +170,8 @@ impl Writer {
                 self.constant(texts, name, tokens, is_again)
             }
             Statement::Data(name, width, tokens) => self.data(texts, name, width, tokens),
-            Statement::Instance(name, structure, items) => {
-                self.instance(texts, name, structure, items)
+            Statement::Instance(name, structure, times, items) => {
+                self.instance(texts, name, structure, times, items)
             }
             Statement::Origin(tokens) => self.origin(texts, tokens),
             Statement::Startup => self.startup(texts),
@@ -173,10 +181,16 @@ impl Writer {
         }
     }
 
-    /// Goes on in a segment.
-    fn open(&mut self, name: Name) -> Result<(), Stop> {
+    /// Goes on in a segment. A program without an entry begins with .CODE.
+    fn open(&mut self, texts: &mut Vec<Vec<u8>>, name: Name) -> Result<(), Stop> {
         self.segment = self.symbols.open(segment_name(name)?)?;
         self.location = 0;
+        let has_entry = self.entry.is_some() || self.has_startup || self.symbols.is_tiny;
+        if !has_entry && name.is(b".CODE") {
+            let entry = Name::of(b".00").ok_or(Reason::LongName)?;
+            self.entry = Some(entry);
+            texts.push(label_text(self.alloc, entry)?)?;
+        }
         Ok(())
     }
 
@@ -226,7 +240,11 @@ impl Writer {
         for register in saved.as_slice() {
             texts.push(line_of(self.alloc, b"PUSH ", *register)?)?;
         }
-        self.procedures.push(Procedure { is_far, saved })?;
+        self.procedures.push(Procedure {
+            name,
+            is_far,
+            saved,
+        })?;
         Ok(())
     }
 
@@ -316,20 +334,21 @@ impl Writer {
         if !self.symbols.is_elsewhere(self.segment) {
             return Ok(texts.push(text)?);
         }
-        let count = count_of_items(self.light()?, width, tokens)?;
+        let count = count_of_items(self.light()?, width, tokens)?.all;
         let size = count.checked_mul(width.bytes()).ok_or(Reason::Overflow)?;
         self.location = self.location.checked_add(size).ok_or(Reason::Overflow)?;
         let location = Value::number(self.location as i64);
         Ok(texts.push(origin_text(self.alloc, location)?)?)
     }
 
-    /// Writes the lines of data of a structure's instance: the items that are given, and for the others those of the
+    /// Writes the lines of data of a structure's instances: the items that are given, and for the others those of the
     /// fields.
     fn instance(
         &mut self,
         texts: &mut Vec<Vec<u8>>,
         name: Option<Name>,
         structure: Name,
+        times: &[Token],
         items: &[Token],
     ) -> Result<(), Stop> {
         if let Some(name) = name {
@@ -343,14 +362,20 @@ impl Writer {
         let Some(structure) = light.symbols.structures.get(number) else {
             return Ok(());
         };
+        let times = if times.is_empty() {
+            1
+        } else {
+            dup_count(light, times)?
+        };
+        let mut once = Vec::new(self.alloc);
         let mut left = Some(items);
         for field in structure.fields.as_slice() {
             let (item, after) = split_item(left.unwrap_or(&[]));
-            texts.push(field_text(light, field, item)?)?;
+            once.push(field_text(light, field, item)?)?;
             left = after;
         }
         match left {
-            None | Some([]) => Ok(()),
+            None | Some([]) => repeat(self.alloc, texts, once.as_slice(), times),
             Some(_) => Err(Stop::Refused(Reason::BadData)),
         }
     }
@@ -449,7 +474,7 @@ fn field_text(light: Light, field: &Field, item: &[Token]) -> Result<Vec<u8>, St
         let tokens = tokens_of(light.alloc, field.items.as_slice())?;
         return data_text(light, field.width, tokens.as_slice());
     }
-    let count = count_of_items(light, field.width, item)?;
+    let count = count_of_items(light, field.width, item)?.all;
     let missing = field.count.checked_sub(count).ok_or(Reason::BadData)?;
     let mut text = data_text(light, field.width, item)?;
     if missing > 0 {
@@ -464,6 +489,34 @@ fn field_text(light: Light, field: &Field, item: &[Token]) -> Result<Vec<u8>, St
         text.extend_from_slice(filler)?;
     }
     Ok(text)
+}
+
+/// Puts copies of lines after the others, so many times.
+fn repeat(
+    alloc: Global,
+    texts: &mut Vec<Vec<u8>>,
+    once: &[Vec<u8>],
+    times: u32,
+) -> Result<(), Stop> {
+    for _ in 0..times {
+        if texts.len() > LINE_LIMIT {
+            return Err(Stop::Refused(Reason::TooLong));
+        }
+        push_copies(alloc, texts, once)?;
+    }
+    Ok(())
+}
+
+/// Puts copies of lines after the others.
+fn push_copies(
+    alloc: Global,
+    texts: &mut Vec<Vec<u8>>,
+    lines: &[Vec<u8>],
+) -> Result<(), AllocError> {
+    for line in lines {
+        texts.push(Vec::from_slice(alloc, line.as_slice())?)?;
+    }
+    Ok(())
 }
 
 /// The texts, with each label on one line with what follows it, unless that is a label too.

@@ -1,7 +1,7 @@
 //! The second pass: each line becomes lines of the dialect, in the light of all names.
 ghost use Rattle.std.specs.Prelude.{IfOk, IfErr};
-ghost use Rattle.masm_text.specs.UserLines.{AreNotes, AreRefusals, IsFailure, IsLine};
-ghost use Rattle.masm_reading.specs.Frames.{AreLines};
+ghost use Rattle.masm_text.specs.UserLines.{IsFailure, IsLine};
+ghost use Rattle.masm_reading.specs.Frames.{IsReading};
 ghost use Rattle.masm.specs.Layouts.{ArePlaced, AreMade, AreTranslation};
 
 use crate::layout::{Placed, lay};
@@ -10,11 +10,14 @@ use crate::writer::Writer;
 use masm_reading::frames::SourceLine;
 use masm_reading::reading::Reading;
 use masm_text::place::{Line, Place, Text};
-use masm_text::refusal::{Failure, Note, Reason, Refusal, Remark, Stop};
+use masm_text::refusal::{Failure, Note, Reason, Refusal, Remark, Stop, refused};
 use std::alloc::{AllocError, Global};
 
 /// How many characters a translation may have.
 const LENGTH_LIMIT: usize = 0x800_0000;
+
+/// How many lines a translation may have.
+const LINE_LIMIT: usize = 1_500_000;
 
 /// What the second pass has made so far.
 #[derive(Drop)]
@@ -28,8 +31,7 @@ pub struct Made {
 
 /// Writes the lines of the dialect.
 pub fn write(alloc: Global, texts: &[Text], reading: Reading) -> Result<Translation, Failure>
-    requires lines { AreLines texts.now reading.lines.items }
-    requires refusals { AreRefusals texts.now reading.refusals.items }
+    requires { IsReading texts.now reading }
     ensures ok { IfOk result (AreTranslation texts.now) }
     ensures err { IfErr result (IsFailure texts.now) }
 {
@@ -47,8 +49,9 @@ pub fn write(alloc: Global, texts: &[Text], reading: Reading) -> Result<Translat
     };
     for line in lines {
         write_line(texts, &mut writer, &line, &mut made)?;
-        if made.length > LENGTH_LIMIT {
-            return Err(too_long(texts, made, line.place)?);
+        if made.length > LENGTH_LIMIT || made.placed.len() > LINE_LIMIT {
+            let (place, reason) = (line.place, Reason::TooLong);
+            return Err(refused(texts, made.refusals, Refusal { place, reason })?);
         }
     }
     let Made {
@@ -62,20 +65,6 @@ pub fn write(alloc: Global, texts: &[Text], reading: Reading) -> Result<Translat
     }
     let lines = lay(alloc, texts, writer.plan(), placed.as_slice())?;
     Ok(Translation { lines, notes })
-}
-
-/// The failure of a translation that became too long at this line.
-fn too_long(texts: &[Text], made: Made, place: Place) -> Result<Failure, AllocError>
-    requires made { AreMade texts.now made }
-    requires place { IsLine texts.now place }
-    ensures { IfOk result (IsFailure texts.now) }
-{
-    let Made { mut refusals, .. } = made;
-    refusals.push(Refusal {
-        place,
-        reason: Reason::TooLong,
-    })?;
-    Ok(Failure::Refused(refusals))
 }
 
 /// Writes the lines that a line becomes.

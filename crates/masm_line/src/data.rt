@@ -1,11 +1,11 @@
 //! The items of lines of data.
 use crate::output::{write_name, write_number, write_terms};
-use crate::statement::{is_mark, split_item};
+use crate::statement::{around_dup, inside, split_item};
 use masm_text::refusal::{Reason, Stop};
-use masm_text::token::{Mark, Token};
+use masm_text::token::Token;
 use masm_value::expression::{Light, value_of};
 use masm_value::symbol::Symbol;
-use masm_value::value::{Kind, Value, Width};
+use masm_value::value::{Count, Kind, Value, Width};
 use std::alloc::AllocError;
 
 /// How long the text of a line of data may become.
@@ -33,8 +33,17 @@ struct Items {
 }
 
 /// How many items of this width a line places.
-pub fn count_of_items(light: Light, width: Width, tokens: &[Token]) -> Result<u32, Stop> {
-    Ok(items_of(light, form_of(light, width, tokens), tokens, DUP_LIMIT)?.count)
+pub fn count_of_items(light: Light, width: Width, tokens: &[Token]) -> Result<Count, Stop> {
+    let items = items_of(light, form_of(light, width, tokens), tokens, DUP_LIMIT)?;
+    let (first, _) = split_item(tokens);
+    let first = match around_dup(first) {
+        Some((count, _)) => dup_count(light, count)?,
+        None => 1,
+    };
+    Ok(Count {
+        all: items.count,
+        first,
+    })
 }
 
 /// The line of the dialect that places data of this width.
@@ -92,9 +101,9 @@ fn items_of(light: Light, form: Form, tokens: &[Token], depth: u8) -> Result<Ite
                 if depth == 0 {
                     return Err(Stop::Refused(Reason::TooDeep));
                 }
-                let inner = inside(repeated)?;
+                let inner = inside(repeated).ok_or(Reason::BadData)?;
                 let once = items_of(light, form, inner, depth - 1)?;
-                let times = count_of(light, count)?;
+                let times = dup_count(light, count)?;
                 repeat(&mut items, &once, times)?;
             }
             None => write_item(light, &mut items, form, item)?,
@@ -104,31 +113,8 @@ fn items_of(light: Light, form: Form, tokens: &[Token], depth: u8) -> Result<Ite
     Ok(items)
 }
 
-/// The tokens before the word DUP, and those after it.
-fn around_dup<'t, 'a>(item: &'t [Token<'a>]) -> Option<(&'t [Token<'a>], &'t [Token<'a>])> {
-    let place = item.iter().position(|token| is_dup(token))?;
-    Some((&item[..place], &item[place + 1..]))
-}
-
-/// Whether the token is the word DUP.
-fn is_dup(token: &Token) -> bool {
-    match token {
-        Token::Word(name) => name.is(b"DUP"),
-        _ => false,
-    }
-}
-
-/// The tokens in parentheses.
-fn inside<'t, 'a>(tokens: &'t [Token<'a>]) -> Result<&'t [Token<'a>], Reason> {
-    match tokens {
-        [first, inner @ .., last]
-            if is_mark(Some(first), Mark::Open) && is_mark(Some(last), Mark::Close) => { Ok(inner) }
-        _ => Err(Reason::BadData),
-    }
-}
-
 /// The count before DUP.
-fn count_of(light: Light, tokens: &[Token]) -> Result<u32, Stop> {
+pub fn dup_count(light: Light, tokens: &[Token]) -> Result<u32, Stop> {
     let value = value_of(light, tokens)?;
     match value.constant().ok_or(Reason::NotConstant)? {
         count @ 1..=65535 => Ok(count as u32),

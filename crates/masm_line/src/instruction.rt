@@ -174,6 +174,14 @@ fn is_translation(mnemonic: Mnemonic) -> bool {
     )
 }
 
+/// Whether the mnemonic is LEA.
+fn is_address(mnemonic: Mnemonic) -> bool {
+    matches!(
+        mnemonic,
+        Mnemonic::Plain(Operation::Transfer(Transfer::Lea))
+    )
+}
+
 /// The values of at most two operands.
 fn operands_of(light: Light, tokens: &[Token]) -> Result<Operands, Stop> {
     if tokens.is_empty() {
@@ -310,6 +318,7 @@ fn write_operand(
             write_segment(out, light, around, &value)?;
             write_brackets(out, &value)
         }
+        Kind::Near | Kind::Far if is_address(mnemonic) => write_brackets(out, &value),
         Kind::Far if matches!(mnemonic, Mnemonic::Jmp | Mnemonic::Call) => {
             out.extend_from_slice(b"FAR ")?;
             write_terms(out, &value, false)

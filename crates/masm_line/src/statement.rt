@@ -23,8 +23,9 @@ pub enum Statement<'t, 'a> {
     /// A name's value, and whether it may get another one later.
     Constant(Name, &'t [Token<'a>], bool),
     Data(Option<Name>, Width, &'t [Token<'a>]),
-    /// An instance of a structure: its name, the structure's, and the items that are given.
-    Instance(Option<Name>, Name, &'t [Token<'a>]),
+    /// Instances of a structure: their name, the structure's, how many DUP makes (nothing without DUP), and the items
+    /// that are given.
+    Instance(Option<Name>, Name, &'t [Token<'a>], &'t [Token<'a>]),
     Origin(&'t [Token<'a>]),
     Assume(&'t [Token<'a>]),
     Model(Option<Name>),
@@ -86,7 +87,7 @@ pub fn statement_of<'t, 'a>(tokens: &'t [Token<'a>]) -> Statement<'t, 'a> {
         return Statement::Nothing;
     };
     let Token::Word(first) = *first else {
-        return Statement::Refused(Reason::UnknownStatement);
+        return marked(after);
     };
     if let [second, rest @ ..] = after {
         if let Token::Word(second) = *second
@@ -98,8 +99,8 @@ pub fn statement_of<'t, 'a>(tokens: &'t [Token<'a>]) -> Statement<'t, 'a> {
             return Statement::Constant(first, rest, true);
         }
     }
-    if let Some(items) = within_angles(after) {
-        return Statement::Instance(None, first, items);
+    if let Some((times, items)) = instances(after) {
+        return Statement::Instance(None, first, times, items);
     }
     match directive(first, after) {
         Some(statement) => statement,
@@ -107,13 +108,21 @@ pub fn statement_of<'t, 'a>(tokens: &'t [Token<'a>]) -> Statement<'t, 'a> {
     }
 }
 
+/// What a line says that begins with a mark: emu8086's kind of program, as `#make_com#`.
+fn marked<'t, 'a>(after: &'t [Token<'a>]) -> Statement<'t, 'a> {
+    match word_of(after.first()) {
+        Some(word) if is_among(word, "MAKE_COM MAKE_EXE") => Statement::Nothing,
+        _ => Statement::Refused(Reason::UnknownStatement),
+    }
+}
+
 /// What a line says whose second word tells it.
 fn named<'t, 'a>(first: Name, second: Name, rest: &'t [Token<'a>]) -> Option<Statement<'t, 'a>> {
-    if let Some(items) = within_angles(rest)
+    if let Some((times, items)) = instances(rest)
         && !second.is(b"EQU")
         && Width::of_directive(second.text()).is_none()
     {
-        return Some(Statement::Instance(Some(first), second, items));
+        return Some(Statement::Instance(Some(first), second, times, items));
     }
     match second.text() {
         b"SEGMENT" => Some(Statement::Segment(first, rest)),
@@ -164,6 +173,40 @@ fn within_angles<'t, 'a>(tokens: &'t [Token<'a>]) -> Option<&'t [Token<'a>]> {
     }
 }
 
+/// The tokens before the word DUP, and those after it.
+pub fn around_dup<'t, 'a>(item: &'t [Token<'a>]) -> Option<(&'t [Token<'a>], &'t [Token<'a>])> {
+    let place = item.iter().position(|token| is_dup(token))?;
+    Some((&item[..place], &item[place + 1..]))
+}
+
+/// Whether the token is the word DUP.
+fn is_dup(token: &Token) -> bool {
+    match token {
+        Token::Word(name) => name.is(b"DUP"),
+        _ => false,
+    }
+}
+
+/// The tokens between parentheses, if they stand there.
+pub fn inside<'t, 'a>(tokens: &'t [Token<'a>]) -> Option<&'t [Token<'a>]> {
+    match tokens {
+        [first, inner @ .., last]
+            if is_mark(Some(first), Mark::Open) && is_mark(Some(last), Mark::Close) => {
+            Some(inner)
+        }
+        _ => None,
+    }
+}
+
+/// How many instances of a structure DUP makes, nothing without DUP, and the items between angle brackets.
+fn instances<'t, 'a>(tokens: &'t [Token<'a>]) -> Option<(&'t [Token<'a>], &'t [Token<'a>])> {
+    if let Some(items) = within_angles(tokens) {
+        return Some((&tokens[..0], items));
+    }
+    let (times, repeated) = around_dup(tokens)?;
+    Some((times, within_angles(inside(repeated)?)?))
+}
+
 /// What a line says whose first word is a directive; `None` if it is none.
 fn directive<'t, 'a>(first: Name, after: &'t [Token<'a>]) -> Option<Statement<'t, 'a>> {
     let statement = match first.text() {
@@ -171,8 +214,10 @@ fn directive<'t, 'a>(first: Name, after: &'t [Token<'a>]) -> Option<Statement<'t
             first, after,
         ),
         b".MODEL" => Statement::Model(word_of(after.first())),
-        b".STARTUP" => Statement::Startup,
-        b".EXIT" => Statement::Exit(after),
+        b"CODESEG" => Statement::Segment(Name::of(b".CODE")?, after),
+        b"DATASEG" | b"UDATASEG" => Statement::Segment(Name::of(b".DATA")?, after),
+        b".STARTUP" | b"STARTUPCODE" => Statement::Startup,
+        b".EXIT" | b"EXITCODE" => Statement::Exit(after),
         b"ENDS" => Statement::EndSegment,
         b"ENDP" => Statement::EndProcedure,
         b"ASSUME" => Statement::Assume(after),
@@ -187,10 +232,13 @@ fn directive<'t, 'a>(first: Name, after: &'t [Token<'a>]) -> Option<Statement<'t
     Some(statement)
 }
 
-/// Directives that place nothing, and change nothing here.
-const SILENT: &str =
-    ".STACK .8086 .8088 .LIST .NOLIST .LISTALL .SALL .XALL .LALL .SEQ .ALPHA .DOSSEG PUBLIC DOSSEG EXTRN \
-    LOCALS NOLOCALS JUMPS NOJUMPS OPTION";
+/// Directives with a dot that place nothing, and change nothing here.
+const SILENT_DOTS: &str =
+    ".STACK .8086 .8088 .LIST .NOLIST .LISTALL .XLIST .SALL .XALL .LALL .CREF .XCREF .NOCREF .LFCOND .SFCOND .TFCOND \
+    .LISTIF .NOLISTIF .LISTMACRO .LISTMACROALL .NOLISTMACRO .SEQ .ALPHA .DOSSEG";
+
+/// Directives without one that place nothing, and change nothing here.
+const SILENT: &str = "PUBLIC DOSSEG EXTRN LOCALS NOLOCALS JUMPS NOJUMPS OPTION";
 
 /// Directives that name a later processor.
 const PROCESSORS: &str = ".186 .286 .286C .386 .386P .486 .586 .686 .287 .387 P186 P286 P386";
@@ -200,11 +248,12 @@ const OTHERS: &str = "INVOKE LOCAL RECORD UNION IDEAL COMM WHILE";
 
 /// What a directive says that places nothing; `None` if the word is no directive.
 fn without_effect<'t, 'a>(word: Name) -> Option<Statement<'t, 'a>> {
-    if is_among(word, SILENT) {
+    let is_dotted = word.text().starts_with(b".");
+    if is_among(word, if is_dotted { SILENT_DOTS } else { SILENT }) {
         Some(Statement::Nothing)
     } else if is_among(word, PROCESSORS) {
         Some(Statement::Remarked(Remark::LaterProcessor))
-    } else if is_among(word, OTHERS) || word.text().starts_with(b".") {
+    } else if is_dotted || is_among(word, OTHERS) {
         Some(Statement::Refused(Reason::NotTaken))
     } else {
         None
@@ -213,5 +262,6 @@ fn without_effect<'t, 'a>(word: Name) -> Option<Statement<'t, 'a>> {
 
 /// Whether a word is one of those of a list, in upper case and between blanks.
 pub fn is_among(word: Name, list: &str) -> bool {
-    list.split(' ').any(|one| word.is(one.as_bytes()))
+    let text = word.text();
+    list.split(' ').any(|one| text == one.as_bytes())
 }

@@ -1,14 +1,17 @@
 -- Lines that are still to be read.
 -- To be believed by callers of this crate: the headline does not rest on it.
-use Rattle.std.specs.Prelude.{ℕ, ◌≡◌, ◌-◌, List, [], length, take, drop, slice_index_or, IfSome}
+use Rattle.std.specs.Prelude.{ℕ, ◌≡◌, ◌-◌, List, [], length, take, drop, slice_index_or, Result, IfErr, IfSome}
 use Rattle.std.specs.List.{All}
 use Rattle.board_types.specs.TextLines.{text_lines}
-use Rattle.masm_text.specs.UserLines.{IsLine, lines_of, AreRefusals}
+use Rattle.masm_text.specs.UserLines.{IsFailure, IsLine, lines_of, AreRefusals}
 use Rattle.masm_text.specs.declared.place.Text.{Text}
+use Rattle.masm_text.specs.declared.refusal.Failure.{Failure}
+use Rattle.masm_text.specs.declared.refusal.Refusal.{Refusal}
 use Rattle.masm_reading.specs.declared.frames.Frame.{Frame}
 use Rattle.masm_reading.specs.declared.frames.Frame.TheVariants.{Given, Made}
 use Rattle.masm_reading.specs.declared.frames.SourceLine.{SourceLine}
 use Rattle.masm_reading.specs.declared.reading.Progress.{Progress}
+use Rattle.masm_reading.specs.declared.reading.Reading.{Reading}
 
 -- the bytes are those of a text after so many of its lines
 abbrev pub IsRest : List Text → ℕ → ℕ → List ℕ → Type 0
@@ -38,4 +41,12 @@ abbrev pub IsSound : List Text → Progress → Type 0
 IsSound texts progress =
     AreFrames texts progress.frames.items × AreLines texts progress.lines.items ×
     AreRefusals texts progress.refusals.items × IfSome progress.begun (IsLine texts) ×
-    IfSome progress.last (IsLine texts)
+    IfSome progress.last (IsLine texts) × IfSome progress.end (λ (refusal : Refusal). IsLine texts refusal.place)
+
+-- all that it has comes from the texts after a call too, which fails with lines of theirs
+abbrev pub GoesOn : {A : Type 0} → List Text → Progress → Result A Failure → Type 0
+GoesOn texts progress result = IsSound texts progress × IfErr result (IsFailure texts)
+
+-- all that it leaves comes from the texts
+abbrev pub IsReading : List Text → Reading → Type 0
+IsReading texts reading = AreLines texts reading.lines.items × AreRefusals texts reading.refusals.items

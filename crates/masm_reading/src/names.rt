@@ -1,14 +1,21 @@
 //! The meanings that lines give to names.
-use masm_line::data::count_of_items;
+use masm_line::data::{count_of_items, dup_count};
 use masm_line::statement::{Statement, has_far, split_item, split_label, statement_of, word_of};
 use masm_text::name::Name;
 use masm_text::raw::split_word;
 use masm_text::refusal::{Reason, Stop};
 use masm_text::token::Token;
-use masm_value::expression::{Light, value_of};
+use masm_value::expression::{Light, local_name, value_of};
 use masm_value::symbol::{Field, Symbol, Symbols, Variable};
-use masm_value::value::{Kind, Location, Type, Value, Width};
+use masm_value::value::{Count, Kind, Location, Type, Value, Width};
 use std::alloc::Global;
+
+/// A procedure, and the run that it begins.
+#[derive(Clone, Copy)]
+struct Procedure {
+    name: Name,
+    run: u32,
+}
 
 /// What the lines so far say of names.
 #[derive(Drop)]
@@ -27,6 +34,10 @@ pub struct Names {
     anonymous: u32,
     /// Whether procedures are far if nothing says otherwise.
     is_far: bool,
+    /// The procedure around the line.
+    procedure: Option<Procedure>,
+    /// Whether .STARTUP has come.
+    pub has_startup: bool,
 }
 
 impl Names {
@@ -42,6 +53,8 @@ impl Names {
             at: Location { run: 0, offset: 0 },
             anonymous: 0,
             is_far: false,
+            procedure: None,
+            has_startup: false,
         }
     }
 
@@ -57,6 +70,7 @@ impl Names {
             symbols: &self.symbols,
             here: here(b"$", Some(self.at))?,
             anonymous: self.anonymous,
+            procedure: self.procedure.map(|procedure| procedure.name),
         })
     }
 
@@ -99,7 +113,24 @@ impl Names {
             return Ok(());
         }
         self.current_segment()?;
+        let name = self.label_name(name)?;
         self.symbols.define(name, Symbol::Near(Some(self.at)))
+    }
+
+    /// The name by which a label that stands here is known: one of its procedure's own, if there is another one of this
+    /// name before the procedure.
+    fn label_name(&mut self, name: Name) -> Result<Name, Stop> {
+        let (Some(procedure), Some(Symbol::Near(Some(at)))) = (
+            self.procedure,
+            self.symbols.get(name),
+        ) else {
+            return Ok(name);
+        };
+        if at.run >= procedure.run {
+            return Ok(name);
+        }
+        self.symbols.has_locals = true;
+        Ok(local_name(self.alloc, procedure.name, name)?.ok_or(Reason::LongName)?)
     }
 
     /// Gives the names of a statement their meaning.
@@ -108,6 +139,10 @@ impl Names {
             Statement::Segment(name, rest) => self.define_segment(name, rest),
             Statement::Group(name, rest) => self.define_group(name, rest),
             Statement::Procedure(name, rest) => self.define_procedure(name, rest),
+            Statement::EndProcedure => {
+                self.procedure = None;
+                Ok(())
+            }
             Statement::Label(name, class) => {
                 let symbol = self.labelled(class)?;
                 self.symbols.define(name, symbol)
@@ -116,7 +151,9 @@ impl Names {
                 self.define_constant(name, tokens, is_again)
             }
             Statement::Data(name, width, tokens) => self.define_data(name, width, tokens),
-            Statement::Instance(name, structure, _) => self.define_instance(name, structure),
+            Statement::Instance(name, structure, times, _) => {
+                self.define_instance(name, structure, times)
+            }
             Statement::Model(model) => {
                 self.define_model(model);
                 Ok(())
@@ -131,6 +168,7 @@ impl Names {
             }
             Statement::Origin(tokens) => self.define_origin(tokens),
             Statement::Instruction(..) | Statement::Startup | Statement::Exit(_) => {
+                self.has_startup = self.has_startup || matches!(statement, Statement::Startup);
                 self.current_segment()?;
                 self.begin_run();
                 Ok(())
@@ -216,9 +254,15 @@ impl Names {
         let symbol = if has_far(rest) || self.is_far && !is_near {
             Symbol::Far
         } else {
-            Symbol::Near(Some(self.at))
+            Symbol::Near(None)
         };
-        self.symbols.define(name, symbol)
+        self.symbols.define(name, symbol)?;
+        self.begin_run();
+        self.procedure = Some(Procedure {
+            name,
+            run: self.at.run,
+        });
+        Ok(())
     }
 
     /// What a name before LABEL stands for.
@@ -227,7 +271,7 @@ impl Names {
             Some(Type::Data(width)) => Ok(Symbol::Variable(Variable {
                 width: Some(width),
                 size: 0,
-                count: 1,
+                count: Some(Count::ONE),
                 segment: self.current_segment()?,
                 at: Some(self.at),
             })),
@@ -248,11 +292,7 @@ impl Names {
             here: constant_here(self.alloc, number, Some(self.at))?,
             ..self.light()?
         };
-        let value = match value_of(light, tokens) {
-            Ok(value) => Some(value),
-            Err(Stop::Memory) => return Err(Stop::Memory),
-            Err(Stop::Refused(_)) => None,
-        };
+        let value = known(value_of(light, tokens))?;
         self.constants
             .push(value.and_then(|value| value.constant()))?;
         match value {
@@ -269,44 +309,53 @@ impl Names {
         tokens: &[Token],
     ) -> Result<(), Stop> {
         let segment = self.current_segment()?;
-        let count = match count_of_items(self.light()?, width, tokens) {
-            Ok(count) => Some(count),
-            Err(Stop::Memory) => return Err(Stop::Memory),
-            Err(Stop::Refused(_)) => None,
-        };
+        let count = known(count_of_items(self.light()?, width, tokens))?;
         if let Some(name) = name {
             let variable = Variable {
                 width: Some(width),
                 size: 0,
-                count: count.unwrap_or(1),
+                count,
                 segment,
                 at: Some(self.at),
             };
             self.symbols.define(name, Symbol::Variable(variable))?;
         }
-        self.advance(count, width.bytes());
+        self.advance(count.map(|count| count.all), width.bytes());
         Ok(())
     }
 
-    /// Gives the name of a structure's instance its meaning.
-    fn define_instance(&mut self, name: Option<Name>, structure: Name) -> Result<(), Stop> {
+    /// Gives the name of a structure's instances its meaning.
+    fn define_instance(
+        &mut self,
+        name: Option<Name>,
+        structure: Name,
+        times: &[Token],
+    ) -> Result<(), Stop> {
         let segment = self.current_segment()?;
         let number = self
             .symbols
             .structure(structure)
             .ok_or(Reason::UnknownStatement)?;
         let size = self.symbols.size_of(number);
+        let times = if times.is_empty() {
+            Some(1)
+        } else {
+            known(dup_count(self.light()?, times))?
+        };
         if let Some(name) = name {
             let variable = Variable {
                 width: None,
                 size,
-                count: 1,
+                count: times.map(|times| Count {
+                    all: times,
+                    first: times,
+                }),
                 segment,
                 at: Some(self.at),
             };
             self.symbols.define(name, Symbol::Variable(variable))?;
         }
-        self.advance(Some(1), size);
+        self.advance(times, size);
         Ok(())
     }
 
@@ -324,7 +373,7 @@ impl Names {
             }
             Statement::Nothing => Ok(()),
             Statement::Data(name, width, tokens) => {
-                let count = count_of_items(self.light()?, width, tokens)?;
+                let count = count_of_items(self.light()?, width, tokens)?.all;
                 let items = Vec::from_slice(self.alloc, after_words(line, name.is_some()))?;
                 let field = Field {
                     width,
@@ -343,6 +392,15 @@ impl Names {
             }
             _ => Err(Stop::Refused(Reason::UnknownStatement)),
         }
+    }
+}
+
+/// What a line tells, or `None` if that isn't known yet; fails for want of memory alone.
+fn known<T: Copy>(found: Result<T, Stop>) -> Result<Option<T>, Stop> {
+    match found {
+        Ok(value) => Ok(Some(value)),
+        Err(Stop::Memory) => Err(Stop::Memory),
+        Err(Stop::Refused(_)) => Ok(None),
     }
 }
 

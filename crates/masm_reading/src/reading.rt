@@ -1,13 +1,13 @@
 //! The first pass: macros, conditions and included texts are replaced by the lines that they stand for.
-ghost use Rattle.std.specs.Prelude.{IfOk, IfErr, IfSome};
-ghost use Rattle.masm_text.specs.UserLines.{AreRefusals, IsFailure, IsLine};
-ghost use Rattle.masm_reading.specs.Frames.{AreLines, IsFrame, IsSound};
+ghost use Rattle.std.specs.Prelude.{IfOk, IfErr, IfSome, IfNone};
+ghost use Rattle.masm_text.specs.UserLines.{AreRefusals, IsFailure, IsLine, IsNotGiven};
+ghost use Rattle.masm_reading.specs.Frames.{GoesOn, IsFrame, IsReading, IsSound};
 
 use crate::frames::{Frame, SourceLine, conditions_before, made, step, whole};
 use crate::names::Names;
 use crate::state::{Action, State};
 use masm_text::place::{Place, Text};
-use masm_text::refusal::{Failure, Reason, Refusal, Stop};
+use masm_text::refusal::{Failure, Reason, Refusal, Stop, refused};
 use std::alloc::{AllocError, Global};
 
 /// How many lines and ends of frames may come of a source, its macros and its included texts.
@@ -40,14 +40,13 @@ pub struct Progress<'a> {
     begun: Option<Place>,
     /// The line that was read last.
     last: Option<Place>,
-    /// Whether the work has ended before all lines were read.
-    is_cut: bool,
+    /// Why the work has ended before all lines were read.
+    end: Option<Refusal>,
 }
 
 /// Reads the first of the texts, and the others where it includes them.
 pub fn read<'a>(alloc: Global, texts: &'a [Text<'a>]) -> Result<Reading, Failure>
-    ensures lines { IfOk result (λ reading. AreLines texts.now reading.lines.items) }
-    ensures refusals { IfOk result (λ reading. AreRefusals texts.now reading.refusals.items) }
+    ensures ok { IfOk result (IsReading texts.now) }
     ensures err { IfErr result (IsFailure texts.now) }
 {
     let mut frames = Vec::new(alloc);
@@ -59,7 +58,7 @@ pub fn read<'a>(alloc: Global, texts: &'a [Text<'a>]) -> Result<Reading, Failure
         refusals: Vec::new(alloc),
         begun: None,
         last: None,
-        is_cut: false,
+        end: None,
     };
     let mut state = State::new(alloc);
     for _ in 0..STEP_LIMIT {
@@ -67,8 +66,14 @@ pub fn read<'a>(alloc: Global, texts: &'a [Text<'a>]) -> Result<Reading, Failure
             return finish(texts, progress, state);
         }
     }
-    refuse_last(texts, &mut progress, Reason::TooManyLines)?;
-    Err(Failure::Refused(progress.refusals))
+    match progress.last {
+        Some(place) => {
+            end(texts, &mut progress, place, Reason::TooManyLines);
+            finish(texts, progress, state)
+        }
+        // no line was read at all
+        None => finish(texts, progress, state),
+    }
 }
 
 /// Makes a step; says whether there was one.
@@ -79,8 +84,7 @@ fn go_on<'a>(
     state: &mut State,
 ) -> Result<bool, Failure>
     requires { IsSound texts.now progress.old }
-    ensures ok { IsSound texts.now progress.new }
-    ensures err { IfErr result (IsFailure texts.now) }
+    ensures { GoesOn texts.now progress.new result }
 {
     let Some(frame) = progress.frames.pop() else {
         return Ok(false);
@@ -119,8 +123,7 @@ fn take<'a>(
 ) -> Result<(), Failure>
     requires sound { IsSound texts.now progress.old }
     requires line { IsLine texts.now line.place }
-    ensures ok { IsSound texts.now progress.new }
-    ensures err { IfErr result (IsFailure texts.now) }
+    ensures { GoesOn texts.now progress.new result }
 {
     let place = line.place;
     progress.last = Some(place);
@@ -144,8 +147,7 @@ fn act<'a>(
 ) -> Result<(), Failure>
     requires sound { IsSound texts.now progress.old }
     requires line { IsLine texts.now line.place }
-    ensures ok { IsSound texts.now progress.new }
-    ensures err { IfErr result (IsFailure texts.now) }
+    ensures { GoesOn texts.now progress.new result }
 {
     let place = line.place;
     match action {
@@ -185,25 +187,29 @@ fn keep<'a>(
 ) -> Result<(), Failure>
     requires sound { IsSound texts.now progress.old }
     requires line { IsLine texts.now line.place }
-    ensures ok { IsSound texts.now progress.new }
-    ensures err { IfErr result (IsFailure texts.now) }
+    ensures { GoesOn texts.now progress.new result }
 {
     progress.length = progress.length.saturating_add(line.text.len());
     if progress.length <= LENGTH_LIMIT {
         progress.lines.push(line)?;
         return Ok(());
     }
-    let (place, reason) = (line.place, Reason::TooLong);
-    progress.refusals.push(Refusal { place, reason })?;
-    cut(texts, progress);
+    end(texts, progress, line.place, Reason::TooLong);
     Ok(())
 }
 
-/// The number of the text of this name.
-fn number_of(texts: &[Text], name: &[u8]) -> Option<usize> {
-    texts
-        .iter()
-        .position(|text| text.name.eq_ignore_ascii_case(name))
+/// The number of the first text of this name, however its letters are written.
+fn number_of(texts: &[Text], name: &[u8]) -> Option<usize>
+    ensures { IfNone result (IsNotGiven texts.now name.now) }
+{
+    let mut number = 0usize;
+    for text in texts {
+        if text.name.eq_ignore_ascii_case(name) {
+            return Some(number);
+        }
+        number = number.saturating_add(1);
+    }
+    None
 }
 
 /// Has a frame read next, which a line at `place` has made.
@@ -216,45 +222,25 @@ fn enter<'a>(
     requires sound { IsSound texts.now progress.old }
     requires line { IsLine texts.now place }
     requires frame { IsFrame texts.now frame }
-    ensures ok { IsSound texts.now progress.new }
-    ensures err { IfErr result (IsFailure texts.now) }
+    ensures { GoesOn texts.now progress.new result }
 {
     if progress.frames.len() < DEPTH_LIMIT {
         progress.frames.push(frame)?;
         return Ok(());
     }
-    progress.refusals.push(Refusal {
-        place,
-        reason: Reason::TooDeep,
-    })?;
     // what follows would be refused again and again
-    cut(texts, progress);
+    end(texts, progress, place, Reason::TooDeep);
     Ok(())
 }
 
-/// Ends the work before all lines are read.
-fn cut<'a>(texts: &'a [Text<'a>], progress: &mut Progress<'a>)
-    requires { IsSound texts.now progress.old }
+/// Ends the work at a line, before all lines are read.
+fn end<'a>(texts: &'a [Text<'a>], progress: &mut Progress<'a>, place: Place, reason: Reason)
+    requires sound { IsSound texts.now progress.old }
+    requires line { IsLine texts.now place }
     ensures { IsSound texts.now progress.new }
 {
     progress.frames.clear();
-    progress.is_cut = true;
-}
-
-/// Refuses the line that was read last.
-fn refuse_last<'a>(
-    texts: &'a [Text<'a>],
-    progress: &mut Progress<'a>,
-    reason: Reason,
-) -> Result<(), Failure>
-    requires { IsSound texts.now progress.old }
-    ensures ok { IsSound texts.now progress.new }
-    ensures err { IfErr result (IsFailure texts.now) }
-{
-    if let Some(place) = progress.last {
-        progress.refusals.push(Refusal { place, reason })?;
-    }
-    Ok(())
+    progress.end = Some(Refusal { place, reason });
 }
 
 /// What the first pass leaves, at the end of all lines.
@@ -264,12 +250,11 @@ fn finish<'a>(
     state: State,
 ) -> Result<Reading, Failure>
     requires { IsSound texts.now progress }
-    ensures lines { IfOk result (λ reading. AreLines texts.now reading.lines.items) }
-    ensures refusals { IfOk result (λ reading. AreRefusals texts.now reading.refusals.items) }
+    ensures ok { IfOk result (IsReading texts.now) }
     ensures err { IfErr result (IsFailure texts.now) }
 {
-    if progress.is_cut {
-        return Err(Failure::Refused(progress.refusals));
+    if let Some(refusal) = progress.end {
+        return Err(refused(texts, progress.refusals, refusal)?);
     }
     let begun = without_end(texts, &progress, &state);
     let refusals = with_end(texts, progress.refusals, begun)?;

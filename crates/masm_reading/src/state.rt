@@ -13,19 +13,19 @@ use std::alloc::{AllocError, Global};
 /// What becomes of a line.
 #[derive(Drop)]
 pub enum Action {
-    /// It is kept for the second pass.
+    /// The line is kept for the second pass.
     Keep,
-    /// It is left out.
+    /// The line is left out.
     Leave,
-    /// It is left out, and begins lines that are gathered.
+    /// The line is left out, and begins lines that are gathered.
     Gather,
-    /// These lines come next, which it makes.
+    /// Lines that the line makes come next.
     Call(Vec<Vec<u8>>),
-    /// These lines come next, so many times, which the line that began to gather makes.
+    /// Lines that were gathered come next, as many times as the number says; the line that began them makes them.
     Repeat(Vec<Vec<u8>>, u32),
     /// The text of this name comes next.
     Include(Vec<u8>),
-    /// The lines of the macro end here.
+    /// The macro whose line this is ends here.
     End,
 }
 

@@ -1,6 +1,7 @@
 -- The lines of the user's texts.
 -- To be believed by callers of this crate: the headline does not rest on it.
-use Rattle.std.specs.Prelude.{ℕ, ◌≤◌, ◌+◌, List, [], length, slice_get, Option, None, Some}
+use Rattle.std.specs.Prelude.{ℕ, ◌≢◌, ◌≤◌, ◌<◌, ◌+◌, List, [], length, map, slice_get, Option, None, Some}
+use Rattle.std.specs.Char.{to_ascii_lowercase}
 use Rattle.std.specs.List.{All}
 use Rattle.std.specs.List.Sorted.{IsSorted}
 use Rattle.std.specs.declared.cmp.Ordering.{Ordering}
@@ -18,6 +19,16 @@ abbrev pub bytes_of : Option Text → List ℕ
 bytes_of None = []
 bytes_of (Some text) = text.bytes.now
 
+-- the name of a text, if it is there
+abbrev pub name_of : Option Text → List ℕ
+name_of None = []
+name_of (Some text) = text.name.now
+
+-- no text has this name, however its letters are written
+abbrev pub IsNotGiven : List Text → List ℕ → Type 0
+IsNotGiven texts name =
+    (k : ℕ) → k < length texts → map to_ascii_lowercase (name_of (slice_get texts k)) ≢ map to_ascii_lowercase name
+
 -- the lines of the text of this number; none if there is no such text
 abbrev pub lines_of : List Text → ℕ → List (List ℕ)
 lines_of texts number = text_lines (bytes_of (slice_get texts number))
@@ -30,14 +41,18 @@ IsLine texts place = (1 ≤ place.line) × (place.line ≤ length (lines_of text
 abbrev pub AreRefusals : List Text → List Refusal → Type 0
 AreRefusals texts refusals = All (λ (refusal : Refusal). IsLine texts refusal.place) refusals
 
+-- at least one line is refused, and each refusal is one of a line
+abbrev pub AreSomeRefusals : List Text → List Refusal → Type 0
+AreSomeRefusals texts refusals = (1 ≤ length refusals) × AreRefusals texts refusals
+
 -- each note is one of a line
 abbrev pub AreNotes : List Text → List Note → Type 0
 AreNotes texts notes = All (λ (note : Note). IsLine texts note.place) notes
 
--- a failure names lines of the texts alone
+-- a failure refuses lines of the texts, or wants, at one of them, a text that isn't given
 abbrev pub IsFailure : List Text → Failure → Type 0
-IsFailure texts (Refused refusals) = AreRefusals texts refusals.items
-IsFailure texts (Wanted place name) = IsLine texts place
+IsFailure texts (Refused refusals) = AreSomeRefusals texts refusals.items
+IsFailure texts (Wanted place name) = IsLine texts place × IsNotGiven texts name.items
 IsFailure texts Memory = Unit {0}
 
 -- each line of a translation comes from a line of the texts

@@ -11,7 +11,7 @@ pub enum Spelling {
     Character,
 }
 
-/// The number that the word spells, with the letter that tells its base, and how; `None` if it spells none of 32 bits.
+/// The number that the word spells, with the letter that tells its base, and how; `None` if it spells none of 63 bits.
 pub fn number_of(word: &[u8]) -> Option<(i64, Spelling)> {
     match word {
         [digits @ .., b'h' | b'H'] => hexadecimal(digits),
@@ -49,13 +49,13 @@ fn number_to(base: u8, digits: &[u8]) -> Option<i64> {
     if digits.is_empty() {
         return None;
     }
-    let mut number = 0u32;
+    let mut number = 0i64;
     for byte in digits {
         let digit = digit_of(*byte);
         if digit >= base {
             return None;
         }
-        number = number.checked_mul(base as u32)?.checked_add(digit as u32)?;
+        number = number.checked_mul(base as i64)?.checked_add(digit as i64)?;
     }
-    Some(number as i64)
+    Some(number)
 }

@@ -1,9 +1,10 @@
 //! Why a source isn't translated.
-ghost use Rattle.std.specs.Prelude.{◌≡◌};
+ghost use Rattle.std.specs.Prelude.{◌≡◌, IfOk};
 ghost use Rattle.masm_text.specs.declared.refusal.Stop.TheVariants.{Memory};
 ghost use Rattle.masm_text.specs.declared.refusal.Failure.TheVariants as failures;
+ghost use Rattle.masm_text.specs.UserLines.{AreRefusals, IsFailure, IsLine};
 
-use crate::place::Place;
+use crate::place::{Place, Text};
 use std::alloc::{AllocError, AllocFailed};
 
 /// Why a line can't be translated.
@@ -47,7 +48,7 @@ impl Reason {
             Reason::OpenText => "the quote that ends the text is missing",
             Reason::LongName => "a name has at most 31 characters",
             Reason::BadNumber =>
-                "no number: hexadecimal ends with h, binary with b, and has 32 bits at most",
+                "no number: hexadecimal ends with h, binary with b, and has 63 bits at most",
             Reason::BadExpression => "this is no expression",
             Reason::NotConstant => "a number is needed that is known here",
             Reason::Overflow => "the number is too large",
@@ -115,6 +116,17 @@ pub enum Failure {
     /// The line includes a text of this name, which wasn't given.
     Wanted(Place, Vec<u8>),
     Memory,
+}
+
+/// The failure of a source of which these lines are refused, and one more.
+pub fn refused(texts: &[Text], refusals: Vec<Refusal>, last: Refusal) -> Result<Failure, AllocError>
+    requires refusals { AreRefusals texts.now refusals.items }
+    requires last { IsLine texts.now last.place }
+    ensures { IfOk result (IsFailure texts.now) }
+{
+    let mut refusals = refusals;
+    refusals.push(last)?;
+    Ok(Failure::Refused(refusals))
 }
 
 impl From<AllocError> for Failure {

@@ -6,7 +6,7 @@ use masm_text::name::Name;
 use masm_text::number::Spelling;
 use masm_text::refusal::{Reason, Stop};
 use masm_text::token::{Mark, Token};
-use std::alloc::Global;
+use std::alloc::{AllocError, Global};
 
 /// An operator whose right operand isn't whole yet.
 #[derive(Clone, Copy)]
@@ -46,6 +46,24 @@ pub struct Light<'s> {
     pub here: Value,
     /// How many labels `@@` came before the line.
     pub anonymous: u32,
+    /// The procedure around the line.
+    pub procedure: Option<Name>,
+}
+
+impl<'s> Light<'s> {
+    /// The name by which a label is known here: one of the procedure's own, if it has one.
+    pub fn known_as(&self, name: Name) -> Result<Name, AllocError> {
+        if !self.symbols.has_locals {
+            return Ok(name);
+        }
+        let Some(procedure) = self.procedure else {
+            return Ok(name);
+        };
+        match local_name(self.alloc, procedure, name)? {
+            Some(local) if self.symbols.get(local).is_some() => Ok(local),
+            _ => Ok(name),
+        }
+    }
 }
 
 /// The value of an expression.
@@ -84,6 +102,14 @@ fn is_defined(light: Light, token: Token) -> bool {
 pub fn anonymous_name(alloc: Global, number: u32) -> Result<Name, Stop> {
     let text = format!(in alloc; ".{number}")?;
     Ok(Name::of(text.as_bytes()).ok_or(Reason::LongName)?)
+}
+
+/// The name of a label of a procedure's own, which no user can write; `None` if it would be too long.
+pub fn local_name(alloc: Global, procedure: Name, label: Name) -> Result<Option<Name>, AllocError> {
+    let mut text = Vec::from_slice(alloc, procedure.spelling())?;
+    text.push(b'.')?;
+    text.extend_from_slice(label.spelling())?;
+    Ok(Name::of(text.as_slice()))
 }
 
 impl Reader {
@@ -229,7 +255,7 @@ fn operand(light: Light, token: Token) -> Result<Value, Stop> {
         Token::Word(name) => match name.text() {
             b"@B" if light.anonymous > 0 => near(anonymous_name(light.alloc, light.anonymous)?),
             b"@F" => near(anonymous_name(light.alloc, light.anonymous.saturating_add(1))?),
-            _ => Ok(light.symbols.value(name)?),
+            _ => Ok(light.symbols.value(light.known_as(name)?)?),
         },
         Token::Mark(Mark::Unknown) => Ok(Value::number(0)),
         Token::Mark(Mark::Here) => Ok(light.here),

@@ -1,5 +1,5 @@
 //! The operators of expressions.
-use crate::value::{Kind, Type, Value};
+use crate::value::{Count, Kind, Type, Value};
 use dialect::register::Register;
 use masm_text::refusal::Reason;
 use masm_text::token::{Mark, Token};
@@ -13,8 +13,12 @@ pub enum Prefix {
     Offset,
     Seg,
     Type,
+    /// LENGTH, of what the first DUP places.
     Length,
+    LengthOf,
+    /// SIZE, of what the first DUP places.
     Size,
+    SizeOf,
     High,
     Low,
     Short,
@@ -60,8 +64,10 @@ impl Prefix {
                 b"OFFSET" => Some(Prefix::Offset),
                 b"SEG" => Some(Prefix::Seg),
                 b"TYPE" => Some(Prefix::Type),
-                b"LENGTH" | b"LENGTHOF" => Some(Prefix::Length),
-                b"SIZE" | b"SIZEOF" => Some(Prefix::Size),
+                b"LENGTH" => Some(Prefix::Length),
+                b"LENGTHOF" => Some(Prefix::LengthOf),
+                b"SIZE" => Some(Prefix::Size),
+                b"SIZEOF" => Some(Prefix::SizeOf),
                 b"HIGH" => Some(Prefix::High),
                 b"LOW" => Some(Prefix::Low),
                 b"SHORT" => Some(Prefix::Short),
@@ -80,7 +86,7 @@ impl Prefix {
             Prefix::Plus | Prefix::Minus => 8,
             Prefix::High | Prefix::Low => 9,
             Prefix::Offset | Prefix::Seg | Prefix::Type => 10,
-            Prefix::Length | Prefix::Size => 12,
+            Prefix::Length | Prefix::LengthOf | Prefix::Size | Prefix::SizeOf => 12,
         }
     }
 
@@ -93,25 +99,16 @@ impl Prefix {
             Prefix::Not => Ok(Value::number(!number_of(&value)?)),
             Prefix::High => Ok(Value::number(number_of(&value)? >> 8 & 0xFF)),
             Prefix::Low => Ok(Value::number(number_of(&value)? & 0xFF)),
-            Prefix::Offset => Ok(Value {
-                kind: Kind::Number,
-                width: None,
-                ..value
-            }),
-            Prefix::Seg => Ok(Value {
-                plus: value.plus,
-                is_paragraph: true,
-                ..Value::of(Kind::Number)
-            }),
+            Prefix::Offset => offset_of(value),
+            Prefix::Seg => paragraph_of(value),
             Prefix::Type => match width_of(&value) {
                 0 => Err(Reason::NotConstant),
                 width => Ok(Value::number(width)),
             },
-            Prefix::Length => Ok(Value::number(value.count as i64)),
-            Prefix::Size => {
-                let size = width_of(&value).checked_mul(value.count as i64);
-                Ok(Value::number(size.ok_or(Reason::Overflow)?))
-            }
+            Prefix::Length => Ok(Value::number(count_of(&value)?.first as i64)),
+            Prefix::LengthOf => Ok(Value::number(count_of(&value)?.all as i64)),
+            Prefix::Size => size_of(&value, count_of(&value)?.first),
+            Prefix::SizeOf => size_of(&value, count_of(&value)?.all),
             Prefix::Short => Ok(Value {
                 is_short: true,
                 ..value
@@ -206,8 +203,8 @@ impl Infix {
             Infix::Multiply => left.checked_mul(right).ok_or(Reason::Overflow),
             Infix::Divide => left.checked_div(right).ok_or(Reason::DivisionByZero),
             Infix::Modulo => left.checked_rem(right).ok_or(Reason::DivisionByZero),
-            Infix::ShiftLeft => Ok(shifted(left, right)),
-            Infix::ShiftRight => Ok(shifted_back(left, right)),
+            Infix::ShiftLeft => Ok(shifted(bits_of(left)?, right)),
+            Infix::ShiftRight => Ok(shifted_back(bits_of(left)?, right)),
             Infix::And => Ok(left & right),
             Infix::Or => Ok(left | right),
             Infix::Xor => Ok(left ^ right),
@@ -229,20 +226,28 @@ fn truth(holds: bool) -> i64 {
     if holds { -1 } else { 0 }
 }
 
-/// The low 32 bits, shifted to the left.
-fn shifted(number: i64, by: i64) -> i64 {
-    if by < 0 || by > 31 {
-        return 0;
+/// The 32 bits of a number, with a sign or without.
+fn bits_of(number: i64) -> Result<i64, Reason> {
+    match number {
+        -0x8000_0000..=0xFFFF_FFFF => Ok(number & 0xFFFF_FFFF),
+        _ => Err(Reason::Overflow),
     }
-    ((number & 0xFFFF_FFFF) << by as u32) & 0xFFFF_FFFF
 }
 
-/// The low 32 bits, shifted to the right.
-fn shifted_back(number: i64, by: i64) -> i64 {
+/// 32 bits, shifted to the left.
+fn shifted(bits: i64, by: i64) -> i64 {
     if by < 0 || by > 31 {
         return 0;
     }
-    (number & 0xFFFF_FFFF) >> by as u32
+    ((bits & 0xFFFF_FFFF) << by as u32) & 0xFFFF_FFFF
+}
+
+/// 32 bits, shifted to the right.
+fn shifted_back(bits: i64, by: i64) -> i64 {
+    if by < 0 || by > 31 {
+        return 0;
+    }
+    (bits & 0xFFFF_FFFF) >> by as u32
 }
 
 /// The number that a value is.
@@ -264,6 +269,43 @@ fn width_of(value: &Value) -> i64 {
     }
 }
 
+/// The offset of what the value names.
+fn offset_of(value: Value) -> Result<Value, Reason> {
+    match value.kind {
+        Kind::Register(_) | Kind::Type(_) => Err(Reason::BadExpression),
+        _ if value.base.is_some() || value.index.is_some() => Err(Reason::BadExpression),
+        _ => Ok(Value {
+            kind: Kind::Number,
+            width: None,
+            ..value
+        }),
+    }
+}
+
+/// The paragraph of the segment in which what the value names stands; that of a segment is known as a number.
+fn paragraph_of(value: Value) -> Result<Value, Reason> {
+    match (value.plus, value.kind) {
+        (Some(_), _) => Ok(Value {
+            plus: value.plus,
+            is_paragraph: true,
+            ..Value::of(Kind::Number)
+        }),
+        (None, Kind::Number) => Ok(value),
+        _ => Err(Reason::BadExpression),
+    }
+}
+
+/// How many items what the value names has.
+fn count_of(value: &Value) -> Result<Count, Reason> {
+    value.count.ok_or(Reason::NotConstant)
+}
+
+/// How many bytes so many items have of what the value names.
+fn size_of(value: &Value, count: u32) -> Result<Value, Reason> {
+    let size = width_of(value).checked_mul(count as i64);
+    Ok(Value::number(size.ok_or(Reason::Overflow)?))
+}
+
 /// The value with a type.
 fn typed(left: Value, right: Value) -> Result<Value, Reason> {
     match (left.kind, right.kind) {
@@ -280,6 +322,8 @@ fn typed(left: Value, right: Value) -> Result<Value, Reason> {
             width: Some(width),
             ..right
         }),
+        // a structure's size is that of its fields
+        (Kind::Structure, _) => Ok(right),
         // a segment register may stand before the type
         (Kind::Type(Type::Data(width)), _) => Ok(Value {
             width: Some(width),

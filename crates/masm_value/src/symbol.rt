@@ -1,5 +1,5 @@
 //! The names of a source.
-use crate::value::{Kind, Location, Type, Value, Width};
+use crate::value::{Count, Kind, Location, Type, Value, Width};
 use dialect::meaning::{Meaning, meaning_of};
 use dialect::register::Register;
 use masm_text::name::{Key, Name};
@@ -29,7 +29,8 @@ pub struct Variable {
     pub width: Option<Width>,
     /// How many bytes it has if it is a structure, else 0.
     pub size: u32,
-    pub count: u32,
+    /// `None` if that isn't known where the data stand.
+    pub count: Option<Count>,
     pub segment: usize,
     pub at: Option<Location>,
 }
@@ -83,6 +84,8 @@ pub struct Symbols {
     pub is_tiny: bool,
     /// Whether emu8086's rules hold, and not MASM's: the source names no segment.
     pub is_loose: bool,
+    /// Whether a procedure has a label of its own that has another one's name.
+    pub has_locals: bool,
 }
 
 /// How many segments a program may have; each begins 4096 paragraphs after the one before it.
@@ -98,6 +101,7 @@ impl Symbols {
             structures: Vec::new(alloc),
             is_tiny: false,
             is_loose: true,
+            has_locals: false,
         }
     }
 

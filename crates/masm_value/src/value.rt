@@ -80,6 +80,19 @@ pub struct Location {
     pub offset: u32,
 }
 
+/// How many items a line of data places.
+#[derive(Clone, Copy)]
+pub struct Count {
+    pub all: u32,
+    /// What its first DUP says; 1 if the line doesn't begin with one.
+    pub first: u32,
+}
+
+impl Count {
+    /// A single item.
+    pub const ONE: Count = Count { all: 1, first: 1 };
+}
+
 /// What an expression stands for.
 #[derive(Clone, Copy)]
 pub struct Value {
@@ -100,8 +113,8 @@ pub struct Value {
     pub width: Option<Width>,
     /// How many bytes a variable has that is a structure; 0 for any other value.
     pub size: u32,
-    /// How many items a variable's first line places.
-    pub count: u32,
+    /// How many items a variable's first line places; `None` if that isn't known.
+    pub count: Option<Count>,
     /// The number of the segment in which a variable stands.
     pub segment: Option<usize>,
     pub is_paragraph: bool,
@@ -123,7 +136,7 @@ impl Value {
             over: None,
             width: None,
             size: 0,
-            count: 1,
+            count: Some(Count::ONE),
             segment: None,
             is_paragraph: false,
             is_short: false,
@@ -201,7 +214,11 @@ impl Value {
             over: left.over.or(right.over),
             width: left.width.or(right.width),
             size: left.size.max(right.size),
-            count: left.count.max(right.count),
+            count: if left.plus.is_some() {
+                left.count
+            } else {
+                right.count
+            },
             segment: left.segment.or(right.segment),
             is_paragraph: left.is_paragraph || right.is_paragraph,
             is_short: left.is_short || right.is_short,

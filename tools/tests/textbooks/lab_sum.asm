@@ -1,0 +1,27 @@
+; The sum of words, which ends by INT 3, as lab manuals do
+DATA SEGMENT
+    LIST DW 1234H,2345H,0005H,0FF00H,0001H
+    COUNT EQU 05H
+    RESULT DW 01H DUP(?)
+    CARRY DB 01H DUP(?)
+DATA ENDS
+CODE SEGMENT
+ASSUME CS:CODE,DS:DATA
+START: MOV AX,DATA
+       MOV DS,AX
+       MOV CX,COUNT
+       MOV AX,0000H
+       MOV BL,00H
+       LEA SI,LIST
+AGAIN: ADD AX,[SI]
+       JNC NEXT
+       INC BL
+NEXT:  INC SI
+       INC SI
+       DEC CX
+       JNZ AGAIN
+       MOV RESULT,AX
+       MOV CARRY,BL
+       INT 03H
+CODE ENDS
+END START
