@@ -17,13 +17,20 @@ static struct tried tried(void *block) {
     return (struct tried){block != NULL, block ? block : &nothing};
 }
 
+/* On Windows C answers a struct of two words in memory; the calls have it in registers, as everywhere else. */
+#ifdef _WIN32
+#define IN_REGISTERS __attribute__((sysv_abi))
+#else
+#define IN_REGISTERS
+#endif
+
 /* A new block. The alignment divides 16, as that of each block of malloc does; a block of no bytes has a place of its own. */
-struct tried rattle_alloc(size_t size, size_t alignment) {
+IN_REGISTERS struct tried rattle_alloc(size_t size, size_t alignment) {
     return tried(malloc(size ? size : alignment));
 }
 
 /* The block with another size, its first bytes kept, maybe elsewhere; where that fails, the block is as it was. */
-struct tried rattle_realloc(void *block, size_t kept, size_t size, size_t alignment) {
+IN_REGISTERS struct tried rattle_realloc(void *block, size_t kept, size_t size, size_t alignment) {
     (void)kept;
     return tried(realloc(block, size ? size : alignment));
 }

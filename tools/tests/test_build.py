@@ -1,5 +1,6 @@
 """dev/build and the launcher, over a repository of two crates and an `rt` that only writes what a build leaves."""
 import contextlib
+import hashlib
 import io
 import os
 import pty
@@ -9,11 +10,13 @@ import shutil
 import signal
 import subprocess
 import unittest
+from unittest import mock
 
-from parts import building
+from parts import building, targets
 from tests.repository import Repository
 from tests.support import SECONDS, TOP, is_running, not_run, until
 from toolbox import sources
+from toolbox.command import Sorry
 from toolbox.crates import Crates
 
 
@@ -41,6 +44,93 @@ class Version(unittest.TestCase):
         self.assertEqual(its_logic, logic)
         if here != kit:
             print(f'README was proved with {kit}, and {here} of the same logic is here')
+
+
+# A compiler or linker that tells its version, or writes its words into what it is to make.
+TOOL = r"""#!/bin/sh
+[ "$1" != --version ] || { echo "${0##*/} 1"; exit; }
+all=$*
+while [ "$#" -gt 0 ]; do
+    [ "$1" != -o ] || echo "$all" > "$2"
+    shift
+done
+"""
+
+
+class ForTargets(Repository):
+    """Programs for other targets, by a compiler and a linker that only write their words."""
+
+    def setUp(self) -> None:
+        super().setUp()
+        for path in ('toolchain/bin/clang', 'bin/musl-gcc', 'bin/aarch64-linux-gnu-gcc'):
+            os.makedirs(os.path.dirname(f'{self.room}/{path}'), exist_ok=True)
+            os.chmod(self.file(path, TOOL), 0o755)
+
+    def build(self, *words: str) -> subprocess.CompletedProcess[str]:
+        return self.start(f'{self.room}/top/dev/build', *words)
+
+    def text(self, path: str) -> str:
+        with open(f'{self.room}/{path}', encoding='utf-8') as file:
+            return file.read()
+
+    def test_a_program_is_proved_once_for_all_of_them(self) -> None:
+        for target in ('musl', 'aarch64'):
+            ran = self.build('pcboard', '--target', target)
+            self.assertEqual((ran.returncode, ran.stdout), (0, ''), ran.stderr)
+            self.assertIn(f'pcboard: crates/pcboard/out/{target} has it', ran.stderr)
+        self.assertEqual(self.text('bin/proved').split(), ['low', 'pcboard'])
+        self.assertIn('/own ', self.text('top/crates/pcboard/out/musl/pcboard'))
+        self.assertIn('/aarch64.o ', self.text('top/crates/pcboard/out/aarch64/pcboard'))
+        known = self.text('top/crates/pcboard/out/aarch64/PROVED')
+        module = hashlib.sha256(b'for x86-64\n').hexdigest()
+        self.assertRegex(known, rf'\nmade pcboard \w+ sources \w+\ntarget aarch64 module {module}\ntrusted clang 1\ntrusted aarch64-linux-gnu-gcc 1\n')
+        self.assertEqual(re.findall(r'^(\w+): (\S+) ', known, re.M), [('low', 'logic=proved'), ('pcboard', 'logic=proved')])
+        self.change_text('crates/pcboard/src/main.rt')
+        self.build('pcboard', '--target', 'musl')
+        self.assertEqual(self.text('bin/proved').split()[2:], ['pcboard'])
+
+    def test_a_static_library(self) -> None:
+        os.chmod(self.file('toolchain/bin/llvm-ar', '#!/bin/sh\necho "$1 $3" > "$2"\n'), 0o755)
+        self.file('top/crates.txt', 'low:\nother staticlib: low\n')
+        ran = self.build('other', '--target', 'aarch64')
+        self.assertEqual((ran.returncode, ran.stdout), (0, ''), ran.stderr)
+        self.assertRegex(self.text('top/crates/other/out/aarch64/libother.a'), r'\ArcsD \S+/aarch64\.o\n\Z')
+        self.assertIn('\nmade libother.a ', self.text('top/crates/other/out/aarch64/PROVED'))
+
+    def test_what_a_library_has_for_its_callers(self) -> None:
+        text = 'define i64 @zebludor_b(ptr %a) {\ndefine internal i64 @zebludor_c() {\ndefine { i64, i8 } @zebludor_a() #0 {\ndefine void @"it"() {\n'
+        self.assertEqual(targets.calls_in(self.file('module.ll', text)), ['zebludor_a', 'zebludor_b', 'zebludor_take', 'zebludor_give'])
+
+    def test_what_is_built_for_none(self) -> None:
+        for words, why in (
+            (('low', '--target', 'musl'), 'low is no program and no static library'),
+            (('--verdicts', '--target', 'musl'), '--target wants a CRATE'),
+            (('pcboard', '--target', 'sun'), "invalid choice: 'sun'"),
+        ):
+            ran = self.build(*words)
+            self.assertEqual((ran.returncode, ran.stdout), (2, ''))
+            self.assertIn(why, ran.stderr)
+
+    def test_a_tool_that_lacks(self) -> None:
+        with mock.patch('shutil.which', return_value=None), self.assertRaisesRegex(Sorry, r'needs wasm-ld-19 \(apt install lld-19\) and wasm-opt \('):
+            targets.want_tools('wasm')
+
+    def test_a_linker_that_fails(self) -> None:
+        self.file('bin/musl-gcc', '#!/bin/sh\necho no room >&2; exit 1\n')
+        ran = self.build('pcboard', '--target', 'musl')
+        self.assertEqual((ran.returncode, ran.stdout), (1, ''))
+        self.assertIn('no room', ran.stderr)
+        self.assertFalse(os.path.exists(f'{self.room}/top/crates/pcboard/out/musl'))
+
+    def test_what_names_a_processor_is_dropped(self) -> None:
+        text = 'target triple = "x86_64-unknown-linux-gnu"\ndeclare { i64, i64 } @rattle_alloc(i64)\nattributes #0 = { nounwind "target-cpu"="x86-64" }\n'
+        self.assertEqual(targets.portable(text, 'aarch64'), 'declare { i64, i64 } @rattle_alloc(i64)\nattributes #0 = { nounwind }\n')
+        self.assertIn('declare x86_64_sysvcc { i64, i64 } @rattle_alloc', targets.portable(text, 'windows'))
+        self.file(
+            'words',
+            '\n'.join('--target=x --sysroot=/a -march=x86-64 -mllvm -no-x86-call-frame-opt -mllvm -trap -c -x ir m.bc -o m.o -fPIE -O3'.split(' ')) + '\n',
+        )
+        self.assertEqual(targets.flags(self.room), ['-mllvm', '-trap', '-c', '-O3'])
 
 
 class Build(Repository):

@@ -1,0 +1,203 @@
+"""Programs and static libraries for other targets than x86-64 Linux with glibc. Rattle proves a crate for any x86-64 and hands its
+compiler one module; the kit's clang makes an object of it for each target, and the target's own linker a file."""
+import os
+import re
+import shlex
+import shutil
+import subprocess
+from dataclasses import dataclass, replace
+from functools import partial
+
+from parts.building import STAGE, lanes
+from toolbox import proved
+from toolbox.command import Sorry, waiting, write_text
+from toolbox.crates import KIT, TOP
+from toolbox.sources import stamp, sum_of
+
+TOOLCHAIN, C = f'{KIT}/toolchain', f'{TOP}/c'
+CLANG = f'{TOOLCHAIN}/bin/clang'
+# The kit's clang, which leaves its words and the module that it is given. Rattle starts it without an environment.
+KEEPER = """#!/bin/bash
+for word; do
+    printf '%s\\n' "$word"
+    case $word in *.bc) cp -- "$word" {room}/module.bc ;; esac
+done > {room}/words
+exec {clang} "$@"
+"""
+# What of these words is for x86-64 alone, or names files: with what follows it, a word a line.
+OF_X86 = r'--(?:target|sysroot)=.*|-march=.*|-fPI[CE]|-Werror|-x\nir\n.*|-o\n.*|-mllvm\n-no-x86-call-frame-opt'
+WASM = ['--target=wasm64-unknown-unknown', '-mcpu=lime1', '-mllvm', '-expand-div-rem-bits=64', '-mllvm', '-expand-fp-convert-bits=64']
+# What a program on WebAssembly asks of web/system.mjs.
+SYSTEM = ('rattle_arg', 'rattle_errno', 'rattle_set_errno', '__sysv_signal', '__xpg_strerror_r', 'open', 'close', 'read', 'write')
+FEATURES = ('memory64', 'bulk-memory', 'sign-ext', 'mutable-globals', 'nontrapping-float-to-int', 'multivalue')
+
+
+class Failed(Exception):
+    """A command failed, of which the log tells."""
+
+
+@dataclass(frozen=True)
+class Target:
+    """A target: its words for clang, none where Rattle's own object serves; its tools with their Debian packages; the words with
+    which the first of them links a program; and who runs what is made."""
+
+    clang: list[str]
+    tools: dict[str, str]
+    links: list[str]
+    runs_on: str
+    ending: str = ''
+
+
+TARGETS = {
+    'aarch64': Target(
+        ['--target=aarch64-unknown-linux-gnu', '-march=armv8-a', '-mllvm', '-aarch64-load-store-renaming=false', '-fPIC'],
+        {'aarch64-linux-gnu-gcc': 'gcc-aarch64-linux-gnu libc6-dev-arm64-cross'},
+        ['-Wl,--wrap=main'],
+        "its glibc, which is in the program, and Linux",
+    ),
+    'musl': Target([], {'musl-gcc': 'musl-tools'}, ['-Wl,--wrap=main'], 'musl, which is in the program, and Linux'),
+    'windows': Target(
+        ['--target=x86_64-w64-windows-gnu', '-march=x86-64'],
+        {'x86_64-w64-mingw32-gcc': 'gcc-mingw-w64-x86-64'},
+        [*(f'-Wl,--wrap={name}' for name in ('main', 'open', 'read', 'write')), '-Wl,--no-insert-timestamp,--stack,8388608', '-lshell32'],
+        'mingw-w64, which is in the program, msvcrt and Windows',
+        '.exe',
+    ),
+    'wasm': Target(WASM, {'wasm-ld-19': 'lld-19', 'wasm-opt': 'binaryen'}, ['--export=main'], 'web/system.mjs and an engine', '.wasm'),
+}
+
+
+def want_tools(target):
+    """Refuses where a tool of a target isn't there."""
+    lacking = [f'{tool} (apt install {package})' for tool, package in TARGETS[target].tools.items() if not shutil.which(tool)]
+    if lacking:
+        raise Sorry(f'for {target} it needs {" and ".join(lacking)}')
+
+
+def do(work, folder, *words):
+    """Runs a command, which the log tells of."""
+    status, printed = work.run(list(words), folder)
+    if status:
+        raise Failed
+    return printed
+
+
+def keep_module(crates, name, work):
+    """Proves a crate for any x86-64, if that isn't kept. Returns the folder that has its module, the words for clang, and Rattle's
+    own object."""
+    room, made_of = f'{STAGE}/modules/{name}', stamp(crates, name, {})
+    if verdict_of(crates, name) and os.path.isfile(f'{room}/{made_of}'):
+        return room
+    shutil.rmtree(room, ignore_errors=True)
+    os.makedirs(f'{room}/toolchain/bin')
+    os.symlink(f'{TOOLCHAIN}/lib', f'{room}/toolchain/lib')
+    for tool in set(os.listdir(f'{TOOLCHAIN}/bin')) - {'clang'}:
+        os.symlink(f'{TOOLCHAIN}/bin/{tool}', f'{room}/toolchain/bin/{tool}')
+    write_text(f'{room}/toolchain/bin/clang', KEEPER.format(room=shlex.quote(room), clang=shlex.quote(CLANG)))
+    os.chmod(f'{room}/toolchain/bin/clang', 0o755)
+    words = crates.command(name, lanes())
+    words[words.index('--toolchain') + 1], words[-1] = f'{room}/toolchain', f'{room}/own'
+    verdict = proved.verdict_in(do(work, crates.folder(name), *words, '--cpu', 'x86-64'))
+    if not verdict:
+        raise Failed
+    proved.remember(f'{made_of}-x86-64', verdict)
+    write_text(f'{room}/{made_of}', '')
+    return room
+
+
+def verdict_of(crates, name):
+    """The verdict on a crate for any x86-64, if it is known."""
+    return proved.recall(f'{stamp(crates, name, {})}-x86-64')
+
+
+def portable(text, target):
+    """The module's text without what names x86-64; on Windows an answer of the heap, two words, stays in registers, as it has it."""
+    text = re.sub(r'^target (datalayout|triple) = .*\n', '', text, flags=re.M)
+    text = re.sub(r' "(probe-stack|stack-probe-size|target-cpu)"="[^"]*"', '', text)
+    return re.sub(r'(declare|call) (\{ i64, i64 \} @rattle_)', r'\1 x86_64_sysvcc \2', text) if target == 'windows' else text
+
+
+def flags(room):
+    """The kit's own words for clang, without those for x86-64."""
+    with open(f'{room}/words', encoding='utf-8') as file:
+        return re.sub(rf'^(?:{OF_X86})\n', '', file.read(), flags=re.M).split()
+
+
+def compiled(room, target, run):
+    """The object of a kept module for a target."""
+    if not TARGETS[target].clang:
+        return f'{room}/own'
+    run(CLANG, '-x', 'ir', f'{room}/module.bc', '-S', '-emit-llvm', '-O0', '-Xclang', '-disable-llvm-passes', '-o', f'{room}/module.ll')
+    with open(f'{room}/module.ll', encoding='utf-8') as file:
+        write_text(f'{room}/{target}.ll', portable(file.read(), target))
+    to = f'{room}/{target}.o'
+    run(CLANG, *TARGETS[target].clang, *flags(room), '-Wno-override-module', '-x', 'ir', f'{room}/{target}.ll', '-o', to)
+    return to
+
+
+def link(room, target, to, run):
+    """Links a program's object for a target."""
+    linker, *_ = TARGETS[target].tools
+    system = [f'{C}/memory.c', f'{C}/targets/system.c']
+    run(linker, '-O2', '-static', '-s', '-o', to, compiled(room, target, run), *system, *TARGETS[target].links)
+
+
+def archive(room, target, to, run):
+    """Makes a static library for a target; where the object is Rattle's own, so is the library."""
+    made = compiled(room, target, run)
+    if made == f'{room}/own':
+        shutil.copy(made, to)
+    else:
+        run(f'{TOOLCHAIN}/bin/llvm-ar', 'rcsD', to, made)
+
+
+def link_wasm(room, is_program, to, run):
+    """Links a module of WebAssembly, and makes its memory one of 32 bits, as more engines have it. A library imports nothing."""
+    objects = [compiled(room, 'wasm', run), f'{room}/heap.o']
+    run(CLANG, *WASM, '-O2', '-fno-builtin', '-ffreestanding', '-nostdinc', '-c', f'{C}/targets/wasm.c', '-o', objects[1])
+    write_text(f'{room}/system', '\n'.join(SYSTEM if is_program else ()))
+    exports = (f'--export={name}' for name in (['main'] if is_program else calls_in(f'{room}/module.ll')))
+    asked = ['--gc-sections', '-z', 'stack-size=1048576', '--stack-first', f'--allow-undefined-file={room}/system', *exports]
+    run('wasm-ld-19', '-mwasm64', '--no-entry', '--strip-debug', *asked, '-o', f'{room}/64.wasm', *objects)
+    run('wasm-opt', f'{room}/64.wasm', *(f'--enable-{name}' for name in FEATURES), '--memory64-lowering', '-O2', '-o', to)
+
+
+def calls_in(path):
+    """The calls that the module of a library has for C, and those by which a caller takes memory for texts and gives it back."""
+    with open(path, encoding='utf-8') as file:
+        return [*sorted(re.findall(r'^define (?!internal)[^@\n]*@(zebludor_\w+)\(', file.read(), re.M)), 'zebludor_take', 'zebludor_give']
+
+
+def make(crates, name, target, work):
+    """Builds a program or a static library for a target, and puts it with PROVED into crates/NAME/out/TARGET."""
+    is_program, file = crates.is_program(name), f'{name}{TARGETS[target].ending}'
+    with waiting(f'{name}: building it for {target}') as say:
+        say('Rattle proves it for any x86-64')
+        room = keep_module(crates, name, work)
+        say('clang compiles its module')
+        run = partial(do, work, room)
+        if target == 'wasm':
+            link_wasm(room, is_program, f'{room}/made', run)
+        elif is_program:
+            link(room, target, f'{room}/made', run)
+        else:
+            file = f'lib{name}.a'
+            archive(room, target, f'{room}/made', run)
+    to = f'{TOP}/crates/{name}/out/{target}/{file}'
+    os.makedirs(os.path.dirname(to), exist_ok=True)
+    os.replace(shutil.copy(f'{room}/made', f'{to}.new'), to)
+    note(to, crates, name, target, room)
+
+
+def note(path, crates, name, target, room):
+    """Writes PROVED beside a file for a target: with the verdict on its crate for any x86-64, the module, and what more is trusted."""
+    known = proved.told_of(path, crates, crates.below(name))
+    sources = 'c/targets/wasm.c' if target == 'wasm' else 'c/memory.c and, in a program, c/targets/system.c'
+    trusted = *(version(tool) for tool in (CLANG, *TARGETS[target].tools)), sources, TARGETS[target].runs_on
+    of = f'target {target} module {sum_of(f"{room}/module.bc")}\n' + ''.join(f'trusted {each}\n' for each in trusted)
+    write_text(f'{os.path.dirname(path)}/PROVED', replace(known, verdicts={**known.verdicts, name: verdict_of(crates, name)}, target=of).text())
+
+
+def version(tool):
+    """The first line in which a tool tells its version."""
+    return subprocess.run([tool, '--version'], capture_output=True, text=True, check=True).stdout.partition('\n')[0]

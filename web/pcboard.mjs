@@ -1,0 +1,4 @@
+// node web/pcboard.mjs WORDS ..: the program pcboard, in node's engine.
+import {start} from './system.mjs';
+
+start('pcboard');
