@@ -95,6 +95,15 @@ class Contracts(ToolCase):
             self.assertTrue(is_named or f'`{crate}`' in others, (worst, crate, file, name))  # by itself, or its whole crate
         self.assertEqual(set(re.findall(r'`([^`]+)`', row)) - {name for _, _, _, name in found}, OTHERS)
 
+    def test_the_page_names_each_line_that_may_want_memory(self) -> None:
+        with open(f'{TOP}/docs/proofs.md', encoding='utf-8') as file:
+            row = next(line for line in file if line.startswith('|**that memory is found**'))
+        named = row.partition('in place of any answer to ')[2].partition(' (`dev/contracts --memory`')[0]
+        printed = self.tool('dev/contracts', '--memory')[0].splitlines()
+        self.assertEqual(re.findall(r'`([^`]+)`', named), printed)
+        self.assertIn('regs', printed)
+        self.assertNotIn('go', printed)
+
     def test_forms_of_clauses(self) -> None:
         for text, worst in FORMS:
             self.assertEqual(worst_of(function_of('', '', items(text)[0])), worst, text)
