@@ -18,7 +18,7 @@ PROGRAMS = ('pcboard', 'pcprobe', 'pcmasm')  # which are stored together
 STORED = f'{TOP}/stored'
 REMEMBERED = f'{CACHE}/zebludor/verdicts'
 VERDICT = 'logic=proved '
-TEXT = re.compile(r'kit (\S+)\nlogic (\S+)\n((?:made \S+ \S+ sources \S+\n)*)((?:\w+: .*\n)*)(?:changed \S+ \S+\n)*')
+TEXT = re.compile(r'kit (\S+)\nlogic (\S+)\n((?:made \S+ \S+ sources \S+\n)*)((?:target .*\n(?:trusted .*\n)*)?)((?:\w+: .*\n)*)(?:changed \S+ \S+\n)*')
 
 
 @dataclass(frozen=True)
@@ -32,17 +32,19 @@ class Made:
 @dataclass(frozen=True)
 class Proved:
     """The text PROVED: kit and logic, what they made by the names of its files, and of each crate the line in which Rattle tells
-    that it is proved."""
+    that it is proved. Of a file for another target than x86-64 Linux with glibc also the lines that tell the target and the module
+    that was compiled for it, and what more is to be trusted."""
 
     kit: str
     logic: str
     made: dict[str, Made]
     verdicts: dict[str, str]
+    target: str = ''
 
     def text(self) -> str:
         made = ''.join(f'made {name} {file.sum} sources {file.sources}\n' for name, file in self.made.items())
         verdicts = ''.join(f'{name}: {verdict}\n' for name, verdict in sorted(self.verdicts.items()))
-        return f'kit {self.kit}\nlogic {self.logic}\n{made}{verdicts}'
+        return f'kit {self.kit}\nlogic {self.logic}\n{made}{self.target}{verdicts}'
 
     def of(self, path: str) -> Made | None:
         """What it tells of this file; None where that is nothing, or of other bytes."""
@@ -60,8 +62,9 @@ def read(folder: str) -> Proved | None:
     if not parts:
         return None
     made = (line.split() for line in parts[3].splitlines())
-    verdicts = (line.partition(': ') for line in parts[4].splitlines())
-    return Proved(parts[1], parts[2], {name: Made(its_sum, sources) for _, name, its_sum, _, sources in made}, {name: line for name, _, line in verdicts})
+    verdicts = (line.partition(': ') for line in parts[5].splitlines())
+    files_made = {name: Made(its_sum, sources) for _, name, its_sum, _, sources in made}
+    return Proved(parts[1], parts[2], files_made, {name: line for name, _, line in verdicts}, parts[4])
 
 
 def out(name: str) -> str:
