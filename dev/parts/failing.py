@@ -11,32 +11,42 @@ import os
 import signal
 from typing import Any, Callable
 
+from toolbox import writing
+
 KINDS = {
     'open': ('open', 'listdir', 'scandir', 'mkdir'),
     'read': ('read',),
     'write': ('write', 'sendfile', 'ftruncate'),
     'flush': ('fsync',),
-    'rename': ('link', 'rename', 'replace'),
+    'rename': ('link', 'rename', 'replace', 'exchange'),
 }
 HOWS = ('EIO', 'ENOSPC', 'EINTR', 'kill', 'short')
+
+
+def home_of(name: str) -> Any:
+    """The module that has a function."""
+    return writing if name == 'exchange' else os
 
 
 class Failing:
     """The functions, over files in a folder. It counts the calls of each kind; `at` the nth one of `kind` something comes to pass: an
     error by its name, the process's end, half of what was asked for, or `meanwhile`, after which the call goes on."""
 
-    def __init__(self, folder: str, kind: str = '', at: int = 0, how: str = '', meanwhile: Callable[[], None] = lambda: None) -> None:
+    def __init__(self, folder: str, kind: str = '', at: int = 0, how: str = '', meanwhile: Callable[[], None] = lambda: None, has_exchange: bool = True) -> None:
         self.folder, self.kind, self.at, self.how, self.meanwhile = os.path.realpath(folder), kind, at, how, meanwhile
+        self.has_exchange = has_exchange  # of names, as most file systems have it
         self.names: dict[str, list[str]] = {each: [] for each in KINDS}
         self.unflushed: list[str] = []
         self._open, self._dirty = dict[int, str](), set[int]()
-        self._real: dict[str, Callable[..., Any]] = {name: getattr(os, name) for names in KINDS.values() for name in names}
+        self._real: dict[str, Callable[..., Any]] = {name: getattr(home_of(name), name) for names in KINDS.values() for name in names}
 
     def install(self) -> None:
         """Puts them in place. Python's own files are those that call functions of `os`."""
         for kind, names in KINDS.items():
             for name in names:
-                setattr(os, name, self._stand_in(kind, name))
+                setattr(home_of(name), name, self._stand_in(kind, name))
+        if not self.has_exchange:
+            writing.exchange = lambda *_: False
         builtins.open, io.open = _pyio.open, _pyio.open  # type: ignore[assignment]
         closing = os.close
 
@@ -50,7 +60,7 @@ class Failing:
         """Whether a call has to do with the folder."""
         if name in ('read', 'write', 'fsync', 'ftruncate', 'sendfile'):
             return words[0] in self._open
-        path = words[1 if name in ('link', 'rename', 'replace') else 0] if words else '.'
+        path = words[1 if name in KINDS['rename'] else 0] if words else '.'
         return isinstance(path, (str, bytes)) and f'{os.path.realpath(os.fsdecode(path))}/'.startswith(f'{self.folder}/')
 
     def _stand_in(self, kind: str, name: str) -> Callable[..., Any]:
@@ -90,7 +100,7 @@ class Failing:
             self._dirty.add(os.fstat(words[0]).st_ino)
         elif name == 'fsync':
             self._dirty.discard(os.fstat(words[0]).st_ino)
-        elif name in ('rename', 'replace') and os.stat(words[0]).st_ino in self._dirty:
+        elif name in ('rename', 'replace', 'exchange') and os.stat(words[0]).st_ino in self._dirty:
             self.unflushed.append(os.path.basename(os.fspath(words[1])))
 
 

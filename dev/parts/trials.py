@@ -3,6 +3,7 @@ it took. So thousands of runs cost milliseconds each."""
 from __future__ import annotations
 
 import contextlib
+import glob
 import functools
 import importlib.machinery
 import importlib.util
@@ -18,7 +19,7 @@ from dataclasses import dataclass
 from typing import Callable
 
 TOP = os.path.dirname(os.path.dirname(os.path.dirname(os.path.realpath(__file__))))
-MOST_MEMORY = 2 << 30  # bytes of addresses, by which a run that takes all there is ends
+MOST_MEMORY = 2 << 30  # bytes of addresses beside those that it begins with, by which a run that takes all there is ends
 HANGS = 60  # seconds after which a run that takes no processor time is ended
 
 
@@ -35,12 +36,20 @@ class Ended:
 
 @functools.cache
 def tool(name: str) -> Callable[[list[str]], int]:
-    """A tool's own function."""
-    loader = importlib.machinery.SourceFileLoader(f'tool_{name}', f'{TOP}/tools/{name}')
+    """The own function of a tool, or of a program of another folder, which is named with it."""
+    path = path_of(name)
+    loader = importlib.machinery.SourceFileLoader(f'tool_{name.replace("/", "_")}', path)
     module = importlib.util.module_from_spec(importlib.machinery.ModuleSpec(loader.name, loader, origin=loader.path))
     module.__file__, sys.modules[loader.name] = loader.path, module
+    if os.path.dirname(path) not in sys.path:
+        sys.path.append(os.path.dirname(path))  # as where it is started
     loader.exec_module(module)
     return module.main  # type: ignore[no-any-return]
+
+
+def path_of(name: str) -> str:
+    """Where a tool stands."""
+    return f'{TOP}/{name}' if '/' in name else f'{TOP}/tools/{name}'
 
 
 def started(name: str, words: list[str]) -> Callable[[], None]:
@@ -50,7 +59,7 @@ def started(name: str, words: list[str]) -> Callable[[], None]:
     main = tool(name)
 
     def work() -> None:
-        sys.argv = [f'{TOP}/tools/{name}', *words]
+        sys.argv = [path_of(name), *words]
         start(main)
 
     return work
@@ -90,7 +99,8 @@ def inside(work: Callable[[], None], folder: str, streams: tuple[int, ...], seco
     for number in (signal.SIGINT, signal.SIGTERM, signal.SIGHUP):
         signal.signal(number, signal.default_int_handler if number == signal.SIGINT else signal.SIG_DFL)
     resource.setrlimit(resource.RLIMIT_CPU, (seconds, seconds + 1))
-    resource.setrlimit(resource.RLIMIT_AS, (MOST_MEMORY, MOST_MEMORY))
+    most = addresses() + MOST_MEMORY
+    resource.setrlimit(resource.RLIMIT_AS, (most, most))
     resource.setrlimit(resource.RLIMIT_CORE, (0, 0))
     try:
         work()
@@ -106,16 +116,34 @@ def inside(work: Callable[[], None], folder: str, streams: tuple[int, ...], seco
                 stream.flush()
 
 
+def addresses() -> int:
+    """The bytes of addresses that this process has, among them what a long run of tests has left it."""
+    with open('/proc/self/statm', encoding='ascii') as file:
+        return int(file.read().split()[0]) * resource.getpagesize()
+
+
+def ticks_of(group: int) -> int:
+    """The processor time that the processes of a group have taken, with those that have ended."""
+    found = 0
+    for path in glob.glob('/proc/[0-9]*/stat'):
+        with contextlib.suppress(OSError), open(path, encoding='utf-8', errors='replace') as file:
+            words = file.read().rpartition(')')[2].split()
+            found += sum(map(int, words[11:15])) if int(words[2]) == group else 0
+    return found
+
+
 def waited(child: int) -> tuple[int, resource.struct_rusage]:
     """Waits for a process, and ends all that it has started."""
-    end = time.monotonic() + HANGS
+    end, before = time.monotonic() + HANGS, 0
     pause = 0.001
     while True:
         found, status, used = os.wait4(child, os.WNOHANG)
         if found:
             break
         if time.monotonic() > end:
-            os.killpg(child, signal.SIGKILL)
+            if (now := ticks_of(child)) == before:
+                os.killpg(child, signal.SIGKILL)
+            end, before = time.monotonic() + HANGS, now
         time.sleep(pause)
         pause = min(pause * 1.5, 0.02)
     try:

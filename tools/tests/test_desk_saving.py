@@ -175,13 +175,13 @@ class Files(test_desk.Served):
         given, put = self.given(), files.write_whole
         for name, text in ((self.source, b'; by another editor\n'), (self.run_file, b'{"ram": 128}')):
 
-            def meanwhile(target: str, octets: bytes, look: Callable[[], None], name: str = name, text: bytes = text) -> None:
+            def meanwhile(target: str, octets: bytes, look: Callable[[], None], name: str = name, text: bytes = text, **more: Any) -> None:
                 def late() -> None:
                     if target == name:
                         self.put(name, text)
                     look()
 
-                put(target, octets, late)
+                put(target, octets, late, **more)
 
             with mock.patch.object(files, 'write_whole', meanwhile):
                 answer = self.keep(LATER, given, RUN | {'ram': 256})
@@ -192,18 +192,39 @@ class Files(test_desk.Served):
         self.assertEqual((answer['kept'], 'another hand' in answer['sorry'], octets_in(self.source)), ([self.source], True, LATER.encode()))
         self.assertEqual(self.keep(LATER, {**given, **answer}, RUN)['changed'], [self.run_file])
 
+    def test_another_hand_behind_the_last_look(self) -> None:
+        """One that writes, or puts another file there, when nothing but the desk's rename is left: its text stays, and the page is told."""
+        put, before = files.write_whole, sorted(os.listdir(self.room))
+        for is_renamed in (False, True):
+
+            def meanwhile(target: str, octets: bytes, look: Callable[[], None], is_renamed: bool = is_renamed, **more: Any) -> None:
+                def late() -> None:
+                    look()
+                    self.put(f'{target}.its' if is_renamed else target, b'; by another editor\n')
+                    if is_renamed:
+                        os.rename(f'{target}.its', target)
+
+                put(target, octets, late, **more)
+
+            given = self.given()
+            with mock.patch.object(files, 'write_whole') as written:
+                written.side_effect = lambda *words, meanwhile=meanwhile, **more: (meanwhile if written.call_count == 1 else put)(*words, **more)
+                self.assertEqual(self.keep(LATER, given)['changed'], [self.source])
+            self.assertEqual((octets_in(self.source), sorted(os.listdir(self.room))), (b'; by another editor\n', before))
+            self.put(self.source, FOREVER.encode())
+
     def test_another_hand_that_writes_on(self) -> None:
         """One that has opened the file before the rename, and writes to it afterwards."""
         given, put = self.given(), files.write_whole
 
-        def meanwhile(target: str, octets: bytes, look: Callable[[], None]) -> None:
+        def meanwhile(target: str, octets: bytes, look: Callable[[], None], **more: Any) -> None:
             with open(target, 'r+b') as theirs:
-                put(target, octets, look)
+                put(target, octets, look, **more)
                 theirs.write(b'; by another editor\n')
                 theirs.truncate()
 
         with mock.patch.object(files, 'write_whole') as written:
-            written.side_effect = lambda *words: (meanwhile if written.call_count == 1 else put)(*words)
+            written.side_effect = lambda *words, **more: (meanwhile if written.call_count == 1 else put)(*words, **more)
             self.assertEqual(self.keep(LATER, given)['changed'], [self.source])
         self.assertEqual(octets_in(self.source), b'; by another editor\n')
 

@@ -19,8 +19,9 @@ class Fuzz(Planted):
         self.assertRegex(out, r'^[1-9]\d+ inputs, 0 finds\n$')
 
     def test_what_was_found_before(self) -> None:
-        """A byte that isn't UTF-8 for a debugger, a listing's line of thirty digits, one too many, and half a byte."""
-        for name in ('commands/no-utf-8', 'map/line-of-thirty-digits', 'map/line-too-many', 'map/half-a-byte', 'map/half-a-byte-of-ours'):
+        """A byte that isn't UTF-8 for a debugger, a long word again and again, a listing's line of thirty digits, one too many, and half a
+        byte."""
+        for name in ('commands/no-utf-8', 'commands/long-word-often', 'map/line-of-thirty-digits', 'map/line-too-many', 'map/half-a-byte', 'map/half-a-byte-of-ours'):
             out, _ = self.tool('dev/fuzz', '--again', f'{TOP}/dev/corpus/{name}')
             self.assertEqual({line.rpartition(': ')[2] for line in out.splitlines()}, {'nothing'}, out)
 

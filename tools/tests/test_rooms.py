@@ -3,6 +3,7 @@ from __future__ import annotations
 
 import fcntl
 import os
+import re
 import shutil
 import signal
 import subprocess
@@ -10,7 +11,7 @@ import sys
 import tempfile
 from unittest import mock
 
-from tests.support import SECONDS, TOOLS, ToolCase, example, is_there, rooms_in, until
+from tests.support import SECONDS, TOOLS, TOP, ToolCase, example, is_there, rooms_in, until
 from toolbox.rooms import MARK, NEW, room, sweep, text_of_mark
 
 # Runs a tool, and tells each path that it opens, makes or lists as it goes, with the flags of what is opened.
@@ -24,6 +25,20 @@ sys.argv = sys.argv[1:]
 sys.path.insert(0, os.path.dirname(sys.argv[0]))
 runpy.run_path(sys.argv[0], run_name='__main__')
 """
+
+
+# Where that folder or a new file is named after all: a note in the user's own cache, paths that aren't told, and runs in rooms of tests.
+NAMED = {'dev/faults: TMPDIR', 'dev/fuzz: TMPDIR', 'dev/parts/noting.py: mktemp', 'pcboard: mktemp', 'tools/toolbox/feedback.py: gettempdir'}
+
+
+def programs() -> list[str]:
+    """The programs and modules of tools, dev, bench and python, and the launcher."""
+    found = ['pcboard', 'python/zebludor.py']
+    for top in ('tools', 'dev', 'bench'):
+        for folder, inner, names in os.walk(f'{TOP}/{top}'):
+            inner[:] = [each for each in inner if each not in ('tests', 'corpus', 'books', 'loops', 'mixes', 'programs', 'page', '__pycache__')]
+            found += [os.path.relpath(f'{folder}/{name}', TOP) for name in names if name.endswith('.py') or os.access(f'{folder}/{name}', os.X_OK)]
+    return found
 
 
 class Places(ToolCase):
@@ -190,6 +205,14 @@ class Shared(ToolCase):
             found = [line.rstrip('\n').split(' ', 2) for line in file]
         os.remove(log)
         return found
+
+    def test_no_program_names_it(self) -> None:
+        """What makes a new folder or file there, whose name nobody else can know, has no folder or name of its own to say."""
+        named, found = re.compile(r'(?<!})/tmp\b|/var/tmp|/dev/shm|TMPDIR|gettempdir|\bmktemp\b|mkstemp|delete=False'), set[str]()
+        for path in programs():
+            with open(f'{TOP}/{path}', encoding='utf-8') as file:
+                found |= {f'{path}: {word}' for word in named.findall(file.read())}
+        self.assertEqual(found, NAMED)
 
     def test_nothing_is_opened_by_name(self) -> None:
         shared = f'{self.room}/shared'

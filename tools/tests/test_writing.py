@@ -290,6 +290,19 @@ class Whole(ToolCase):
                 write_whole(path, b'newer', look)
             self.assertEqual(self.content(path), b'new')
 
+    def test_what_is_taken(self) -> None:
+        """It is told where that lies whose place the new file has; what it raises puts that back, and nothing is left beside. Where names
+        can't be exchanged, nothing is told."""
+        path, seen = self.file('it.asm', 'old'), list[bytes]()
+        write_whole(path, b'new', taken=lambda beside: seen.append(self.content(beside)))
+        self.assertEqual((seen, self.content(path), os.listdir(self.room)), ([b'old'], b'new', ['it.asm']))
+        with self.assertRaisesRegex(Sorry, 'changed'):
+            write_whole(path, b'newer', taken=lambda _: raised(Sorry('changed')))
+        self.assertEqual((self.content(path), os.listdir(self.room)), (b'new', ['it.asm']))
+        with mock.patch.object(writing, 'exchange', return_value=False):
+            write_whole(path, b'newest', taken=lambda beside: seen.append(self.content(beside)))
+        self.assertEqual((seen, self.content(path), os.listdir(self.room)), ([b'old'], b'newest', ['it.asm']))
+
     def test_the_tools_write_so(self) -> None:
         """A picture and a sound that a full disk can't take leave the old ones."""
         report = self.pcboard('run', *example('first')).stdout

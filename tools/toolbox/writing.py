@@ -16,19 +16,22 @@ STREAMS = ('/dev/', '/proc/')
 OPEN_FILES = '/proc/self/fd'
 # What is said by a file system that has no files without a name.
 NAMED_ONLY = (errno.EOPNOTSUPP, errno.EISDIR, errno.EINVAL)
+NO_EXCHANGE = (errno.EINVAL, errno.ENOSYS, errno.EOPNOTSUPP, errno.EPERM)  # said of an exchange of two names where there is none
+IN_THE_PRESENT_FOLDER, EXCHANGE = -100, 2  # for Linux's renameat2
 MOST_SECONDS = 60  # a file that was touched so long after its copy was kept is another hand's
-Look = Callable[[], None]
+Look, Taken = Callable[[], None], Callable[[str], None]
 
 
 class InPlace(Exception):
     """A new file can't take the old one's place with all that the old one has."""
 
 
-def write_whole(path: str, octets: bytes, look: Look = lambda: None, mode: int = 0o666) -> None:
+def write_whole(path: str, octets: bytes, look: Look = lambda: None, mode: int = 0o666, taken: Taken | None = None) -> None:
     """Writes a new file, flushes it to the disk and renames it over the old one; mode, owner and attributes stay, and a link leads
     where it led. A file with other names, or with what a new one can't have, is written in place. A stream, as a FIFO or a device, is
-    written as it is. `look` is called last before anything changes, and may raise; `mode` is that of a file that wasn't there. OSError
-    tells why nothing was written."""
+    written as it is. `look` is called last before anything changes, and may raise; `taken` is told where that lies for a moment whose place
+    the new file has taken, if the system can tell, and may raise, after which it is in its place again. `mode` is that of a file that
+    wasn't there. OSError tells why nothing was written."""
     try:
         old = os.stat(path)
     except FileNotFoundError:
@@ -44,7 +47,7 @@ def write_whole(path: str, octets: bytes, look: Look = lambda: None, mode: int =
     try:
         if old and old.st_nlink > 1:
             raise InPlace
-        _replace(target, octets, old, look, mode)
+        _replace(target, octets, old, look, mode, taken if old else None)
     except InPlace:
         _write_over(target, octets, look)
 
@@ -66,7 +69,7 @@ def own_folder(path: str) -> None:
         os.chmod(path, 0o700)
 
 
-def _replace(target: str, octets: bytes, old: os.stat_result | None, look: Look, mode: int) -> None:
+def _replace(target: str, octets: bytes, old: os.stat_result | None, look: Look, mode: int, taken: Taken | None) -> None:
     """Writes a new file down to the disk, and renames it over the old one."""
     handle, beside = _new(target, 0o600 if old else mode)
     try:
@@ -80,7 +83,7 @@ def _replace(target: str, octets: bytes, old: os.stat_result | None, look: Look,
             beside = _place_beside(target)
             os.link(f'{OPEN_FILES}/{handle}', beside, src_dir_fd=handle, follow_symlinks=True)  # with a folder it follows, as Linux wants
         look()
-        _rename(beside, target)
+        _rename(beside, target, taken)
     except BaseException:
         with contextlib.suppress(OSError):
             os.remove(beside)
@@ -117,10 +120,20 @@ def _place_beside(target: str) -> str:
     folder, fresh = os.path.dirname(target), f'.{secrets.token_hex(8)}.new'
     if os.stat(folder).st_mode & stat.S_IWOTH:
         return os.path.join(folder, fresh)
+    _remove_beside(target)
+    return _name_beside(target) if not os.path.lexists(_name_beside(target)) else os.path.join(folder, fresh)
+
+
+def _name_beside(target: str) -> str:
+    """That name."""
     mine = hashlib.sha256(f'{os.geteuid()} {target}'.encode('utf-8', 'surrogateescape')).hexdigest()[:16]
-    path = os.path.join(folder, f'.{mine}.new')
-    _remove_left(path, {os.geteuid(), os.stat(target if os.path.exists(target) else folder).st_uid})
-    return path if not os.path.lexists(path) else os.path.join(folder, fresh)
+    return os.path.join(os.path.dirname(target), f'.{mine}.new')
+
+
+def _remove_beside(target: str) -> None:
+    """Removes what a killed writer has left there."""
+    owner = os.stat(target if os.path.exists(target) else os.path.dirname(target)).st_uid
+    _remove_left(_name_beside(target), {os.geteuid(), owner})
 
 
 def sweep(folder: str) -> None:
@@ -169,14 +182,36 @@ def _carry_over(target: str, handle: int, old: os.stat_result) -> None:
         raise InPlace from None
 
 
-def _rename(beside: str, target: str) -> None:
+def _rename(beside: str, target: str, taken: Taken | None) -> None:
     """Puts a new file into the old one's place, which can't be where the old one is mounted by itself, as into a container."""
     try:
-        os.replace(beside, target)
+        if not taken or not exchange(beside, target):
+            os.replace(beside, target)
+            return
     except OSError as error:
         if error.errno == errno.EBUSY:
             raise InPlace from None
         raise
+    try:
+        taken(beside)
+    except BaseException:
+        exchange(beside, target)
+        raise
+    os.remove(beside)
+
+
+def exchange(one: str, other: str) -> bool:
+    """Puts each of two files into the other's place, at once; False where the system has no such call."""
+    import ctypes  # which most that is written doesn't need
+
+    call = getattr(ctypes.CDLL(None, use_errno=True), 'renameat2', None)
+    if not call:
+        return False
+    if call(IN_THE_PRESENT_FOLDER, os.fsencode(one), IN_THE_PRESENT_FOLDER, os.fsencode(other), EXCHANGE) == 0:
+        return True
+    if (number := ctypes.get_errno()) in NO_EXCHANGE:
+        return False
+    raise OSError(number, os.strerror(number), other)
 
 
 def _flush_folder(path: str) -> None:
@@ -200,8 +235,9 @@ def _kept_for(target: str) -> str:
 
 
 def is_unfinished(path: str) -> bool:
-    """Whether a file is being written in place, or was when its writer was killed."""
-    return os.path.exists(_kept_for(os.path.realpath(path)))
+    """Whether a file is being written, or was when its writer was killed."""
+    target = os.path.realpath(path)
+    return os.path.exists(_kept_for(target)) or os.path.lexists(_name_beside(target))
 
 
 def _octets_in(path: str) -> bytes:
@@ -255,6 +291,7 @@ def finish(path: str) -> None:
     """Finishes what a writer that was killed has begun in a file, if nobody has written to it since. OSError tells why not."""
     target = os.path.realpath(path)
     kept = _kept_for(target)
+    _remove_beside(target)
     try:
         both = json.loads(_octets_in(kept))
         old, new = (both[name].encode('latin-1') for name in ('old', 'new'))

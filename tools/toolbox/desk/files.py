@@ -11,7 +11,7 @@ import re
 import threading
 import time
 from dataclasses import dataclass
-from typing import Any, Callable, Iterator
+from typing import IO, Any, Callable, Iterator
 
 from toolbox import runfile
 from toolbox.command import Sorry
@@ -68,12 +68,17 @@ def still(path: str, octets: bytes | None) -> Callable[[], None]:
 
 
 def put_over(path: str, octets: bytes, old: bytes | None) -> None:
-    """Writes a file that has the old bytes. What another hand writes into these at that moment takes their place again, and raises
-    Changed."""
+    """Writes a file that has the old bytes. What another hand writes there at that moment takes its place again, and raises Changed."""
     with contextlib.ExitStack() as stack:
-        held = old is not None and stack.enter_context(open(path, 'rb', opener=lambda name, how: os.open(name, how | os.O_NONBLOCK)))
-        write_whole(path, octets, still(path, old))
-        if held and not os.path.samestat(os.fstat(held.fileno()), os.stat(path)) and (theirs := held.read()) != old:
+        held = list[IO[bytes]]()
+
+        def hold(taken: str) -> None:
+            held.append(stack.enter_context(open(taken, 'rb', opener=lambda name, how: os.open(name, how | os.O_NONBLOCK))))
+
+        if old is not None:
+            hold(path)
+        write_whole(path, octets, still(path, old), taken=hold)
+        if held and not os.path.samestat(os.fstat(held[-1].fileno()), os.stat(path)) and (theirs := held[-1].read()) != old:
             write_whole(path, theirs, still(path, octets))
             raise Changed
 
