@@ -311,6 +311,18 @@ def _hex_words(source: Source, is_hex: bool) -> list[str]:
     return ['--hex'] * (is_hex or not isinstance(source, (str, bytes)) and is_hex_name(source))
 
 
+def _there(source: os.PathLike) -> str:
+    """A source's path. Unfit tells why nothing is read there: it is no file, or a very long one, in which a program would find no end."""
+    path = os.fspath(source)
+    with contextlib.suppress(ImportError):  # where the tools aren't
+        (reading,) = _toolbox('reading')
+        try:
+            reading.check(path)
+        except OSError as error:
+            raise Unfit(f"{path} can't be read: {error.strerror}") from None
+    return path
+
+
 @contextlib.contextmanager
 def _files(source: Source, fields: dict[str, Any] | None = None) -> Iterator[list[str]]:
     """The names of files with a source's text and a run file's fields; a path stays what it is."""
@@ -320,7 +332,7 @@ def _files(source: Source, fields: dict[str, Any] | None = None) -> Iterator[lis
             with open(path, 'wb') as file:
                 file.write(source if isinstance(source, bytes) else source.encode('utf-8', 'surrogateescape'))
         else:
-            path = os.fspath(source)
+            path = _there(source)
         names = [path]
         if fields is not None:
             names.append(f'{room}/run.json')
@@ -558,29 +570,6 @@ class Dialogue:
             lines.append(self._line())
         self.clock, self.is_idle = int(lines[-1].split()[-1]) if 'clock ' in lines[-1] else self.clock, True
         return lines
-
-    def trails(self, clocks: list[int], command: str = 'trail') -> list[list[bytes]]:
-        """The trails behind runs of so many clocks each, one behind the other, in a session without stops; lines for `event_of`. Or
-        the answers to another command. All are asked for at once, so that neither side waits for the other: at most some thirty,
-        whose answers fit in the pipe."""
-        self._send(''.join(f'go {it}\n{command}\n' for it in clocks) + 'go 0\n')
-        octets, last = bytearray(b'\n'), b''
-        while last[:1].isdigit() or not last.endswith(b'\n') or octets.count(b'clock ') + octets.count(b'fault ') <= len(clocks):
-            piece = self._out.read1(1 << 16)
-            if not piece:
-                self._ended()
-            octets += piece
-            last = octets[octets.rfind(b'\n', 0, -1) + 1 :]
-        _, *parts = bytes(octets).split(b'\nclock ')
-        if len(parts) <= len(clocks):
-            odd = next(it for it in octets.decode('ascii', 'replace').splitlines() if re.match(r'(?!clock )\D', it))
-            raise fault_in(odd) or Unfit(odd)
-        self.clock, self.is_idle = int(parts.pop()), True
-        answers = [part.split(b'\n')[1:] for part in parts]
-        refused = next((line.decode('ascii', 'replace') for lines in answers for line in lines if line.startswith(b'fault ')), None)
-        if refused:
-            raise fault_in(refused) or Unfit(refused)
-        return answers
 
     def dump(self, address: int, count: int) -> bytes:
         """Bytes from a physical address on, as many as there are below 100000h."""

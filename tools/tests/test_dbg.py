@@ -253,6 +253,12 @@ class Sessions(ToolCase):
         self.assertIn('fault 3', self.tool('dbg', example('hello')[1], example('hello')[1], status=2)[1])
         self.assertIn('--hex', self.tool('dbg', '--help')[0])
 
+    def test_a_long_command(self) -> None:
+        """It is refused, and isn't what a blank line gives again; of a long word the beginning is told."""
+        answers = self.dbg('hello', 'clear 3', 'x' * 4097, '', 'y' * 4096)
+        none, last = 'there is no stop 3; stops lists them', f'{"y" * 160} .. and 3,936 characters more is no command; help lists them'
+        self.assertEqual(answers, [none, 'a command has at most 4,096 characters', none, last])
+
     def test_the_program_stays_what_it_was(self) -> None:
         files = self.program('        NOP\n        HLT')
         with subprocess.Popen([sys.executable, '-S', f'{TOOLS}/dbg', *files], stdin=subprocess.PIPE, stdout=subprocess.PIPE, text=True) as dbg:

@@ -4,16 +4,24 @@ from __future__ import annotations
 
 import concurrent.futures as futures
 import contextlib
+import json
 import os
+import pathlib
 import signal
 import subprocess
 import sys
 import unittest
-from collections.abc import Callable
+from collections.abc import Callable, Iterator
 
+from tests.lsp_client import Here
 from tests.support import EXAMPLES, SECONDS, TOP, ToolCase
 
+sys.path.insert(0, f'{TOP}/dev')
+from parts import trials
+from toolbox import program
 from toolbox.command import MISTAKE
+from toolbox.proved import PROGRAMS
+import zebludor
 
 FOLDERS = ('tools', 'dev', 'bench')
 # Words with a path, `{}`, beyond those that are tried of each tool: one path, two and three.
@@ -66,19 +74,25 @@ WORDS = (
     'tools/judge --class page hello.asm --run {}',
     'tools/moments places hello.hex hello.json --key 1E --at 1..9 --symbols {}',
     'bench/count {} --steps',
+    'bench/race {}',
+    'dev/fuzz --again {}',
+    'tools/judge --class page hello.asm --include {}',
+    'tools/judge page served.asm hello.json --file {}',
+    'tools/try served.asm --file {}',
+    'tools/why run served.asm --file {}',
+    'tools/zebludor try {}',
+    # Sources that include it.
+    'tools/dbg includes_{}',
+    'tools/judge page includes_{} hello.json',
+    'tools/try includes_{}',
+    'tools/why --lines includes_{}',
+    'tools/why run includes_{}',
 )
 MAY_SUCCEED = {'tools/why fault', 'tools/trace --vcd', 'tools/try hello.asm --write'}
 WRITTEN = ('tools/trace --vcd', 'tools/try hello.asm --write', 'tools/sound')  # there the path is what is written
 MORE_THAN_A_PIPE = 1 << 17
-MOST_SECONDS, MOST_KILOBYTES = 5, 300 * 1024  # of the processor, and of the largest process
-# Runs a tool on these streams, and writes into a file what it took.
-MEASURING = """import resource, subprocess, sys
-status = subprocess.run(sys.argv[2:]).returncode
-used = resource.getrusage(resource.RUSAGE_CHILDREN)
-with open(sys.argv[1], 'w', encoding='ascii') as file:
-    print(used.ru_utime + used.ru_stime, used.ru_maxrss, file=file)
-sys.exit(status)
-"""
+MOST_SECONDS, MOST_MEGABYTES = 5, 300  # of the processor, and of the largest process
+MOST_PRINTED = 20_000  # bytes
 
 
 def tools() -> list[str]:
@@ -97,15 +111,12 @@ class EveryTool(ToolCase):
         self.file('page', 'shows = HI\n')
         self.file('places', 'runs = start\n')
         self.file('hello.hex', self.pcboard('asm', f'{EXAMPLES}/hello.asm').stdout)
-        from toolbox import program
-        from toolbox.proved import PROGRAMS
-
         self.environment = {'PATH': '/usr/bin:/bin', 'HOME': self.room} | {name.upper(): program.path(name) for name in PROGRAMS}
 
-    def begin(self, tool: str, *words: str, out: int = subprocess.PIPE, given: int = subprocess.DEVNULL, by: tuple[str, ...] = ()) -> subprocess.Popen[str]:
-        """Starts a tool, whose standard input is empty where nothing is said; by another command, if one is named."""
+    def begin(self, tool: str, *words: str, out: int = subprocess.PIPE, given: int = subprocess.DEVNULL) -> subprocess.Popen[str]:
+        """Starts a tool, whose standard input is empty where nothing is said."""
         return subprocess.Popen(
-            [*by, 'env', '--default-signal=INT', f'{TOP}/{tool}', *words],
+            ['env', '--default-signal=INT', f'{TOP}/{tool}', *words],
             stdin=given,
             stdout=out,
             stderr=subprocess.PIPE,
@@ -115,9 +126,9 @@ class EveryTool(ToolCase):
             start_new_session=True,
         )
 
-    def run_tool(self, line: str, out: int = subprocess.PIPE, by: tuple[str, ...] = ()) -> tuple[int, str, str]:
+    def run_tool(self, line: str, out: int = subprocess.PIPE) -> tuple[int, str, str]:
         """Its status and what it prints. It neither ends in a traceback nor begins to prove."""
-        with self.begin(*line.split(), out=out, by=by) as process:
+        with self.begin(*line.split(), out=out) as process:
             try:
                 printed, err = process.communicate(timeout=SECONDS)
             except subprocess.TimeoutExpired:
@@ -191,27 +202,6 @@ class EveryTool(ToolCase):
         lines = [*WORDS, *(f'{tool} {{}} {{}}' for tool in tools())]
         self.each(check, [line.replace('{}', path) for line in lines for path in (f'{self.room}/none/none', self.room)])
 
-    def test_what_is_no_file_or_has_no_end(self) -> None:
-        """A FIFO, a device, a file of 2 GB and brackets a million deep end at once in every tool that takes a file, and cost little."""
-        os.mkfifo(f'{self.room}/fifo')
-        os.symlink('/dev/zero', f'{self.room}/endless')
-        with open(f'{self.room}/long', 'wb') as file:
-            file.truncate(1 << 31)
-        self.file('deep', '{"version":1,"ram":64,"sw1":0,"sw2":0,"budget":1000,"keys":' + '[' * 1_000_000)
-        lines = [*(line for line in WORDS if not line.startswith(WRITTEN)), *(f'{tool} {{}} {{}}' for tool in tools())]
-        self.each(self.ends_at_once, [line.replace('{}', path) for line in lines for path in ('fifo', 'endless', 'long', 'deep')])
-
-    def ends_at_once(self, line: str) -> None:
-        """It refuses in a sentence, with status 2, unless it has read a file whose brackets are its own affair."""
-        took = f'{self.room}/took-{abs(hash(line))}'
-        status, _, err = self.run_tool(line, by=(sys.executable, '-S', '-c', MEASURING, took))
-        with open(took, encoding='ascii') as file:
-            seconds, kilobytes = map(float, file.read().split())
-        self.assertLess(seconds, MOST_SECONDS, line)
-        self.assertLess(kilobytes, MOST_KILOBYTES, line)
-        self.assertIn(status, (1, 2) if 'deep' in line or not line.startswith('tools/') else (2,), f'{line}: {err}')
-        self.assertNotEqual((status, err), (2, ''), line)
-
     def test_control_c(self) -> None:
         """As the terminal sends it, where a tool waits for the rest of what is typed: it has read a part, as there is more than a pipe holds."""
         for line in (
@@ -239,6 +229,118 @@ class EveryTool(ToolCase):
                 return process.communicate(timeout=10)[1]
         os.killpg(process.pid, signal.SIGKILL)
         return self.fail(f'control-C ends it not: {process.args!r}')
+
+
+class NoFile(ToolCase):
+    """A FIFO, a link to a device, a file of 2 GB and brackets a million deep end at once and cost little in every tool that takes a
+    file, in Python's module, and where a source includes them or stands beside them."""
+
+    PATHS = ('fifo', 'endless', 'long', 'deep')
+    GIVEN = b'fault 3 BadLine line 1\n'  # which why explains, of a file
+
+    def setUp(self) -> None:
+        super().setUp()
+        for name in ('hello.asm', 'hello.json'):
+            os.symlink(f'{EXAMPLES}/{name}', f'{self.room}/{name}')
+        self.file('page', 'shows = HI\n')
+        self.file('places', 'runs = start\n')
+        self.file('hello.hex', self.pcboard('asm', f'{EXAMPLES}/hello.asm').stdout)
+        self.file('served.asm', 'SEGMENT M AT 100h\nstart: MOV AX,4C00h\n INT 21h\nENDS\n')
+        os.mkfifo(f'{self.room}/fifo')
+        os.symlink('/dev/zero', f'{self.room}/endless')
+        with open(f'{self.room}/long', 'wb') as file:
+            file.truncate(1 << 31)
+        self.file('deep', '{"version":1,"ram":64,"sw1":0,"sw2":0,"budget":1000,"keys":' + '[' * 1_000_000)
+        os.mkdir(f'{self.room}/sources')
+        for path in self.PATHS:
+            os.symlink(f'{self.room}/{path}', f'{self.room}/sources/{path}.asm')
+            self.file(f'includes_{path}', f'.model small\n.code\ninclude {path}\nmain proc\n mov ax,4C00h\n int 21h\nmain endp\nend main\n')
+        self.environment = {'PATH': '/usr/bin:/bin', 'HOME': self.room} | {name.upper(): program.path(name) for name in PROGRAMS}
+
+    def ended(self, what: str, work: Callable[[], None], given: bytes = GIVEN) -> trials.Ended:
+        """How something ended, which is told by its name if it has cost or printed too much, waited, or ended in a traceback."""
+
+        def at_home() -> None:
+            os.environ.clear()
+            os.environ.update(self.environment)
+            work()
+
+        ended = trials.tried(at_home, self.room, given, MOST_SECONDS)
+        self.assertLess(ended.seconds, MOST_SECONDS, what)
+        self.assertLess(ended.megabytes, MOST_MEGABYTES, what)
+        self.assertGreaterEqual(ended.status, 0, what)
+        self.assertLess(len(ended.out) + len(ended.err), MOST_PRINTED, what)
+        self.assertNotRegex(ended.err, f'Traceback|{MISTAKE}', what)
+        return ended
+
+    def test_every_tool(self) -> None:
+        """It refuses in a sentence, with status 2, unless it has read a file whose brackets are its own affair, or has no need of it."""
+        lines = [*(line for line in WORDS if not line.startswith(WRITTEN)), *(f'{tool} {{}} {{}}' for tool in tools())]
+        for line, path in ((line, path) for line in lines for path in self.PATHS):
+            name, *words = line.replace('{}', path).split()
+            with self.subTest(line=line, path=path):
+                ended = self.ended(line, trials.started(name.removeprefix('tools/'), words))
+                allowed = (0, 1, 2) if line.startswith('tools/why fault') else (1, 2) if path == 'deep' or not line.startswith('tools/') else (2,)
+                self.assertIn(ended.status, allowed, ended.err)
+                self.assertNotEqual(ended.err + ended.out.decode(), '')
+
+    def test_python(self) -> None:
+        """It is Unfit, or what the program refuses."""
+
+        def refused(call: Callable[[pathlib.Path], object], path: pathlib.Path) -> None:
+            try:
+                print(call(path))
+            except (zebludor.Unfit, zebludor.Fault) as error:
+                print(error)
+                sys.exit(2)
+
+        hello = pathlib.Path('hello.hex')
+        calls = (
+            zebludor.run,
+            lambda path: zebludor.run(path, services=True),
+            lambda path: zebludor.run(path, is_hex=True),
+            zebludor.assemble,
+            zebludor.listing,
+            zebludor.Session,
+            lambda path: zebludor.Places(path).place('start'),
+            lambda path: zebludor.Places(hello, symbols=path).place('start'),
+        )
+        for at, path in ((at, path) for at in range(len(calls)) for path in self.PATHS):
+            with self.subTest(call=at, path=path):
+                ended = self.ended(path, lambda at=at, path=path: refused(calls[at], pathlib.Path(path)))
+                self.assertEqual(ended.status, 2, ended.out)
+                self.assertNotEqual(path != 'deep', b"can't be read" not in ended.out, ended.out)
+
+    def test_an_editor(self) -> None:
+        """A session of the debugger's adapter comes to its end."""
+        for fields in ({'program': '{}'}, {'program': 'hello.asm', 'run': '{}'}, {'program': 'hello.hex', 'symbols': '{}'}, {'program': 'includes_{}'}):
+            for path in self.PATHS:
+                asked = {name: text.replace('{}', path) for name, text in fields.items()}
+                with self.subTest(**asked):
+                    requests = (('initialize', {}), ('launch', asked), ('configurationDone', {}), ('disconnect', {}))
+                    frames = ({'seq': at, 'type': 'request', 'command': name, 'arguments': more} for at, (name, more) in enumerate(requests))
+                    self.assertEqual(self.ended(path, trials.started('dap', []), framed(frames)).status, 0)
+
+    def test_a_language_server(self) -> None:
+        """Documents that include them are opened, and in a folder with them a name is looked for."""
+
+        def work() -> None:
+            editor = Here()
+            editor.server.folders.append(f'{self.room}/sources')
+            for path in self.PATHS:
+                with open(f'includes_{path}', encoding='ascii') as file:
+                    editor.open(file.read(), f'file://{self.room}/includes_{path}')
+            print(editor.ask('workspace/symbol', query='start'), *(each[0]['message'] for each in editor.found.values()), sep='\n')
+
+        lines = self.ended('the language server', work).out.decode().splitlines()
+        self.assertEqual((lines[0], len(lines)), ('[]', 1 + len(self.PATHS)), lines)
+        self.assertEqual([path in line and ("can't be read: " in line or path == 'deep') for path, line in zip(self.PATHS, lines[1:])], [True] * 4, lines)
+
+
+def framed(messages: Iterator[dict[str, object]]) -> bytes:
+    """Messages as editors send them."""
+    bodies = (json.dumps({'jsonrpc': '2.0'} | message).encode() for message in messages)
+    return b''.join(b'Content-Length: %d\r\n\r\n' % len(body) + body for body in bodies)
 
 
 if __name__ == '__main__':

@@ -6,12 +6,13 @@ import glob
 import itertools
 import os
 import re
+import subprocess
 import unittest
 from unittest import mock
 
 from tests.support import TOOLS, TOP, ToolCase, example
 
-from toolbox import shown
+from toolbox import program, shown
 from toolbox.command import Sorry
 from toolbox.hex_lines import filled
 from toolbox.listing import Line
@@ -27,6 +28,7 @@ DEEP = '{"version":1,"ram":64,"sw1":0,"sw2":0,"budget":1000,"keys":' + '[' * 1_0
 INNER = {
     'moments LONGEST_KEPT',
     'dap.values LONGEST_INSTRUCTION',
+    'dap.values LONGEST',
     'dap.variables MOST_SHOWN',
     'data_labels MOST_BYTES',
     'desk.board MOST_LISTED',
@@ -35,8 +37,6 @@ INNER = {
     'desk.drafts MOST_TEXTS',
     'desk.http SECONDS_OF_A_REFUSAL',
     'desk.sound MOST_SAMPLES',
-    'disassembly LONGEST',
-    'disassembly MOST_LISTED',
     'events LONGEST',
     'gdb.bytecode LONGEST',
     'gdb.bytecode MOST_STACK',
@@ -50,6 +50,7 @@ INNER = {
     'lsp.repairs MOST',
     'lsp.straight MOST_LINES',
     'nowhere LONGEST_LOOP',
+    'session_board MOST_LISTED',
     'session_board MOST_PASSED',
     'term_board MOST_BEHIND',
     'term_board MOST_HALTED',
@@ -183,6 +184,34 @@ class Runs(ToolCase):
         for depth, fault in ((127, 'fault 32 BadField'), (128, 'fault 31 NotJson')):
             run = self.file('it.json', '{"keys":' + '[' * (depth - 1) + ']' * (depth - 1) + '}')
             self.assertEqual(self.pcboard('run', source, run).stderr, f'{fault}\n')
+
+
+class ByThemselves(ToolCase):
+    """What the programs do with a file that has no end, which no tool hands to them, and with a pipe."""
+
+    def test_a_device(self) -> None:
+        """It takes as much memory as there is, and is refused then; a source is no longer than it may be."""
+        source, run = example('hello')
+        for name, words, sentence in (
+            ('pcboard', ('run', source, '/dev/zero'), 'fault 37 Memory\n'),
+            ('pcprobe', (source, '/dev/zero'), 'fault 37 Memory\n'),
+            ('pcboard', ('run', '--hex', '/dev/zero', run), 'fault 27 Memory\n'),
+            ('pcboard', ('--',), 'fault 13 Memory\n'),
+            ('pcmasm', ('/dev/zero',), 'pcmasm: /dev/zero: out of memory\n'),
+            ('pcboard', ('run', '/dev/zero', run), 'fault 1 SourceTooLong\n'),
+        ):
+            with self.subTest(name, words=words), open('/dev/zero', 'rb') as endless:
+                shell = ['sh', '-c', 'ulimit -v 100000; exec "$0" "$@"', program.path(name), *words]
+                ran = subprocess.run(shell, stdin=endless, capture_output=True, text=True, check=False)
+                self.assertEqual((ran.returncode, ran.stdout, ran.stderr), (2 if name == 'pcmasm' else 1, '', sentence))
+
+    def test_a_pipe(self) -> None:
+        """Each file may be one, as the shell's <(..) is."""
+        files = example('hello')
+        ran = subprocess.run(
+            ['bash', '-c', '"$0" run <(cat "$1") <(cat "$2")', program.path('pcboard'), *files], stdin=subprocess.DEVNULL, capture_output=True, text=True, check=False
+        )
+        self.assertEqual((ran.returncode, ran.stdout, ran.stderr), (0, self.pcboard('run', *files).stdout, ''))
 
 
 class Shown(ToolCase):

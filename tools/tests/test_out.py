@@ -13,7 +13,7 @@ from toolbox.dap.board import Machine
 from toolbox.effects import ends_with_call
 from toolbox.events import events
 from toolbox.listing import listing_of
-from toolbox.program import Files, Session
+from toolbox.program import Files, ProbeSession, Session
 from toolbox.report import registers_of
 from toolbox.runfile import DEFAULTS, text_of
 from toolbox.session_board import Paused, break_at
@@ -129,11 +129,9 @@ def program(seed: int) -> str:
 def stepped_of(machine: Machine, budget: int) -> Stepped:
     """The run of a board's files by single steps, with its calls."""
     found = list(events(machine.files, 0, budget))
-    clocks = [*(each.clock for each in found), budget]
-    steps = [b - a for a, b in zip([0, *clocks], clocks)]
-    with Session(machine.files) as session:
-        answers = [each for at in range(0, len(steps), 24) for each in session.trails(steps[at : at + 24], 'regs')]
-    stepped = Stepped(found, [registers_of([line.decode() for line in each[:2]]) for each in answers], budget)
+    with ProbeSession(machine.files) as session:
+        lines = session.registers_at([*(each.clock for each in found), budget]).decode('ascii').splitlines()
+    stepped = Stepped(found, [registers_of(lines[at + 1 : at + 3]) for at in range(0, len(lines), 3)], budget)
     stepped.follow()
     return stepped
 

@@ -1,6 +1,7 @@
 """Symbols of Intel HEX, over stored listings; and the commands of tools/dbg that step over, run to a place and disassemble."""
 from __future__ import annotations
 
+import contextlib
 import random
 import subprocess
 import unittest
@@ -8,10 +9,11 @@ import unittest
 from tests.support import EXAMPLES, ToolCase, example, is_there
 
 from toolbox.command import Sorry
-from toolbox.disassembly import LONGEST, NONE, listed
+from toolbox.dap.values import LONGEST
 from toolbox.places import event_of, far_of
 from toolbox.program import Files as Built, ProbeSession
 from toolbox.runfile import DEFAULTS, text_of
+from toolbox.session_board import NONE, SessionBoard
 from toolbox.symbols import image_of, symbols_of
 
 ROM = 'B800B0 8EC0 EBFE 68656C6C6F2C2062696720776F726C64 00 90 90 F4'
@@ -212,12 +214,16 @@ class Board(ToolCase):
         self.assertEqual(lines[4], lines[0])
         self.assertIn('never there up to the end of the run', lines[-1])
 
-    def begun(self, offset: int, octets: bytes) -> tuple[bytes, str]:
-        """The instruction with which bytes at an offset begin, as a run of it tells; offsets wrap."""
+    def placed(self, offset: int, octets: bytes) -> Built:
+        """A board with bytes at an offset, where it begins; offsets wrap."""
         parts = [(at, part) for at, part in ((offset, octets[: 0x10000 - offset]), (0, octets[0x10000 - offset :])) if part]
         placed = '\n'.join(f' ORG {at}\n DB {",".join(map(str, part))}' for at, part in parts)
         source = self.file('it.asm', f'SEGMENT IT AT 1000h\n{placed}\nENDS\nSEGMENT RESET AT 0FFFFh\n JMP FAR 1000h:{offset}\nENDS\n')
-        with ProbeSession(Built(source, self.file('it.json', text_of(DEFAULTS | {'ram': 128})))) as session:
+        return Built(source, self.file('it.json', text_of(DEFAULTS | {'ram': 128})))
+
+    def begun(self, offset: int, octets: bytes) -> tuple[bytes, str]:
+        """The instruction with which bytes at an offset begin, as a run of it tells."""
+        with ProbeSession(self.placed(offset, octets)) as session:
             session.one('step')
             session.one('step')
             last = event_of(session.many('trail')[-1])
@@ -227,7 +233,8 @@ class Board(ToolCase):
         """What pcprobe lists is what runs: bytes and text of random places, also over a segment's end."""
         octets = random.Random(8088).randbytes(300)
         for offset in (0x100, 0xFF00, 0xFFE8):
-            rows = list(listed(offset, octets, 16))
+            with contextlib.closing(SessionBoard(self.placed(offset, octets), 0)) as board:
+                rows = list(board.listed((0x1000, offset), 16))
             for at, code, text in rows:
                 first = (at - offset) % 0x10000
                 self.assertEqual((code, text), self.begun(at, octets[first : first + LONGEST]), (offset, at))

@@ -15,7 +15,7 @@ from itertools import zip_longest
 from typing import Any, Iterator
 
 from toolbox import feedback, guests, limits, submissions
-from toolbox.command import PYTHON, waiting, write_bytes, write_text
+from toolbox.command import PYTHON, Sorry, read_bytes, waiting, write_bytes, write_text
 from toolbox.expectations import Outcome, Planned
 from toolbox.marks import Row, as_csv, as_junit, cell, line_of, tell_copies
 from toolbox.program import path as program_path
@@ -33,6 +33,7 @@ class Class:
     planned: list[Planned]
     given: argparse.Namespace
     folder: str  # below which all files stand
+    included: dict[str, bytes]  # what each of them may include besides, by its name
     at_work: set[subprocess.Popen[Any]] = field(default_factory=set)
     served: list[str] = field(default_factory=list)  # the files that have services by their look
     is_over: bool = False
@@ -51,12 +52,21 @@ class Class:
             except OSError as error:
                 answer: dict[str, Any] = {'why': f"{file} can't be read: {error.strerror}"}
             else:
+                for name, text in self.included.items():
+                    write_bytes(os.path.join(room, name), text)
                 write_bytes(copy, octets)
                 answer = self.answer(copy, folder)
             row = self.row_of(file, copy, answer)
             if folder:
                 feedback.close(folder, row, words_of(self.given), copy)
+                self.hand_out(folder)
         return row
+
+    def hand_out(self, folder: str) -> None:
+        """What a submission may include goes into its folder too, so that its commands find it."""
+        for name, text in self.included.items():
+            if not os.path.lexists(os.path.join(folder, name)):
+                write_bytes(os.path.join(folder, name), text)
 
     def row_of(self, file: str, copy: str, answer: dict[str, Any]) -> Row:
         """The row of what was answered of a copy, in which the file has its own name."""
@@ -124,6 +134,14 @@ def words_of(given: argparse.Namespace) -> list[str]:
     return words + [f'--file={path}' for path in given.files or []] + [f'--memory={given.memory or limits.MEMORY}']
 
 
+def included_of(paths: list[str]) -> dict[str, bytes]:
+    """The bytes of what submissions may include, by the names by which they do."""
+    found = {os.path.basename(path): read_bytes(path) for path in paths}
+    if len({name.lower() for name in found}) < len(paths):
+        raise Sorry('--include: a submission includes by the name alone, and two of these files have the same one')
+    return found
+
+
 def rows_of(them: Class, files: list[str], folders: list[str]) -> Iterator[Row]:
     """Each file's row as it is ready, in the order of the files. Once that is broken off, the others that are done come, and what is
     at work is ended."""
@@ -147,7 +165,7 @@ def rows_of(them: Class, files: list[str], folders: list[str]) -> Iterator[Row]:
 def table(page: str, planned: list[Planned], files: list[str], given: argparse.Namespace) -> int:
     """Prints a row for each file, writes what else is asked for, and returns the exit status."""
     program_path()
-    them = Class(page, planned, given, submissions.folder_of(files))
+    them = Class(page, planned, given, submissions.folder_of(files), included_of(given.include or []))
     folders = feedback.folders_of(files, given.feedback) if given.feedback else []
     said, rows = [outcome.said for outcome in them.outcomes], list[Row]()
     has_marks = any(outcome.weight > 1 for outcome in them.outcomes)

@@ -14,6 +14,8 @@ from toolbox import reading
 from toolbox.writing import write_whole
 
 HINT_STATUS = 2
+LONGEST = 1000  # characters of a sentence
+MOST = 100  # lines, or refused lines of a source
 MISTAKE = 'a mistake of this tool has ended it'
 STARTED = 'ZEBLUDOR_STARTED'  # in the environment: how the user has started the command zebludor, by which he then knows the tools
 PYTHON = sys.executable or 'python3'  # Python knows no path of its own where it was started without PATH
@@ -133,10 +135,28 @@ def status_of(main: Callable[[list[str]], int]) -> int:
         return ended.code if isinstance(ended.code, int) else int(ended.code is not None)
 
 
+def clipped(text: str, most: int = LONGEST) -> str:
+    """A text, or its beginning, if it is longer than so many characters."""
+    return text if len(text) <= most else f'{text[:most]} .. and {len(text) - most:,} characters more'
+
+
+def bounded(lines: list[str]) -> list[str]:
+    """Lines, or the first of them, if they are many."""
+    return [*map(clipped, lines[:MOST]), *more(len(lines))]
+
+
+def more(count: int) -> list[str]:
+    """What is said behind the first of so many lines, if not all are shown."""
+    return [f'.. and {count - MOST:,} lines more'] if count > MOST else []
+
+
 def refuse(sentence: str) -> int:
-    """Tells why the tool can't do it, and returns the status."""
+    """Tells why the tool can't do it, and returns the status. What it quotes of a file may be long."""
+    lines = sentence.split('\n')
+    # a sentence, lines that were bounded, and how many more there are
+    shown = [*map(clipped, lines)] if len(lines) <= MOST + 2 else bounded(lines)
     with contextlib.suppress(OSError):
-        print(f'{os.path.basename(sys.argv[0])}: {sentence}', file=sys.stderr)
+        print(f'{os.path.basename(sys.argv[0])}:', '\n'.join(shown), file=sys.stderr)
     return HINT_STATUS
 
 

@@ -4,7 +4,9 @@ from __future__ import annotations
 
 import argparse
 import contextlib
+import itertools
 import os
+import re
 import shutil
 import subprocess
 import sys
@@ -15,20 +17,20 @@ from typing import Any, Iterator
 from toolbox import disk, foreign, loading, services
 from toolbox.command import Sorry, handed_on, read_bytes, read_text, write_bytes
 from toolbox.comments import handed
-from toolbox.listing import physical
+from toolbox.listing import Listing, physical
 from toolbox.loading import Loaded, check_ram
 from toolbox.program import Files, Refusal, answer_of, is_hex_name, limited
 from toolbox.runfile import DEFAULTS, read_run_file, text_of, with_run_file
 from toolbox.services import MOST_RAM, is_served
 from toolbox.shown import bounded
-from toolbox.symbols import of_nasm
+from toolbox.symbols import of_bcc, of_nasm
 
 BINARIES = ('.com', '.exe', '.bin')
 COMPILERS = {'nasm': ('nasm', 'nasm'), 'bcc': ('bcc', 'bcc elks-libc')}  # the command, and Debian's packages
 LANGUAGES = {'masm': 'of MASM, TASM or emu8086', 'nasm': 'for NASM', 'bcc': 'in C, for bcc', 'dialect': "of the board's own dialect"}
+MAPPED = re.compile(r' *\S+ +(\S+) +[0-9a-f] +([0-9a-f]{8}) +[A-Za-z]')  # a row of ld86's map, which bcc prints last
 FIRST_OF_BCC = 'crt0.o'  # what stands before a program, of bcc's library
 LONGEST = 1 << 20  # bytes of a program, which is all that the processor reaches
-_told = set[str]()
 
 
 @dataclass(frozen=True)
@@ -131,9 +133,8 @@ def say(guest: Guest) -> None:
     """Tells once how a source is taken by its look, and what is noted of one of MASM."""
     if guest.compiler == 'masm' and not guest.is_quiet:
         foreign.tell(foreign.translated(guest.file, guest.home))
-    if guest.is_seen and guest.file not in _told:
-        _told.add(guest.file)
-        print(f'{os.path.basename(sys.argv[0])}: {said_of(guest, guest.file)}', file=sys.stderr)
+    if guest.is_seen:
+        foreign.say_once(said_of(guest, guest.file))
 
 
 def said_of(guest: Guest, file: str, without: str = '--bare', otherwise: str = '--nasm or --dialect') -> str:
@@ -209,13 +210,16 @@ def compiled(guest: Guest, room: str) -> str:
     command, package = COMPILERS[guest.compiler]
     stem, folder = os.path.splitext(os.path.basename(handed_on(guest.file)))[0], os.path.dirname(guest.file) or '.'
     made = os.path.join(room, f'{stem}.com')
-    words = {'nasm': ['-f', 'bin', f'-I{folder}/', '-l', f'{made}.lst', '-o', made, guest.file], 'bcc': ['-Md', f'-I{folder}', '-o', made, guest.file]}[
-        guest.compiler
-    ]
+    words = {
+        'nasm': ['-f', 'bin', f'-I{folder}/', '-l', f'{made}.lst', '-o', made, guest.file],
+        'bcc': ['-Md', '-C-t', '-A-l', f'-A{made}.lst', '-M', f'-I{folder}', '-o', made, guest.file],
+    }[guest.compiler]
     if not shutil.which(command):
         raise Sorry(f"{command} isn't there; install it (Debian: apt-get install {package})")
     ran = subprocess.run(limited([command, *words]), stdin=subprocess.DEVNULL, capture_output=True, text=True, errors='replace', check=False)
-    messages = '\n'.join(bounded((ran.stdout + ran.stderr).strip().split('\n')))
+    write_bytes(f'{made}.map', ran.stdout.encode())
+    rows = [*itertools.takewhile(lambda row: not MAPPED.match(row), ran.stdout.split('\n')), ran.stderr]
+    messages = '\n'.join(bounded('\n'.join(rows).strip().split('\n')))
     if ran.returncode or not os.path.isfile(made):
         if FIRST_OF_BCC in messages:
             raise Sorry(f'{command} has no library to link programs with; install it (Debian: apt-get install {package})')
@@ -231,11 +235,21 @@ def with_lines(guest: Guest, found: Loaded, listing: str) -> Loaded:
     if not os.path.isfile(listing):
         return found
     segment, offset = (int(part, 16) for part in found.rows[0].split()[0].split(':'))
-    lines = of_nasm(read_text(listing).removesuffix('\n').split('\n'), (segment, offset), None)
+    rows = read_text(listing).removesuffix('\n').split('\n')
+    lines = of_c(guest, rows, listing, segment) if guest.compiler == 'bcc' else of_nasm(rows, (segment, offset), None)
     is_right = all(
         found.image.get(physical(*line.address) + place) == octet for line in lines.at.values() if line.address for place, octet in enumerate(line.shown)
     )
     return replace(found, rows=[*foreign.rows_of(guest.file, lines), *found.rows[1:]]) if is_right and lines.at else found
+
+
+def of_c(guest: Guest, rows: list[str], listing: str, segment: int) -> Listing:
+    """The lines of a source in C, whose code begins where the map tells of its first label."""
+    lines = foreign.lines_of(read_bytes(guest.file, LONGEST))
+    found = of_bcc(rows, guest.file, lines, (segment, 0))
+    mapped = dict(row.group(1, 2) for row in map(MAPPED.match, read_text(f'{listing.removesuffix(".lst")}.map').split('\n')) if row)
+    first = next((int(mapped[f'_{label}'], 16) - at for label, (_, at) in found.labels.items() if f'_{label}' in mapped), None)
+    return Listing() if first is None else of_bcc(rows, guest.file, lines, (segment, first))
 
 
 def fields_for(guest: Guest, run_file: str | None, more: dict[str, Any] | None = None) -> dict[str, Any]:
