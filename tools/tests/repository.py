@@ -14,11 +14,16 @@ RT = f"""#!/bin/sh
 [ "$1" != version ] || echo "{KIT} logic {LOGIC}"
 """
 CRATES = 'low:\npcboard: low\nprobe: low\npcprobe: low probe\npcmasm: low\nother:\n'
-# It leaves what was to be built, and tells a verdict; a program, which the linker makes, is a script that tells how it was called.
+# It leaves what was to be built, and tells a verdict; a program, which the linker makes, is a script that tells how it was called. For
+# another processor it hands a module to the compiler.
 RATTLE = r"""#!/bin/sh
 echo "${PWD##*/}" >> "$(dirname "$0")/proved"
-while [ "$1" != -o ]; do shift; done
+while [ "$1" != -o ]; do
+    [ "$1" != --toolchain ] || clang=$2/bin/clang
+    shift
+done
 mkdir -p "$2"
+[ "$3" != --cpu ] || (cd "$2" && echo "for $4" > module.bc && "$clang" --target=mine -O3 -x ir module.bc)
 echo "fn it: proved"
 echo "logic=proved functions=1 sum=0123456789abcdef native=nat"
 """
@@ -36,7 +41,7 @@ class Repository(ToolCase):
         for folder in ('dev/parts', 'tools/toolbox'):
             os.makedirs(f'{self.room}/top/{folder}')
         shared = (f'tools/toolbox/{stem}.py' for stem in ('__init__', 'command', 'crates', 'proved', 'reading', 'sources', 'writing'))
-        parts = (f'dev/parts/{stem}.py' for stem in ('__init__', 'building'))
+        parts = (f'dev/parts/{stem}.py' for stem in ('__init__', 'building', 'targets'))
         for name in ('pcboard', 'VERSION', 'README.md', 'dev/build', *parts, *shared):
             shutil.copy(f'{TOP}/{name}', f'{self.room}/top/{name}')
         for name in ('pcprobe', 'pcmasm'):

@@ -15,7 +15,7 @@ from tests.support import TOOLS, TOP, ToolCase
 from toolbox.asking import Told, rows
 from toolbox.guests import Guest, prepared
 from toolbox.nowhere import told_of_run
-from toolbox.program import Files, answer_of
+from toolbox.program import Files, answer_of, path
 from toolbox.report import report_of
 from toolbox.runfile import DEFAULTS, text_of
 from toolbox.scancodes import BARE, stamped, strokes_of
@@ -27,6 +27,15 @@ WRONG_CAUSES = re.compile('SP begins|stack runs into code|each PUSH|far jump is 
 IN_RAM = 'JMP FAR there\nENDS\nSEGMENT CODE AT 50h\nthere: MOV AX,CS\n MOV DS,AX\n MOV SS,AX\n MOV SP,top\n'
 STACK = ' DW 32 DUP(0)\ntop:\n'
 READY = ' MOV AL,13h\n OUT 20h,AL\n MOV AL,8\n OUT 21h,AL\n MOV AL,1\n OUT 21h,AL\n MOV AL,{}\n OUT 21h,AL\n{} STI\nidle: HLT\n JMP SHORT idle\nown: IRET\n'
+TIMER = ' MOV AL,34h\n OUT 43h,AL\n MOV AL,100\n OUT 40h,AL\n MOV AL,0\n OUT 40h,AL\n'
+# Ticks, and keys whose handler lets ticks in; `end` is the tick's end of interrupt, `own` the key's.
+TICKS_AND_KEYS = (
+    f'{IN_RAM} MOV AL,99h\n OUT 63h,AL\n{TIMER} MOV AL,13h\n OUT 20h,AL\n MOV AL,8\n OUT 21h,AL\n MOV AL,1\n OUT 21h,AL\n MOV AL,{{mask}}\n'
+    ' OUT 21h,AL\n MOV AL,0CCh\n OUT 61h,AL\n MOV AL,4Ch\n OUT 61h,AL\n STI\nidle: HLT\n JMP SHORT idle\n'
+    'tick: PUSH AX\n MOV AL,{end}\n OUT 20h,AL\n POP AX\n IRET\n'
+    'key: STI\n PUSH AX\n IN AL,60h\n MOV AL,0CCh\n OUT 61h,AL\n MOV AL,4Ch\n OUT 61h,AL\n{own} POP AX\n IRET\n'
+    f'{STACK}ENDS\nSEGMENT VECTORS AT 0\n ORG 20h\n DW tick,SEG tick,key,SEG key\n'
+)
 COUNTED = ' MOV AL,14h\n OUT 43h,AL\n MOV AL,100\n OUT 40h,AL\n'
 VECTOR = 'ENDS\nSEGMENT VECTORS AT 0\n ORG {:X}h\n DW own,SEG own\n'
 STRING = ' MOV AX,0F000h\n MOV ES,AX\n{} MOV CX,0\nover: STOSB\n LOOP over\n HLT'
@@ -54,6 +63,7 @@ ROWS = {
 SERVED_ROWS = {
     'asked for': ' MOV AX,13h\n INT 10h\n INT 20h',
     'services': ' INT 33h\n INT 20h',
+    'prefix': ' INT 20h\nENDS\nSEGMENT OTHER AT 200h\n DB 5',
 }
 
 
@@ -106,10 +116,12 @@ class Accusing(ToolCase):
             self.assertTrue(lines, mistake)
             sure += any(unmarked([line]) for line in lines)
         self.assertGreaterEqual(sure, LEAST_SURE)
+        quiet = list[Mistake]()
         for mistake in MISLEADING:
             lines = '\n'.join(one.text for one in self.of_mistake(mistake)).split('\n')
             self.assertEqual([line for line in unmarked(lines) if WRONG_CAUSES.search(line)], [], mistake)
-        quiet = [mistake for mistake in QUIET if not self.of_mistake(mistake)]
+            quiet += [] if any(lines) else [mistake]
+        quiet += [mistake for mistake in QUIET if not self.of_mistake(mistake)]
         self.assertLessEqual(len(quiet), MOST_QUIET, quiet)
         for name, lines in ROWS.items():
             source, run = self.program(lines, 3_000_000)
@@ -127,6 +139,30 @@ class Accusing(ToolCase):
             with prepared(Guest(source, None, True), Files(source, '')) as files:
                 self.assertIn(name, [one.name for one in self.of_files(files)])
         self.assertEqual(set(rows()) - self.drawn, set())
+
+    def test_ends_of_interrupt_that_came(self) -> None:
+        """Ticks that end in a key's handler end nothing of it, and are counted; one that names another level ends nothing. A program that
+        waits for keys, and takes them, isn't told of a tick that is let in, too."""
+        keys = self.file('keys.json', text_of(DEFAULTS | {'budget': 60_000, 'keys': [[3000, 30], [20_000, 158]]}))
+        source = self.program(TICKS_AND_KEYS.format(mask='0FCh', end='20h', own=''))[0]
+        asked = subprocess.run([path('pcprobe'), source, keys], input='events 60000 entries ports=20-20\n', stdout=subprocess.PIPE, text=True, check=True)
+        _, taken, since = asked.stdout.rpartition(' entry 09\n')
+        clock, ends = asked.stdout[: -len(taken + since)].split()[-1], since.count(' out 0020 20\n')
+        self.assertGreater(ends, 100)
+        wanted = f'IR1 asks again, and is still in service: {ends} ends of interrupt have come since it was taken at clock {clock}, and none was for it'
+        self.assertEqual([one.text for one in self.of_files(Files(source, keys))], [wanted])
+        source = self.program(TICKS_AND_KEYS.format(mask='0FCh', end='61h', own=''))[0]
+        wanted = r"IR0 asks again, and is still in service: an end of interrupt has come since it was taken at clock \d+, and it wasn't for it"
+        self.assertRegex(self.of_files(Files(source, keys))[0].text, f'^{wanted}$')
+        source = self.program(TICKS_AND_KEYS.replace(TIMER, '').format(mask='0', end='20h', own=' MOV AL,20h\n OUT 20h,AL\n'))[0]
+        self.assertEqual(self.of_files(Files(source, keys)), [])
+
+    def test_ports_that_always_read_as_FFh(self) -> None:
+        """Those of chips, too, that answer no read."""
+        for port in ('43h', '44h', '63h'):
+            source, run = self.program(f'over: IN AL,{port}\n TEST AL,80h\n JNZ over', 100_000)
+            told = [one.text for one in self.of_files(Files(source, run))]
+            self.assertIn(f'nothing answers at port {port}: it always reads FFh', told)
 
     def test_a_user_can_ask_again(self) -> None:
         """Each command of --how, given to a shell, answers what stands below it."""

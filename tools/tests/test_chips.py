@@ -31,7 +31,7 @@ class Facts(unittest.TestCase):
             f'keyboard latch {latch} lost 0 waiting{waiting}',
             PROCESSOR.format(state, interrupts),
         ]
-        return [it.split(':')[0] for it in facts(lines, lambda kind: f'of {kind:02X}')]
+        return [it.split(':')[0] for it in facts(lines, lambda kind: {'ends': f'of {kind:02X}'})]
 
     def test_requests(self) -> None:
         none = 'IR0 asks, and the interrupt controller takes nothing'

@@ -24,7 +24,7 @@ from unittest import mock
 from tests.support import EXAMPLES, SECONDS, TOOLS, TOP, ToolCase, children, example, is_running, processor_seconds, rooms_in, until
 from tests.test_symbols import NASM, ROM, hex_of
 
-from toolbox.chips import chip_lines
+from toolbox.asking import answers_of
 from toolbox.command import Sorry
 from toolbox.dap.values import is_code
 from toolbox.desk import board as desk_board, http as desk_http, words as desk_words, work as desk_work
@@ -575,7 +575,7 @@ class Boards(Served):
                     (shown['clock'], shown['registers'], text_of_screen(shown['screen'])), (clock, registers_of(session.many('regs')), session.many('screen'))
                 )
             self.assertEqual(self.client.ask('memory', board=board, place='0FFE0', count=32)['bytes'], session.dump(0xFFE0, 32).hex())
-        self.assertEqual(self.client.ask('chips', board=board), {'lines': chip_lines(Files(*example('fibonacci')), 9999), 'facts': []})
+        self.assertEqual(self.client.ask('chips', board=board), {'lines': [*answers_of(Files(*example('fibonacci')), ('go 9999', 'chips'))[1:]], 'facts': []})
         self.assertEqual(self.client.ask('stops', board=board, stops=[':28'])['stops'][0][2], 28)
         self.client.ask('go to', board=board, clock=0)
         met = self.client.ask('run', board=board, ms=200)

@@ -17,7 +17,8 @@ from tests.browser import CONTROL, SHIFT, Browser, path
 from tests.support import EXAMPLES, SECONDS, TOOLS, ToolCase, children, example, not_run, processor_seconds, until
 from tests.test_desk import BUZZ, DARK, DATA, NESTED
 
-from toolbox.chips import END_OF_INTERRUPT, chip_lines
+from toolbox.asking import answers_of
+from toolbox.chips import END_OF_INTERRUPT
 from toolbox.dap.board import FLAG_BITS
 from toolbox.program import Files, Session
 from toolbox.report import Report, registers_of, report_of
@@ -598,13 +599,13 @@ class OnePage(ToolCase):
         script = "[...document.querySelectorAll('#chip-lines>div')].map(it=>it.textContent)"
         page.example('ticks')
         page.click('#tab-chips')
-        lines = chip_lines(Files(*example('ticks')), page.clock)
+        lines = [*answers_of(Files(*example('ticks')), (f'go {page.clock}', 'chips'))[1:]]
         browser.until(f'({script}).length===9')
         self.assertEqual(browser.run(script), lines)
         # Another look: what has changed is marked.
         page.click('#start', 'view.clock===0')
         browser.until("$('chip-lines').lastChild.textContent.startsWith('processor running')")
-        self.assertEqual(browser.run(script), chip_lines(Files(*example('ticks')), 0))
+        self.assertEqual(browser.run(script), [*answers_of(Files(*example('ticks')), ('chips',))])
         self.assertEqual(browser.run("[...$('chip-lines').lastChild.querySelectorAll('.changed')].map(it=>it.textContent)"), ['running', '0'])
         self.assertEqual(browser.run("$('chip-facts').textContent"), '')
         # What keeps an interrupt away stands above them.

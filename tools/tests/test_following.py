@@ -26,7 +26,7 @@ PLANTED = {
     ],
     'an entry as a beginning': [('if wanted in line), None)', "if wanted in line or b' entry ' in line), None)")],
     'a halt as a beginning': [('if wanted in line), None)', "if wanted in line or line.endswith(b' halted')), None)")],
-    'the first writer for the last': [('            found = int(', '            found = found or int(')],
+    'the first writer for the last': [('return trail[-1] if trail', 'return trail[0] if trail')],
     'a wait that outlives a fall': [
         ('        line.waits = clock if wire.is_high else None\n', '        line.waits = line.waits or (clock if wire.is_high else None)\n')
     ],
@@ -95,10 +95,10 @@ class Case:
         answer: int | None = self.module.begin_in(self.lines, (int(segment, 16), int(offset, 16)))
         return answer
 
-    def wrote(self) -> list[object] | None:
+    def wrote(self) -> list[str] | None:
         """What wrote a byte last: when, and where it stands."""
-        found = self.module.writer_in(self.lines, int(self.given['address'], 16))
-        return found and [found[0], found[1].split()[2].decode('ascii')]
+        last = self.module.writer_in(self.lines)
+        return last and last.decode('ascii').split()[:2]
 
     def lost(self) -> list[int]:
         """When keys were lost."""

@@ -537,6 +537,14 @@ class Asked(ToolCase):
         self.here.change({'range': span(3, 4), 'text': 'start:  MOV AL,34h\n'})
         self.assertNotIn('without', self.hover(4, 9))
 
+    def test_numbers_of_any_size(self) -> None:
+        largest = 'is 0FFFFFFFFFFFFFFFFh, 18446744073709551615, '
+        for number, wanted in (('18446744073709551615', largest), ('18446744073709551616', 'needs more than 64 bits')):
+            self.here.open(f'SEGMENT A AT 50h\nMOV {number},8\nENDS\n')
+            self.assertIn(f'`{number}` {wanted}', self.hover(1, 5), number)
+        self.here.open(f'SEGMENT A AT 50h\nMOV {"9" * 5000},8\nENDS\n')
+        self.assertEqual(self.hover(1, 5), '')
+
     def test_chips(self) -> None:
         for lines, wanted in (
             ('MOV AL,36h\nOUT 43h,AL', 'mode 3 (square wave)'),

@@ -11,7 +11,7 @@ from tests.lsp_client import IT, Here
 from tests.support import ToolCase
 
 from toolbox.lsp.instructions import Row, instruction_of, rows
-from toolbox.program import CLOCKS_OF_A_TRAIL, Files, Session
+from toolbox.program import Files, Session
 
 # Shapes of memory, and where they are by the registers that are set before each line.
 SHAPES = {'[1000h]': 0x1000, '[BX]': 0x1101, '[DI]': 0x1300, '[BX+SI]': 0x1141, '[BP+DI]': 0x2500, '[BP]': 0x1200, '[SI+4]': 0x44}
@@ -120,7 +120,7 @@ class Clocks(ToolCase):
         them = [['-1', '', '']]
         with Session(Files(source, self.file('it.json', json.dumps(fields)))) as session:
             while 'HLT' not in them[-1][2]:
-                session.go(CLOCKS_OF_A_TRAIL)
+                session.go(60)  # in which the trail has all that begin
                 rows = [line.split(None, 2) for line in session.many('trail')]
                 new = next((at for at, row in enumerate(rows) if int(row[0]) > int(them[-1][0])), len(rows))
                 them += rows[new:]

@@ -9,7 +9,7 @@ from xml.etree import ElementTree
 
 from tests.support import STORED, TOOLS, TOP, ToolCase, example
 
-from toolbox.text_memory import Cell, cell_of, look_alike, shown, starts
+from toolbox.text_memory import Cell, cell_of, shown
 
 ATTRIBUTES = f'{TOOLS}/tests/attributes.asm'
 
@@ -30,20 +30,6 @@ class Cells(unittest.TestCase):
 
     def test_words(self) -> None:
         self.assertEqual([shown(cell, 0) for cell in (b'A\7', b'A\0', b'A\x88', b'\0\7', b'\1\7')], ['A', ' ', ' ', ' ', '.'])
-
-    def test_starts(self) -> None:
-        memory = bytearray(b' \7' * 2048)
-        memory[2 * 90] = ord('X')
-        screen = ['X' + ' ' * 79] + [' ' * 80] * 24
-        self.assertEqual(starts(screen, bytes(memory)), [90])
-        self.assertEqual(starts([' ' * 80] * 25, bytes(memory)), list(range(91, 139)))
-
-    def test_looks(self) -> None:
-        memory = bytearray(b' \7' * 2048)
-        self.assertTrue(look_alike(bytes(memory), list(range(2048))))
-        memory[2 * 90 + 1] = 0x70
-        self.assertFalse(look_alike(bytes(memory), [0, 1]))
-        self.assertTrue(look_alike(bytes(memory), [91, 138]))
 
 
 class Pictures(ToolCase):
@@ -90,6 +76,12 @@ class Pictures(ToolCase):
 
     def test_scrolled(self) -> None:
         self.assertIn('>' + '*' * 80 + '</text>', self.svg('--of', *example('scroll')))
+
+    def test_where_the_adapter_starts(self) -> None:
+        """Of a blank screen only the adapter tells which words it shows: here a reverse one first."""
+        fill = ' MOV AX,0B000h\n MOV ES,AX\n MOV DI,0\n MOV AX,0720h\n MOV CX,2048\n REP STOSW\n MOV WORD ES:[160],7020h'
+        start = ' MOV DX,3B4h\n MOV AL,13\n OUT DX,AL\n INC DX\n MOV AL,80\n OUT DX,AL\n MOV DX,3B8h\n MOV AL,8\n OUT DX,AL\n HLT'
+        self.assertIn('<rect x="36" y="36" width="9" height="18" fill="#5dff7f"/>', self.svg('--of', *self.program(f'{fill}\n{start}', 30000)))
 
     def test_every_screen_is_drawn_within_seconds(self) -> None:
         fill = ' MOV AX,0B000h\n MOV ES,AX\n MOV DI,0\n MOV AX,{}\n MOV CX,2048\n REP STOSW\n MOV DX,3B8h\n MOV AL,8\n OUT DX,AL\n HLT'

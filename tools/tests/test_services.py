@@ -685,7 +685,7 @@ class Pages(ServiceCase):
         "calls what isn't among the services": (' MOV AH,4Bh\n INT 21h', ''),
         'calls functions on file control blocks': (' MOV AH,0Fh\n INT 21h', ''),
         'writes a text of more than 2,000 signs by 09h, mostly for want of `$`': (" MOV DX,text\n MOV AH,9\n INT 21h\n JMP SHORT seen\ntext: DB 'One'\n", ''),
-        'writes DL 0 by 02h, with a sign in AL': (" MOV AL,'A'\n MOV AH,2\n INT 21h", ''),
+        'has a sign in AL for 02h, which writes DL': (" MOV AL,'A'\n MOV AH,2\n INT 21h", ''),
         "opens a file that isn't on its disk, nor at the end": (" MOV DX,text\n MOV AX,3D00h\n INT 21h\n JMP SHORT seen\ntext: DB 'c:\\one.txt',0\n", ''),
         'sets a mode of graphics': (' MOV AX,13h\n INT 10h', ''),
         'writes to B8000h, by DS or ES': (' MOV AX,0B800h\n MOV DS,AX\n MOV WORD [0],741h', ''),

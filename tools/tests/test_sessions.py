@@ -1,5 +1,5 @@
-"""Random sessions of tools/dbg, an editor's adapter, tools/gdb and zebludor.py: each command is answered again by fresh
-runs of pcprobe from power-on, with none of the code that follows calls for the tools.
+"""Random sessions of tools/dbg, an editor's adapter, tools/gdb and zebludor.py, and what tools/moments and tools/trace measure: each
+command is answered again by fresh runs of pcprobe from power-on, with none of the code that follows calls for the tools.
 
 python3 -m tests.test_sessions COUNT [SEED] in tools/: so many of each, from a seed on"""
 from __future__ import annotations
@@ -9,6 +9,7 @@ import re
 import struct
 import subprocess
 import sys
+import traceback
 import unittest
 from dataclasses import dataclass
 
@@ -21,9 +22,14 @@ import zebludor
 from toolbox.program import Files, path
 from toolbox.runfile import DEFAULTS, read_run_file, text_of
 
+# A routine within another, whose address it drops.
+DROPPING = 'whole:  NOP\n        CALL part\n        NOP\n        RET\npart:   NOP\n        ADD SP,2\n        RET\n'
 CLOCKS, COMMANDS, BUDGET = 2500, 12, 100_000
-IN_THE_GATE = 25  # sessions of each kind
-PREFIXES, REPEATS, STRINGS = b'\x26\x2E\x36\x3E\xF0\xF2\xF3', b'\xF2\xF3', (*range(0xA4, 0xA8), *range(0xAA, 0xB0))
+IN_THE_GATE = 20  # sessions of each kind
+SEEN = re.compile(r'^[0-9A-F]{5} .*: (clock \d+), .*')
+SHOWN = re.compile(rf'clock |AX=|CS=|\d+ keys|{SEEN.pattern}')
+PREFIXES, REPEATS, POPS = b'\x26\x2E\x36\x3E\xF0\xF2\xF3', b'\xF2\xF3', range(0x58, 0x60)
+STRINGS = (*range(0xA4, 0xA8), *range(0xAA, 0xB0))
 
 
 @dataclass
@@ -88,6 +94,18 @@ class Truth:
         """The calls under way, the innermost first."""
         return [call for call in reversed(self.calls) if self.clocks[call.at] < clock and (call.end is None or self.clocks[call.end] >= clock)]
 
+    def hard(self) -> list[int]:
+        """Clocks at which the way out of a routine is easily mistaken: a POP begins behind which it calls, or is interrupted, before it
+        returns; or another's return will end it, since its address is dropped."""
+        found = list[int]()
+        for number, (clock, octets) in enumerate(zip(self.clocks, self.octets)):
+            call = next(iter(self.under_way(clock)), None) if octets and 300 < clock < CLOCKS - 500 else None
+            if call and call.end is not None:
+                is_dropped = sum(each.end == call.end for each in self.calls) > 1
+                if is_dropped or octets[0] in POPS and any(number < each.at < call.end for each in self.calls):
+                    found.append(clock)
+        return found
+
     def after(self, call: Call) -> int | None:
         """The clock to which the end of a call leads, if it comes."""
         return None if call.end is None or call.end + 1 == len(self.clocks) else self.clocks[call.end + 1]
@@ -126,6 +144,34 @@ class Truth:
         is_over = len(self.ask(f'go {clock}', f'events {BUDGET - clock} starts entries')) == 2
         return [BUDGET] if is_over else []
 
+    def lost(self, clock: int) -> str:
+        """What `state` tells of lost keys: those of clock 0, of which no line tells, and the others."""
+        at_0 = next(line for line in self.ask('chips') if line.startswith('keyboard ')).split()
+        clocks = [0] * int(at_0[at_0.index('lost') + 1])
+        clocks += [int(line.split()[0]) for line in self.ask(f'events {clock} keys') if line.endswith(' lost')]
+        return f'{len(clocks)} keys lost' + (f', the first by clock {clocks[0]}, the last by clock {clocks[-1]}' if clocks else '')
+
+    def begun(self, place: str, stamp: int) -> int | None:
+        """How many clocks after a key the instruction at a place begins next."""
+        lines = [line.split() for line in self.ask(f'key 1E {stamp}', f'events {CLOCKS} starts')[1:-1]]
+        return next((int(line[0]) - stamp for line in lines if int(line[0]) > stamp and line[2] == place), None)
+
+    def latencies(self) -> tuple[list[int], list[int]]:
+        """Of the timer's requests how long each one waited until its handler began, or until it fell before."""
+        taken, fell, waits, rise = list[int](), list[int](), None, None
+        offset, segment = struct.unpack('<HH', self.bytes(CLOCKS, 0x20, 4))
+        for clock, what, *words in map(str.split, self.ask(f'events {CLOCKS} starts entries wires ports=20-20')[:-1]):
+            if what == 'start' and rise is not None and words[0] == f'{segment:04X}:{offset:04X}':
+                taken, rise = [*taken, int(clock) - rise], None
+            elif what == 'entry' and words == ['08']:
+                rise, waits = waits, None
+            elif [what, *words] == ['out', '0020', '13']:  # an initialisation forgets
+                waits = None
+            elif [what, words[0]] == ['wire', 'IR0']:
+                fell += [] if waits is None else [int(clock) - waits]
+                waits = int(clock) if words[1] == '1' else None
+        return taken, fell
+
     def last_write(self, clock: int, address: int) -> int | None:
         """The last earlier clock behind one in which a byte was written."""
         lines = self.ask(f'events {clock} writes={address:X}-{address:X}')[:-1]
@@ -142,20 +188,29 @@ class Sessions(ToolCase):
         self.addCleanup(self.served.doCleanups)
 
     def truth(self, seed: int) -> tuple[Truth, random.Random]:
-        """A random program and run, of which no routine drops the stack by loading SP, and dice for what is asked."""
+        """A random program and run, of which no routine drops the stack by loading SP, and half drop an address, and dice for what is asked."""
         seed = seed * 3 + 1
         dice = random.Random(seed)
-        keys = [[each, dice.choice((0x1E, 0x9E))] for each in sorted(dice.sample(range(300, CLOCKS), 4))]
+        stamps = [0] * dice.choice((0, 0, 17, 18, 19)) + sorted(dice.sample(range(300, CLOCKS), 4))
+        keys = [[each, dice.choice((0x1E, 0x9E))] for each in stamps]
         run = text_of(DEFAULTS | {'ram': 128, 'budget': BUDGET, 'keys': keys})
-        return Truth(Files(self.file('it.asm', program(seed)), self.file('it.json', run))), dice
+        text = program(seed)
+        if dice.random() < 0.5:
+            text = text.replace('again:  INC DI\n', 'again:  INC DI\n        CALL whole\n').replace('leaf:  ', f'{DROPPING}leaf:  ')
+        return Truth(Files(self.file('it.asm', text), self.file('it.json', run))), dice
 
     def dbg(self, seed: int) -> None:
         """A session of tools/dbg."""
         truth, dice = self.truth(seed)
         clock, commands, wanted, top = 0, list[str](), list[str](), 0x500 + truth.calls[0].slot
+        hard = truth.hard()
         for _ in range(COMMANDS):
             to = dice.randrange(300, CLOCKS - 500)
             command = dice.choice(('to', 'go', 'step', 'next', 'next', 'finish', 'finish', 'back', 'last write'))
+            if clock in hard:
+                command = 'finish'
+            elif hard and dice.random() < 0.3:
+                command, to = 'to', dice.choice(hard)
             there = {
                 'to': lambda: to,
                 'go': lambda: clock + 40,
@@ -169,10 +224,12 @@ class Sessions(ToolCase):
                 command, there = 'to', to
             clock = there
             commands += [{'to': f'to {clock}', 'go': 'go 40', 'last write': f'last write {top:05X}'}.get(command, command), 'regs']
-            wanted += [f'clock {clock}', *truth.registers(clock)]
-        out = self.called('dbg', truth.files.file, truth.files.run_file, given='\n'.join(commands) + '\n')[0]
+            by = [f'by clock {[each for each in truth.clocks if each < clock][-1]}'] if command == 'last write' else []
+            wanted += [f'clock {clock}', *by, *truth.registers(clock)]
+        wanted += [f'clock {clock}', truth.lost(clock)]
+        out = self.called('dbg', truth.files.file, truth.files.run_file, given='\n'.join([*commands, 'state', '']))[0]
         self.asked += [command.split()[0] for command in commands]
-        found = [line.split(': ')[0] for line in out.splitlines() if re.match('clock |AX=|CS=', line)]
+        found = [SEEN.sub(r'by \1', line).split(': ')[0] for line in out.splitlines() if SHOWN.match(line)]
         self.assertEqual(found, wanted, (seed, commands))
 
     def editor(self, seed: int) -> None:
@@ -181,10 +238,14 @@ class Sessions(ToolCase):
         client = Editor(self.room)
         client.launch(truth.files.file, run=truth.files.run_file, stopOnEntry=True)
         client.event('stopped')
-        clock, said = 0, list[tuple[str, int]]()
+        clock, said, hard = 0, list[tuple[str, int]](), truth.hard()
         for _ in range(COMMANDS):
             to = dice.choice([each for each in truth.clocks if 300 < each < CLOCKS - 500] or truth.clocks)
             command = dice.choice(('toClock', 'next', 'next', 'stepOut', 'stepOut'))
+            if clock in hard:
+                command = 'stepOut'
+            elif hard and dice.random() < 0.3:
+                command, to = 'toClock', dice.choice(hard)
             there = {'toClock': lambda: to, 'next': lambda: truth.over_interrupts(clock), 'stepOut': lambda: truth.out(clock)}[command]()
             if there is None or there > CLOCKS - 500:
                 command, there = 'toClock', to
@@ -259,6 +320,25 @@ class Sessions(ToolCase):
                 self.assertEqual((session.clock, session.registers()), (clock, zebludor.registers_of(truth.registers(clock))), (seed, said, before))
                 self.assertEqual(session.dump(0x8C0, 64), truth.bytes(clock, 0x8C0, 64), (seed, said))
 
+    def measures(self, seed: int) -> None:
+        """How long a key keeps a place away, by tools/moments, and how long the timer's requests wait, by tools/trace."""
+        truth, dice = self.truth(seed)
+        run = self.file('short.json', text_of(read_run_file(truth.files.run_file) | {'budget': CLOCKS}))
+        place, first = dice.choice([each for each in truth.places if each]), dice.randrange(300, CLOCKS - 900)
+        out = self.called('moments', '--measure', place, truth.files.file, run, '--key', '1E', '--at', f'{first}..{first + 5}', '--jobs', '1')[0]
+        came = [clocks for stamp in range(first, first + 5) if (clocks := truth.begun(place, stamp)) is not None]
+        found = re.findall(r'(\d+) came to|^(?:least|most) (\d+) ', out, re.M)
+        self.assertEqual([int(a or b) for a, b in found], [len(came), *([min(came), max(came)] if came else [])], (seed, place, first))
+        out = self.called('trace', '--calls', truth.files.file, run)[0]
+        taken, fell = truth.latencies()
+        row = re.search(r'^08 IR0 +(\d+) +(\S+) +(\S+)', out, re.M)
+        measured = [str(len(taken)), *([str(min(taken)), str(max(taken))] if taken else ['-', '-'])]
+        self.assertEqual([*row.groups()] if row else ['0', '-', '-'], measured, seed)
+        stood = re.search(r'IR0: fell again before it was taken (?:once|(\d+) times), first at \d+; it had stood for (\d+)(?: to (\d+))? clocks', out)
+        shown = [int(stood[1] or 1), int(stood[2]), int(stood[3] or stood[2])] if stood else []
+        self.assertEqual(shown, [len(fell), min(fell), max(fell)] if fell else [], seed)
+        self.asked += ['came'] * bool(came) + ['taken'] * bool(taken) + ['fell'] * bool(fell)
+
     def test_dbg(self) -> None:
         for seed in range(IN_THE_GATE):
             self.dbg(seed)
@@ -276,18 +356,29 @@ class Sessions(ToolCase):
         for seed in range(IN_THE_GATE):
             self.python(300 + seed)
 
-    def many(self, count: int, first: int) -> None:
-        """So many of each kind, by hand."""
-        for seed in range(first, first + count):
-            print(f'seed {seed}', flush=True)
-            for ask in (self.dbg, self.editor, self.debugger, self.python):
-                ask(seed)
+    def test_measures(self) -> None:
+        for seed in range(IN_THE_GATE):
+            self.measures(400 + seed)
+        self.assertGreater(min(self.asked.count(each) for each in ('came', 'taken', 'fell')), IN_THE_GATE // 10, self.asked)
+
+    def many(self, count: int, first: int) -> int:
+        """So many of each kind, by hand; returns how many differ, each of which is told."""
+        differ = 0
+        for done, seed in enumerate(range(first, first + count), 1):
+            for ask in (self.dbg, self.editor, self.debugger, self.python, self.measures):
+                try:
+                    ask(seed)
+                except Exception:  # pylint: disable=broad-exception-caught
+                    differ += 1
+                    print(f'seed {seed}, {ask.__name__}:', traceback.format_exc(), flush=True)
+            print(f'seed {seed}: {5 * done} sessions, {differ} differ', flush=True)
+        return differ
 
 
 if __name__ == '__main__':
     if sys.argv[1:2] and sys.argv[1].isdecimal():
         them = Sessions('test_dbg')
         them.setUp()
-        them.many(int(sys.argv[1]), int(sys.argv[2]) if sys.argv[2:] else 0)
+        sys.exit(them.many(int(sys.argv[1]), int(sys.argv[2]) if sys.argv[2:] else 0) > 0)
     else:
         unittest.main()

@@ -407,7 +407,7 @@ class Terminals(ToolCase):
         terminal.type('back' + ENTER)
         self.assertTrue(terminal.until(lambda each: any('| 8:' in line for line in each.lines())), terminal.grid.lines())
         terminal.type('to 100000' + ENTER)
-        self.assertTrue(terminal.until(lambda each: any('clock 100,000: ended' in line for line in each.lines())), terminal.grid.lines())
+        self.assertTrue(terminal.until(lambda each: 'clock 100,000: ended' in each.lines()[-2] and each.lines()[-1] == 'term>'), terminal.grid.lines())
         self.assertIn('ended with exit code 3, clock 1', self.leave(terminal))
         jammed = self.begin(self.file('jam.asm', 'SEGMENT R AT 0FFFFh\n DB 0Fh,0FFh\nENDS\n'), rows=27)
         self.assertTrue(jammed.until(lambda each: 'the processor has jammed  clock' in each.lines()[-1]), jammed.grid.lines())

@@ -1,86 +1,35 @@
 """tools/trace: tables over stored events, and the examples over the built program."""
 import io
-import itertools
 import os
-import random
 import signal
 import subprocess
 import sys
 import unittest
-from bisect import bisect_left
-from collections.abc import Iterable
 from unittest import mock
 
 from tests.support import SECONDS, TOOLS, ToolCase, but_progress, example, is_at_work, until
 
 from toolbox import events  # where zebludor is found
-from toolbox.command import Sorry
-from toolbox.program import Files, Session
+from toolbox.program import Files
 from toolbox.runfile import budget_of
 from toolbox.vcd import Wave
-from zebludor import Fault
+
+CLOCKS, FEW = 3000, 60  # clocks in which no more than 32 instructions begin
 
 
-class StandIn:
-    """A session that stands in: its events are given."""
+class Stored(ToolCase):
+    """What comes piece by piece."""
 
-    trail: list[bytes] = []
-    asked, went_back = 0, 0
-
-    def __init__(self, _: Files) -> None:
-        self.clock = 0
-
-    def __enter__(self) -> 'StandIn':
-        return self
-
-    def __exit__(self, *_: object) -> None:
-        pass
-
-    def go_to(self, clock: int) -> None:
-        StandIn.went_back += clock < self.clock
-        self.clock = clock
-
-    def trails(self, clocks: list[int]) -> list[list[bytes]]:
-        found = []
-        for count in clocks:
-            self.clock += count
-            last = bisect_left(self.trail, self.clock, key=lambda line: int(line.split()[0]))
-            found.append(self.trail[max(0, last - events.TRAIL) : last])
-        StandIn.asked += len(clocks)
-        return found
-
-
-class Stored(unittest.TestCase):
-    """Over stored trails."""
-
-    def of(self, clocks: Iterable[int], first: int = 0, end: int = 200) -> list[int]:
-        """The clocks of the events of a run in which events begin at these."""
-        StandIn.trail, StandIn.asked, StandIn.went_back = [f'{clock} F000:0000 90 NOP\n'.encode() for clock in clocks], 0, 0
-        with mock.patch.object(events, 'Session', StandIn):
-            return [event.clock for event in events.events(Files('', ''), first, end)]
-
-    def test_trails_overlap(self) -> None:
-        self.assertEqual(self.of([0, 15, 70]), [0, 15, 70])
-        self.assertEqual(self.of([0, 15, 70], first=15), [15, 70])
-        self.assertEqual(self.of([0, 15, 70], end=70), [0, 15])
-
-    def test_missing_events_are_told(self) -> None:
-        with self.assertRaisesRegex(Sorry, 'more than 32 events between'):
-            self.of(range(0, 60), end=60)
-
-    def test_each_event_is_found_once_at_any_pace(self) -> None:
-        chance = random.Random(1)
-        for name, steps in (
-            ('dense', [2] * 5000),
-            ('even', [12] * 5000),
-            ('halts', ([40000] + [3] * 60) * 40),
-            ('mixed', [chance.choice((2, 3, 4, 15, 90, 700)) for _ in range(9000)]),
-            ('late', [900000] + [2] * 900 + [10**9, 2]),
-        ):
-            clocks = list(itertools.accumulate(steps))
-            self.assertEqual(self.of(clocks, end=clocks[-1] + 1), clocks, name)
-            self.assertLess(StandIn.went_back, 150, name)
-            self.assertLess(StandIn.asked, len(clocks) // 8 + (2500 if name == 'halts' else 300), name)
+    def test_all_that_trails_of_few_clocks_have(self) -> None:
+        for name in ('nested', 'strings', 'ticks'):
+            files, trails = Files(*example(name)), dict[int, str]()
+            steps = ''.join(f'go {FEW}\ntrail\n' for _ in range(0, CLOCKS, FEW))
+            for line in self.pcboard('debug', files.file, files.run_file, given=steps).stdout.splitlines():
+                trails |= {} if line.startswith('clock') else {int(line.split()[0]): line}
+            with mock.patch.object(events, 'PIECE', 70):
+                for first, end in ((0, CLOCKS), (1, CLOCKS - 1), (CLOCKS // 2, CLOCKS // 2 + 100)):
+                    found = [line.decode('ascii') for part in events.parts(files, first, end) for line in part]
+                    self.assertEqual(found, [line for clock, line in sorted(trails.items()) if first <= clock < end], (name, first, end))
 
     def test_waveform(self) -> None:
         text = io.StringIO()
@@ -91,33 +40,6 @@ class Stored(unittest.TestCase):
         wave.end(10)
         self.assertIn('$var wire 16 ! cs $end\n$var wire 1 " speaker $end', text.getvalue())
         self.assertTrue(text.getvalue().endswith('b0 !\n0"\n$end\n#0\nb1111000000000000 !\n#1050\n1"\n#2100\n'))
-
-
-# It answers a byte at a time, and refuses to go on behind clock 20.
-DRIBBLE = '''#!/usr/bin/env python3
-import sys
-clock = 0
-for line in sys.stdin:
-    word, *more = line.split()
-    clock += int(more[0]) if more else 0
-    told = f'clock {clock}' if word == 'go' and clock <= 20 else 'fault 53 BadCount' if word == 'go' else f'{clock - 1} F000:0000 90 NOP'
-    for it in told + '\\n':
-        sys.stdout.write(it)
-        sys.stdout.flush()
-'''
-
-
-class Pieces(ToolCase):
-    """Trails that come in pieces."""
-
-    def test_they_are_put_together(self) -> None:
-        program = self.file('program', DRIBBLE)
-        os.chmod(program, 0o755)
-        with mock.patch.dict(os.environ, {'PCBOARD': program}), Session(Files('x', 'x')) as session:
-            self.assertEqual(session.trails([5, 15]), [[b'4 F000:0000 90 NOP'], [b'19 F000:0000 90 NOP']])
-            self.assertEqual(session.clock, 20)
-            with self.assertRaisesRegex(Fault, 'fault 53 BadCount'):
-                session.trails([0, 5, 5])
 
 
 class Runs(ToolCase):

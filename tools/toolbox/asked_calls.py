@@ -2,6 +2,7 @@
 wrong register, a file. A session stops where each of these calls begins."""
 from __future__ import annotations
 
+import re
 from dataclasses import dataclass, replace
 from typing import Iterator
 
@@ -12,6 +13,7 @@ from toolbox.services import address_of
 
 MOST_CALLS = 64  # that are looked at
 LONGEST_TEXT = 2000  # signs, as many as the screen has
+LOADED, MOV_DL = re.compile(rb'\xB0.\xB4\x02|\xB4\x02\xB0.', re.DOTALL), 0xB2  # MOV AL and MOV AH,2
 LAST_TEXT_MODE, OWN_MODE = 3, 7
 DX, DS, CALLER, LONGEST_NAME = 6, 12, 18, 64  # where a call's frame has DX, DS, and IP and CS; signs
 
@@ -62,11 +64,13 @@ def text(session: Session, registers: dict[str, int]) -> Asked | None:
 
 
 def character(session: Session, registers: dict[str, int]) -> Asked | None:
-    """A character that stands in AL, with 0 in DL."""
+    """A character that stands in AL, with 0 in DL, or is loaded just before the call, behind no load of DL."""
     sign = registers['AX'] & 0xFF
-    if registers['DX'] & 0xFF or not 0x20 < sign < 0x7F:
+    before = session.dump(physical(*caller(session, registers)) - 6, 6)
+    is_loaded = before[0] != MOV_DL and LOADED.fullmatch(before[2:])
+    if not (0x20 if is_loaded else 0x21) <= sign < 0x7F or registers['DX'] & 0xFF and not is_loaded:
         return None
-    says = f'function 02h of INT 21h, called {{place}}, writes DL, which is 0, and AL has {chr(sign)!r}: the sign goes into DL'
+    says = f'function 02h of INT 21h, called {{place}}, writes DL, and AL has {chr(sign)!r}: the sign goes into DL'
     return by_registers(session, registers, says)
 
 

@@ -3,20 +3,11 @@ from __future__ import annotations
 
 from typing import Any, Callable
 
-from toolbox.asking import answers_of, said
-from toolbox.command import Sorry
+from toolbox.asking import Raw, said
 from toolbox.program import Files, ProbeSession
 
 END_OF_INTERRUPT = 'no end of interrupt (20h to port 20h)'
 ASKED_BACK = 50_000_000  # clocks
-
-
-def chip_lines(files: Files, clock: int) -> list[str]:
-    """What the chips hold at a clock, a line for each chip and counter."""
-    clock_line, *lines = answers_of(files, (f'go {clock}', 'chips')) or ('it answers nothing',)
-    if clock_line != f'clock {clock}' or not lines:
-        raise Sorry(f'pcprobe refuses: {(lines or [clock_line])[0]}')
-    return lines
 
 
 def values_of(name: str, words: list[str]) -> dict[str, str]:
@@ -113,7 +104,7 @@ def levels(byte: int) -> list[int]:
 Fact = tuple[str, dict[str, Any]]  # a row of sentences.json, and its values
 
 
-def of_requests(chips: Chips, ends: Callable[[int], str]) -> list[Fact]:
+def of_requests(chips: Chips, ends: Callable[[int], dict[str, Any]]) -> list[Fact]:
     """Why the controller passes no request on, where levels ask."""
     controller = chips.controller
     asking = levels(controller.requests)
@@ -129,20 +120,24 @@ def of_requests(chips: Chips, ends: Callable[[int], str]) -> list[Fact]:
         first, served = kept[0], controller.blocking[0]
         asks = f'IR{first} asks again, and ' if first == served else f'IR{first} asks, and IR{served} '
         kind = int(chips.value('controller', 'vector'), 16) & 0xF8
-        found.append(('in service', values | {'level': first, 'asks': asks, 'ends': ends(kind + served)}))
+        found.append(('in service', values | {'level': first, 'asks': asks} | ends(kind + served)))
     return found
 
 
-def ends_before(files: Files, clock: int, kind: int) -> str:
-    """What ends of interrupt have come before a clock since this type was entered last."""
+def ends_before(files: Files, clock: int, kind: int) -> dict[str, Any]:
+    """What ends of interrupt have come before a clock since this type was entered last: `since` when, the trail's line of that, `taken`,
+    and in words."""
     first = max(0, clock - ASKED_BACK)
     with ProbeSession(files) as probe:
         probe.go_to(first)
         lines = [line.decode('ascii').split() for line in probe.lines(clock - first, 'entries ports=20-20')]
     taken = next((at for at in reversed(range(len(lines))) if lines[at][1:] == ['entry', f'{kind:02X}']), None)
-    ends = [words for words in lines[taken or 0 :] if words[1] == 'out' and int(words[3], 16) & 0x38 == 0x20]
-    since = f'since it was taken at clock {lines[taken][0]}' if taken is not None else f'in the last {clock - first:,} clocks'
-    return f'{END_OF_INTERRUPT} has come {since}' if not ends else f'{len(ends)} ends of interrupt have come {since}, and none was for it'
+    ends = sum(words[1] == 'out' and int(words[3], 16) & 0x38 == 0x20 for words in lines[taken or 0 :])
+    since = first if taken is None else int(lines[taken][0])
+    when = f'in the last {clock - first:,} clocks' if taken is None else f'since it was taken at clock {since}'
+    came = f'{ends} ends of interrupt have' if ends > 1 else 'an end of interrupt has' if ends else f'{END_OF_INTERRUPT} has'
+    but = ', and none was for it' if ends > 1 else ", and it wasn't for it" if ends else ''
+    return {'since': since, 'taken': '' if taken is None else Raw(rf'^{since} .*entry {kind:02X}$'), 'ends': f'{came} come {when}{but}'}
 
 
 def of_the_timer(chips: Chips) -> list[Fact]:
@@ -170,12 +165,12 @@ def of_keys(chips: Chips) -> list[Fact]:
     return [('keys', {'count': count, 'why': why, 'waiting': chips.value('keyboard', 'waiting')})] if why else []
 
 
-def of_chips(chips: Chips, ends: Callable[[int], str]) -> list[Fact]:
+def of_chips(chips: Chips, ends: Callable[[int], dict[str, Any]]) -> list[Fact]:
     """What keeps an interrupt or a key away: of interrupts where the processor takes them. `ends` tells what ends of interrupt have come
     since a type was entered."""
     return (of_requests(chips, ends) + of_the_timer(chips) if chips.is_open else []) + of_keys(chips)
 
 
-def facts(lines: list[str], ends: Callable[[int], str]) -> list[str]:
+def facts(lines: list[str], ends: Callable[[int], dict[str, Any]]) -> list[str]:
     """So, as sentences."""
     return [said(name, **values) for name, values in of_chips(Chips(lines), ends)]

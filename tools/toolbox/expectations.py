@@ -7,7 +7,7 @@ from typing import Any, Callable
 
 from zebludor import FLAGS
 
-from toolbox.chips import Chips, chip_lines
+from toolbox.chips import Chips
 from toolbox.command import Sorry, read_text, tool
 from toolbox.events import first_start
 from toolbox.listing import Listing, listing_of
@@ -41,7 +41,7 @@ class Subject:
 
     report: Report
     files: Files | None = None
-    session: Session | None = None
+    session: ProbeSession | None = None
     listing: Listing | None = None
     chips: Chips | None = None
     left: Served | None = None
@@ -56,16 +56,19 @@ class Subject:
     def held(self, line: str, word: str) -> str:
         """What a chip holds at the report's clock."""
         if self.chips is None:
-            self.chips = Chips(chip_lines(self.ran(), self.report.clock))
+            self.chips = Chips(self.board().answers(['chips']))
         return next((value for name, value in self.chips.lines[line].items() if name.lower() == word), '')
 
     def memory(self, place: str, count: int) -> bytes:
         """Bytes of memory at the report's clock."""
-        address, files = self.place(address_of, place), self.ran()
+        return self.board().dump(self.place(address_of, place), count)
+
+    def board(self) -> ProbeSession:
+        """The board at the report's clock."""
         if self.session is None:
-            self.session = Session(files)
+            self.session = ProbeSession(self.ran())
             self.session.go_to(self.report.clock)
-        return self.session.dump(address, count)
+        return self.session
 
     def ran(self) -> Files:
         """The files that were run here."""

@@ -18,8 +18,9 @@ from toolbox.nowhere import told_of_run
 from toolbox.report import Report
 from toolbox.runfile import CHOICES, DEFAULTS, FIRST_CHOICES
 from toolbox.shown import LONGEST_LINE, bounded, clipped
+from toolbox.symbols import image_of
 
-FIRST_LOST, LAST_LOST = 0xA0000, 0xF0000
+FIRST_LOST = 0xA0000
 RANGES = {'version': (1, 2), 'ram': (0, 65535), 'sw1': (0, 255), 'sw2': (0, 31), 'budget': (0, None)}
 TASKS = {'run': 2, 'asm': 1, 'debug': 2}
 
@@ -178,28 +179,13 @@ def of_a_run_file(path: str, number: int) -> list[str]:
     return bad_codes(fields['keys'], number) if number in (33, 34) else []
 
 
-def image_bytes(path: str, is_hex: bool) -> list[int]:
-    """The addresses of a program's bytes, from its Intel HEX."""
-    text = '\n'.join(lines_of(path)) if is_hex else program.run(['asm', '--', handed(path)]).out
-    base, found = 0, []
-    for record in re.findall(r':([0-9A-Fa-f]+)', text):
-        octets = bytes.fromhex(record)
-        if octets[3] == 2:
-            base = int.from_bytes(octets[4:6], 'big') << 4
-        elif octets[3] == 4:
-            base = int.from_bytes(octets[4:6], 'big') << 16
-        elif octets[3] == 0:
-            start = base + int.from_bytes(octets[1:3], 'big')
-            found += range(start, start + octets[0])
-    return found
-
-
 def of_ram(file: str, run_file: str, is_hex: bool) -> list[str]:
     """Whether the RAM's size is none, or the program goes past it."""
     ram = fields_of(run_file)['ram']
     if ram % 16 or not 16 <= ram <= 640:
         return [f'"ram" is {ram}; the board takes 16, 32, 48 and so on to 640']
-    past = [address for address in image_bytes(file, is_hex) if ram * 1024 <= address < FIRST_LOST]
+    text = '\n'.join(lines_of(file)) if is_hex else program.run(['asm', '--', handed(file)]).out
+    past = [address for address in image_of(text) if ram * 1024 <= address < FIRST_LOST]
     if not past:
         return []
     need = (max(past) // 16384 + 1) * 16

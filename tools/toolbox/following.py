@@ -3,9 +3,8 @@ which call, how long a request waits, and who wrote a byte last. It starts nothi
 tells, the registers at some clocks.
 
 `begin_in(lines, place)` is the clock at which the instruction at a place begins; not where the processor is merely free
-there, halted, or enters an interrupt. `writer_in(lines, address)` is what began last before the last write of a byte,
-of lines of `starts`, `entries` and `writes`. `lost_in(lines, lost_before)` are the clocks at which codes of keys were
-lost.
+there, halted, or enters an interrupt. `writer_in(trail)` is what wrote a byte last, of the trail at a stop on its writes
+or changes. `lost_in(lines, lost_before)` are the clocks at which codes of keys were lost.
 
 `Marks().of(lines)` reads lines of `starts` and `entries`, of `wires` and `ports=20-21` if they are wanted, as marks:
 what there is to follow. A mark whose `asks_for_stack()` is true gets its `state`, the registers one clock after it,
@@ -26,7 +25,7 @@ from __future__ import annotations
 import re
 from bisect import bisect_left
 from dataclasses import dataclass, field
-from typing import Iterable, NamedTuple
+from typing import Iterable, NamedTuple, Sequence, TypeVar
 
 from toolbox.effects import POPS, Does, Effect, Far, effect_of, is_by_frame, signed
 from toolbox.listing import physical
@@ -83,6 +82,7 @@ class Port(NamedTuple):
 
 
 What = Start | Entry | Wire | Port
+T = TypeVar('T')
 FOR_STACK, RETURNING = (Does.LOADS, Does.MAY_TRAP), (Does.RETURNS, Does.RETURNS_WITH_FLAGS)
 FOR_FLAGS, CALLING = (Does.LOADS_FLAGS, Does.RETURNS_WITH_FLAGS), (Does.CALLS, Does.TRAPS)
 
@@ -182,21 +182,14 @@ class Marks:
 
 
 def begin_in(lines: Iterable[bytes], place: Far) -> int | None:
-    """The clock at which the instruction at a place first begins, of lines of `starts`."""
+    """The clock at which the instruction at a place first begins, of lines of `starts`; those of `entries` and `states` tell of none."""
     wanted = b' start %04X:%04X ' % place
     return next((int(line[: line.index(b' ')]) for line in lines if wanted in line), None)
 
 
-def writer_in(lines: Iterable[bytes], address: int) -> tuple[int, bytes] | None:
-    """What wrote a byte last: the clock of the write, and the line of the instruction or entry that began last by
-    then."""
-    wanted, began, found = b' write %05X ' % address, b'', None
-    for line in lines:
-        if b' start ' in line or b' entry ' in line:
-            began = line
-        elif wanted in line:
-            found = int(line[: line.index(b' ')]), began
-    return found
+def writer_in(trail: Sequence[T]) -> T | None:
+    """What wrote a byte last: of the trail at a stop on its writes or changes, which holds one clock after."""
+    return trail[-1] if trail else None
 
 
 def lost_in(lines: Iterable[bytes], lost_before: int = 0) -> list[int]:

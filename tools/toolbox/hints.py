@@ -24,7 +24,6 @@ LATER = 'PUSHA|POPA|BOUND|ENTER|LEAVE|INSB|INSW|OUTSB|OUTSW|MOVZX|MOVSX|SET[A-Z]
 
 # A look (in a line without comment and texts in quotes, in upper case) and what to write.
 LOOKS: tuple[tuple[str, str], ...] = (
-    (r'^\s*[%#]', 'there is no preprocessor: no %define, no includes, no macros; a constant is name EQU 5'),
     (r'"', "texts stand in single quotes, and hold none themselves: 'Hello'"),
     (r'\b0X[0-9A-F]+', 'hexadecimal numbers end with h and begin with a digit: 10h for 0x10, 0B800h for 0xB800'),
     (r'(?<![\w\'])\$[0-9A-F]+\b', 'hexadecimal numbers end with h and begin with a digit: 0B8h for $B8'),
@@ -51,9 +50,7 @@ LOOKS: tuple[tuple[str, str], ...] = (
     (r'^\s*\w+\s+(PROC|ENDP|LABEL)\b', 'there is no PROC: a procedure begins with a plain label, as print:'),
     (r'^\s*\w+\s+(SEGMENT|ENDS)\b', 'a segment is SEGMENT name AT paragraph, and ends with ENDS alone'),
     (r'^\s*SEGMENT\s+\w+\s*$', "a segment says where it stands: SEGMENT name AT 50h"),
-    (r'^\s*TIMES\b', 'repeated data is DB 4 DUP(0) for times 4 db 0'),
     (r'\bDUP\s*\(\s*\?|\bD[BWD]\s+\?', 'there is no ?: give a value, as DB 0'),
-    (r'^\s*RES[BWD]\b', 'there is no RESB: room is DB 16 DUP(0), or ORG further on'),
     (r'\b(E[ABCD]X|E[SD]I|E[SB]P|[FG]S)\b', 'the 8086 has registers of 8 and 16 bits, and no FS or GS'),
     (rf'^\s*(\w+:)?\s*({LATER})\b', 'the 8086 has no such instruction; later processors have'),
     (r'^\s*(\w+:)?\s*(REPN?[EZ]?\s+)?(MOVS|STOS|LODS|CMPS|SCAS)\b', 'string instructions have their size in their name: STOSB, STOSW'),
@@ -66,7 +63,6 @@ LOOKS: tuple[tuple[str, str], ...] = (
     (r'^\s*(\w+:)?\s*XCHG\b.*(\s|,)[-\d\'$]', 'XCHG exchanges registers or memory, and no numbers: MOV AX,5'),
     (r'^\s*(\w+:)?\s*(INC|DEC|NEG|NOT|I?MUL|I?DIV|POP)\s+[-\d\'$]', 'its operand is a register or memory, and no number: MOV BX,5 and then BX in its place'),
     (r'^\s*(\w+:)?\s*PUSH\s+-?\d', 'the 8086 pushes no number: load it into a register first'),
-    (r'^\s*(\w+:)?\s*IMUL\b.*,', 'the 8086 multiplies AL or AX by one operand: IMUL BX'),
     (r'^\s*(\w+:)?\s*(MOV|POP)\s+CS\b', 'CS changes with IP alone, by a far jump, call or return: JMP FAR label'),
     (rf'^\s*(\w+:)?\s*MOV\s+{SEGMENTS}\s*,\s*{SEGMENTS}\s*$', 'a segment register goes to another through a general one: MOV AX,ES and MOV DS,AX'),
     (

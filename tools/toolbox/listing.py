@@ -4,6 +4,7 @@ from __future__ import annotations
 import os
 import re
 from dataclasses import dataclass, field, replace
+from typing import Iterable, Iterator
 
 from toolbox.command import Sorry, read_bytes, read_text
 from toolbox.comments import handed, own_lines
@@ -115,6 +116,17 @@ def line_of(number: int, row: str, own: str | None = None) -> Line:
     if not found:
         return Line(number, text, None, b'')
     return Line(number, text, (int(found[1], 16), int(found[2], 16)), bytes.fromhex(found[3]))
+
+
+def placed_labels(lines: Iterable[Line]) -> Iterator[tuple[str, tuple[int, int]]]:
+    """The labels that lines of the dialect define, each with the place of the next byte."""
+    waiting = list[str]()
+    for line in lines:
+        label = label_in(line.text)
+        waiting += [label] if label else []
+        if line.address:
+            yield from zip(waiting, [line.address] * len(waiting))
+            waiting = []
 
 
 def probed(source: str, names: list[str]) -> dict[str, tuple[int, int]]:

@@ -9,7 +9,6 @@ import math
 import os
 import queue
 import random
-import re
 import signal
 import subprocess
 import sys
@@ -29,7 +28,7 @@ from toolbox.judging import fields_of, outcomes_of, served_fields_of, subject_of
 from toolbox.listing import Listing, code_of, label_in, listing_of
 from toolbox.places import event_of, far_of, line_at
 from toolbox.poking import Count
-from toolbox.program import LAST_CLOCK, Files, ProbeSession, path as program_path, run
+from toolbox.program import LAST_CLOCK, Files, ProbeSession, path as program_path
 from toolbox.runfile import DEFAULTS, text_of
 from toolbox.symbols import path_of
 
@@ -269,21 +268,18 @@ def lines_at(plan: Plan, moments: list[int], failed: dict[int, Failure]) -> dict
         for (number, *_), group in groups.items():
             files = replace(plan.files_of(group[0], room), run_file=f'{room}/run.json')
             write_run(plan, plan.runs[number], files.run_file, group[-1])
-            clocks = [plan.stamps(each)[-1] for each in group]
-            steps = ''.join(f'go {b - a}\ntrail\n' for a, b in zip([0, *clocks], clocks))
-            trails = re.split(r'^clock \d+\n', run(files.words('debug'), steps.encode()).out, flags=re.M)[1:]
-            for moment, trail in zip(group, trails):
-                plan.listing = plan.listing or listing_of(files)
-                found[moment] = last_line(plan.listing, trail)
+            with ProbeSession(files) as session:
+                for moment, last in zip(group, session.latest_at([plan.stamps(each)[-1] for each in group])):
+                    found[moment] = ''
+                    if last:
+                        plan.listing = plan.listing or listing_of(files)
+                        found[moment] = last_line(plan.listing, last)
     return found
 
 
-def last_line(listing: Listing, trail: str) -> str:
-    """What began last in a trail."""
-    lines = trail.splitlines()
-    if not lines:
-        return ''
-    event = event_of(lines[-1])
+def last_line(listing: Listing, last: bytes) -> str:
+    """What began last, by its line of the trail behind the clock."""
+    event = event_of(b'0 ' + last)
     line, label = line_at(listing, event), listing.label_before(event.segment, event.offset)
     if event.entry is not None:
         return f'the entry of interrupt {event.entry:02X}'

@@ -15,11 +15,12 @@ from toolbox.chips import Chips, ends_before, of_chips
 from toolbox.command import Sorry, tool
 from toolbox.doubts import doubts
 from toolbox.effects import ends_with_call, target_of
+from toolbox.following import writer_in
 from toolbox.later import later
 from toolbox.listing import Line, Listing, code_of, listing_of, physical
 from toolbox.places import Event, event_of, line_at
 from toolbox.program import LAST_CLOCK, Files, ProbeSession
-from toolbox.report import A_SECOND, COLUMNS, ROWS, Report
+from toolbox.report import A_SECOND, COLUMNS, ROWS, Report, registers_of
 from toolbox.runfile import read_run_file
 from toolbox.scancodes import names
 from toolbox.services import at_place, left_at, mark_of
@@ -30,8 +31,10 @@ from toolbox.walk import (
     DATA,
     REACH,
     RETURNS,
+    SERVICES,
     TEXT,
     TEXT_END,
+    Part,
     Run,
     go_to_end,
     is_for_good,
@@ -44,14 +47,12 @@ from toolbox.walk import (
 )
 
 TRAIL, LONGEST_LOOP, ZEROS, NEAR, SOON, FEW = 32, 8, 4, 32, 40, 8
+A_TICK = 300_000  # clocks, and some more, of which one comes in a program that waits
 IF, TF, SPACE = 0x200, 0x100, 0x39
 PORTS = {0x20, 0x21, 0x40, 0x41, 0x42, 0x60, 0x61, 0x62, 0x3B5, 0x3BA}  # those that answer a read
-READS, SETS_IF = {0xE4, 0xE5, 0xEC, 0xED}, {0xFB, 0xCF, 0x9D}
-# What does nothing but to registers and flags, by its first byte: CMP, TEST, near jumps by flags, LOOP, INC, DEC, MOV of a number, ..
-STILL = {0x38, 0x39, 0x3A, 0x3B, 0x3C, 0x3D, 0x84, 0x85, 0xA8, 0xA9, 0x90, 0xEB, 0xE9, *range(0x70, 0x80), *range(0xE0, 0xE4)}
+VECTORS_END = 0x400
 BY_FORM = {0x04: 'SI', 0x05: 'DI', 0x07: 'BX'}
 LOADS_AL = {0xB0, 0xB8, 0xAC, 0xAD, 0xD7, 0xA0, 0xA1}
-STILL |= {*range(0x40, 0x50), *range(0xB0, 0xC0), 0x8A, 0x8B, 0xA0, 0xA1, *(8 * n + at for n in range(7) for at in (2, 3, 4, 5))}
 DIVISIONS, STRINGS, DF = {0xF6, 0xF7, 0xD4}, {0xA4, 0xA5, 0xAA, 0xAB}, 0x400
 WITH_SERVICES = f'or let {tool("try")} --services put such calls into ROM (docs/services.md)'
 NO_BIOS = f'no BIOS is here; {WITH_SERVICES}'
@@ -121,7 +122,8 @@ def of_the_end(run: Run, was_at_zero: int | None) -> list[Told]:
     at_zero = of_address_zero(run, was_at_zero) if was_at_zero is not None else []
     over = of_code_in_the_stack(run)
     astray = at_zero or of_zeros(run) + ([] if over else of_astray(run))
-    returns = [] if at_zero else of_returns(run, bool(astray) or run.report.state == 'jammed')
+    is_bad = bool(astray) or run.report.state == 'jammed'
+    returns = [] if at_zero else next(filter(None, (of_a_return(run, *step, is_bad) for step in suspicious(run))), [])
     lines = of_a_jam(run, bool(astray + returns + over)) if run.report.state == 'jammed' else of_a_blank(run)
     return lines + over + returns + astray + of_a_halt(run) + of_lost_writes(run) + ([] if at_zero else of_a_loop(run))
 
@@ -153,11 +155,12 @@ def text_of(event: Event) -> str:
 
 
 def last_change(run: Run, condition: str, before: int | None = None) -> Event | None:
-    """What began last before a stop on writes or changes was met last, at the run's end or before a clock."""
+    """What wrote where a stop on writes or changes was met last, at the run's end or before a clock."""
     with ProbeSession(run.files) as session:
         session.go_to(run.report.clock if before is None else before)
         session.stop(condition)
-        return event_of(session.answers(['trail'])[-1]) if session.one('back stop').startswith('stop') and session.clock else None
+        last = writer_in(session.answers(['trail'])) if session.one('back stop').startswith('stop') else None
+        return event_of(last) if last else None
 
 
 def of_changed_code(run: Run, line: Line, octets: bytes) -> list[Told]:
@@ -265,16 +268,6 @@ def of_astray(run: Run) -> list[Told]:
     return run.tell('astray', before, how=how, span=span, next=Raw(next_line), advice=advice)
 
 
-def of_returns(run: Run, ends_badly: bool) -> list[Told]:
-    """Returns to where no CALL stands before, by what wrote the word that they took."""
-    found = list[Told]()
-    for event, after in suspicious(run):
-        found += of_a_return(run, event, after, ends_badly)
-        if found:
-            break
-    return found
-
-
 def suspicious(run: Run) -> Iterator[tuple[Event, Event]]:
     """Steps of returns of the source to where no CALL and no INT stands before, and of IRETs that no interrupt came before."""
     for part in run.parts[:1]:
@@ -325,16 +318,33 @@ def of_a_division(run: Run) -> list[Told]:
 
 
 def of_an_early_end(run: Run) -> list[Told]:
-    """A RET that ended a program, in a routine from which a CALL hasn't returned."""
-    events = run.parts[0].events if run.is_whole else []
-    own = [event for event in events if event.entry is None and run.is_own(event) and line_at(run.listing, event)]
-    if not own or opcode(own[-1]) != 0xC3:
+    """A RET that ended a program, in a routine from which a CALL hasn't returned, or into which the program ran on."""
+    own = (event for event in reversed(run.parts[-1].events if run.parts else []) if event.entry is None and run.is_own(event))
+    last = next((event for event in own if line_at(run.listing, event)), None)
+    if not last or opcode(last) != 0xC3:
         return []
-    latest = {event.offset: at for at, event in enumerate(own)}
-    calls = [(target_of(event.octets, (event.segment, event.offset)), at, event) for at, event in enumerate(own) if opcode(event) == 0xE8]
-    within = max((to for to, _, _ in calls if to and to[1] <= own[-1].offset), default=None)
-    call = next((event for to, at, event in reversed(calls) if to == within and latest.get(event.offset + 3, -1) < at), None)
-    return run.tell('ended within', own[-1], label=run.listing.label_before(*within), by=run.place(call)) if within and call else []
+    calls = {target_of(event.octets, (event.segment, event.offset)): event for event in run.firsts if opcode(event) == 0xE8}
+    within = max((to for to in calls if to and to[0] == last.segment and to[1] <= last.offset), default=None)
+    by = entered(run, within) if within else None
+    if not within or not by:
+        return []
+    label, behind = run.listing.label_before(*within), (by.segment, by.offset + len(by.octets))
+    if behind == within:
+        return run.tell('ran on', last, label=label, by=run.place(by), call=run.place(calls[within]))
+    is_open = opcode(by) == 0xE8 and not run.meets('break %X:%X' % behind, by.clock)
+    return run.tell('ended within', last, label=label, by=run.place(by)) if is_open else []
+
+
+def entered(run: Run, place: tuple[int, int]) -> Event | None:
+    """The program's own instruction that began last before that at a place did."""
+    with ProbeSession(run.files) as session:
+        session.go_to(run.end)
+        session.stop('break %X:%X' % place)
+        session.one('back stop')
+        end = session.clock
+        session.go_to(max(0, end - A_TICK))
+        events = Part.of(session.lines(end - session.clock, 'starts')).events
+    return next((event for event in reversed(events) if run.is_own(event)), None)
 
 
 def of_a_halt(run: Run) -> list[Told]:
@@ -345,8 +355,7 @@ def of_a_halt(run: Run) -> list[Told]:
         return []
     code, vectors = run.session.dump(physical(registers['CS'], registers['IP']), 2), run.session.dump(0x20, 0x20)
     back = code[1] - 256 if len(code) == 2 and code[0] == 0xEB else 0
-    has_set = any(opcode(event) in SETS_IF for event in run.parts[0].events)
-    return run.tell('halted with interrupts off', last) if -NEAR <= back <= -3 and any(vectors) and not has_set else []
+    return run.tell('halted with interrupts off', last) if -NEAR <= back <= -3 and any(vectors) else []
 
 
 def of_code_in_the_stack(run: Run) -> list[Told]:
@@ -360,23 +369,22 @@ def of_code_in_the_stack(run: Run) -> list[Told]:
             continue
         by = last_change(run, f'changes {address:05X} {len(line.shown)}')
         if by and is_push(by):
-            most, times, perhaps = most_pushed(run, by.clock)
-            values = {'line': line.number, 'code': code_of(line.text).strip(), 'most': most, 'times': times, 'perhaps': perhaps}
+            values = {'line': line.number, 'code': code_of(line.text).strip()} | most_pushed(run, by.clock)
             return run.tell('over code', by, address=address, size=len(line.shown), **values)
     return []
 
 
-def most_pushed(run: Run, clock: int) -> tuple[str, str, str]:
-    """Which line had pushed most often by a clock, how often, and what that may mean."""
-    most = (0, 'nothing')
+def most_pushed(run: Run, clock: int) -> dict[str, object]:
+    """Which line had pushed most often by a clock, how often, the row of `counts` that tells so, and what that may mean."""
+    most, count, found = 'nothing', 0, ''
     with ProbeSession(run.files) as session:
         for row in session.happenings(f'counts {clock + 1}'):
             place, times = row.split()[0], row.split()[-2]
             line = run.listing.at.get(physical(*(int(word, 16) for word in place.split(':')))) if ':' in place else None
-            if line and line.address and is_push(Event(0, *line.address, line.shown, '', None)):
-                most = max(most, (int(times), f'line {line.number} ({code_of(line.text).strip()})'))
-    advice = f'{most[1]} is never undone: each PUSH has its POP, each CALL its RET' if most[0] > FEW else 'SP begins too low: it begins at the end of its room'
-    return most[1], f'{most[0]:,}', advice
+            if line and line.address and int(times) >= count and is_push(Event(0, *line.address, line.shown, '', None)):
+                most, count, found = f'line {line.number} ({code_of(line.text).strip()})', int(times), row
+    advice = f'{most} is never undone: each PUSH has its POP, each CALL its RET' if count > FEW else 'SP begins too low: it begins at the end of its room'
+    return {'most': most, 'times': f'{count:,}', 'row': found, 'perhaps': advice}
 
 
 def of_lost_writes(run: Run) -> list[Told]:
@@ -426,22 +434,27 @@ def of_a_loop(run: Run) -> list[Told]:
     """Whether the same few instructions come in turn, of which one jumps by a condition, and what leads out of them."""
     period = period_of(run.trail) if run.report.state == 'running' else 0
     turn = sorted(run.trail[-period:], key=lambda event: (event.segment, event.offset)) if period else []
-    if not any(map(is_conditional, turn)) or is_left(run, turn):
+    if not any(map(is_conditional, turn)):
         return []
     values = {'count': period, 'rows': '\n'.join(f'  {run.place(event)}' for event in turn)}
-    is_still = all(opcode(event) in STILL or is_compared(event) or opcode(event) in READS for event in turn)
-    ports = ports_of(run, turn)
-    if is_still and not ports and not run.report.registers['FL'] & (IF | TF) and (registers := of_a_round(run, period)):
-        steps = '\n'.join(['step'] * (period + 1))
-        return run.tell('no way out', row=text_of(run.trail[-1]), steps=steps, registers=registers, **values)
+    first, last = run.trail[-period - 1].clock, run.trail[-1].clock
+    with ProbeSession(run.files) as session:
+        session.go_to(first)
+        done = [line.split()[1:3] for line in session.lines(last - first, 'writes ports')]
+    is_still, ports = all(what == b'in' for what, _ in done), {int(port, 16) for what, port in done if what == b'in'}
+    if is_left(run, turn, is_still and bool(ports)):
+        return []
+    if not done and not run.report.registers['FL'] & (IF | TF) and (registers := of_a_round(run, period)):
+        steps, clocks = '\n'.join(['step'] * (period + 1)), {'first': first, 'span': last - first, 'rest': run.report.clock - last}
+        return run.tell('no way out', row=text_of(run.trail[-1]), steps=steps, registers=registers, **clocks, **values)
     on = ', or an interrupt' if run.report.registers['FL'] & IF else ''
     rest = f'\nnothing leads out but what port {next(iter(ports)):02X}h reads{on}' if is_still and len(ports) == 1 else ''
     return run.tell('waits', rest=rest, **values) + of_a_port(run, ports)
 
 
-def is_left(run: Run, turn: list[Event]) -> bool:
+def is_left(run: Run, turn: list[Event], is_of_ports: bool) -> bool:
     """Whether the run leaves a loop of these instructions within a second, with one more key typed: to where one of its conditional jumps
-    leads out, or into an interrupt."""
+    leads out, or into an interrupt. One that reads ports alone isn't ended by a handler of the services, which changes none of them."""
     clock, places = run.report.clock, {(event.segment, event.offset) for event in turn}
     if clock + A_SECOND > LAST_CLOCK:
         return False
@@ -457,24 +470,16 @@ def is_left(run: Run, turn: list[Event]) -> bool:
             session.one(command)
         if run.report.registers['FL'] & IF:
             session.stop('when entries')
-        return session.go(A_SECOND).startswith('stop')
+        while session.go(clock + A_SECOND - session.clock).startswith('stop'):
+            registers = registers_of(session.many('regs'))
+            if not (is_of_ports and run.mark and physical(registers['CS'], registers['IP']) >= SERVICES):
+                return True
+        return False
 
 
 def is_conditional(event: Event) -> bool:
     """Whether an instruction jumps by a condition."""
     return 0x70 <= opcode(event) < 0x80 or 0xE0 <= opcode(event) < 0xE4
-
-
-def is_compared(event: Event) -> bool:
-    """Whether an instruction compares or tests a number and memory or a register."""
-    code, at = opcode(event), event.octets.index(opcode(event)) + 1
-    digit = event.octets[at] >> 3 & 7 if at < len(event.octets) else -1
-    return 0x80 <= code <= 0x83 and digit == 7 or code in (0xF6, 0xF7) and digit == 0
-
-
-def ports_of(run: Run, turn: list[Event]) -> set[int]:
-    """The ports that these instructions read."""
-    return {run.report.registers['DX'] if opcode(event) in (0xEC, 0xED) else event.octets[-1] for event in turn if opcode(event) in READS}
 
 
 def of_a_round(run: Run, period: int) -> str | None:
@@ -522,9 +527,23 @@ def of_segments(run: Run) -> Iterator[Told]:
             if name and opcode(event) != 0x8D and not re.search(r'\bBP\b|\b[ECS]S\s*:', code_of(line_of(run, event)), re.I):
                 yield from run.tell('data segment', event, label=name, target=f'{at[0]:04X}:{at[1]:04X}')
                 break
+    if run.mark:
+        yield from of_the_prefix(run)
     if not registers['ES'] and run.listing.lines and not loads(run.listing, 'ES') and not run.is_ended:
         string = next((event for event in run.firsts if opcode(event) in STRINGS), None)
         yield from run.tell('extra segment', string) if string else []
+
+
+def of_the_prefix(run: Run) -> Iterator[Told]:
+    """Data of a program with services that all stand elsewhere than where DS leads, which is the PSP if no line loads it."""
+    lines = [(line, code_of(line.said)) for line in (*run.listing.lines, *run.listing.rows) if line.address]
+    data = [line for line, code in lines if line.address and physical(*line.address) >= VECTORS_END and re.search(r'\bD[BWD]\b', code, re.I)]
+    if not data or not run.firsts or any(re.search(r'\b(MOV|POP)\s+DS\b|\bLDS\b|\b[CES]S\s*:', code, re.I) for _, code in lines):
+        return
+    paragraph = registers_at(run.files, run.firsts[0].clock)['DS']
+    if all(line.address and line.address[0] != paragraph for line in data):
+        number, segment = data[0].number, data[0].address[0] if data[0].address else 0
+        yield from run.tell('prefix', ds=paragraph, number=number, code=code_of(data[0].text).strip(), segment=segment)
 
 
 def line_of(run: Run, event: Event) -> str:
@@ -635,15 +654,12 @@ def of_a_chip(run: Run, name: str, values: dict[str, Any], chips: Chips, has_vec
     """One fact of the chips, if the program wants it otherwise."""
     wants_keys = has_vector[1] and not chips.controller.masked & 2
     if name == 'masked' and chips.controller.masked != 0xFF:
-        return run.tell('masked, others not', **values) if has_vector[values['level']] and not has_entered(run) else []
-    if name == 'no count' and not (has_vector[0] and not has_entered(run)) or name == 'keys' and not wants_keys:
+        return run.tell('masked, others not', **values) if has_vector[values['level']] and not run.meets('when entries') else []
+    if name == 'no count' and not (has_vector[0] and not run.meets('when entries')) or name == 'keys' and not wants_keys:
         return []
     if name == 'initialisation' and chips.value('controller', 'IC4') == '0' and chips.controller.awaited == 'none':
         return []
+    if name == 'in service':
+        span = run.report.clock - values['since'] - 1
+        values |= {'span': span, 'back': A_SECOND + span}
     return run.tell(name, **values)
-
-
-def has_entered(run: Run) -> bool:
-    """Whether an interrupt was ever taken."""
-    with ProbeSession(run.files) as session:
-        return session.meets('when entries', run.report.clock)

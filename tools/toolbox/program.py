@@ -2,6 +2,7 @@
 from __future__ import annotations
 
 import contextlib
+import re
 import select
 import signal
 import subprocess
@@ -17,7 +18,6 @@ from toolbox.comments import handed
 
 __all__ = [
     'BEFORE_START',
-    'CLOCKS_OF_A_TRAIL',
     'LAST_CLOCK',
     'TOP',
     'Files',
@@ -35,8 +35,6 @@ __all__ = [
     'refusal',
     'run',
 ]
-# An instruction takes two clocks or more, so no more than 31 begin in so many clocks, and the trail of 32 has them all.
-CLOCKS_OF_A_TRAIL = 60
 MOST_READ = 1 << 26  # bytes of an answer
 ASKED = 200  # questions that are asked at once: their answers fit in the pipe
 BEFORE_START = 'fault 54 BeforeStart'
@@ -224,10 +222,19 @@ class ProbeSession(Session):
 
     def registers_at(self, clocks: list[int], end: int | None = None) -> bytes:
         """The answers to `regs` at these clocks, which rise: of a session without stops; with an end past all stops, and on to there."""
-        found, command = b'', 'go {}' if end is None else 'events {} keys'
+        return self._answers_at(clocks, 'regs', end)
+
+    def latest_at(self, clocks: list[int], end: int | None = None) -> list[bytes]:
+        """What began last before each of these clocks, which rise, as `registers_at`: the trail's lines without their clocks."""
+        trails = re.split(rb'^clock \d+\n', self._answers_at(clocks, 'trail\ngo 0', end), flags=re.M)[1::2]
+        return [trail[trail.rfind(b'\n', 0, -1) + 1 : -1].partition(b' ')[2] for trail in trails]
+
+    def _answers_at(self, clocks: list[int], question: str, end: int | None) -> bytes:
+        """What is answered at these clocks, some of them at once."""
+        found, way = b'', 'go {}' if end is None else 'events {} keys'
         for at in range(0, len(clocks), ASKED):
             here, some = self.clock, clocks[at : at + ASKED]
-            found += self.answered([f'{command.format(b - a)}\nregs' for a, b in zip([here, *some], some)])
+            found += self.answered([f'{way.format(b - a)}\n{question}' for a, b in zip([here, *some], some)])
             self.clock = some[-1]
         if end is not None:
             self.lines(end - self.clock, 'keys')

@@ -3,11 +3,10 @@ from __future__ import annotations
 
 from functools import cached_property
 
-from toolbox.disassembly import NONE, listed
 from toolbox.effects import Far
 from toolbox.listing import physical
 from toolbox.loading import BLOCK, SECTOR
-from toolbox.places import Event
+from toolbox.places import Event, event_of
 from toolbox.runfile import read_run_file
 from toolbox.services import SIGNATURE, SIGNED, Served, left_at
 from toolbox.session_board import SessionBoard, break_at
@@ -64,11 +63,11 @@ class ServedBoard(SessionBoard):
                 break
             self.go_to(max(0, here - span))
             events = Part.of(self.lines(here - self.clock, 'starts')).events
-            own = [self._with_text(event) for event in [event for event in events if event.address < SERVICES][-TRAIL:]]
+            own = self._as_trails_tell([event.clock for event in events if event.address < SERVICES][-TRAIL:], here)
         return own
 
-    @staticmethod
-    def _with_text(event: Event) -> Event:
-        """An instruction with its text."""
-        _, _, text = next(listed(event.offset, event.octets, 1))
-        return event._replace(text='' if text == NONE else text)
+    def _as_trails_tell(self, clocks: list[int], end: int) -> list[Event]:
+        """What began at these clocks. The board goes to an end."""
+        self.go_to(clocks[0] + 1 if clocks else end)
+        rest = self._talk(lambda: self._session.latest_at([clock + 1 for clock in clocks], end))
+        return [event_of(b'%d %s' % pair) for pair in zip(clocks, rest)]

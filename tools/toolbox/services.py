@@ -12,7 +12,7 @@ from typing import Callable, Iterator
 from toolbox import reading
 from toolbox.command import Sorry
 from toolbox.comments import handed
-from toolbox.listing import label_in, line_of
+from toolbox.listing import line_of, placed_labels
 from toolbox.program import TOP, Files, Session, answer_of, run
 from toolbox.runfile import read_run_file
 from toolbox.symbols import image_of
@@ -79,14 +79,8 @@ def bytes_of(name: str) -> dict[int, int]:
 @functools.cache
 def labels_of(name: str) -> list[str]:
     """Its labels, in lines SEGMENT:OFFSET NAME. They have its own name before them: a program may have the same ones."""
-    found, waiting = list[str](), list[str]()
-    for row in answer_of(['asm', '--list', '--', f'{TOP}/services/{name}.asm']).split('\n')[:-1]:
-        line = line_of(0, row)
-        waiting += [f'{name}_{label}' for label in [label_in(line.text)] if label]
-        if line.address:
-            found += [f'{line.address[0]:04X}:{line.address[1]:04X} {label}' for label in waiting]
-            waiting = []
-    return found
+    rows = answer_of(['asm', '--list', '--', f'{TOP}/services/{name}.asm']).split('\n')[:-1]
+    return [f'{segment:04X}:{offset:04X} {name}_{label}' for label, (segment, offset) in placed_labels(line_of(0, row) for row in rows)]
 
 
 def address_of(label: str) -> tuple[int, int]:

@@ -10,7 +10,7 @@ from typing import TYPE_CHECKING, Callable, Collection, Iterable, Iterator, Type
 from toolbox.command import Sorry
 from toolbox.effects import Far
 from toolbox.listing import physical
-from toolbox.places import Event, event_of, operation_of
+from toolbox.places import Event, event_of
 from toolbox.faults import fault_in
 from toolbox.program import BEFORE_START, LAST_CLOCK, Files, ProbeSession
 from toolbox.report import registers_of
@@ -20,7 +20,8 @@ from toolbox.way_back import last_stop, paced
 if TYPE_CHECKING:
     from toolbox.conditions import Asked
 
-MOST_STOPS = 16
+MOST_STOPS, MOST_LISTED = 16, 4096
+NONE = 'no instruction of the 8086'
 MOST_PASSED = 64  # stops that nobody wants any more, before a session without them is begun
 FIRST_PIECE = 1 << 16
 LOGGED_AT_ONCE = 100_000  # clocks
@@ -162,6 +163,17 @@ class SessionBoard:
         """Bytes from a physical address on, as many as there are."""
         return self._talk(lambda: self._session.dump(address, count))
 
+    def listed(self, place: Far, count: int) -> Iterator[tuple[int, bytes, str]]:
+        """So many instructions from a place on, as memory has them now: each with its offset, its bytes and its text; of a byte with which
+        none begins, the byte alone."""
+        segment, offset = place
+        for first in range(0, count, MOST_LISTED):
+            for line in self.many(f'list {segment:X}:{offset:X} {min(count - first, MOST_LISTED)}'):
+                far, digits, text = line.split(' ', 2)
+                octets, at = bytes.fromhex(digits), int(far[5:], 16)
+                yield at, octets, NONE if text.startswith('DB ') else text
+                offset = (at + len(octets)) % 0x10000
+
     def registers(self) -> dict[str, int]:
         """The registers."""
         if self._registers[0] != self.clock:
@@ -185,15 +197,9 @@ class SessionBoard:
 
     @property
     def is_halted(self) -> bool:
-        """Whether the processor is halted, behind its HLT: nothing comes then but an interrupt, which would be in the trail."""
-        last = self.trail()[-1] if self.trail() else None
-        return bool(
-            last
-            and last.entry is None
-            and operation_of(last.text) == 'HLT'
-            and (last.segment, (last.offset + len(last.octets)) % 0x10000) == self.place()
-            and self.clock > last.clock + 1
-        )
+        """Whether the processor is halted, behind its HLT."""
+        is_likely = any(event.octets[-1:] == HLT for event in self.trail()[-1:])
+        return is_likely and self.chips()[-1].startswith('processor halted busy 0 ')
 
     @property
     def is_within(self) -> bool:

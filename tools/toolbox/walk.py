@@ -118,6 +118,12 @@ class Run:
                 values['where'] = Raw(rf'\S+ entry {event.entry:02X}')
         return ask(self.files, name, {'clock': self.report.clock, 'second': A_SECOND} | values)
 
+    def meets(self, condition: str, since: int = 0) -> bool:
+        """Whether a stop is met after a clock."""
+        with ProbeSession(self.files) as session:
+            session.go_to(since)
+            return session.meets(condition, self.report.clock - since)
+
     @cached_property
     def parts(self) -> list[Part]:
         """What happened in the first clocks and in the last ones, each without a gap."""

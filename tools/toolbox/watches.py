@@ -8,6 +8,7 @@ from typing import Callable
 
 from toolbox.command import Sorry
 from toolbox.data_labels import SIZES, kind_in
+from toolbox.following import writer_in
 from toolbox.listing import Listing, physical
 from toolbox.places import told_of
 from toolbox.session_board import SessionBoard
@@ -87,12 +88,12 @@ def changed(board: SessionBoard, stop: str) -> list[Written]:
 
 
 def what_was_seen(board: SessionBoard, listing: Listing, stop: str) -> str:
-    """What a stop has seen that holds here, and of a write what did it: the last that began. Of a stop of another kind nothing."""
+    """What a stop has seen that holds here, and of a write what did it. Of a stop of another kind nothing."""
     if not watched_by(stop):
         return ', '.join(board.happened(stop.removeprefix('when '))) if stop.startswith('when ') else ''
     labels = {physical(*place): name for name, place in listing.labels.items()}
-    what, last = ', '.join(each.in_words(labels) for each in changed(board, stop)), board.trail()[-1:]
-    return f'{what}: clock {last[0].clock}, {" ".join(told_of(listing, last[0]).split())}' if what and last else what
+    what, last = ', '.join(each.in_words(labels) for each in changed(board, stop)), writer_in(board.trail())
+    return f'{what}: clock {last.clock}, {" ".join(told_of(listing, last).split())}' if what and last else what
 
 
 def happening_text(listing: Listing, line: str) -> str:

@@ -11,8 +11,11 @@ from collections.abc import Callable
 from typing import NamedTuple
 
 from parts.outside import instructions
-from toolbox import disassembly
-from toolbox.command import Sorry
+from toolbox.asking import answers_of
+from toolbox.command import Sorry, write_text
+from toolbox.loading import hex_of
+from toolbox.program import Files
+from toolbox.runfile import DEFAULTS, text_of
 
 VERSION = '2.16.01'  # the one whose differences are known
 PACKAGE = 'apt-get install --no-install-recommends nasm'
@@ -112,8 +115,14 @@ def cases(seed: int, count: int) -> list[bytes]:
 
 def ours(offset: int, octets: bytes) -> tuple[str, int]:
     """This board's text, and of how many bytes."""
-    _, found, text = next(disassembly.listed(offset, octets, 1))
-    return text, len(found)
+    image = {0x10000 + (offset + at) % 0x10000: octet for at, octet in enumerate(octets)}
+    with tempfile.TemporaryDirectory() as room:
+        files = Files(f'{room}/it.hex', f'{room}/run.json', True)
+        write_text(files.file, hex_of(image))
+        write_text(files.run_file, text_of(DEFAULTS | {'ram': 128}))
+        (line,) = answers_of(files, (f'list 1000:{offset:X} 1',))
+    _, digits, text = line.split(' ', 2)
+    return text, len(digits) // 2
 
 
 def theirs(program: str, made: list[bytes]) -> list[tuple[str, int]]:

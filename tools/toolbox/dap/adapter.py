@@ -483,7 +483,7 @@ class Adapter:
             met = board.run(self.wanted(), board.budget)
             met = met if met in self.wanted() else None
         if met is None and board.ending():
-            board.go_to_the_end(begun)
+            board.ended(begun)
         return self.exception(begun) or self.why_stopped(met, 'pause', 'the run ends')
 
     def exception(self, begun: int) -> tuple[str, str] | None:

@@ -33,7 +33,7 @@ class Machine(FollowedBoard):
         super().__init__(files, budget, poll)
         self.listing = listing
         self.known: dict[int, Event] = {}
-        self.why = ''  # why the last way over or out of a routine ended: 'returned', 'stop', 'far', or as `_ended` tells
+        self.why = ''  # why the last way over or out of a routine ended: 'returned', 'stop', 'far', or as `ended` tells
 
     def trail(self) -> list[Event]:
         """The last instruction starts and entries. What they tell of instructions is kept for disassembly."""
@@ -107,7 +107,7 @@ class Machine(FollowedBoard):
             if begun.entry is None or self.why != 'returned':
                 break
         if self.why == 'far' or not begun and self.clock >= self.budget:
-            self.why = self._ended(here)
+            self.why = self.ended(here)
 
     def over(self, begun: Event) -> None:
         """Over all that an instruction or entry does which has just been made: what it calls, and its repeats."""
@@ -147,7 +147,7 @@ class Machine(FollowedBoard):
         if self.why == 'returned':
             self._known = self.clock, follower
         else:
-            self.why = self._ended(here)
+            self.why = self.ended(here)
 
     def _pieces(self, end: int) -> Iterator[list[bytes]]:
         """What begins up to a clock, to which the board goes past all stops, piece by piece."""
@@ -191,17 +191,13 @@ class Machine(FollowedBoard):
             stack.level = level + signed(now['SP'] - level)
             self.poll()
 
-    def go_to_the_end(self, here: int) -> None:
-        """Back to where the processor has halted for good since a clock, if it has."""
-        self._ended(here)
-
     def _ends(self) -> str:
         """`jammed` or `halted for good`, if nothing more will happen, or nothing."""
         if self.is_halted:
             return '' if self.registers()['FL'] & IF else 'halted for good'
         return 'jammed' if self.state() == 'jammed' else ''
 
-    def _ended(self, here: int) -> str:
+    def ended(self, here: int) -> str:
         """What ended a way that led from a clock to no return: `jammed` and `halted for good` at the clock at which
         that began, else `far`."""
         trail, kind = self.trail(), self._ends() or 'far'

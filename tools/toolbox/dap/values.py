@@ -8,15 +8,14 @@ from typing import Callable
 
 from toolbox.command import Sorry
 from toolbox.dap.board import FLAG_BITS, Machine
-from toolbox.disassembly import LONGEST, NONE, instructions
 from toolbox.listing import Line, Listing, code_of, label_in, physical
 from toolbox.places import far_of
-from toolbox.session_board import SessionBoard
+from toolbox.session_board import NONE, SessionBoard
 
 BYTE_REGISTERS = {'AL': ('AX', 0), 'AH': ('AX', 8), 'BL': ('BX', 0), 'BH': ('BX', 8), 'CL': ('CX', 0), 'CH': ('CX', 8), 'DL': ('DX', 0), 'DH': ('DX', 8)}
 TOKEN = re.compile(r"\s*(0x[0-9A-Fa-f]+|[0-9][0-9A-Fa-f]*[Hh]|[01]+[Bb]|\d+|[A-Za-z_]\w*|'[^']'|&&|\|\||[=!<>]=|<>|[-+*:\[\]()=<>!&])")
 DATA = re.compile(r'(\w+\s*:)?\s*D[BWD]\b', re.I)
-LONGEST_INSTRUCTION, LISTED_AT_ONCE = 8, 64
+LONGEST_INSTRUCTION, LONGEST, LISTED_AT_ONCE = 8, 16, 64  # an instruction has at most seven prefixes and six bytes more
 
 
 @dataclass(frozen=True)
@@ -239,7 +238,7 @@ class Disassembly:
             segment = self.machine.registers()['CS']
             if not 0 <= address - 16 * segment < 0x10000 - LISTED_AT_ONCE * LONGEST:
                 segment = address >> 4 & 0xF000
-            for offset, octets, text in instructions(self.machine.dump, segment, address - 16 * segment, LISTED_AT_ONCE):
+            for offset, octets, text in self.machine.listed((segment, address - 16 * segment), LISTED_AT_ONCE):
                 self.listed[physical(segment, offset)] = Row(physical(segment, offset), octets, text, self.machine.listing.line_from(physical(segment, offset)))
         listed = self.listed.get(address, found)
         return found if listed.text == NONE else listed

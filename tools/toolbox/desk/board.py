@@ -17,12 +17,10 @@ from toolbox.dap.board import ENDS, MOST_BREAKPOINTS, Machine
 from toolbox.data_labels import Datum, labels_of_data, values_of
 from toolbox.desk.sound import MOST_SAMPLES, Speaker
 from toolbox.desk.work import Fields, Helpers, Job
-from toolbox.disassembly import instructions
 from toolbox.effects import Far
 from toolbox.guests import Guest
 from toolbox.listing import labels_alone, listing_of, physical
 from toolbox.asking import lines_of
-from toolbox.nowhere import told_of_run
 from toolbox.places import address_of, far_of, is_repeated, line_at, number_of
 from toolbox.program import LAST_CLOCK, Files, path
 from toolbox.report import REGISTERS, Report, report_of
@@ -30,7 +28,7 @@ from toolbox.runfile import DEFAULTS, text_of, with_budget
 from toolbox.scancodes import names
 from toolbox.services import LEAST_RAM, MOST_RAM
 from toolbox.session_board import Paused, break_at, place_of
-from toolbox.text_memory import TEXT_MEMORY, WORDS, Cell, cells_at, plain_cells, starts
+from toolbox.text_memory import TEXT_MEMORY, WORDS, Cell, cells_at, start_of
 from toolbox.watches import changed, watch_of, watch_size, watched_by, what_was_seen
 
 GUEST = Guest('')  # whose look decides
@@ -60,16 +58,8 @@ class Key:
     turn: int = -1
 
 
-def rows_of(screen: list[str], memory: bytes) -> list[list[tuple[str, int]]]:
-    """The screen's lines as stretches of one look: 1 is bright, 2 underlined, 4 reverse, and their sums. The adapter's start
-    address can't be read: it is one with which text memory shows this screen."""
-    found = starts(screen, memory)
-    cells = cells_at(screen, memory, 0 if 0 in found else found[0]) if found else plain_cells(screen)
-    return [stretches(line) for line in cells]
-
-
 def stretches(line: list[Cell]) -> list[tuple[str, int]]:
-    """A line's stretches of one look."""
+    """A line's stretches of one look: 1 is bright, 2 underlined, 4 reverse, and their sums."""
     found = list[tuple[str, int]]()
     for cell in line:
         look = cell.is_bright + 2 * cell.is_underlined + 4 * cell.is_reverse
@@ -91,7 +81,8 @@ class Board:
         self._lock, self._marking = threading.Lock(), threading.Lock()
         self._job: Job | None = None
         self._is_ended, self._until, self._count = False, float('inf'), 0
-        self._screen, self._screen_number, self._rows = (list[str](), b''), 0, list[list[tuple[str, int]]]()
+        self._screen_number, self._rows = 0, list[list[tuple[str, int]]]()
+        self._screen: tuple[list[str], bytes, int | None] = [], b'', None
         self._helpers = Helpers()
         self._of_the_run: tuple[tuple[int, int], Fields] = ((0, 0), {})
         self.stops, self._held = list[str](), (-1, list[str]())
@@ -374,9 +365,9 @@ class Board:
         self._looks += 1
         if is_light and lines == self._screen[0] and self._looks % LOOKS_WITHOUT_ATTRIBUTES:
             return self._screen_number
-        now = lines, self.machine.dump(TEXT_MEMORY, 2 * WORDS)
+        now = lines, self.machine.dump(TEXT_MEMORY, 2 * WORDS), start_of(self._chips())
         if now != self._screen or not self._rows:
-            self._screen, self._rows = now, rows_of(*now)
+            self._screen, self._rows = now, list(map(stretches, cells_at(*now)))
             self._screen_number += 1
         return self._screen_number
 
@@ -433,9 +424,9 @@ class Board:
         registers = self.machine.registers()
         here = registers['CS'], registers['IP']
         segment, offset = far_of(self.listing, place.strip()) if place.strip() else (here[0], self._code_before(here))
-        rows = list(instructions(self.machine.dump, segment, offset, CODE_ROWS))
+        rows = list(self.machine.listed((segment, offset), CODE_ROWS))
         if not place.strip() and all(at != here[1] for at, _, _ in rows):
-            rows = list(instructions(self.machine.dump, *here, CODE_ROWS))
+            rows = list(self.machine.listed(here, CODE_ROWS))
         return {'clock': self.clock, 'code': [self._row_of_code((segment, at), octets, text) for at, octets, text in rows]}
 
     def _code_before(self, here: Far) -> int:
@@ -465,6 +456,8 @@ class Board:
 
     def why(self) -> Fields:
         """Why the run goes nowhere, if it does, as tools/why tells it of a run up to this clock."""
+        from toolbox.nowhere import told_of_run  # when it is first asked: the desk begins without it
+
         clock, registers = self.clock, self.machine.registers()
         report = Report(clock, registers, self._chips().value('processor', 'state'), 0, [], self.machine.many('screen'))
         lines = lines_of(told_of_run(report, self.files, self.listing, REACH))

@@ -1,6 +1,7 @@
 """What the page may ask, and what it is answered: at most eight boards, each ended where it is left alone."""
 from __future__ import annotations
 
+import functools
 import itertools
 import os
 import secrets
@@ -8,7 +9,7 @@ import shutil
 import threading
 import time
 from dataclasses import asdict
-from typing import Any, Callable
+from typing import TYPE_CHECKING, Any, Callable
 
 from toolbox import foreign, guests
 from toolbox.command import Sorry, read_text
@@ -16,7 +17,6 @@ from toolbox.desk.board import Board
 from toolbox.desk.drafts import Change, Drafts
 from toolbox.desk.files import Given, Kept, difference
 from toolbox.desk.http import Refused
-from toolbox.desk.language import Language
 from toolbox.desk.pages import examples, files_of, grammar, page_of
 from toolbox.desk.work import Fields
 from toolbox.faults import fault_in
@@ -27,6 +27,9 @@ from toolbox.scancodes import stamped, strokes_of
 from toolbox.services import TYPING
 from toolbox.session_board import Gone
 from toolbox.symbols import image_of
+
+if TYPE_CHECKING:
+    from toolbox.desk.language import Language
 
 MOST_BOARDS, IDLE_SECONDS = 8, 900
 # A board that was asked for nothing for so long doesn't run: the page asks for the pieces of a run more often.
@@ -66,7 +69,7 @@ class Desk:
     def __init__(self, room: str, given: Given, drafts: Drafts) -> None:
         self.room, self.given, self.drafts = room, given, drafts
         self.idle_seconds, self.least_idle = float(IDLE_SECONDS), LEAST_IDLE
-        self.files, self.language = Kept(given, drafts.folder), Language(given.guest.home)
+        self.files, self._home = Kept(given, drafts.folder), given.guest.home
         self._lock, self._boards = threading.Lock(), dict[str, Board | None]()
 
     def close(self) -> None:
@@ -167,13 +170,19 @@ class Desk:
         """A page of docs/."""
         return {'html': page_of(want(fields, 'name', str))}
 
+    @functools.cached_property
+    def _language(self) -> Language:
+        from toolbox.desk.language import Language  # when it is first asked: it takes a tenth of the desk's start
+
+        return Language(self._home)
+
     def on_language(self, fields: Fields) -> Fields:
         """What the editor asks of its text."""
         source, what = want(fields, 'source', str), want(fields, 'what', str)
         line, column = numbers([want(fields, 'line', int, 0), want(fields, 'column', int, 0)], 0, LONGEST_SOURCE)
         if len(source) > LONGEST_SOURCE or what not in ('hover', 'completion', 'refused'):
             raise Refused(400, 'hover, completion or refused is wanted, of a source')
-        return self.language.answer(what, source, line, column)
+        return self._language.answer(what, source, line, column)
 
     def on_open(self, fields: Fields) -> Fields:
         """A board of a source and a run file, at clock 0; or why it is refused."""

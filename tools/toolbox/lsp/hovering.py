@@ -117,8 +117,10 @@ def comment_of(document: Document, line: int) -> str:
 
 
 def as_number(value: int) -> str:
-    """A number in hexadecimal, decimal and binary, and as text if it is one."""
-    width = next(size for size in (8, 16, 32, 64) if -(1 << size - 1) <= value < 1 << size)
+    """A number in hexadecimal, decimal and binary, and as text if it is one; that it's too large, if 64 bits don't hold it."""
+    width = next((size for size in (8, 16, 32, 64) if -(1 << size - 1) <= value < 1 << size), None)
+    if width is None:
+        return 'needs more than 64 bits'
     bits = value % (1 << width)
     hexadecimal = f'{bits:X}h' if f'{bits:X}'[0].isdigit() else f'0{bits:X}h'
     octets = bits.to_bytes(width // 8, 'big').lstrip(b'\0')

@@ -107,10 +107,10 @@ class Source:
 
 
 def number_in(token: Token) -> int | None:
-    """A number or a character as a number."""
+    """A number of at most 4,000 digits, as Python's int takes some more, or a character as a number."""
     if token.kind == 'text':
         return ord(token.text[1]) if re.fullmatch(r"'[^']'", token.text) else None
-    for pattern, base in ((r'(\d[0-9A-F]*)H', 16), (r'([01]+)B', 2), (r'(\d+)', 10)):
+    for pattern, base in ((r'(\d[0-9A-F]{,3999})H', 16), (r'([01]{1,4000})B', 2), (r'(\d{1,4000})', 10)):
         if found := re.fullmatch(pattern, token.key):
             return int(found[1], base)
     return None
