@@ -1,11 +1,10 @@
--- An act, and the leap over the other clocks of its step; first an act that writes to no port.
+-- An act, and the leap over the other clocks of its step; first an act that leaves the speaker's level.
 use Rattle.std.proofs.Common.{◌≡◌, ℕ, ◌+◌, ◌-◌, ◌<◌, ◌≤◌, inl, inr, ◌++◌, length, refl, sym, ap, ◌∙◌, subst, arith}
 use Rattle.std.specs.Prelude.{◌⊎◌}
 use Rattle.cached_chips.proofs.Quiet.{level_stays}
 use Rattle.board_types.specs.LineLevel.{from_bool}
 use Rattle.execute_meaning.specs.Meaning.{StepResult}
 use Rattle.wiring.specs.Chips.{ChipsState}
-use Rattle.wiring.specs.Speaker.{is_speaker_high_after}
 use Rattle.board_plain.specs.declared.act.Act.{Act}
 use Rattle.board_plain.specs.Board.{BoardState}
 use Rattle.board.specs.UnseenClocks.{PassesOver}
@@ -24,9 +23,7 @@ same_level : (s : Plain) → ActsQuietly s → speaker_level (after_clock s) ≡
 unfolding speaker_level
 same_level s quietly =
     predicted s quietly.wires
-    ∙ ap from_bool (
-    ap (is_speaker_high_after s.chips) quietly.act.silent
-    ∙ sym (level_stays s.chips (s.chips.clock + 1) (omega arith) quietly.quiet))
+    ∙ ap from_bool (quietly.act.level ∙ sym (level_stays s.chips (s.chips.clock + 1) (omega arith) quietly.quiet))
 
 -- an act of the board, with what it lists, and the leap over the other clocks of its step
 

@@ -1,6 +1,7 @@
 -- Clocks in which nothing happens but that the beam moves, the counters tick and the processor is busy or idle: how
 -- many there are at least, and what a board is after them.
 -- For proofs alone: no public contract rests on it.
+use Rattle.wiring.specs.Chips.{ChipsState}
 use Rattle.wiring.specs.EachWire.{is_requested}
 use Rattle.std.specs.Prelude.{ℕ, ◌≡◌, ◌≢◌, ◌+◌, ◌-◌, ◌<◌, ◌≤◌, ◌^◌, ◌⊎◌, [], Bool, true, false, min, Option, None, Some}
 use Rattle.board_types.specs.Timed.{IsSteady}
@@ -14,6 +15,7 @@ use Rattle.scheduler.specs.declared.deadlines.Source.{Source}
 use Rattle.scheduler.specs.declared.deadlines.Source.TheVariants.{Counter0, Counter2, Keys, Processor, End}
 use Rattle.scheduler.specs.Deadlines.{DeadlinesState, IsNext}
 use Rattle.wiring.specs.Edges.{ticks_between, IsEdgeOf}
+use Rattle.wiring.specs.Speaker.{is_speaker_high_after}
 use Rattle.wiring.specs.Leap as wires
 use Rattle.board_plain.specs.declared.act.Act.{Act}
 use Rattle.board_plain.specs.declared.act.Act.TheVariants.{Nothing}
@@ -49,14 +51,14 @@ pub record IsQuietBoundary (s : Plain) (boundary : Boundary) : Type 0 where
   pub quiet : IsQuiet s.chips (s.chips.clock + 1)
   pub wires : WiresHold s.chips
 
--- an act that isn't `Nothing` and writes to no port
-pub record IsSilentAct (cpu : CpuState) (act : Act) : Type 0 where
+-- an act that isn't `Nothing` and by which no port changes the speaker's level
+pub record IsSilentAct (cpu : CpuState) (chips : ChipsState) (act : Act) : Type 0 where
   pub some : is_idle act ≡ false
-  pub silent : writes_of cpu act ≡ []
+  pub level : is_speaker_high_after chips (writes_of cpu act) ≡ is_speaker_high_after chips []
 
--- the processor makes an act that writes to no port, and the chips are quiet up to the next clock
+-- the processor makes an act that leaves the speaker's level, and the chips are quiet up to the next clock
 pub record ActsQuietly (s : Plain) : Type 0 where
-  pub act : IsSilentAct s.cpu (next_act s)
+  pub act : IsSilentAct s.cpu s.chips (next_act s)
   pub quiet : IsQuiet s.chips (s.chips.clock + 1)
   pub wires : WiresHold s.chips
 
