@@ -1,7 +1,6 @@
 -- Inputs that may fail, and count how often they did.
 -- To be believed: the headline rests on it.
 use Rattle.std.specs.Prelude.{◌≡◌, ℕ, ◌+◌, List, length, ⊤, ◌⊎◌, Option, None, Some, Result, MatchResult}
-use Rattle.std.specs.Io.KnownBytes.{IsAtEnd}
 
 -- an input's count of failures stays, if it counts them
 abbrev pub CountsNone : Option ℕ → Option ℕ → Type 0
@@ -18,5 +17,5 @@ abbrev pub CountsRefusal : {A E : Type 0} → Option ℕ → Option ℕ → Resu
 CountsRefusal old new r = MatchResult r (λ _. CountsNone old new) (λ _. CountsOne old new)
 
 -- all that is wanted of an input: the bytes up to its end, or as many as the limit says
-abbrev pub IsAllWanted : ℕ → Option (List ℕ) → List ℕ → Type 0
-IsAllWanted limit left bytes = IsAtEnd left ⊎ (length bytes ≡ limit)
+abbrev pub IsAllWanted : ℕ → Type 0 → List ℕ → Type 0
+IsAllWanted limit Ended bytes = Ended ⊎ (length bytes ≡ limit)

@@ -8,3 +8,4 @@ pub mod RecordViews
 pub mod Records
 pub mod RunFault
 pub mod RunFile
+pub mod Given

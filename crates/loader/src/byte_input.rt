@@ -1,9 +1,10 @@
 //! Bytes that come from outside, from an input that may fail.
-ghost use Rattle.std.specs.Prelude.{◌≡◌, ◌≤◌, ◌<◌, ℕ, take, length, IfOk, IfSome, List, Option, None};
+ghost use Rattle.std.specs.Prelude.{◌≡◌, ◌≤◌, ◌<◌, ◌++◌, ℕ, take, length, IfOk, List, [], Option, None};
 ghost use Rattle.std.specs.Io.{ReadsAtMost};
-ghost use Rattle.std.specs.Io.KnownBytes.{Consumes, ReadConsumes};
+ghost use Rattle.std.specs.Io.KnownBytes.{Consumes, IsAtEnd};
 ghost use Rattle.std.specs.Result.{IsErrOf};
 ghost use Rattle.loader.specs.ByteInput.{CountsNone, CountsOne, CountsRefusal, IsAllWanted};
+ghost use Rattle.loader.specs.Given.{consumes_none, consumes_on};
 ghost use Rattle.loader.specs.declared.byte_input.ReadFault.TheVariants.{Failed as failed, Memory};
 
 use std::alloc::{AllocError, Global};
@@ -20,25 +21,36 @@ pub struct Failed;
 
 /// An input of bytes from outside, one after another.
 pub trait ByteInput {
-    // The bytes that are still to come, if they are known.
-    ghost remaining: { Self → Option (List ℕ) } = { λ _. None };
+    // From the first state to the second its reads gave these bytes, as far as it tells.
+    ghost gave: { Self → Self → List ℕ → Type 0 };
+
+    // The last read met its end, as far as it tells.
+    ghost ended: { Self → Type 0 };
 
     // How often it has failed, if that is counted.
     ghost failures: { Self → Option ℕ } = { λ _. None };
 
     /// Puts the next bytes into the front of `buf`, and answers how many they are: none only at the end, or if `buf`
-    /// has no room. Refused if the input failed, which then takes none of its bytes.
+    /// has no room. Refused if the input failed.
     fn read(&mut self, buf: &mut [u8]) -> Result<usize, Failed>
         ensures bound { ReadsAtMost result buf.new }
-        ensures bytes { ReadConsumes (remaining self.old) (remaining self.new) result buf.new }
+        ensures bytes { IfOk result (λ n. gave self.old self.new (take n buf.new)) }
+        ensures end { IfOk result (λ n. n ≡ 0 → 0 < length buf.new → ended self.new) }
         ensures failures { CountsRefusal (failures self.old) (failures self.new) result };
+
+    // Where nothing is read, nothing is given; and what is given by several reads is given in their order.
+    ghost gave_none: { (s : Self) → gave s s [] };
+
+    ghost gave_on: { (s t u : Self) (front back : List ℕ) → gave s t front → gave t u back → gave s u (front ++ back) };
 }
 
-/// Every reader is an input. The bytes still to come are known as far as the reader knows them, and its failures aren't
-/// counted. A read that was interrupted is made again; a reader that is interrupted `u64::MAX` times in one call has
-/// failed.
+/// Every reader is an input. What its reads gave is told as far as the reader knows the bytes still to come, and its
+/// failures aren't counted. A read that was interrupted is made again; a reader that is interrupted `u64::MAX` times in
+/// one call has failed.
 impl<R: Read> ByteInput for R {
-    ghost remaining = { λ reader. R.remaining reader };
+    ghost gave = { λ s t bytes. Consumes (R.remaining s) (R.remaining t) bytes };
+
+    ghost ended = { λ s. IsAtEnd (R.remaining s) };
 
     /// Reads from the reader into the front of `buf`, and answers how many bytes came, none only at its end or without
     /// room; tries again after an interruption.
@@ -52,6 +64,10 @@ impl<R: Read> ByteInput for R {
         }
         Err(Failed)
     }
+
+    ghost gave_none = { λ s. consumes_none (R.remaining s) };
+
+    ghost gave_on = { λ s t u front back. consumes_on (R.remaining s) (R.remaining t) (R.remaining u) front back };
 }
 
 /// Why an input can't be read.
@@ -89,9 +105,8 @@ pub fn read_all<I: ByteInput>(
     input: &mut I,
     limit: u64,
 ) -> Result<Vec<u8>, ReadFault>
-    ensures bytes { IfSome (I.remaining input.old) (λ known. IfOk result (λ bytes. bytes.items ≡ take limit known)) }
-    ensures taken { IfOk result (λ bytes. Consumes (I.remaining input.old) (I.remaining input.new) bytes.items) }
-    ensures all { IfOk result (λ bytes. IsAllWanted limit (I.remaining input.new) bytes.items) }
+    ensures bytes { IfOk result (λ bytes. I.gave input.old input.new bytes.items) }
+    ensures all { IfOk result (λ bytes. IsAllWanted limit (I.ended input.new) bytes.items) }
     ensures limit { IfOk result (λ bytes. length bytes.items ≤ limit) }
     ensures failed { IsErrOf result ReadFault.Failed → CountsOne (I.failures input.old) (I.failures input.new) }
     ensures unfailed { ¬ (IsErrOf result ReadFault.Failed) → CountsNone (I.failures input.old) (I.failures input.new) }

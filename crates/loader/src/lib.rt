@@ -3,6 +3,7 @@
 #![tactic(auto)]
 
 pub mod byte_input;
+pub mod heard;
 pub mod hex_fault;
 pub mod hex_reader;
 pub mod hex_record;

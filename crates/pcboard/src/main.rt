@@ -1,9 +1,12 @@
 //! The program `pcboard`, on the files and streams of the system.
 #![tactic(auto)]
 
+use loader::heard::Heard;
 use pcboard_program::program::program;
+use pcboard_texts::files::ReadFiles;
 use pcboard_texts::system::run_on_system;
 use std::process::ExitCode;
+use streams::kept::Kept;
 
 /// Runs `pcboard` on the words of its command line, the system's files and its standard streams, and ends with its exit
 /// status.
@@ -12,10 +15,10 @@ fn main(rt: HostRuntime) -> ExitCode {
         program(
             rt.alloc(),
             words,
-            files,
-            &mut rt.stdin(),
-            &mut rt.stdout(),
-            &mut rt.stderr(),
+            &mut ReadFiles::new(*files),
+            &mut Heard::new(rt.stdin()),
+            &mut Kept::new(rt.stdout()),
+            &mut Kept::new(rt.stderr()),
         )
     })
 }

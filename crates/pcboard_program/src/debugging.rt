@@ -1,9 +1,11 @@
 //! A session on a board: typed lines, answered one by one as they come.
-ghost use Rattle.std.specs.Prelude.{◌≡◌, ◌⊎◌, IfErr, IfSome, OnOk};
+ghost use Rattle.std.specs.Prelude.{◌≡◌, ◌⊎◌, IfErr, OnOk};
 ghost use Rattle.loader.specs.ByteInput.{CountsNone};
+ghost use Rattle.pcboard_texts.specs.Given.{Of};
 ghost use Rattle.pcboard_texts.specs.Answer.{AppendsA};
+ghost use Rattle.pcboard_texts.specs.Printing.{PrintsSession};
 ghost use Rattle.pcboard_texts.specs.Refusal.{BeginsTranscript, want_of_board, want_of_session};
-ghost use Rattle.pcboard_texts.specs.Transcript.{AnswersTyped, Transcript, input_lines};
+ghost use Rattle.pcboard_texts.specs.Transcript.{AnswersTyped, input_lines};
 ghost use Rattle.pcboard_texts.specs.Unanswered.{IsUnjudged, UnlessFailed, WhereRefused};
 
 use crate::tool::Tool;
@@ -24,12 +26,10 @@ pub(crate) fn print_session<T: Tool, I: ByteInput, O: Write>(
     input: &mut I,
     out: &mut O,
 ) -> Result<(), Unanswered>
-    ensures transcript { OnOk result (IfSome (I.remaining input.old)
-        (λ typed. AppendsA (Transcript T.answers (T.answers.begins board) (input_lines typed)) (O.contents out.old)
-        (O.contents out.new))) }
+    ensures transcript { OnOk result (PrintsSession T.answers (T.answers.begins board) (I.gave input.old input.new)
+        (I.ended input.new) (O.contents out.old) (O.contents out.new)) }
     ensures cut { IfErr result (WhereRefused (O.contents out.new ≡ O.contents out.old
-        ⊎ IfSome (I.remaining input.old)
-        (λ typed. AppendsA (BeginsTranscript T.answers (T.answers.begins board) (input_lines typed))
+        ⊎ Of (I.gave input.old input.new) (λ typed. AppendsA (BeginsTranscript T.answers (T.answers.begins board) (input_lines typed))
         (O.contents out.old) (O.contents out.new)))) }
     ensures end { IfErr result (IsUnjudged (λ fault. fault ≡ want_of_board ⊎ fault ≡ want_of_session)) }
     ensures unfailed { UnlessFailed (CountsNone (I.failures input.old) (I.failures input.new)) result }
@@ -49,24 +49,27 @@ fn answer_lines<T: Tool, I: ByteInput, O: Write>(
     input: &mut I,
     out: &mut O,
 ) -> Result<(), Unanswered>
-    ensures transcript { OnOk result (IfSome (I.remaining input.old)
-        (λ typed. AppendsA (Transcript T.answers session.old (input_lines typed)) (O.contents out.old)
-        (O.contents out.new))) }
-    ensures cut { IfErr result (WhereRefused (IfSome (I.remaining input.old)
+    ensures transcript { OnOk result (PrintsSession T.answers session.old (I.gave input.old input.new)
+        (I.ended input.new) (O.contents out.old) (O.contents out.new)) }
+    ensures cut { IfErr result (WhereRefused (Of (I.gave input.old input.new)
         (λ typed. AppendsA (BeginsTranscript T.answers session.old (input_lines typed)) (O.contents out.old)
         (O.contents out.new)))) }
     ensures end { IfErr result (IsUnjudged (λ fault. fault ≡ want_of_board)) }
     ensures unfailed { UnlessFailed (CountsNone (I.failures input.old) (I.failures input.new)) result }
 {
     'lines: for _ in 0..u64::MAX {
-        let Some(line) = next_line(alloc, input)? else {
+        let (line, is_last) = next_line(alloc, input)?;
+        if is_last && line.is_empty() {
             return Ok(());
-        };
+        }
         if ends_session(line.as_slice()) {
             return Ok(());
         }
         let reply = reply_to::<T>(alloc, session, line.as_slice());
         print_reply(&reply, out)?;
+        if is_last {
+            return Ok(());
+        }
     }
     Err(Unanswered::Failed)
 }

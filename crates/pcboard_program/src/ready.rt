@@ -1,8 +1,9 @@
 //! What a task's files and input give: the report of a run, or a board for a session.
-ghost use Rattle.std.specs.Prelude.{◌≡◌, false, ◌⊎◌, IfErr, IfOk, IfSome, IsErrAnd, string_bytes};
+ghost use Rattle.std.specs.Prelude.{◌≡◌, false, ◌⊎◌, IfErr, IfOk, IsErrAnd, string_bytes};
 ghost use Rattle.loader.specs.ByteInput.{CountsNone};
+ghost use Rattle.pcboard_texts.specs.Given.{GaveTwo, Of, OfTwo};
 ghost use Rattle.pcboard_texts.specs.Answer.{IsBoardOf, IsReport, IsTrueRefusal, run_text_of, source_of};
-ghost use Rattle.pcboard_texts.specs.Refusal.{IsTrueOfFiles, IsWantOfRun, want_of_file};
+ghost use Rattle.pcboard_texts.specs.Refusal.{IsWantOfRun, want_of_file};
 ghost use Rattle.pcboard_texts.specs.Unanswered.{EndsFor, IsUnjudged, UnlessFailed};
 
 use crate::report::Report;
@@ -12,7 +13,7 @@ use board::board::Board;
 use loader::byte_input::ByteInput;
 use pcboard_texts::fault::Fault;
 use pcboard_texts::input::{read_files, read_whole};
-use pcboard_texts::opener::Opener;
+use pcboard_texts::files::Files;
 use pcboard_texts::texts::{parted, read_texts};
 use pcboard_texts::unanswered::Unanswered;
 use std::alloc::Global;
@@ -23,10 +24,10 @@ pub(crate) fn stored_report<I: ByteInput>(
     alloc: Global,
     input: &mut I,
 ) -> Result<Report, Unanswered>
-    ensures report { IfSome (I.remaining input.old) (λ text. IfOk result
-        (λ report. IsReport false (source_of text) (run_text_of text) (string_bytes report.text))) }
-    ensures end { IfErr result (EndsFor (IsWantOfRun false) (λ fault. IfSome (I.remaining input.old)
-        (λ text. IsTrueRefusal false (source_of text) (run_text_of text) fault))) }
+    ensures report { IfOk result (λ report. I.ended input.new × Of (I.gave input.old input.new)
+        (λ text. IsReport false (source_of text) (run_text_of text) (string_bytes report.text))) }
+    ensures end { IfErr result (EndsFor (IsWantOfRun false) (λ fault. I.ended input.new
+        × Of (I.gave input.old input.new) (λ text. IsTrueRefusal false (source_of text) (run_text_of text) fault))) }
     ensures unfailed { UnlessFailed (CountsNone (I.failures input.old) (I.failures input.new)) result }
 {
     let text = read_whole(alloc, input, Fault::Source(AsmFault::Memory))?;
@@ -36,19 +37,18 @@ pub(crate) fn stored_report<I: ByteInput>(
 
 /// Runs the program in `file` (a HEX text if `hex`, else a source) as the run file in `run` says, and answers the
 /// report to be printed.
-pub(crate) fn read_report<F: Opener>(
+pub(crate) fn read_report<F: Files>(
     alloc: Global,
-    files: &F,
+    files: &mut F,
     file: &str,
     run: &str,
     hex: bool,
 ) -> Result<Report, Unanswered>
-    ensures report { IfSome (F.file_bytes files.now file.now)
-        (λ bytes. IfSome (F.file_bytes files.now run.now)
-        (λ said. IfOk result (λ report. IsReport hex bytes said (string_bytes report.text)))) }
-    ensures end { IfErr result (EndsFor (IsWantOfRun hex) (IsTrueOfFiles hex (F.file_bytes files.now file.now)
-        (F.file_bytes files.now run.now))) }
-    ensures lacking { F.lacks files.now file.now ⊎ F.lacks files.now run.now
+    ensures report { IfOk result (λ report. OfTwo (GaveTwo F.gave files.old files.new) file.now hex run.now
+        (λ bytes said. IsReport hex bytes said (string_bytes report.text))) }
+    ensures end { IfErr result (EndsFor (IsWantOfRun hex) (λ fault. OfTwo (GaveTwo F.gave files.old files.new) file.now
+        hex run.now (λ bytes said. IsTrueRefusal hex bytes said fault))) }
+    ensures lacking { F.lacks files.old file.now ⊎ F.lacks files.old run.now
         → IsErrAnd result (IsUnjudged (λ fault. fault ≡ want_of_file hex)) }
 {
     let (bytes, said) = read_files(alloc, files, file, run, hex)?;
@@ -58,18 +58,18 @@ pub(crate) fn read_report<F: Opener>(
 /// Reads the two files of `debug`, the program `file` (a HEX text if `hex`, else a source) and the run file `run`,
 /// and returns the board at power-on that they describe. Refused with the files' first fault or for want of memory;
 /// fails if a file can't be opened or read.
-pub fn read_board<F: Opener>(
+pub fn read_board<F: Files>(
     alloc: Global,
-    files: &F,
+    files: &mut F,
     file: &str,
     run: &str,
     hex: bool,
 ) -> Result<Board, Unanswered>
-    ensures board { IfSome (F.file_bytes files.now file.now)
-        (λ bytes. IfSome (F.file_bytes files.now run.now) (λ said. IfOk result (IsBoardOf hex bytes said))) }
-    ensures end { IfErr result (EndsFor (IsWantOfRun hex) (IsTrueOfFiles hex (F.file_bytes files.now file.now)
-        (F.file_bytes files.now run.now))) }
-    ensures lacking { F.lacks files.now file.now ⊎ F.lacks files.now run.now
+    ensures board { IfOk result (λ board. OfTwo (GaveTwo F.gave files.old files.new) file.now hex run.now
+        (λ bytes said. IsBoardOf hex bytes said board)) }
+    ensures end { IfErr result (EndsFor (IsWantOfRun hex) (λ fault. OfTwo (GaveTwo F.gave files.old files.new) file.now
+        hex run.now (λ bytes said. IsTrueRefusal hex bytes said fault))) }
+    ensures lacking { F.lacks files.old file.now ⊎ F.lacks files.old run.now
         → IsErrAnd result (IsUnjudged (λ fault. fault ≡ want_of_file hex)) }
 {
     let (bytes, said) = read_files(alloc, files, file, run, hex)?;

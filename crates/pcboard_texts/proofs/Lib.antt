@@ -6,3 +6,4 @@ pub mod Sessions
 pub mod Tasks
 pub mod Opening
 mod Rows
+pub mod Noting

@@ -1,11 +1,12 @@
 -- The lines of an input as they are read, and what is printed on them.
 use Rattle.std.proofs.Common.{ℕ, zero, suc, ◌≡◌, ◌∙◌, ◌<◌, ◌==◌, Bool, true, false, List, [], ◌∷◌, ◌++◌, length, take, get_or, refl}
-use Rattle.std.proofs.Common.{sym, ap, subst, arith, append_assoc, Option, None, Some, IfErr, IfSome, MatchBool, Ok, Err, Result}
+use Rattle.std.proofs.Common.{sym, ap, subst, arith, append_assoc, Option, None, Some, IfErr, MatchBool, Ok, Err, Result, inl, inr}
+use Rattle.std.specs.Prelude.{◌⊎◌}
 use Rattle.std.proofs.lemmas.List.{append-nil}
 use Rattle.std.proofs.lemmas.Bool.Decides.{nat_tests}
 use Rattle.std.proofs.lemmas.Str.{IsUtf8-from_is_utf8, is_utf8-from_IsUtf8}
 use Rattle.std.specs.Str.{IsUtf8, is_utf8}
-use Rattle.std.specs.Io.KnownBytes.{Appends, Consumes, IsAtEnd}
+use Rattle.std.specs.Io.KnownBytes.{Appends}
 use Rattle.board_types.specs.TextLines.{onto_first}
 use Rattle.debugger_meaning.specs.declared.answer.Answer.{Answer}
 use Rattle.debugger_meaning.specs.declared.fault.DebugFault.{DebugFault}
@@ -14,17 +15,17 @@ use Rattle.debugger_meaning.specs.Commands.{is_quit}
 use Rattle.loader.specs.ByteInput.{CountsNone}
 use Rattle.pcboard_texts.specs.declared.unanswered.Unanswered.{Unanswered}
 use Rattle.pcboard_texts.specs.declared.unanswered.Unanswered.TheVariants.{Failed, Refused}
-use Rattle.pcboard_texts.specs.Answer.{AppendsA}
+use Rattle.pcboard_texts.specs.Answer.{AppendsA, EndsInQuit}
 use Rattle.pcboard_texts.specs.Refusal.{BeginsTranscript}
-use Rattle.pcboard_texts.specs.Taking.{TakesByte, TakesLine}
+use Rattle.pcboard_texts.specs.Taking.{GivesByte, GivesLine, GivesSome, NoFeed}
+use Rattle.pcboard_texts.specs.Given.{Of}
+use Rattle.pcboard_texts.specs.Printing.{PrintsSession}
 use Rattle.pcboard_texts.specs.Unanswered.{WhereRefused}
 use Rattle.pcboard_texts.specs.Transcript.{Answering, AnswersTyped, Replies, Transcript, ends_session, input_lines, reply_text}
 
--- what one read takes
-pub takes_none : (now next : Option (List ℕ)) → Consumes now next [] → IsAtEnd next → TakesByte now next None
-takes_none None next takes ends = tt
-takes_none (Some bytes) None takes ends = absurd takes
-takes_none (Some bytes) (Some left) takes ends = (takes ∙ ends, ap Some ends)
+-- what one read gives
+pub gives_end : (Gave : List ℕ → Type 0) (Ended : Type 0) (buf : List ℕ) (n : ℕ) → Gave (take n buf) → n ≡ 0 → Ended → GivesByte Gave Ended None
+gives_end Gave Ended buf n gave none ends = (subst (λ (k : ℕ). Gave (take k buf)) none gave, ends)
 
 first_alone : (buf : List ℕ) (n : ℕ) → 0 < n → length buf ≡ 1 → take n buf ≡ get_or buf 0 0 ∷ []
 first_alone [] n some one = absurd (omega arith)
@@ -33,22 +34,20 @@ first_alone (b ∷ []) (suc zero) some one = refl
 first_alone (b ∷ []) (suc (suc n)) some one = refl
 first_alone (b ∷ c ∷ bs) n some one = absurd (omega arith)
 
-pub takes_first : (now next : Option (List ℕ)) (buf : List ℕ) (n : ℕ) → Consumes now next (take n buf) → 0 < n → length buf ≡ 1
-    → TakesByte now next (Some (get_or buf 0 0))
-takes_first None next buf n takes some one = tt
-takes_first (Some bytes) None buf n takes some one = absurd takes
-takes_first (Some bytes) (Some left) buf n takes some one = (left, takes ∙ ap (λ (l : List ℕ). l ++ left) (first_alone buf n some one), refl)
+pub gives_first : (Gave : List ℕ → Type 0) (Ended : Type 0) (buf : List ℕ) (n : ℕ) → Gave (take n buf) → 0 < n → length buf ≡ 1
+    → GivesByte Gave Ended (Some (get_or buf 0 0))
+gives_first Gave Ended buf n gave some one = subst Gave (first_alone buf n some one) gave
 
 pub differs : (b c : ℕ) → (b ≡ c → ⊥) → (b == c) ≡ false
 differs b c other = grind (arith, nat_tests)
 
--- a line as far as it is read: no line feed stands in it
-abbrev pub NoFeed : List ℕ → Type 0
-NoFeed [] = Unit {0}
-NoFeed (b ∷ bs) = ((b == 10) ≡ false) × NoFeed bs
+-- what is given in order
+abbrev pub InOrder : {I : Type 0} → (I → I → List ℕ → Type 0) → Type 0
+InOrder {I} Gave = (s t u : I) (front back : List ℕ) → Gave s t front → Gave t u back → Gave s u (front ++ back)
 
-abbrev pub LineSoFar : Option (List ℕ) → Option (List ℕ) → List ℕ → Type 0
-LineSoFar first now line = IfSome first (λ bytes. (rest : List ℕ) × (bytes ≡ line ++ rest) × NoFeed line × (now ≡ Some rest))
+-- a line as far as it is read: no line feed stands in it
+abbrev pub LineSoFar : (List ℕ → Type 0) → List ℕ → Type 0
+LineSoFar Gave line = Gave line × NoFeed line
 
 no_feed_more : (line : List ℕ) (b : ℕ) → NoFeed line → (b == 10) ≡ false → NoFeed (line ++ b ∷ [])
 no_feed_more [] b none other = (other, tt)
@@ -62,65 +61,38 @@ line_alone : (b : ℕ) (bs : List ℕ) → NoFeed (b ∷ bs) → input_lines (b 
 line_alone b [] none = rw none.0 refl
 line_alone b (c ∷ cs) none = rw none.0 (ap (onto_first b) (line_alone c cs none.1))
 
-pub line_begins : (known : Option (List ℕ)) (line : List ℕ) → line ≡ [] → LineSoFar known known line
-line_begins None line empty = tt
-line_begins (Some bytes) line empty = rw empty (bytes, refl, tt, refl)
+pub line_begins : (Gave : List ℕ → Type 0) (line : List ℕ) → Gave [] → line ≡ [] → LineSoFar Gave line
+line_begins Gave line gave empty = rw empty (gave, tt)
 
-pub line_grows : (first now next : Option (List ℕ)) (line new : List ℕ) (b : ℕ) → LineSoFar first now line → TakesByte now next (Some b) → (b == 10) ≡ false
-    → new ≡ line ++ b ∷ [] → LineSoFar first next new
-line_grows None now next line new b so_far takes other is = tt
-line_grows (Some bytes) None next line new b so_far takes other is = let never : None ≡ Some so_far.0 = so_far.3 in cc
-line_grows (Some bytes) (Some left) next line new b so_far takes other is =
-    let same : left ≡ so_far.0 = cc in
-    let whole : bytes ≡ (line ++ b ∷ []) ++ takes.0 =
-    so_far.1 ∙ (ap (λ (l : List ℕ). line ++ l) (sym same ∙ takes.1) ∙ sym (append_assoc line (b ∷ []) takes.0)) in
-    rw is (takes.0, whole, no_feed_more line b so_far.2 other, takes.2)
+pub line_grows : {I : Type 0} (Gave : I → I → List ℕ → Type 0) → InOrder Gave → (Ended : Type 0) (s t u : I) (line new : List ℕ) (b : ℕ)
+    → LineSoFar (Gave s t) line → GivesByte (Gave t u) Ended (Some b) → (b == 10) ≡ false → new ≡ line ++ b ∷ [] → LineSoFar (Gave s u) new
+line_grows Gave on Ended s t u line new b so_far gives other is = rw is (on s t u line (b ∷ []) so_far.0 gives, no_feed_more line b so_far.1 other)
 
-pub line_ends : (first now next : Option (List ℕ)) (line : List ℕ) (b : ℕ) → LineSoFar first now line → TakesByte now next (Some b) → b ≡ 10
-    → TakesLine first next (Some line)
-line_ends None now next line b so_far takes is = tt
-line_ends (Some bytes) None next line b so_far takes is = let never : None ≡ Some so_far.0 = so_far.3 in cc
-line_ends (Some bytes) (Some left) next line b so_far takes is =
-    let same : left ≡ so_far.0 = cc in
-    let whole : bytes ≡ line ++ 10 ∷ takes.0 =
-    so_far.1 ∙ ap (λ (l : List ℕ). line ++ l) (sym same ∙ (takes.1 ∙ ap (λ (c : ℕ). c ∷ takes.0) is)) in
-    (takes.0, ap input_lines whole ∙ line_fed line takes.0 so_far.2, takes.2)
+pub line_ends : {I : Type 0} (Gave : I → I → List ℕ → Type 0) → InOrder Gave → (Ended : Type 0) (s t u : I) (line : List ℕ) (b : ℕ)
+    → LineSoFar (Gave s t) line → GivesByte (Gave t u) Ended (Some b) → b ≡ 10 → GivesLine (Gave s u) Ended line false
+line_ends Gave on Ended s t u line b so_far gives is =
+    (so_far.1, subst (λ (c : ℕ). Gave s u (line ++ c ∷ [])) is (on s t u line (b ∷ []) so_far.0 gives))
 
--- nothing is left after the last line
-rest_none : (first now next : Option (List ℕ)) (bytes line : List ℕ) → first ≡ Some bytes → LineSoFar first now line → TakesByte now next None
-    → (bytes ≡ line) × NoFeed line × (next ≡ Some [])
-rest_none None now next bytes line known so_far takes = cc
-rest_none (Some all) None next bytes line known so_far takes = let never : None ≡ Some so_far.0 = so_far.3 in cc
-rest_none (Some all) (Some left) next bytes line known so_far takes =
-    let same : left ≡ so_far.0 = cc in
-    let named : bytes ≡ all = cc in
-    (named ∙ (so_far.1 ∙ (ap (λ (l : List ℕ). line ++ l) (sym same ∙ takes.0) ∙ append-nil line)), so_far.2, takes.1)
+pub line_last : {I : Type 0} (Gave : I → I → List ℕ → Type 0) → InOrder Gave → (Ended : Type 0) (s t u : I) (line : List ℕ)
+    → LineSoFar (Gave s t) line → GivesByte (Gave t u) Ended None → GivesLine (Gave s u) Ended line true
+line_last Gave on Ended s t u line so_far gives =
+    (so_far.1, (subst (Gave s u) (append-nil line) (on s t u line [] so_far.0 gives.0), gives.1))
 
-pub line_last : (first now next : Option (List ℕ)) (line : List ℕ) → LineSoFar first now line → TakesByte now next None → 0 < length line
-    → TakesLine first next (Some line)
-line_last None now next line so_far takes some = tt
-line_last (Some bytes) now next [] so_far takes some = let never : ⊥ = omega (arith, some) in absurd never
-line_last (Some bytes) now next (b ∷ bs) so_far takes some =
-    let none = rest_none (Some bytes) now next bytes (b ∷ bs) refl so_far takes in
-    ([], ap input_lines none.0 ∙ line_alone b bs none.1, none.2)
-
-pub line_none : (first now next : Option (List ℕ)) (line : List ℕ) → LineSoFar first now line → TakesByte now next None → length line ≡ 0
-    → TakesLine first next None
-line_none None now next line so_far takes empty = tt
-line_none (Some bytes) now next [] so_far takes empty = ap input_lines (rest_none (Some bytes) now next bytes [] refl so_far takes).0
-line_none (Some bytes) now next (b ∷ bs) so_far takes empty = let never : ⊥ = omega (arith, empty) in absurd never
+pub line_begun : {I : Type 0} (Gave : I → I → List ℕ → Type 0) → InOrder Gave → (Ended : Type 0) (s t u : I) (line : List ℕ) (b : ℕ)
+    → LineSoFar (Gave s t) line → GivesByte (Gave t u) Ended (Some b) → GivesSome (Gave s u)
+line_begun Gave on Ended s t u line b so_far gives = (line ++ b ∷ [], on s t u line (b ∷ []) so_far.0 gives)
 
 -- What a session has printed on the lines that it has answered: followed by a transcript of more lines, it is a
 -- transcript of all of them.
-pub record Printed {S : Type 0} (By : Answering S) (first now : S) (typed left : List ℕ) (old new : Option (List ℕ)) : Type 0 where
+pub record Printed {S : Type 0} (By : Answering S) (first now : S) (heard : List ℕ) (old new : Option (List ℕ)) : Type 0 where
   pub answered : List (List ℕ)
-  pub are_lines : input_lines typed ≡ answered ++ input_lines left
+  pub are_lines : (rest : List ℕ) → input_lines (heard ++ rest) ≡ answered ++ input_lines rest
   pub said : List ℕ
   pub grown : Appends old new said
   pub goes_on : (lines : List (List ℕ)) (text : List ℕ) → Transcript By now lines text → Transcript By first (answered ++ lines) (said ++ text)
 
-abbrev pub PrintedSoFar : {S : Type 0} → Answering S → S → S → Option (List ℕ) → Option (List ℕ) → Option (List ℕ) → Option (List ℕ) → Type 0
-PrintedSoFar By first now typed left old new = IfSome typed (λ bytes. (rest : List ℕ) × (left ≡ Some rest) × Printed By first now bytes rest old new)
+abbrev pub PrintedSoFar : {S : Type 0} → Answering S → S → S → (List ℕ → Type 0) → Option (List ℕ) → Option (List ℕ) → Type 0
+PrintedSoFar By first now Gave old new = (heard : List ℕ) × Gave heard × Printed By first now heard old new
 
 appends_none : (known : Option (List ℕ)) → Appends known known []
 appends_none None = tt
@@ -132,10 +104,10 @@ appends_both (Some xs) None new text more first second = absurd first
 appends_both (Some xs) (Some ys) None text more first second = absurd second
 appends_both (Some xs) (Some ys) (Some zs) text more first second = second ∙ (ap (λ (l : List ℕ). l ++ more) first ∙ append_assoc xs text more)
 
-pub printed_none : {S : Type 0} (By : Answering S) (session : S) (typed old : Option (List ℕ)) → PrintedSoFar By session session typed typed old old
-printed_none By session None old = tt
-printed_none By session (Some bytes) old =
-    (bytes, refl, record { answered = []; are_lines = refl; said = []; grown = appends_none old; goes_on = λ lines text is. is })
+pub printed_none : {S : Type 0} (By : Answering S) (session : S) (Gave : List ℕ → Type 0) (old : Option (List ℕ)) → Gave []
+    → PrintedSoFar By session session Gave old old
+printed_none By session Gave old gave =
+    ([], gave, record { answered = []; are_lines = λ rest. refl; said = []; grown = appends_none old; goes_on = λ lines text is. is })
 
 -- the transcript of a line and of those after it
 transcript_on : {S : Type 0} (By : Answering S) (ends : Bool) (line : List ℕ)
@@ -161,74 +133,150 @@ transcript_along : {S : Type 0} (By : Answering S) (session : S) (lines others :
 transcript_along By session lines others text said same_lines same_text is =
     subst (λ (ls : List (List ℕ)). Transcript By session ls said) same_lines (subst (Transcript By session lines) same_text is)
 
-pub printed_more : {S : Type 0} (By : Answering S) (first now next : S)
-    (typed left after old mid new : Option (List ℕ)) (line : List ℕ) (reply : Result Answer DebugFault)
-    → PrintedSoFar By first now typed left old mid → TakesLine left after (Some line) → ends_session line ≡ false
-    → AnswersTyped By line now reply next → Appends mid new (reply_text reply) → PrintedSoFar By first next typed after old new
-printed_more By first now next None left after old mid new line reply so_far takes goes answers prints = tt
-printed_more By first now next (Some bytes) None after old mid new line reply so_far takes goes answers prints =
-    let never : None ≡ Some so_far.0 = so_far.1 in cc
-printed_more By first now next (Some bytes) (Some more) after old mid new line reply so_far takes goes answers prints =
-    let same : so_far.0 ≡ more = cc in
-    let lines : input_lines so_far.0 ≡ line ∷ input_lines takes.0 = ap input_lines same ∙ takes.1 in (
-      takes.0,
-      takes.2,
-      record {
-        answered = so_far.2.answered ++ line ∷ [];
-        are_lines = so_far.2.are_lines
-            ∙ (ap (λ (ls : List (List ℕ)). so_far.2.answered ++ ls) lines ∙ sym (append_assoc so_far.2.answered (line ∷ []) (input_lines takes.0)));
-        said = so_far.2.said ++ reply_text reply;
-        grown = appends_both old mid new so_far.2.said (reply_text reply) so_far.2.grown prints;
-        goes_on = λ more_lines text is. transcript_along By first (so_far.2.answered ++ line ∷ more_lines) ((so_far.2.answered ++ line ∷ []) ++ more_lines)
-            (so_far.2.said ++ (reply_text reply ++ text)) ((so_far.2.said ++ reply_text reply) ++ text)
-            (sym (append_assoc so_far.2.answered (line ∷ []) more_lines)) (sym (append_assoc so_far.2.said (reply_text reply) text))
-            (so_far.2.goes_on (line ∷ more_lines) (reply_text reply ++ text)
-            (transcript_on By (ends_session line) line now next more_lines reply text goes answers is));
-      },
-    )
+-- a line with its line feed is a line more
+lines_more : (heard line : List ℕ) (answered : List (List ℕ)) → ((rest : List ℕ) → input_lines (heard ++ rest) ≡ answered ++ input_lines rest)
+    → NoFeed line → (rest : List ℕ) → input_lines ((heard ++ (line ++ 10 ∷ [])) ++ rest) ≡ (answered ++ line ∷ []) ++ input_lines rest
+lines_more heard line answered are none rest =
+    ap input_lines (append_assoc heard (line ++ 10 ∷ []) rest ∙ ap (λ (l : List ℕ). heard ++ l) (append_assoc line (10 ∷ []) rest))
+    ∙ (are (line ++ 10 ∷ rest) ∙ (ap (λ (ls : List (List ℕ)). answered ++ ls) (line_fed line rest none)
+    ∙ sym (append_assoc answered (line ∷ []) (input_lines rest))))
+
+-- a session that has replied to a line more
+printed_line : {S : Type 0} (By : Answering S) (first now next : S) (heard more : List ℕ) (old mid new : Option (List ℕ)) (line : List ℕ)
+    (reply : Result Answer DebugFault) → (so_far : Printed By first now heard old mid)
+    → ((rest : List ℕ) → input_lines ((heard ++ more) ++ rest) ≡ (so_far.answered ++ line ∷ []) ++ input_lines rest)
+    → ends_session line ≡ false → AnswersTyped By line now reply next → Appends mid new (reply_text reply)
+    → Printed By first next (heard ++ more) old new
+printed_line By first now next heard more old mid new line reply so_far are goes answers prints = record {
+  answered = so_far.answered ++ line ∷ [];
+  are_lines = are;
+  said = so_far.said ++ reply_text reply;
+  grown = appends_both old mid new so_far.said (reply_text reply) so_far.grown prints;
+  goes_on = λ more_lines text is. transcript_along By first (so_far.answered ++ line ∷ more_lines) ((so_far.answered ++ line ∷ []) ++ more_lines)
+      (so_far.said ++ (reply_text reply ++ text)) ((so_far.said ++ reply_text reply) ++ text)
+      (sym (append_assoc so_far.answered (line ∷ []) more_lines)) (sym (append_assoc so_far.said (reply_text reply) text))
+      (so_far.goes_on (line ∷ more_lines) (reply_text reply ++ text)
+      (transcript_on By (ends_session line) line now next more_lines reply text goes answers is));
+}
+
+pub printed_more : {S I : Type 0} (By : Answering S) (first now next : S) (Gave : I → I → List ℕ → Type 0) → InOrder Gave → (Ended : Type 0) (s t u : I)
+    (old mid new : Option (List ℕ)) (line : List ℕ) (last : Bool) (reply : Result Answer DebugFault)
+    → PrintedSoFar By first now (Gave s t) old mid → GivesLine (Gave t u) Ended line last → last ≡ false → ends_session line ≡ false
+    → AnswersTyped By line now reply next → Appends mid new (reply_text reply) → PrintedSoFar By first next (Gave s u) old new
+printed_more By first now next Gave on Ended s t u old mid new line true reply so_far gives fed goes answers prints = cc
+printed_more By first now next Gave on Ended s t u old mid new line false reply so_far gives fed goes answers prints = (
+  so_far.0 ++ (line ++ 10 ∷ []),
+  on s t u so_far.0 (line ++ 10 ∷ []) so_far.1 gives.1,
+  printed_line By first now next so_far.0 (line ++ 10 ∷ []) old mid new line reply so_far.2
+      (lines_more so_far.0 line so_far.2.answered so_far.2.are_lines gives.0) goes answers prints,
+)
 
 -- nothing more is printed
-printed_end : {S : Type 0} (By : Answering S) (first now : S) (typed left old new : Option (List ℕ)) → PrintedSoFar By first now typed left old new
-    → ((rest : List ℕ) → left ≡ Some rest → Transcript By now (input_lines rest) [])
-    → IfSome typed (λ bytes. AppendsA (Transcript By first (input_lines bytes)) old new)
-printed_end By first now None left old new so_far ends = tt
-printed_end By first now (Some bytes) left old new so_far ends = (
-  so_far.2.said,
-  transcript_along By first (so_far.2.answered ++ input_lines so_far.0) (input_lines bytes) (so_far.2.said ++ []) so_far.2.said
-      (sym so_far.2.are_lines) (append-nil so_far.2.said) (so_far.2.goes_on (input_lines so_far.0) [] (ends so_far.0 so_far.1)),
-  so_far.2.grown,
+printed_end : {S : Type 0} (By : Answering S) (first now : S) (heard more typed : List ℕ) (old new : Option (List ℕ))
+    → (so_far : Printed By first now heard old new) → typed ≡ heard ++ more → Transcript By now (input_lines more) []
+    → AppendsA (Transcript By first (input_lines typed)) old new
+printed_end By first now heard more typed old new so_far is ends = (
+  so_far.said,
+  transcript_along By first (so_far.answered ++ input_lines more) (input_lines typed) (so_far.said ++ []) so_far.said
+      (sym (ap input_lines is ∙ so_far.are_lines more)) (append-nil so_far.said) (so_far.goes_on (input_lines more) [] ends),
+  so_far.grown,
 )
 
-pub printed_all : {S : Type 0} (By : Answering S) (first now : S) (typed left after old new : Option (List ℕ))
-    → PrintedSoFar By first now typed left old new → TakesLine left after None
-    → IfSome typed (λ bytes. AppendsA (Transcript By first (input_lines bytes)) old new)
-printed_all By first now typed None after old new so_far takes = printed_end By first now typed None old new so_far (λ rest is. cc)
-printed_all By first now typed (Some more) after old new so_far takes = printed_end By first now typed (Some more) old new so_far
-    (λ rest is. let same : more ≡ rest = cc in subst (λ (ls : List (List ℕ)). Transcript By now ls []) (sym (ap input_lines (sym same) ∙ takes)) refl)
+-- the input ends behind the lines
+pub printed_all : {S I : Type 0} (By : Answering S) (first now : S) (Gave : I → I → List ℕ → Type 0) → InOrder Gave → (Ended : Type 0) (s t u : I)
+    (old new : Option (List ℕ)) (line : List ℕ) (last : Bool) → PrintedSoFar By first now (Gave s t) old new → GivesLine (Gave t u) Ended line last
+    → last ≡ true → line ≡ [] → PrintsSession By first (Gave s u) Ended old new
+printed_all By first now Gave on Ended s t u old new line false so_far gives fed empty = cc
+printed_all By first now Gave on Ended s t u old new line true so_far gives fed empty = (
+  so_far.0 ++ line,
+  on s t u so_far.0 line so_far.1 gives.1.0,
+  (inl gives.1.1, printed_end By first now so_far.0 line (so_far.0 ++ line) old new so_far.2 refl (rw empty refl)),
+)
 
-pub printed_quit : {S : Type 0} (By : Answering S) (first now : S) (typed left after old new : Option (List ℕ)) (line : List ℕ)
-    → PrintedSoFar By first now typed left old new → TakesLine left after (Some line) → ends_session line ≡ true
-    → IfSome typed (λ bytes. AppendsA (Transcript By first (input_lines bytes)) old new)
-printed_quit By first now typed None after old new line so_far takes quits = printed_end By first now typed None old new so_far (λ rest is. cc)
-printed_quit By first now typed (Some more) after old new line so_far takes quits = printed_end By first now typed (Some more) old new so_far
-    (λ rest is. let same : more ≡ rest = cc in subst (λ (ls : List (List ℕ)). Transcript By now ls []) (sym (ap input_lines (sym same) ∙ takes.1))
-    (transcript_quit (ends_session line) [] _ quits refl))
+-- the last line has no line feed
+pub printed_last : {S I : Type 0} (By : Answering S) (first now next : S) (Gave : I → I → List ℕ → Type 0) → InOrder Gave → (Ended : Type 0) (s t u : I)
+    (old mid new : Option (List ℕ)) (line : List ℕ) (last : Bool) (reply : Result Answer DebugFault)
+    → PrintedSoFar By first now (Gave s t) old mid → GivesLine (Gave t u) Ended line last → last ≡ true → 0 < length line → ends_session line ≡ false
+    → AnswersTyped By line now reply next → Appends mid new (reply_text reply) → PrintsSession By first (Gave s u) Ended old new
+printed_last By first now next Gave on Ended s t u old mid new line false reply so_far gives fed some goes answers prints = cc
+printed_last By first now next Gave on Ended s t u old mid new [] true reply so_far gives fed some goes answers prints =
+    let never : ⊥ = omega (arith, some) in absurd never
+printed_last By first now next Gave on Ended s t u old mid new (b ∷ bs) true reply so_far gives fed some goes answers prints =
+    let line : List ℕ = b ∷ bs in
+    let is : Transcript By now (input_lines line) (reply_text reply ++ []) =
+    transcript_along By now (line ∷ []) (input_lines line) (reply_text reply ++ []) (reply_text reply ++ []) (sym (line_alone b bs gives.0)) refl
+    (transcript_on By (ends_session line) line now next [] reply [] goes answers refl) in
+    let all = so_far.2.goes_on (input_lines line) (reply_text reply ++ []) is in
+    (
+      so_far.0 ++ line,
+      on s t u so_far.0 line so_far.1 gives.1.0,
+      (
+        inl gives.1.1,
+        (
+          so_far.2.said ++ (reply_text reply ++ []),
+          transcript_along By first (so_far.2.answered ++ input_lines line) (input_lines (so_far.0 ++ line)) (so_far.2.said ++ (reply_text reply ++ []))
+              (so_far.2.said ++ (reply_text reply ++ [])) (sym (so_far.2.are_lines line)) refl all,
+          subst (λ (l : List ℕ). Appends old new (so_far.2.said ++ l)) (sym (append-nil (reply_text reply)))
+              (appends_both old mid new so_far.2.said (reply_text reply) so_far.2.grown prints),
+        ),
+      ),
+    )
+
+-- the line is `quit`
+pub printed_quit : {S I : Type 0} (By : Answering S) (first now : S) (Gave : I → I → List ℕ → Type 0) → InOrder Gave → (Ended : Type 0) (s t u : I)
+    (old new : Option (List ℕ)) (line : List ℕ) (last : Bool) → PrintedSoFar By first now (Gave s t) old new → GivesLine (Gave t u) Ended line last
+    → (last ≡ true → 0 < length line) → ends_session line ≡ true → PrintsSession By first (Gave s u) Ended old new
+printed_quit By first now Gave on Ended s t u old new line false so_far gives some quits = (
+  so_far.0 ++ (line ++ 10 ∷ []),
+  on s t u so_far.0 (line ++ 10 ∷ []) so_far.1 gives.1,
+  (
+    inr (record {
+      before = so_far.0;
+      line = line;
+      lines = so_far.2.answered;
+      is = refl;
+      are_lines = so_far.2.are_lines (line ++ 10 ∷ []) ∙ ap (λ (ls : List (List ℕ)). so_far.2.answered ++ ls) (line_fed line [] gives.0);
+      quits = quits;
+    }),
+    printed_end By first now so_far.0 (line ++ 10 ∷ []) (so_far.0 ++ (line ++ 10 ∷ [])) old new so_far.2 refl
+        (subst (λ (ls : List (List ℕ)). Transcript By now ls []) (sym (line_fed line [] gives.0)) (transcript_quit (ends_session line) [] _ quits refl)),
+  ),
+)
+printed_quit By first now Gave on Ended s t u old new [] true so_far gives some quits = let never : ⊥ = omega (arith, some refl) in absurd never
+printed_quit By first now Gave on Ended s t u old new (b ∷ bs) true so_far gives some quits = (
+  so_far.0 ++ (b ∷ bs),
+  on s t u so_far.0 (b ∷ bs) so_far.1 gives.1.0,
+  (
+    inl gives.1.1,
+    printed_end By first now so_far.0 (b ∷ bs) (so_far.0 ++ (b ∷ bs)) old new so_far.2 refl
+        (subst (λ (ls : List (List ℕ)). Transcript By now ls []) (sym (line_alone b bs gives.0)) (transcript_quit (ends_session (b ∷ bs)) [] _ quits refl)),
+  ),
+)
 
 -- a session that is refused has printed its replies to the lines that it has answered
-pub printed_cut : {S : Type 0} (By : Answering S) (first now : S) (typed left old new : Option (List ℕ)) → PrintedSoFar By first now typed left old new
-    → IfSome typed (λ bytes. AppendsA (BeginsTranscript By first (input_lines bytes)) old new)
-printed_cut By first now None left old new so_far = tt
-printed_cut By first now (Some bytes) left old new so_far = (
-  so_far.2.said,
-  record {
-    answered = so_far.2.answered;
-    left = input_lines so_far.0;
-    are_lines = so_far.2.are_lines;
-    prints = transcript_along By first (so_far.2.answered ++ []) so_far.2.answered (so_far.2.said ++ []) so_far.2.said
-        (append-nil so_far.2.answered) (append-nil so_far.2.said) (so_far.2.goes_on [] [] refl);
-  },
-  so_far.2.grown,
+pub printed_cut : {S I : Type 0} (By : Answering S) (first now : S) (Gave : I → I → List ℕ → Type 0) → InOrder Gave → (s t u : I)
+    (old new : Option (List ℕ)) → PrintedSoFar By first now (Gave s t) old new → GivesSome (Gave t u)
+    → Of (Gave s u) (λ typed. AppendsA (BeginsTranscript By first (input_lines typed)) old new)
+printed_cut By first now Gave on s t u old new so_far gives = (
+  so_far.0 ++ gives.0,
+  on s t u so_far.0 gives.0 so_far.1 gives.1,
+  (
+    so_far.2.said,
+    record {
+      answered = so_far.2.answered;
+      left = input_lines gives.0;
+      are_lines = so_far.2.are_lines gives.0;
+      prints = transcript_along By first (so_far.2.answered ++ []) so_far.2.answered (so_far.2.said ++ []) so_far.2.said
+          (append-nil so_far.2.answered) (append-nil so_far.2.said) (so_far.2.goes_on [] [] refl);
+    },
+    so_far.2.grown,
+  ),
 )
+
+pub cut_on : {A : Type 0} (result : Result A Unanswered) (P Q : Type 0) → (P → Q) → IfErr result (WhereRefused P) → IfErr result (WhereRefused Q)
+cut_on (Ok value) P Q more is = tt
+cut_on (Err Failed) P Q more is = tt
+cut_on (Err (Refused fault)) P Q more is = more is
 
 -- an input that hasn't failed so far
 pub counts_first : (count : Option ℕ) → CountsNone count count

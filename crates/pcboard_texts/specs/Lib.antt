@@ -1,3 +1,4 @@
+pub mod Given
 pub mod ImageReport
 pub mod RunFaults
 pub mod Transcript
@@ -6,3 +7,4 @@ pub mod Answer
 pub mod ReadyBoard
 pub mod Refusal
 pub mod Unanswered
+pub mod Printing

@@ -1,15 +1,10 @@
 -- A board that is ready to run, as the program's functions pass it on.
 -- To be believed by callers of this crate: the headline does not rest on it.
-use Rattle.std.specs.Prelude.{ℕ, ◌≡◌, Bool, true, false, List, [], take}
+use Rattle.std.specs.Prelude.{ℕ, ◌≡◌, List, []}
 use Rattle.board_plain.specs.Board.{BoardState}
 use Rattle.board_plain.specs.Plain.{power_on}
 use Rattle.loader.specs.declared.run_file.RunFile.{RunFile}
 use Rattle.pcboard_texts.specs.ImageReport.{config_of}
-
--- what is read of a program's file: a HEX text as a whole, if `hex`, else one byte more than a source may have
-abbrev pub seen_of : Bool → List ℕ → List ℕ
-seen_of true bytes = bytes
-seen_of false bytes = take 1048577 bytes
 
 -- the board of an image at power-on, as the run file says: no change of the speaker is past, and the trail is empty
 pub record IsAtPowerOn (image : List (ℕ × ℕ)) (run : RunFile) (board : BoardState) : Type 0 where

@@ -1,7 +1,7 @@
 -- What the program prints if it gives no answer.
 -- To be believed: the headline rests on it.
-use Rattle.std.specs.Prelude.{ℕ, ◌≡◌, ◌⊎◌, ◌++◌, Bool, true, false, List, codes}
-use Rattle.std.specs.Prelude.{Option, None, IfSome, Ok, Err, string_bytes}
+use Rattle.std.specs.Prelude.{ℕ, ◌≡◌, ◌⊎◌, Bool, true, false, ◌++◌, List, codes}
+use Rattle.std.specs.Prelude.{Option, None, Ok, Err, string_bytes}
 use Rattle.std.specs.Io.KnownBytes.{Appends}
 use Rattle.assembler.specs.FirstFault.{IsFirst}
 use Rattle.assembler.specs.declared.fault.AsmFault.TheVariants as asm
@@ -18,6 +18,7 @@ use Rattle.pcboard_words.specs.declared.task.Task.{Task}
 use Rattle.pcboard_words.specs.declared.task.Task.TheVariants as tasks
 use Rattle.pcboard_texts.specs.declared.fault.Fault.{Fault}
 use Rattle.pcboard_texts.specs.declared.fault.Fault.TheVariants.{Source, Hex, Run, Board, Session}
+use Rattle.pcboard_texts.specs.Given.{Given, Of, limit_of}
 use Rattle.pcboard_texts.specs.RunFaults.{fault_text}
 use Rattle.pcboard_texts.specs.Answer.{AppendsA, IsBoardOf, IsTrueRefusal, Reading, run_text_of, source_of}
 use Rattle.pcboard_texts.specs.Transcript.{Answering, AnswersCommand, Transcript, input_lines}
@@ -55,27 +56,27 @@ abbrev pub IsTrueOfText : List ℕ → Fault → Type 0
 IsTrueOfText source (Source fault) = IsFirst source fault
 IsTrueOfText source _ = ⊥
 
--- a refusal is true of the bytes of a program and of a run file, if these are known
-abbrev pub IsTrueOfFiles : Bool → Option (List ℕ) → Option (List ℕ) → Fault → Type 0
-IsTrueOfFiles hex file run fault = IfSome file (λ bytes. IfSome run (λ said. IsTrueRefusal hex bytes said fault))
-
--- a refusal is true of a task, if the files and the input that it is judged by are known
-abbrev pub IsTrueOfTask : Task → (List ℕ → Option (List ℕ)) → Option (List ℕ) → Fault → Type 0
-IsTrueOfTask tasks.Stored files input fault =
-    IfSome input (λ text. IsTrueRefusal false (source_of text) (run_text_of text) fault)
-IsTrueOfTask (tasks.Asm file list) files input fault = IfSome (files file.now) (λ source. IsTrueOfText source fault)
-IsTrueOfTask (tasks.Run file run hex) files input fault = IsTrueOfFiles hex (files file.now) (files run.now) fault
-IsTrueOfTask (tasks.Debug file run hex) files input fault = IsTrueOfFiles hex (files file.now) (files run.now) fault
+-- a refusal is true of what the reads gave that the task is judged by
+abbrev pub IsTrueOfTask : Task → Given → Fault → Type 0
+IsTrueOfTask tasks.Stored given fault =
+    given.ended × Of given.typed (λ text. IsTrueRefusal false (source_of text) (run_text_of text) fault)
+IsTrueOfTask (tasks.Asm file list) given fault = Of (given.one file.now (limit_of false)) (λ source. IsTrueOfText source fault)
+IsTrueOfTask (tasks.Run file run hex) given fault =
+    (bytes : List ℕ) × Of (given.two file.now (limit_of hex) bytes run.now (limit_of true))
+    (λ said. IsTrueRefusal hex bytes said fault)
+IsTrueOfTask (tasks.Debug file run hex) given fault =
+    (bytes : List ℕ) × Of (given.two file.now (limit_of hex) bytes run.now (limit_of true))
+    (λ said. IsTrueRefusal hex bytes said fault)
 
 -- The refusal is for want of memory for the words; or these name a task, and it is for want of memory in that task, or
 -- true of it: for a program that reads words in this way.
-abbrev pub IsTrueOfWordsFor : Reading → List (List ℕ) → (List ℕ → Option (List ℕ)) → Option (List ℕ) → Fault → Type 0
-IsTrueOfWordsFor Reads words files input fault =
+abbrev pub IsTrueOfWordsFor : Reading → List (List ℕ) → Given → Fault → Type 0
+IsTrueOfWordsFor Reads words given fault =
     (fault ≡ want_of_board)
-    ⊎ ((task : Task) × Reads words (Ok task) × (IsWantOfTask task fault ⊎ IsTrueOfTask task files input fault))
+    ⊎ ((task : Task) × Reads words (Ok task) × (IsWantOfTask task fault ⊎ IsTrueOfTask task given fault))
 
 -- the refusal is true of the words, as `pcboard` reads them
-abbrev pub IsTrueOfWords : List (List ℕ) → (List ℕ → Option (List ℕ)) → Option (List ℕ) → Fault → Type 0
+abbrev pub IsTrueOfWords : List (List ℕ) → Given → Fault → Type 0
 IsTrueOfWords = IsTrueOfWordsFor AnswersWords
 
 -- the known bytes grow by the line of one of these refusals
@@ -104,25 +105,21 @@ pub record BeginsSession {S : Type 0} (By : Answering S) (hex : Bool) (bytes run
   pub is_board : IsBoardOf hex bytes run board
   pub begins : BeginsTranscript By (By.begins board) (input_lines typed) text
 
--- a session's task adds its replies up to the refusal, if the files and the input that it reads are known; no other
--- task adds any
-abbrev pub PrintsReplies : {S : Type 0} → Answering S → Task → (List ℕ → Option (List ℕ))
-    → Option (List ℕ) → Option (List ℕ) → Option (List ℕ) → Type 0
-PrintsReplies By (tasks.Debug file run hex) files input old new =
-    IfSome (files file.now) (λ bytes. IfSome (files run.now)
-    (λ said. IfSome input (λ typed. AppendsA (BeginsSession By hex bytes said typed) old new)))
-PrintsReplies By _ files input old new = ⊥
+-- a session's task adds its replies up to the refusal, by what the reads gave; no other task adds any
+abbrev pub PrintsReplies : {S : Type 0} → Answering S → Task → Given → Option (List ℕ) → Option (List ℕ) → Type 0
+PrintsReplies By (tasks.Debug file run hex) given old new =
+    (bytes : List ℕ) × Of (given.two file.now (limit_of hex) bytes run.now (limit_of true))
+    (λ said. Of given.typed (λ typed. AppendsA (BeginsSession By hex bytes said typed) old new))
+PrintsReplies By _ given old new = ⊥
 
 -- Nothing is printed beside a refusal, unless the words name a session, which prints replies as it goes: for a program
 -- that reads words and answers lines in these ways.
-abbrev pub PrintsNoAnswerFor : {S : Type 0} → Reading → Answering S → List (List ℕ)
-    → (List ℕ → Option (List ℕ)) → Option (List ℕ) → Option (List ℕ) → Option (List ℕ) → Type 0
-PrintsNoAnswerFor Reads By words files input old new =
-    (new ≡ old) ⊎ ((task : Task) × Reads words (Ok task) × PrintsReplies By task files input old new)
+abbrev pub PrintsNoAnswerFor : {S : Type 0} → Reading → Answering S → List (List ℕ) → Given → Option (List ℕ) → Option (List ℕ) → Type 0
+PrintsNoAnswerFor Reads By words given old new =
+    (new ≡ old) ⊎ ((task : Task) × Reads words (Ok task) × PrintsReplies By task given old new)
 
 -- `pcboard` prints nothing beside a refusal, unless the words name a session, which prints replies as it goes
-abbrev pub PrintsNoAnswer : List (List ℕ) → (List ℕ → Option (List ℕ)) → Option (List ℕ) → Option (List ℕ)
-    → Option (List ℕ) → Type 0
+abbrev pub PrintsNoAnswer : List (List ℕ) → Given → Option (List ℕ) → Option (List ℕ) → Type 0
 PrintsNoAnswer = PrintsNoAnswerFor AnswersWords AnswersCommand
 
 -- the known bytes grow by the text of words that name no task

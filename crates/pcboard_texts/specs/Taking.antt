@@ -1,14 +1,20 @@
--- What one step of reading takes of an input.
+-- What one step of reading gives.
 -- To be believed by callers of this crate: the headline does not rest on it.
-use Rattle.std.specs.Prelude.{ℕ, ◌≡◌, List, [], ◌∷◌, Option, Some, MatchOption, IfSome}
-use Rattle.pcboard_texts.specs.Transcript.{input_lines}
+use Rattle.std.specs.Prelude.{ℕ, ◌≡◌, ◌==◌, Bool, false, List, [], ◌∷◌, ◌++◌, Option, MatchOption, MatchBool}
 
--- the known bytes of an input lose their first, which is this byte, or there are none
-abbrev pub TakesByte : Option (List ℕ) → Option (List ℕ) → Option ℕ → Type 0
-TakesByte old new byte = IfSome old (λ bytes. MatchOption byte ((bytes ≡ []) × (new ≡ Some []))
-    (λ b. (rest : List ℕ) × (bytes ≡ b ∷ rest) × (new ≡ Some rest)))
+-- the input gave this byte, or nothing at its end
+abbrev pub GivesByte : (List ℕ → Type 0) → Type 0 → Option ℕ → Type 0
+GivesByte Gave Ended byte = MatchOption byte (Gave [] × Ended) (λ b. Gave (b ∷ []))
 
--- the known bytes of an input lose their first line, which is this one, or there is none
-abbrev pub TakesLine : Option (List ℕ) → Option (List ℕ) → Option (List ℕ) → Type 0
-TakesLine old new line = IfSome old (λ bytes. MatchOption line (input_lines bytes ≡ [])
-    (λ text. (rest : List ℕ) × (input_lines bytes ≡ text ∷ input_lines rest) × (new ≡ Some rest)))
+-- no line feed stands in it
+abbrev pub NoFeed : List ℕ → Type 0
+NoFeed [] = Unit {0}
+NoFeed (b ∷ bs) = ((b == 10) ≡ false) × NoFeed bs
+
+-- the input gave this line and its line feed, or, if it is the last, the line and then its end
+abbrev pub GivesLine : (List ℕ → Type 0) → Type 0 → List ℕ → Bool → Type 0
+GivesLine Gave Ended line last = NoFeed line × MatchBool last (Gave line × Ended) (Gave (line ++ 10 ∷ []))
+
+-- the input gave something
+abbrev pub GivesSome : (List ℕ → Type 0) → Type 0
+GivesSome Gave = (bytes : List ℕ) × Gave bytes

@@ -1,17 +1,18 @@
 //! What an assembler prints of a source: its HEX text or its listing.
-ghost use Rattle.std.specs.Prelude.{◌≡◌, List, [], length, IfErr, IfSome, IsErrAnd, OnOk, false};
+ghost use Rattle.std.specs.Prelude.{◌≡◌, List, [], length, IfErr, IsErrAnd, OnOk, false};
 ghost use Rattle.std.specs.Io.KnownBytes.{Appends};
 ghost use Rattle.board_types.specs.TextLines.{text_lines};
 ghost use Rattle.assembler.specs.Gives.{Gives};
 ghost use Rattle.assembler.specs.LocatedLines.{AreLocatedLines, LocatedLine, names_of};
 ghost use Rattle.loader.specs.HexText.{hex_text};
+ghost use Rattle.pcboard_texts.specs.Given.{Of, limit_of};
 ghost use Rattle.pcboard_texts.specs.Answer.{AppendsA, IsAssembled, IsListingOf};
 ghost use Rattle.pcboard_texts.specs.Refusal.{IsTrueOfText, want_of_file};
 ghost use Rattle.pcboard_texts.specs.Unanswered.{EndsFor, IsUnjudged, WhereRefused};
 
 use crate::input::read_program;
 use crate::listing::listing_text;
-use crate::opener::Opener;
+use crate::files::Files;
 use crate::telling::print;
 use crate::unanswered::Unanswered;
 use assembler::assembly::assemble;
@@ -23,19 +24,19 @@ use std::io::Write;
 
 /// Assembles the source `file` for `asm` on the command line: prints its listing if `list`, else the HEX text of its
 /// image. Refused with the source's first fault, and then nothing is printed.
-pub fn print_assembled<F: Opener, O: Write>(
+pub fn print_assembled<F: Files, O: Write>(
     alloc: Global,
-    files: &F,
+    files: &mut F,
     file: &str,
     list: bool,
     out: &mut O,
 ) -> Result<(), Unanswered>
-    ensures printed { OnOk result (IfSome (F.file_bytes files.now file.now)
+    ensures printed { OnOk result (Of (F.gave files.old files.new file.now (limit_of false))
         (λ source. AppendsA (IsAssembled list source) (O.contents out.old) (O.contents out.new))) }
     ensures kept { IfErr result (WhereRefused (O.contents out.new ≡ O.contents out.old)) }
     ensures end { IfErr result (EndsFor (λ fault. fault ≡ want_of_file false)
-        (λ fault. IfSome (F.file_bytes files.now file.now) (λ source. IsTrueOfText source fault))) }
-    ensures lacking { F.lacks files.now file.now → IsErrAnd result (IsUnjudged (λ fault. fault ≡ want_of_file false)) }
+        (λ fault. Of (F.gave files.old files.new file.now (limit_of false)) (λ source. IsTrueOfText source fault))) }
+    ensures lacking { F.lacks files.old file.now → IsErrAnd result (IsUnjudged (λ fault. fault ≡ want_of_file false)) }
 {
     let source = read_program(alloc, files, file, false)?;
     let listing = assemble(alloc, source.as_slice())?;

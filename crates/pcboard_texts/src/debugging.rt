@@ -1,11 +1,11 @@
 //! The lines that are typed in a session, and its replies as they are printed.
-ghost use Rattle.std.specs.Prelude.{◌≡◌, option_map, IfErr, IfOk, OnOk, vec_items};
+ghost use Rattle.std.specs.Prelude.{◌≡◌, IfErr, IfOk, OnOk};
 ghost use Rattle.std.specs.Io.KnownBytes.{Appends};
 ghost use Rattle.loader.specs.ByteInput.{CountsNone};
 ghost use Rattle.pcboard_texts.specs.Refusal.{want_of_board};
-ghost use Rattle.pcboard_texts.specs.Taking.{TakesLine};
+ghost use Rattle.pcboard_texts.specs.Taking.{GivesLine, GivesSome};
 ghost use Rattle.pcboard_texts.specs.Transcript.{ends_session, refusal_text, reply_text};
-ghost use Rattle.pcboard_texts.specs.Unanswered.{IsUnjudged, UnlessFailed};
+ghost use Rattle.pcboard_texts.specs.Unanswered.{IsUnjudged, UnlessFailed, WhereRefused};
 
 use crate::input::next_byte;
 use crate::unanswered::Unanswered;
@@ -17,21 +17,21 @@ use std::alloc::Global;
 use std::io;
 use std::io::Write;
 
-/// Reads the next line that is typed in a session, without its line feed; `None` at the end of the input, which ends
-/// the session.
-pub fn next_line<I: ByteInput>(alloc: Global, input: &mut I) -> Result<Option<Vec<u8>>, Unanswered>
-    ensures line { IfOk result (λ line. TakesLine (I.remaining input.old) (I.remaining input.new)
-        (option_map vec_items line)) }
+/// Reads the next line that is typed in a session, without its line feed, and whether the input's end came in place of
+/// that, which ends the session.
+pub fn next_line<I: ByteInput>(alloc: Global, input: &mut I) -> Result<(Vec<u8>, bool), Unanswered>
+    ensures line { IfOk result (λ read. GivesLine (I.gave input.old input.new) (I.ended input.new) read.0.items read.1) }
+    ensures begun { IfErr result (WhereRefused (GivesSome (I.gave input.old input.new))) }
     ensures end { IfErr result (IsUnjudged (λ fault. fault ≡ want_of_board)) }
     ensures unfailed { UnlessFailed (CountsNone (I.failures input.old) (I.failures input.new)) result }
 {
     let mut line = Vec::new(alloc);
     'bytes: for _ in 0..u64::MAX {
         let Some(byte) = next_byte(input)? else {
-            return Ok(if line.is_empty() { None } else { Some(line) });
+            return Ok((line, true));
         };
         if byte == b'\n' {
-            return Ok(Some(line));
+            return Ok((line, false));
         }
         line.push(byte)?;
     }

@@ -1,13 +1,13 @@
 //! What the program reads.
-ghost use Rattle.std.specs.Prelude.{◌≡◌, ◌⊎◌, take, IfErr, IfOk, IfSome, IsErrAnd, IsErrOf};
-ghost use Rattle.loader.specs.ByteInput.{CountsNone};
+ghost use Rattle.std.specs.Prelude.{◌≡◌, ◌⊎◌, true, ℕ, List, IfErr, IfOk, OnOk, IsErrAnd, IsErrOf};
+ghost use Rattle.loader.specs.ByteInput.{CountsNone, IsAllWanted};
 ghost use Rattle.pcboard_texts.specs.Refusal.{want_of_file, want_of_run_file};
 ghost use Rattle.pcboard_texts.specs.Unanswered.{IsUnjudged, UnlessFailed};
-ghost use Rattle.pcboard_texts.specs.ReadyBoard.{seen_of};
-ghost use Rattle.pcboard_texts.specs.Taking.{TakesByte};
+ghost use Rattle.pcboard_texts.specs.Given.{GaveTwo, limit_of};
+ghost use Rattle.pcboard_texts.specs.Taking.{GivesByte};
 
 use crate::fault::Fault;
-use crate::opener::Opener;
+use crate::files::Files;
 use crate::unanswered::Unanswered;
 use assembler::fault::AsmFault;
 use loader::byte_input::{ByteInput, ReadFault, read_all};
@@ -19,56 +19,74 @@ use std::alloc::Global;
 const SOURCE_READ_LIMIT: u64 = 1_048_577;
 
 /// Reads a program's file: a HEX text as a whole, if `hex`, else as much of a source as shows whether it is too long.
-pub(crate) fn read_program<F: Opener>(
+pub(crate) fn read_program<F: Files>(
     alloc: Global,
-    files: &F,
+    files: &mut F,
     path: &str,
     hex: bool,
 ) -> Result<Vec<u8>, Unanswered>
-    ensures bytes { IfSome (F.file_bytes files.now path.now)
-        (λ known. IfOk result (λ bytes. bytes.items ≡ seen_of hex known)) }
+    ensures bytes { IfOk result (λ bytes. F.gave files.old files.new path.now (limit_of hex) bytes.items) }
     ensures end { IfErr result (IsUnjudged (λ fault. fault ≡ want_of_file hex)) }
-    ensures lacking { F.lacks files.now path.now → IsErrOf result Unanswered.Failed }
+    ensures lacking { F.lacks files.old path.now → IsErrOf result Unanswered.Failed }
+    ensures lacks_on { (name : List ℕ) → F.lacks files.old name → F.lacks files.new name }
 {
-    let mut file = files.open(path)?;
     if hex {
-        read_whole(alloc, &mut file, Fault::Hex(HexFault::Memory))
+        read_file(alloc, files, path, u64::MAX, Fault::Hex(HexFault::Memory))
     } else {
         let want = Fault::Source(AsmFault::Memory);
-        read_front(alloc, &mut file, SOURCE_READ_LIMIT, want)
+        read_file(alloc, files, path, SOURCE_READ_LIMIT, want)
+    }
+}
+
+/// Reads the first `limit` bytes of a file, or all. `want` is the refusal if there is no memory for them.
+fn read_file<F: Files>(
+    alloc: Global,
+    files: &mut F,
+    path: &str,
+    limit: u64,
+    want: Fault,
+) -> Result<Vec<u8>, Unanswered>
+    ensures bytes { IfOk result (λ bytes. F.gave files.old files.new path.now limit bytes.items) }
+    ensures end { IfErr result (IsUnjudged (λ fault. fault ≡ want)) }
+    ensures lacking { F.lacks files.old path.now → IsErrOf result Unanswered.Failed }
+    ensures lacks_on { (name : List ℕ) → F.lacks files.old name → F.lacks files.new name }
+{
+    match files.read(alloc, path, limit) {
+        Ok(bytes) => Ok(bytes),
+        Err(ReadFault::Failed) => Err(Unanswered::Failed),
+        Err(ReadFault::Memory) => Err(Unanswered::Refused(want)),
     }
 }
 
 /// Reads the files that a run or a session names: the program's, as `read_program` does, and the run file. Both are
 /// read before either is judged, so that nothing is judged if one can't be opened.
-pub fn read_files<F: Opener>(
+pub fn read_files<F: Files>(
     alloc: Global,
-    files: &F,
+    files: &mut F,
     file: &str,
     run: &str,
     hex: bool,
 ) -> Result<(Vec<u8>, Vec<u8>), Unanswered>
-    ensures bytes { IfSome (F.file_bytes files.now file.now)
-        (λ known. IfOk result (λ read. read.0.items ≡ seen_of hex known)) }
-    ensures said { IfSome (F.file_bytes files.now run.now) (λ known. IfOk result (λ read. read.1.items ≡ known)) }
+    ensures bytes { IfOk result (λ read. GaveTwo F.gave files.old files.new file.now (limit_of hex) read.0.items
+        run.now (limit_of true) read.1.items) }
     ensures end { IfErr result (IsUnjudged (λ fault. fault ≡ want_of_file hex ⊎ fault ≡ want_of_run_file)) }
-    ensures lacking { F.lacks files.now file.now ⊎ F.lacks files.now run.now
+    ensures lacking { F.lacks files.old file.now ⊎ F.lacks files.old run.now
         → IsErrAnd result (IsUnjudged (λ fault. fault ≡ want_of_file hex)) }
 {
     let bytes = read_program(alloc, files, file, hex)?;
-    let mut run = files.open(run)?;
-    let said = read_whole(alloc, &mut run, Fault::Run(RunFault::Memory))?;
+    let said = read_file(alloc, files, run, u64::MAX, Fault::Run(RunFault::Memory))?;
     Ok((bytes, said))
 }
 
-/// Reads all that `input` still has to give, for files and for a stored run on standard input. `want` is the refusal if
-/// there is no memory for it.
+/// Reads all that `input` still has to give, for a stored run on standard input. `want` is the refusal if there is no
+/// memory for it.
 pub fn read_whole<I: ByteInput>(
     alloc: Global,
     input: &mut I,
     want: Fault,
 ) -> Result<Vec<u8>, Unanswered>
-    ensures bytes { IfSome (I.remaining input.old) (λ known. IfOk result (λ bytes. bytes.items ≡ known)) }
+    ensures bytes { IfOk result (λ bytes. I.gave input.old input.new bytes.items) }
+    ensures all { OnOk result (I.ended input.new) }
     ensures end { IfErr result (IsUnjudged (λ fault. fault ≡ want)) }
     ensures unfailed { UnlessFailed (CountsNone (I.failures input.old) (I.failures input.new)) result }
 {
@@ -85,7 +103,8 @@ fn read_front<I: ByteInput>(
     limit: u64,
     want: Fault,
 ) -> Result<Vec<u8>, Unanswered>
-    ensures bytes { IfSome (I.remaining input.old) (λ known. IfOk result (λ bytes. bytes.items ≡ take limit known)) }
+    ensures bytes { IfOk result (λ bytes. I.gave input.old input.new bytes.items) }
+    ensures all { IfOk result (λ bytes. IsAllWanted limit (I.ended input.new) bytes.items) }
     ensures end { IfErr result (IsUnjudged (λ fault. fault ≡ want)) }
     ensures unfailed { UnlessFailed (CountsNone (I.failures input.old) (I.failures input.new)) result }
 {
@@ -98,7 +117,7 @@ fn read_front<I: ByteInput>(
 
 /// Reads the next byte of what is typed, for `next_line`; `None` at the end of the input.
 pub(crate) fn next_byte<I: ByteInput>(input: &mut I) -> Result<Option<u8>, Unanswered>
-    ensures byte { IfOk result (TakesByte (I.remaining input.old) (I.remaining input.new)) }
+    ensures byte { IfOk result (GivesByte (I.gave input.old input.new) (I.ended input.new)) }
     ensures end { IfErr result (λ end. end ≡ Unanswered.Failed) }
     ensures unfailed { UnlessFailed (CountsNone (I.failures input.old) (I.failures input.new)) result }
 {

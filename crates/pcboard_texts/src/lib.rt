@@ -6,6 +6,7 @@
 pub mod assembled;
 pub mod debugging;
 pub mod fault;
+pub mod files;
 pub mod input;
 mod listing;
 pub mod opener;

@@ -1,5 +1,6 @@
 //! Where the program finds its files.
-ghost use Rattle.std.specs.Prelude.{◌≡◌, ℕ, List, Option, None, Some, IfOk, IfSome, IsErr};
+ghost use Rattle.std.specs.Prelude.{ℕ, List, Option, None, IfOk, IfSome, IsErr};
+ghost use Rattle.pcboard_texts.specs.Given.{ReadsAs};
 
 use loader::byte_input::ByteInput;
 use std::io;
@@ -17,6 +18,6 @@ pub trait Opener {
     /// Opens the file at `path`.
     fn open(&self, path: &str) -> io::Result<Self::Input>
         ensures bytes { IfSome (file_bytes self.now path.now)
-            (λ bytes. IfOk result (λ file. Self.Input.remaining file ≡ Some bytes)) }
+            (λ bytes. IfOk result (λ file. ReadsAs Self.Input.gave Self.Input.ended file bytes)) }
         ensures lacking { lacks self.now path.now → IsErr result };
 }

@@ -1,24 +1,27 @@
 //! The program `pcprobe`, on the files and streams of the system.
 #![tactic(auto)]
 
+mod program;
 mod tool;
 
-use crate::tool::Pcprobe;
-use pcboard_program::program::program_of;
+use crate::program::program;
+use loader::heard::Heard;
+use pcboard_texts::files::ReadFiles;
 use pcboard_texts::system::run_on_system;
 use std::process::ExitCode;
+use streams::kept::Kept;
 
 /// Runs `pcprobe` on the words of its command line, the system's files and standard streams: begins a session and
 /// answers the lines typed until `quit`.
 fn main(rt: HostRuntime) -> ExitCode {
     run_on_system(&rt, |words, files| {
-        program_of::<Pcprobe, _, _, _, _>(
+        program(
             rt.alloc(),
             words,
-            files,
-            &mut rt.stdin(),
-            &mut rt.stdout(),
-            &mut rt.stderr(),
+            &mut ReadFiles::new(*files),
+            &mut Heard::new(rt.stdin()),
+            &mut Kept::new(rt.stdout()),
+            &mut Kept::new(rt.stderr()),
         )
     })
 }

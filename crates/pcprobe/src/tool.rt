@@ -1,7 +1,7 @@
 //! The words that the program takes, and its answers to typed lines.
 ghost use Rattle.pcboard_words.specs.ProbeLine.{AnswersProbe as AnswersWords};
 ghost use Rattle.pcboard_words.proofs.Files.{one_session};
-ghost use Rattle.probe.specs.Probe.{AnswersStopping, probe_about};
+ghost use Rattle.pcprobe.specs.Program.{AnswersProbing};
 
 use board::board::Board;
 use debugger_meaning::answer::Answer;
@@ -20,7 +20,7 @@ impl Tool for Pcprobe {
 
     type Session = Probe;
 
-    ghost answers = { record { begins = probe_about; answers = AnswersStopping } };
+    ghost answers = { AnswersProbing };
 
     ghost one_task = { one_session };
 

@@ -1,11 +1,10 @@
 use Rattle.std.proofs.Common.{◌≤◌, length, ◌-◌}
-use Rattle.std.specs.Io.KnownBytes.{Consumes}
 use Rattle.loader.specs.ByteInput.{CountsNone}
 use Rattle.loader.proofs.byte_input.read_all.Given as goal
 
 abbrev pub invariant-pieces : goal.invariant-pieces
 invariant-pieces g l =
-    Consumes (g.I.ByteInput.remaining l.fn.input) (g.I.ByteInput.remaining l.input) l.bytes.items
+    g.I.ByteInput.gave l.fn.input l.input l.bytes.items
     × CountsNone (g.I.ByteInput.failures l.fn.input) (g.I.ByteInput.failures l.input)
     × (length l.bytes.items ≤ l.limit)
 

@@ -1,9 +1,11 @@
-use Rattle.std.proofs.Common.{◌≡◌, ◌⊎◌, inl, inr, IfErr, IfSome, OnOk, Result, Ok, Err, subst}
+use Rattle.std.proofs.Common.{◌≡◌, ◌⊎◌, inl, inr, IfErr, OnOk, Result, Ok, Err, subst}
 use Rattle.pcboard_texts.specs.declared.unanswered.Unanswered.{Unanswered}
 use Rattle.pcboard_texts.specs.declared.unanswered.Unanswered.TheVariants.{Failed, Refused}
+use Rattle.pcboard_texts.specs.Given.{Of}
 use Rattle.pcboard_texts.specs.Answer.{AppendsA}
+use Rattle.pcboard_texts.specs.Printing.{PrintsSession}
 use Rattle.pcboard_texts.specs.Refusal.{BeginsTranscript, want_of_board, want_of_session}
-use Rattle.pcboard_texts.specs.Transcript.{Transcript, input_lines}
+use Rattle.pcboard_texts.specs.Transcript.{input_lines}
 use Rattle.pcboard_texts.specs.Unanswered.{WhereRefused}
 use Rattle.pcboard_texts.proofs.Refusals.{unjudged_wider}
 use Rattle.pcboard_program.proofs.debugging.print_session.Goals as goal
@@ -16,16 +18,16 @@ or_nothing A B (Err (Refused fault)) is = inr is
 pub returns-clause-transcript : goal.returns-clause-transcript
 returns-clause-transcript g c =
     subst
-    (λ (session : _). OnOk c.answer_lines-answered.result (IfSome (g.I.ByteInput.remaining c.args.input.now)
-    (λ typed. AppendsA (Transcript g.T.Tool.answers session (input_lines typed))
-    (g.O.Write.contents c.args.out.now) (g.O.Write.contents c.answer_lines-answered.new.out))))
+    (λ (session : _). OnOk c.answer_lines-answered.result (PrintsSession g.T.Tool.answers session
+    (g.I.ByteInput.gave c.args.input.now c.answer_lines-answered.new.input) (g.I.ByteInput.ended c.answer_lines-answered.new.input)
+    (g.O.Write.contents c.args.out.now) (g.O.Write.contents c.answer_lines-answered.new.out)))
     c.in_ok-session.ensures.session c.answer_lines-answered.ensures.transcript
 
 pub returns-clause-cut : goal.returns-clause-cut
 returns-clause-cut g c =
     or_nothing (g.O.Write.contents c.answer_lines-answered.new.out ≡ g.O.Write.contents c.args.out.now) _ c.answer_lines-answered.result
     (subst
-    (λ (session : _). IfErr c.answer_lines-answered.result (WhereRefused (IfSome (g.I.ByteInput.remaining c.args.input.now)
+    (λ (session : _). IfErr c.answer_lines-answered.result (WhereRefused (Of (g.I.ByteInput.gave c.args.input.now c.answer_lines-answered.new.input)
     (λ typed. AppendsA (BeginsTranscript g.T.Tool.answers session (input_lines typed))
     (g.O.Write.contents c.args.out.now) (g.O.Write.contents c.answer_lines-answered.new.out)))))
     c.in_ok-session.ensures.session c.answer_lines-answered.ensures.cut)

@@ -16,13 +16,13 @@ returns-in-Err-Usage-clause-lacking g c = λ task names lacks.
 pub returns-in-Ok-print_task-clause-lacking : goal.returns-in-Ok-print_task-clause-lacking
 returns-in-Ok-print_task-clause-lacking g c = λ task names lacks.
     let one = g.met.T.Tool.one_task (map (λ word. word.now) c.args.words.now) task (Ok c.in-Ok.task) names c.in-Ok.ensures in
-    absurd (c.in-Ok-print_task.ensures.lacking (lacks_alike (g.F.Opener.lacks c.args.files.now) task c.in-Ok.task one.0 lacks))
+    absurd (c.in-Ok-print_task.ensures.lacking (lacks_alike (g.F.Files.lacks c.args.files.now) task c.in-Ok.task one.0 lacks))
 
 pub returns-in-Err-Refused-clause-lacking : goal.returns-in-Err-Refused-clause-lacking
 returns-in-Err-Refused-clause-lacking g c = λ task names lacks.
     let one = g.met.T.Tool.one_task (map (λ word. word.now) c.args.words.now) task (Ok c.in-Ok.task) names c.in-Ok.ensures in
     let wants : c.in-Err-Refused.fault ≡ want_of_file (hex_of c.in-Ok.task) =
     subst (IsUnjudged (λ fault. fault ≡ want_of_file (hex_of c.in-Ok.task))) c.in-Err-Refused.field-0-is
-    (c.in-Err-Refused.ensures.lacking (lacks_alike (g.F.Opener.lacks c.args.files.now) task c.in-Ok.task one.0 lacks)) in
+    (c.in-Err-Refused.ensures.lacking (lacks_alike (g.F.Files.lacks c.args.files.now) task c.in-Ok.task one.0 lacks)) in
     told_unjudged task c.refused.result (g.E.Write.contents c.args.err.now) (g.E.Write.contents c.refused.new.err) c.in-Err-Refused.fault
     c.refused.ensures.above c.refused.ensures.within c.refused.ensures.status c.refused.ensures.told (inr (wants ∙ ap want_of_file (sym one.1)))

@@ -4,5 +4,5 @@ use Rattle.pcboard_texts.proofs.debugging.next_line.Given as goal
 
 abbrev pub invariant-bytes : goal.invariant-bytes
 invariant-bytes g l =
-    LineSoFar (g.I.ByteInput.remaining l.initial.input) (g.I.ByteInput.remaining l.input) l.line.items
+    LineSoFar (g.I.ByteInput.gave l.initial.input l.input) l.line.items
     × CountsNone (g.I.ByteInput.failures l.initial.input) (g.I.ByteInput.failures l.input)
