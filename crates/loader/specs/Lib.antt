@@ -1,4 +1,3 @@
-pub mod ByteInput
 pub mod HexFault
 pub mod HexText
 pub mod Laws
@@ -8,4 +7,3 @@ pub mod RecordViews
 pub mod Records
 pub mod RunFault
 pub mod RunFile
-pub mod Given

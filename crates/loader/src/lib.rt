@@ -2,8 +2,6 @@
 //! switches, timer and table of clocks, and which keys; and images as Intel HEX texts.
 #![tactic(auto)]
 
-pub mod byte_input;
-pub mod heard;
 pub mod hex_fault;
 pub mod hex_reader;
 pub mod hex_record;

@@ -1,11 +1,11 @@
 //! The program `pcboard`, on the files and streams of the system.
 #![tactic(auto)]
 
-use loader::heard::Heard;
 use pcboard_program::program::program;
-use pcboard_texts::files::ReadFiles;
 use pcboard_texts::system::run_on_system;
 use std::process::ExitCode;
+use streams::files::ReadFiles;
+use streams::heard::Heard;
 use streams::kept::Kept;
 
 /// Runs `pcboard` on the words of its command line, the system's files and its standard streams, and ends with its exit

@@ -1,6 +1,6 @@
 //! A session on a board: typed lines, answered one by one as they come.
 ghost use Rattle.std.specs.Prelude.{◌≡◌, ◌⊎◌, IfErr, OnOk};
-ghost use Rattle.loader.specs.ByteInput.{CountsNone};
+ghost use Rattle.streams.specs.ByteInput.{CountsNone};
 ghost use Rattle.pcboard_texts.specs.Given.{Of};
 ghost use Rattle.pcboard_texts.specs.Answer.{AppendsA};
 ghost use Rattle.pcboard_texts.specs.Printing.{PrintsSession};
@@ -12,11 +12,11 @@ use crate::tool::Tool;
 use board::board::Board;
 use debugger_meaning::answer::Answer;
 use debugger_meaning::fault::DebugFault;
-use loader::byte_input::ByteInput;
 use pcboard_texts::debugging::{ends_session, next_line, print_reply};
 use pcboard_texts::unanswered::Unanswered;
 use std::alloc::Global;
 use std::io::Write;
+use streams::byte_input::ByteInput;
 
 /// Holds a debugger's session about a board: answers the lines of `input` and prints the replies on `out` until a line
 /// is `quit` or the input ends.

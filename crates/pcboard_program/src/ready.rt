@@ -1,6 +1,6 @@
 //! What a task's files and input give: the report of a run, or a board for a session.
 ghost use Rattle.std.specs.Prelude.{◌≡◌, false, ◌⊎◌, IfErr, IfOk, IsErrAnd, string_bytes};
-ghost use Rattle.loader.specs.ByteInput.{CountsNone};
+ghost use Rattle.streams.specs.ByteInput.{CountsNone};
 ghost use Rattle.pcboard_texts.specs.Given.{GaveTwo, Of, OfTwo};
 ghost use Rattle.pcboard_texts.specs.Answer.{IsBoardOf, IsReport, IsTrueRefusal, run_text_of, source_of};
 ghost use Rattle.pcboard_texts.specs.Refusal.{IsWantOfRun, want_of_file};
@@ -10,13 +10,13 @@ use crate::report::Report;
 use crate::run::{new_board, run_texts};
 use assembler::fault::AsmFault;
 use board::board::Board;
-use loader::byte_input::ByteInput;
 use pcboard_texts::fault::Fault;
 use pcboard_texts::input::{read_files, read_whole};
-use pcboard_texts::files::Files;
 use pcboard_texts::texts::{parted, read_texts};
 use pcboard_texts::unanswered::Unanswered;
 use std::alloc::Global;
+use streams::byte_input::ByteInput;
+use streams::files::Files;
 
 /// Runs what stands on standard input, a run file in its first line and then a source, and answers the report, for the
 /// program called without a file.

@@ -4,7 +4,8 @@ use Rattle.std.specs.Prelude.{◌⊎◌}
 use Rattle.pcboard_words.specs.declared.task.Task.{Task}
 use Rattle.pcboard_words.specs.declared.task.Task.TheVariants as tasks
 use Rattle.pcboard_texts.specs.declared.fault.Fault.{Fault}
-use Rattle.pcboard_texts.specs.Given.{GaveTwo, Given, NotesFile, given_by, noted}
+use Rattle.streams.specs.FileLists.{FileList, NotesFile}
+use Rattle.pcboard_texts.specs.Given.{Given, given_by, noted}
 use Rattle.pcboard_texts.specs.Answer.{EndsInQuit, PrintsFor, PrintsTask, Reading}
 use Rattle.pcboard_texts.specs.Refusal.{IsTrueOfTask, IsTrueOfWordsFor, PrintsNoAnswerFor, PrintsReplies, TellsA}
 use Rattle.pcboard_texts.specs.Transcript.{Answering}
@@ -64,13 +65,15 @@ pub withholds_within : {S : Type 0} (Reads : Reading) (By : Answering S) (words 
 withholds_within Reads By words g h within old new (inl same) = inl same
 withholds_within Reads By words g h within old new (inr is) = inr (is.0, is.1, replies_task By g h within is.0 old new is.2)
 
--- the lists tell what states tell that have them
-pub within_noted : {F I : Type 0} (log : F → List (List ℕ × (Bool × List ℕ))) (bytes : I → List ℕ) (ends : I → Bool) (old new : F) (before after : I)
-    → Within (given_by (λ s t name limit read. NotesFile (log s) (log t) name limit read) old new (λ s t more. bytes t ≡ (bytes s ++ more))
-    (λ s. ends s ≡ true) before after) (noted (log old) (log new) (bytes before) (bytes after) (ends after))
-within_noted log bytes ends old new before after = record {
+-- the lists tell what states tell that have them, whatever these tell besides
+pub within_noted : {F I : Type 0} (log : F → FileList) (bytes : I → List ℕ) (ends : I → Bool) (Besides : I → I → List ℕ → Type 0) (Met : I → Type 0)
+    (old new : F) (before after : I)
+    → Within (given_by (λ s t name limit read. NotesFile (log s) (log t) name limit read) old new
+    (λ s t more. (bytes t ≡ bytes s ++ more) × Besides s t more) (λ s. (ends s ≡ true) × Met s) before after)
+    (noted (log old) (log new) (bytes before) (bytes after) (ends after))
+within_noted log bytes ends Besides Met old new before after = record {
   one = λ name limit read is. is;
   two = λ first most front second least back is. (log is.0, is.1, is.2);
-  typed = λ read is. is;
-  ended = λ is. is;
+  typed = λ read is. is.0;
+  ended = λ is. is.0;
 }

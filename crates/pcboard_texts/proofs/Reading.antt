@@ -1,7 +1,7 @@
 -- What is read, and what is said of it.
 use Rattle.std.proofs.Common.{◌≡◌, ℕ, ◌-◌, ◌^◌, ◌<◌, ◌≤◌, List, length, subst, arith, inl, inr}
 use Rattle.std.specs.Prelude.{◌⊎◌}
-use Rattle.loader.specs.ByteInput.{IsAllWanted}
+use Rattle.streams.specs.ByteInput.{IsAllWanted}
 
 -- what is read up to a limit that no list in memory reaches is all
 pub read_all_of : (Ended : Type 0) (bytes : List ℕ) (size room : ℕ) → IsAllWanted (2 ^ 64 - 1) Ended bytes → size ≡ length bytes

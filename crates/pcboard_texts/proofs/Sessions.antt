@@ -12,7 +12,7 @@ use Rattle.debugger_meaning.specs.declared.answer.Answer.{Answer}
 use Rattle.debugger_meaning.specs.declared.fault.DebugFault.{DebugFault}
 use Rattle.debugger_meaning.specs.declared.fault.DebugFault.TheVariants.{BadCommand}
 use Rattle.debugger_meaning.specs.Commands.{is_quit}
-use Rattle.loader.specs.ByteInput.{CountsNone}
+use Rattle.streams.specs.ByteInput.{CountsNone}
 use Rattle.pcboard_texts.specs.declared.unanswered.Unanswered.{Unanswered}
 use Rattle.pcboard_texts.specs.declared.unanswered.Unanswered.TheVariants.{Failed, Refused}
 use Rattle.pcboard_texts.specs.Answer.{AppendsA, EndsInQuit}
@@ -206,8 +206,7 @@ printed_last By first now next Gave on Ended s t u old mid new (b ∷ bs) true r
     let is : Transcript By now (input_lines line) (reply_text reply ++ []) =
     transcript_along By now (line ∷ []) (input_lines line) (reply_text reply ++ []) (reply_text reply ++ []) (sym (line_alone b bs gives.0)) refl
     (transcript_on By (ends_session line) line now next [] reply [] goes answers refl) in
-    let all = so_far.2.goes_on (input_lines line) (reply_text reply ++ []) is in
-    (
+    let all = so_far.2.goes_on (input_lines line) (reply_text reply ++ []) is in (
       so_far.0 ++ line,
       on s t u so_far.0 line so_far.1 gives.1.0,
       (

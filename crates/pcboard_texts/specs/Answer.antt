@@ -22,7 +22,7 @@ use Rattle.pcboard_texts.specs.declared.fault.Fault.{Fault}
 use Rattle.pcboard_texts.specs.declared.fault.Fault.TheVariants.{Source, Hex, Run, Board}
 use Rattle.pcboard_texts.specs.ImageReport.{config_of, report_of}
 use Rattle.pcboard_texts.specs.Transcript.{Answering, AnswersCommand, Transcript, ends_session, input_lines}
-use Rattle.pcboard_texts.specs.Given.{Given, Of, limit_of}
+use Rattle.pcboard_texts.specs.Given.{Given, Of, OfTwo, limit_of}
 use Rattle.pcboard_texts.specs.RunFaults.{IsTrueOfBoard}
 
 -- the run file of a stored run: its first line
@@ -98,27 +98,27 @@ pub record EndsInQuit (typed : List ℕ) : Type 0 where
   pub are_lines : input_lines typed ≡ lines ++ line ∷ []
   pub quits : ends_session line ≡ true
 
--- What a task's answer adds to the bytes that `out` holds, by what its reads gave: it reads the files that it names, each
--- once, the program's before the run file; a stored run reads the input up to its end, and a session up to its end or to
--- the first `quit`.
+-- What a task's answer adds to the bytes that `out` holds, by what its reads gave: it reads the files that it names,
+-- each once, the program's before the run file; a stored run reads the input up to its end, and a session up to its end
+-- or to the first `quit`.
 abbrev pub PrintsTask : {S : Type 0} → Answering S → Task → Given → Option (List ℕ) → Option (List ℕ) → Type 0
 PrintsTask By tasks.Stored given old new =
     given.ended × Of given.typed (λ text. AppendsA (IsReport false (source_of text) (run_text_of text)) old new)
 PrintsTask By (tasks.Asm file list) given old new =
     Of (given.one file.now (limit_of false)) (λ source. AppendsA (IsAssembled list source) old new)
 PrintsTask By (tasks.Run file run hex) given old new =
-    (bytes : List ℕ) × Of (given.two file.now (limit_of hex) bytes run.now (limit_of true))
-    (λ said. AppendsA (IsReport hex bytes said) old new)
+    OfTwo given.two file.now hex run.now (λ bytes said. AppendsA (IsReport hex bytes said) old new)
 PrintsTask By (tasks.Debug file run hex) given old new =
-    (bytes : List ℕ) × Of (given.two file.now (limit_of hex) bytes run.now (limit_of true))
-    (λ said. Of given.typed (λ typed. (given.ended ⊎ EndsInQuit typed) × AppendsA (IsSession By hex bytes said typed) old new))
+    OfTwo given.two file.now hex run.now (λ bytes said. Of given.typed
+    (λ typed. (given.ended ⊎ EndsInQuit typed) × AppendsA (IsSession By hex bytes said typed) old new))
 
 -- how words are read: as a task, or as the fault that says why they name none
 abbrev pub Reading : Type 1
 Reading = List (List ℕ) → Result Task LineFault → Type 0
 
 -- The words name a task, and its answer is added, for a program that reads words and answers lines in these ways.
-abbrev pub PrintsFor : {S : Type 0} → Reading → Answering S → List (List ℕ) → Given → Option (List ℕ) → Option (List ℕ) → Type 0
+abbrev pub PrintsFor : {S : Type 0} → Reading → Answering S → List (List ℕ) → Given → Option (List ℕ)
+    → Option (List ℕ) → Type 0
 PrintsFor Reads By words given old new = (task : Task) × Reads words (Ok task) × PrintsTask By task given old new
 
 -- the words name a task of `pcboard`, and its answer is added

@@ -1,5 +1,5 @@
 -- A board that is ready to run, as the program's functions pass it on.
--- To be believed by callers of this crate: the headline does not rest on it.
+-- For proofs alone: no public contract rests on it.
 use Rattle.std.specs.Prelude.{ℕ, ◌≡◌, List, []}
 use Rattle.board_plain.specs.Board.{BoardState}
 use Rattle.board_plain.specs.Plain.{power_on}

@@ -18,7 +18,7 @@ use Rattle.pcboard_words.specs.declared.task.Task.{Task}
 use Rattle.pcboard_words.specs.declared.task.Task.TheVariants as tasks
 use Rattle.pcboard_texts.specs.declared.fault.Fault.{Fault}
 use Rattle.pcboard_texts.specs.declared.fault.Fault.TheVariants.{Source, Hex, Run, Board, Session}
-use Rattle.pcboard_texts.specs.Given.{Given, Of, limit_of}
+use Rattle.pcboard_texts.specs.Given.{Given, Of, OfTwo, limit_of}
 use Rattle.pcboard_texts.specs.RunFaults.{fault_text}
 use Rattle.pcboard_texts.specs.Answer.{AppendsA, IsBoardOf, IsTrueRefusal, Reading, run_text_of, source_of}
 use Rattle.pcboard_texts.specs.Transcript.{Answering, AnswersCommand, Transcript, input_lines}
@@ -60,13 +60,12 @@ IsTrueOfText source _ = ⊥
 abbrev pub IsTrueOfTask : Task → Given → Fault → Type 0
 IsTrueOfTask tasks.Stored given fault =
     given.ended × Of given.typed (λ text. IsTrueRefusal false (source_of text) (run_text_of text) fault)
-IsTrueOfTask (tasks.Asm file list) given fault = Of (given.one file.now (limit_of false)) (λ source. IsTrueOfText source fault)
+IsTrueOfTask (tasks.Asm file list) given fault =
+    Of (given.one file.now (limit_of false)) (λ source. IsTrueOfText source fault)
 IsTrueOfTask (tasks.Run file run hex) given fault =
-    (bytes : List ℕ) × Of (given.two file.now (limit_of hex) bytes run.now (limit_of true))
-    (λ said. IsTrueRefusal hex bytes said fault)
+    OfTwo given.two file.now hex run.now (λ bytes said. IsTrueRefusal hex bytes said fault)
 IsTrueOfTask (tasks.Debug file run hex) given fault =
-    (bytes : List ℕ) × Of (given.two file.now (limit_of hex) bytes run.now (limit_of true))
-    (λ said. IsTrueRefusal hex bytes said fault)
+    OfTwo given.two file.now hex run.now (λ bytes said. IsTrueRefusal hex bytes said fault)
 
 -- The refusal is for want of memory for the words; or these name a task, and it is for want of memory in that task, or
 -- true of it: for a program that reads words in this way.
@@ -108,13 +107,14 @@ pub record BeginsSession {S : Type 0} (By : Answering S) (hex : Bool) (bytes run
 -- a session's task adds its replies up to the refusal, by what the reads gave; no other task adds any
 abbrev pub PrintsReplies : {S : Type 0} → Answering S → Task → Given → Option (List ℕ) → Option (List ℕ) → Type 0
 PrintsReplies By (tasks.Debug file run hex) given old new =
-    (bytes : List ℕ) × Of (given.two file.now (limit_of hex) bytes run.now (limit_of true))
-    (λ said. Of given.typed (λ typed. AppendsA (BeginsSession By hex bytes said typed) old new))
+    OfTwo given.two file.now hex run.now
+    (λ bytes said. Of given.typed (λ typed. AppendsA (BeginsSession By hex bytes said typed) old new))
 PrintsReplies By _ given old new = ⊥
 
 -- Nothing is printed beside a refusal, unless the words name a session, which prints replies as it goes: for a program
 -- that reads words and answers lines in these ways.
-abbrev pub PrintsNoAnswerFor : {S : Type 0} → Reading → Answering S → List (List ℕ) → Given → Option (List ℕ) → Option (List ℕ) → Type 0
+abbrev pub PrintsNoAnswerFor : {S : Type 0} → Reading → Answering S → List (List ℕ) → Given → Option (List ℕ)
+    → Option (List ℕ) → Type 0
 PrintsNoAnswerFor Reads By words given old new =
     (new ≡ old) ⊎ ((task : Task) × Reads words (Ok task) × PrintsReplies By task given old new)
 

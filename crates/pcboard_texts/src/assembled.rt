@@ -12,7 +12,6 @@ ghost use Rattle.pcboard_texts.specs.Unanswered.{EndsFor, IsUnjudged, WhereRefus
 
 use crate::input::read_program;
 use crate::listing::listing_text;
-use crate::files::Files;
 use crate::telling::print;
 use crate::unanswered::Unanswered;
 use assembler::assembly::assemble;
@@ -21,6 +20,7 @@ use board_types::image::Image;
 use loader::hex_writer::write_hex;
 use std::alloc::Global;
 use std::io::Write;
+use streams::files::Files;
 
 /// Assembles the source `file` for `asm` on the command line: prints its listing if `list`, else the HEX text of its
 /// image. Refused with the source's first fault, and then nothing is printed.

@@ -1,7 +1,7 @@
 //! The lines that are typed in a session, and its replies as they are printed.
 ghost use Rattle.std.specs.Prelude.{◌≡◌, IfErr, IfOk, OnOk};
 ghost use Rattle.std.specs.Io.KnownBytes.{Appends};
-ghost use Rattle.loader.specs.ByteInput.{CountsNone};
+ghost use Rattle.streams.specs.ByteInput.{CountsNone};
 ghost use Rattle.pcboard_texts.specs.Refusal.{want_of_board};
 ghost use Rattle.pcboard_texts.specs.Taking.{GivesLine, GivesSome};
 ghost use Rattle.pcboard_texts.specs.Transcript.{ends_session, refusal_text, reply_text};
@@ -12,10 +12,10 @@ use crate::unanswered::Unanswered;
 use debugger_meaning::answer::Answer;
 use debugger_meaning::command::is_quit;
 use debugger_meaning::fault::DebugFault;
-use loader::byte_input::ByteInput;
 use std::alloc::Global;
 use std::io;
 use std::io::Write;
+use streams::byte_input::ByteInput;
 
 /// Reads the next line that is typed in a session, without its line feed, and whether the input's end came in place of
 /// that, which ends the session.

@@ -1,19 +1,19 @@
 //! What the program reads.
 ghost use Rattle.std.specs.Prelude.{◌≡◌, ◌⊎◌, true, ℕ, List, IfErr, IfOk, OnOk, IsErrAnd, IsErrOf};
-ghost use Rattle.loader.specs.ByteInput.{CountsNone, IsAllWanted};
+ghost use Rattle.streams.specs.ByteInput.{CountsNone, IsAllWanted};
 ghost use Rattle.pcboard_texts.specs.Refusal.{want_of_file, want_of_run_file};
 ghost use Rattle.pcboard_texts.specs.Unanswered.{IsUnjudged, UnlessFailed};
 ghost use Rattle.pcboard_texts.specs.Given.{GaveTwo, limit_of};
 ghost use Rattle.pcboard_texts.specs.Taking.{GivesByte};
 
 use crate::fault::Fault;
-use crate::files::Files;
 use crate::unanswered::Unanswered;
 use assembler::fault::AsmFault;
-use loader::byte_input::{ByteInput, ReadFault, read_all};
 use loader::hex_fault::HexFault;
 use loader::run_fault::RunFault;
 use std::alloc::Global;
+use streams::byte_input::{ByteInput, ReadFault, read_all};
+use streams::files::Files;
 
 /// One byte more than a source may have, so that a longer one is seen to be too long.
 const SOURCE_READ_LIMIT: u64 = 1_048_577;

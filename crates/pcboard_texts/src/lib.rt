@@ -6,10 +6,8 @@
 pub mod assembled;
 pub mod debugging;
 pub mod fault;
-pub mod files;
 pub mod input;
 mod listing;
-pub mod opener;
 pub mod system;
 pub mod telling;
 pub mod texts;

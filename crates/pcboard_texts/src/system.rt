@@ -1,10 +1,10 @@
 //! The words of the command line and the files of the system, for a program's `main`.
-use crate::opener::Opener;
 use crate::telling::{with_unreadable_words, without_words};
 use std::fs::File;
 use std::io::{ErrorKind, Write};
 use std::process::ExitCode;
 use std::{env, fs, io};
+use streams::opener::Opener;
 
 /// The files of the system.
 #[derive(Clone, Copy)]

@@ -8,9 +8,9 @@ use crate::fault::Fault;
 use assembler::fault::AsmFault;
 use board_plain::fault::BoardFault;
 use debugger_meaning::fault::DebugFault;
-use loader::byte_input;
 use std::alloc::AllocFailed;
 use std::io;
+use streams::byte_input;
 
 /// Why the program ends without an answer to its task.
 #[derive(Clone, Copy)]

@@ -1,14 +1,11 @@
 //! The program `pcprobe`, on the files and streams of the system.
 #![tactic(auto)]
 
-mod program;
-mod tool;
-
-use crate::program::program;
-use loader::heard::Heard;
-use pcboard_texts::files::ReadFiles;
 use pcboard_texts::system::run_on_system;
+use pcprobe_program::program::program;
 use std::process::ExitCode;
+use streams::files::ReadFiles;
+use streams::heard::Heard;
 use streams::kept::Kept;
 
 /// Runs `pcprobe` on the words of its command line, the system's files and standard streams: begins a session and

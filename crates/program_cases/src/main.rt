@@ -14,7 +14,7 @@
 mod case;
 mod run;
 mod spelled;
-mod streams;
+mod texts;
 
 use anyhow::{Result, ensure};
 use case::Case;

@@ -1,11 +1,14 @@
 //! One run of the program on a case.
 use crate::case::Case;
-use crate::streams::{Calls, Input, Output};
+use crate::texts::{Calls, Input, Output};
 use anyhow::Result;
 use pcboard_program::program::program;
-use pcboard_texts::opener::Opener;
 use std::alloc::Global;
 use std::io;
+use streams::files::ReadFiles;
+use streams::heard::Heard;
+use streams::kept::Kept;
+use streams::opener::Opener;
 
 /// The numbers, from 0, of the calls that fail: a read of the files and standard input together, a write of standard
 /// output, and one of standard error.
@@ -77,16 +80,16 @@ pub fn run(alloc: Global, case: Case<'_>, failing: Failing) -> Result<Ran> {
         case,
         reads: &reads,
     };
-    let mut input = Input::new(case.part("input").unwrap_or(""), &reads);
+    let input = Input::new(case.part("input").unwrap_or(""), &reads);
     let mut out = Output::new(alloc, failing.out);
     let mut err = Output::new(alloc, failing.err);
     let status = program(
         alloc,
         words.as_slice(),
-        &files,
-        &mut input,
-        &mut out,
-        &mut err,
+        &mut ReadFiles::new(files),
+        &mut Heard::new(input),
+        &mut Kept::new(&mut out),
+        &mut Kept::new(&mut err),
     );
     let reads = reads.made();
     Ok(Ran {

@@ -1,8 +1,10 @@
 //! An input over memory that gives its bytes in pieces, and can fail.
 ghost use Rattle.std.specs.Prelude.{if◌then◌else◌, Some};
+ghost use Rattle.std.specs.Io.KnownBytes.{Consumes, IsAtEnd};
+ghost use Rattle.streams.specs.InTurn.{consumes_none, consumes_on};
 
-use loader::byte_input::{ByteInput, Failed};
 use std::io::Read;
+use streams::byte_input::{ByteInput, Failed};
 
 /// Bytes, some at a time. One read may fail; the reads after it go on from there.
 #[derive(Drop)]
@@ -39,11 +41,13 @@ impl<'a> Pieces<'a> {
 }
 
 impl ByteInput for Pieces<'_> {
-    ghost remaining = { λ pieces. Some pieces.rest.now };
+    ghost gave = { λ s t bytes. Consumes (Some s.rest.now) (Some t.rest.now) bytes };
+
+    ghost ended = { λ s. IsAtEnd (Some s.rest.now) };
 
     ghost failures = { λ pieces. Some (if pieces.has_failed then 1 else 0) };
 
-    /// Reads the next bytes, at most `most`, or fails once after the reads that were left; the loader's `read_all` must
+    /// Reads the next bytes, at most `most`, or fails once after the reads that were left; `read_all` must
     /// then refuse the whole.
     fn read(&mut self, buf: &mut [u8]) -> Result<usize, Failed> {
         if self.reads_left == 0 && !self.has_failed {
@@ -60,4 +64,8 @@ impl ByteInput for Pieces<'_> {
             Err(_) => Err(Failed),
         }
     }
+
+    ghost gave_none = { λ s. consumes_none (Some s.rest.now) };
+
+    ghost gave_on = { λ s t u front back. consumes_on (Some s.rest.now) (Some t.rest.now) (Some u.rest.now) front back };
 }

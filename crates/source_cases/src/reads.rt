@@ -1,10 +1,10 @@
 //! Reads of bytes over memory.
 use crate::pieces::Pieces;
 use anyhow::{Context, Result, ensure};
-use loader::byte_input::{ReadFault, read_all};
 use std::alloc::{AllocError, Global};
+use streams::byte_input::{ReadFault, read_all};
 
-/// How many bytes the loader asks for at once.
+/// How many bytes `read_all` asks for at once.
 const PIECE: usize = 4096;
 
 /// The answer to a `read:` case: how many bytes are read, and by how many reads. Fails if one of these reads, made to
@@ -34,7 +34,7 @@ fn numbers(text: &str) -> Option<(u64, u64, u64)> {
     Some((size, most, limit))
 }
 
-/// How many of the bytes the loader reads, at most `limit`, and by how many reads, if none fails; each gives at most
+/// How many of the bytes `read_all` reads, at most `limit`, and by how many reads, if none fails; each gives at most
 /// `most`.
 fn count_reads(alloc: Global, bytes: &[u8], most: usize, limit: u64) -> Result<(usize, u64)> {
     let mut input = Pieces::new(bytes, most, u64::MAX);
@@ -53,7 +53,7 @@ fn counted(alloc: Global, size: u64) -> Result<Vec<u8>, AllocError> {
     Ok(bytes)
 }
 
-/// Fails if the read after the first `reads` fails and the loader doesn't refuse the whole, or takes bytes after that.
+/// Fails if the read after the first `reads` fails and `read_all` doesn't refuse the whole, or takes bytes after that.
 fn judge_failure(alloc: Global, bytes: &[u8], most: usize, limit: u64, reads: u64) -> Result<()> {
     let mut input = Pieces::new(bytes, most, reads);
     let read = read_all(alloc, &mut input, limit);

@@ -1,0 +1,3 @@
+pub mod ByteInput
+pub mod FileLists
+pub mod InTurn

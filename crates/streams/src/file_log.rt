@@ -1,11 +1,10 @@
 //! Files that were read, for clauses alone.
-ghost use Rattle.std.specs.Prelude.{◌≡◌, ℕ, Bool, true, false, List, [], ◌∷◌, ◌++◌};
+ghost use Rattle.std.specs.Prelude.{◌≡◌, ℕ, Bool, List, [], ◌∷◌, ◌++◌};
 ghost use Rattle.std.specs.Borrow.{ftrue};
 
 use std::marker::{Model, PhantomData};
 
-/// The files that were read, in order: the name of each, whether a read met its end, and what its reads gave. The list
-/// takes no memory, and no code reads it.
+/// The files that were read, in order: the name of each, whether a read met its end, and what its reads gave.
 #[derive(Drop)]
 pub struct FileLog {
     marker: PhantomData<u8>,
@@ -18,7 +17,7 @@ impl Model for FileLog {
 
 impl FileLog {
     /// No files.
-    pub fn new() -> FileLog
+    pub(crate) fn new() -> FileLog
         ensures { result.files ≡ [] }
     {
         FileLog {
@@ -26,13 +25,8 @@ impl FileLog {
         }
     }
 
-    /// A file more, which was read up to its end.
-    pub fn note_whole(&mut self, _name: &[u8], _bytes: &[u8])
-        ensures { self.new.files ≡ self.old.files ++ (_name.now, (true, _bytes.now)) ∷ [] }
-    {}
-
-    /// A file more, of which only the front was read.
-    pub fn note_front(&mut self, _name: &[u8], _bytes: &[u8])
-        ensures { self.new.files ≡ self.old.files ++ (_name.now, (false, _bytes.now)) ∷ [] }
+    /// Adds a file.
+    pub(crate) fn note(&mut self, _name: &[u8], _bytes: &[u8], _ended: bool)
+        ensures { self.new.files ≡ self.old.files ++ (_name.now, (_ended, _bytes.now)) ∷ [] }
     {}
 }

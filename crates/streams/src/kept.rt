@@ -11,11 +11,11 @@ use std::io::Write;
 #[derive(Drop)]
 pub struct Kept<W> {
     inner: W,
-    pub log: Log,
+    log: Log,
 }
 
 impl<W: Write> Kept<W> {
-    /// Begins to keep what `inner` takes.
+    /// Begins to note what `inner` takes.
     pub fn new(inner: W) -> Kept<W>
         ensures none { result.log.bytes ≡ [] }
         ensures inner { result.inner ≡ inner }
@@ -31,10 +31,13 @@ impl<W: Write> Kept<W> {
 impl<W: Write> Write for Kept<W> {
     ghost contents = { λ w. Some w.log.bytes };
 
+    /// Writes to the writer, and notes what it took.
     fn write(&mut self, buf: &[u8]) -> io::Result<usize>
         ensures bound { WritesAtMost result buf.now }
         ensures bytes { MatchResult result (λ n. self.new.log.bytes ≡ self.old.log.bytes ++ take n buf.now)
             (λ _. self.new.log.bytes ≡ self.old.log.bytes) }
+
+        // What the writer holds, if that is known, grows by the same bytes.
         ensures handed { WriteAppends (W.contents self.old.inner) (W.contents self.new.inner) result buf.now }
     {
         let count = self.inner.write(buf)?;
@@ -42,6 +45,7 @@ impl<W: Write> Write for Kept<W> {
         Ok(count)
     }
 
+    /// Flushes the writer, which takes no bytes.
     fn flush(&mut self) -> io::Result<()>
         ensures bytes { self.new.log.bytes ≡ self.old.log.bytes }
         ensures handed { Keeps (W.contents self.old.inner) (W.contents self.new.inner) }

@@ -1,7 +1,12 @@
-//! What a run reads and writes, byte for byte, for its contract alone: a writer with all that it took, a reader with all
-//! that it gave. The lists take no memory, and no code can read them.
+//! What a program reads and writes, byte for byte: inputs that may fail, files that are read by their names, and wrappers
+//! that note for contracts what the reads gave and the writes took. Their lists take no memory, and no code can read them;
+//! no other crate can lengthen one but by a read or a write.
 #![tactic(auto)]
 
-pub mod file_log;
+pub mod byte_input;
+mod file_log;
+pub mod files;
+pub mod heard;
 pub mod kept;
-pub mod log;
+mod log;
+pub mod opener;

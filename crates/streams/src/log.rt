@@ -1,10 +1,10 @@
-//! Bytes that only clauses read.
+//! Bytes that clauses alone can read.
 ghost use Rattle.std.specs.Prelude.{◌≡◌, ℕ, List, [], ◌++◌};
 ghost use Rattle.std.specs.Borrow.{ftrue};
 
 use std::marker::{Model, PhantomData};
 
-/// A list of bytes that takes no memory, and that no code reads.
+/// The bytes that a stream gave or took, in order.
 #[derive(Drop)]
 pub struct Log {
     marker: PhantomData<u8>,
@@ -17,7 +17,7 @@ impl Model for Log {
 
 impl Log {
     /// No bytes.
-    pub fn new() -> Log
+    pub(crate) fn new() -> Log
         ensures { result.bytes ≡ [] }
     {
         Log {
@@ -25,8 +25,8 @@ impl Log {
         }
     }
 
-    /// These bytes more.
-    pub fn note(&mut self, _bytes: &[u8])
+    /// Adds these bytes.
+    pub(crate) fn note(&mut self, _bytes: &[u8])
         ensures { self.new.bytes ≡ self.old.bytes ++ _bytes.now }
     {}
 }

@@ -1,4 +1,4 @@
-use Rattle.loader.specs.ByteInput.{CountsNone}
+use Rattle.streams.specs.ByteInput.{CountsNone}
 use Rattle.pcboard_texts.proofs.Sessions.{PrintedSoFar}
 use Rattle.pcboard_program.proofs.debugging.answer_lines.Given as goal
 

@@ -13,7 +13,8 @@ returns-in_ok-board-in-Debug-clause-printed g c =
     let old = g.O.Write.contents c.args.out.now in
     let new = g.O.Write.contents c.print_session.new.out in
     subst (λ task. OnOk c.print_session.result (PrintsTask g.T.Tool.answers task
-    (given_by g.F.Files.gave c.args.files.now c.read_board.new.files g.I.ByteInput.gave g.I.ByteInput.ended c.args.input.now c.print_session.new.input) old new))
+    (given_by g.F.Files.gave c.args.files.now c.read_board.new.files g.I.ByteInput.gave g.I.ByteInput.ended c.args.input.now
+    c.print_session.new.input) old new))
     (sym c.in-Debug.is)
     (on_ok_weaker c.print_session.result
     (printed_session g.T.Tool.answers
@@ -27,7 +28,8 @@ returns-in_ok-board-in-Debug-clause-withheld g c =
     let old = g.O.Write.contents c.args.out.now in
     let new = g.O.Write.contents c.print_session.new.out in
     subst (λ task. IfErr c.print_session.result (WhereRefused (new ≡ old ⊎ PrintsReplies g.T.Tool.answers task
-    (given_by g.F.Files.gave c.args.files.now c.read_board.new.files g.I.ByteInput.gave g.I.ByteInput.ended c.args.input.now c.print_session.new.input) old new)))
+    (given_by g.F.Files.gave c.args.files.now c.read_board.new.files g.I.ByteInput.gave g.I.ByteInput.ended c.args.input.now
+    c.print_session.new.input) old new)))
     (sym c.in-Debug.is)
     (replies_withheld g.T.Tool.answers c.print_session.result
     (λ bytes said. GaveTwo g.F.Files.gave c.args.files.now c.read_board.new.files c.in-Debug.file.now (limit_of c.in-Debug.hex) bytes

@@ -1,4 +1,4 @@
-use Rattle.loader.specs.ByteInput.{CountsNone}
+use Rattle.streams.specs.ByteInput.{CountsNone}
 use Rattle.pcboard_texts.proofs.Sessions.{LineSoFar}
 use Rattle.pcboard_texts.proofs.debugging.next_line.Given as goal
 

@@ -1,6 +1,6 @@
 use Rattle.std.proofs.Common.{◌≤◌, length, ◌-◌}
-use Rattle.loader.specs.ByteInput.{CountsNone}
-use Rattle.loader.proofs.byte_input.read_all.Given as goal
+use Rattle.streams.specs.ByteInput.{CountsNone}
+use Rattle.streams.proofs.byte_input.read_all.Given as goal
 
 abbrev pub invariant-pieces : goal.invariant-pieces
 invariant-pieces g l =

@@ -1,5 +1,5 @@
--- What known bytes lose by several reads.
--- For proofs alone: no public contract rests on it.
+-- What several reads give, one after another.
+-- To be believed by callers of this crate: the headline does not rest on it.
 use Rattle.std.specs.Prelude.{ℕ, List, [], ◌++◌, Option, None, Some}
 use Rattle.std.proofs.Common.{◌≡◌, ◌∙◌, take, refl, ap, sym, subst, append_assoc}
 use Rattle.std.proofs.lemmas.List.{append-nil}
@@ -9,7 +9,8 @@ pub consumes_none : (known : Option (List ℕ)) → Consumes known known []
 consumes_none None = tt
 consumes_none (Some bytes) = refl
 
-pub consumes_on : (old mid new : Option (List ℕ)) (front back : List ℕ) → Consumes old mid front → Consumes mid new back → Consumes old new (front ++ back)
+pub consumes_on : (old mid new : Option (List ℕ)) (front back : List ℕ) → Consumes old mid front → Consumes mid new back
+    → Consumes old new (front ++ back)
 consumes_on None mid new front back first second = tt
 consumes_on (Some xs) None new front back first second = absurd first
 consumes_on (Some xs) (Some ys) None front back first second = absurd second
@@ -28,5 +29,7 @@ gave_end Gave on s t u bytes more n first second is =
 pub grows_none : (bytes : List ℕ) → bytes ≡ bytes ++ []
 grows_none bytes = sym (append-nil bytes)
 
-pub grows_on : (old mid new front back : List ℕ) → mid ≡ old ++ front → new ≡ mid ++ back → new ≡ old ++ (front ++ back)
-grows_on old mid new front back first second = second ∙ (ap (λ (l : List ℕ). l ++ back) first ∙ append_assoc old front back)
+pub grows_on : (old mid new front back : List ℕ) → mid ≡ old ++ front → new ≡ mid ++ back
+    → new ≡ old ++ (front ++ back)
+grows_on old mid new front back first second =
+    second ∙ (ap (λ (l : List ℕ). l ++ back) first ∙ append_assoc old front back)

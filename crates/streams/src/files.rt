@@ -1,12 +1,13 @@
 //! The files of a run, read one by one, and what was read of them.
-ghost use Rattle.std.specs.Prelude.{◌≡◌, ℕ, List, [], IfOk, IsErrOf};
-ghost use Rattle.pcboard_texts.specs.Given.{NotesFile};
+ghost use Rattle.std.specs.Prelude.{◌≡◌, ℕ, List, [], take, IfErr, IfOk, IfSome};
+ghost use Rattle.std.specs.Result.{IsErrOf};
+ghost use Rattle.streams.specs.FileLists.{NotesFile};
 
+use crate::byte_input::{ReadFault, read_all};
+use crate::file_log::FileLog;
+use crate::heard::Heard;
 use crate::opener::Opener;
-use loader::byte_input::{ReadFault, read_all};
-use loader::heard::Heard;
 use std::alloc::Global;
-use streams::file_log::FileLog;
 
 /// Files that are read by their names.
 pub trait Files {
@@ -28,7 +29,7 @@ pub trait Files {
 #[derive(Drop)]
 pub struct ReadFiles<F> {
     opener: F,
-    pub log: FileLog,
+    log: FileLog,
 }
 
 impl<F: Opener> ReadFiles<F> {
@@ -44,23 +45,31 @@ impl<F: Opener> ReadFiles<F> {
     }
 }
 
+/// What was read is known, whatever the opener is; of a file whose bytes are known, that is the front of these.
 impl<F: Opener> Files for ReadFiles<F> {
     ghost gave = { λ s t name limit bytes. NotesFile s.log.files t.log.files name limit bytes };
 
     ghost lacks = { λ s name. F.lacks s.opener name };
 
     /// Opens the file at `path`, reads it, and notes what its reads gave.
-    fn read(&mut self, alloc: Global, path: &str, limit: u64) -> Result<Vec<u8>, ReadFault> {
+    fn read(&mut self, alloc: Global, path: &str, limit: u64) -> Result<Vec<u8>, ReadFault>
+        ensures gave { IfOk result
+            (λ bytes. NotesFile self.old.log.files self.new.log.files path.now limit bytes.items) }
+        ensures lacking { F.lacks self.old.opener path.now → IsErrOf result ReadFault.Failed }
+        ensures lacks_on { (name : List ℕ) → F.lacks self.old.opener name → F.lacks self.new.opener name }
+        ensures known { IfOk result (λ bytes. IfSome (F.file_bytes self.old.opener path.now)
+            (λ all. bytes.items ≡ take limit all)) }
+
+        // A file that isn't read is not listed.
+        ensures none { IfErr result (λ _. self.new.log.files ≡ self.old.log.files) }
+    {
         let Ok(file) = self.opener.open(path) else {
             return Err(ReadFault::Failed);
         };
         let mut file = Heard::new(file);
         let bytes = read_all(alloc, &mut file, limit)?;
-        if file.ended {
-            self.log.note_whole(path.as_bytes(), bytes.as_slice());
-        } else {
-            self.log.note_front(path.as_bytes(), bytes.as_slice());
-        }
+        self.log
+            .note(path.as_bytes(), bytes.as_slice(), file.has_ended());
         Ok(bytes)
     }
 }

@@ -1,7 +1,7 @@
 //! The words that the program takes, and its answers to typed lines.
 ghost use Rattle.pcboard_words.specs.ProbeLine.{AnswersProbe as AnswersWords};
 ghost use Rattle.pcboard_words.proofs.Files.{one_session};
-ghost use Rattle.pcprobe.specs.Program.{AnswersProbing};
+ghost use Rattle.pcprobe_program.specs.Probing.{AnswersProbing};
 
 use board::board::Board;
 use debugger_meaning::answer::Answer;

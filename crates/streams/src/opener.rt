@@ -1,8 +1,8 @@
-//! Where the program finds its files.
+//! Where a program finds its files.
 ghost use Rattle.std.specs.Prelude.{ℕ, List, Option, None, IfOk, IfSome, IsErr};
-ghost use Rattle.pcboard_texts.specs.Given.{ReadsAs};
+ghost use Rattle.streams.specs.ByteInput.{ReadsAs};
 
-use loader::byte_input::ByteInput;
+use crate::byte_input::ByteInput;
 use std::io;
 
 /// Opens files for reading by their names.

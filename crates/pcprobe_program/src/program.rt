@@ -1,23 +1,27 @@
 //! The program, over any files, standard input and writers.
-ghost use Rattle.std.specs.Prelude.{◌≡◌, ◌≤◌, map, Some};
+ghost use Rattle.std.specs.Prelude.{◌≡◌, ◌≢◌, ◌≤◌, map, Ok, Some};
+ghost use Rattle.streams.specs.ByteInput.{CountsNone};
+ghost use Rattle.pcboard_words.specs.Files.{LacksFile};
+ghost use Rattle.pcboard_words.specs.ProbeLine.{AnswersProbe as AnswersWords};
+ghost use Rattle.pcboard_words.specs.declared.task.Task.{Task};
 ghost use Rattle.pcboard_texts.specs.Given.{noted};
-ghost use Rattle.pcboard_texts.specs.Refusal.{TellsA};
-ghost use Rattle.pcprobe.specs.Program.{IsTrueOfProbeWords, PrintsNoProbing, PrintsProbing, RefusesProbeWords};
+ghost use Rattle.pcboard_texts.specs.Refusal.{EndsUnjudged, TellsA};
+ghost use Rattle.pcprobe_program.specs.Probing.{IsTrueOfProbeWords, PrintsNoProbing, PrintsProbing, RefusesProbeWords};
 
 use crate::tool::Pcprobe;
-use loader::byte_input::ByteInput;
-use loader::heard::Heard;
 use pcboard_program::program::program_of;
-use pcboard_texts::files::ReadFiles;
-use pcboard_texts::opener::Opener;
 use std::alloc::Global;
 use std::io::Write;
+use streams::byte_input::ByteInput;
+use streams::files::ReadFiles;
+use streams::heard::Heard;
 use streams::kept::Kept;
+use streams::opener::Opener;
 
 /// Runs `pcprobe`: does what `words`, those after its name, ask for, and answers the exit status: 0; 1 for a refusal, a
 /// line on `err`; 2 for words that name no task, with the usage on `err`; 3, with no text, if an opening, a read or a
-/// write failed. Whatever the files, the input and the writers are: it speaks of the bytes that their reads gave and that
-/// their writes took.
+/// write failed. What it promises is told of the bytes that the reads gave and the writes took, whatever the files, the
+/// input and the writers are.
 pub fn program<F: Opener, I: ByteInput, O: Write, E: Write>(
     alloc: Global,
     words: &[&str],
@@ -54,6 +58,16 @@ pub fn program<F: Opener, I: ByteInput, O: Write, E: Write>(
 
     // At status 2 nothing is printed.
     ensures unprinted { result ≡ 2 → out.new.log.bytes ≡ out.old.log.bytes }
+
+    // If a file that the words name can't be opened, nothing is judged.
+    ensures lacking { (task : Task) → AnswersWords (map (λ word. word.now) words.entry.now) (Ok task)
+        → LacksFile task (F.lacks files.old.opener)
+        → EndsUnjudged task result (Some err.old.log.bytes) (Some err.new.log.bytes) }
+
+    // At any status but 3 no read of the input has failed.
+    ensures unfailed { result ≢ 3 → CountsNone (I.failures input.old.inner) (I.failures input.new.inner) }
 {
-    program_of::<Pcprobe, ReadFiles<F>, Heard<I>, Kept<O>, Kept<E>>(alloc, words, files, input, out, err)
+    program_of::<Pcprobe, ReadFiles<F>, Heard<I>, Kept<O>, Kept<E>>(
+        alloc, words, files, input, out, err,
+    )
 }

@@ -1,5 +1,5 @@
-use Rattle.loader.specs.Given.{gave_end}
-use Rattle.loader.proofs.byte_input.read_all.Goals as goal
+use Rattle.streams.specs.InTurn.{gave_end}
+use Rattle.streams.proofs.byte_input.read_all.Goals as goal
 
 pub returns-then-count-eq0-clause-bytes : goal.returns-then-count-eq0-clause-bytes
 returns-then-count-eq0-clause-bytes g c =

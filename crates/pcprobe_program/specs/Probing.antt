@@ -1,5 +1,5 @@
 -- What the program prints: its words, and its answers to typed lines.
--- To be believed: the headline of this program rests on it.
+-- To be believed by callers of this crate: the headline does not rest on it.
 use Rattle.std.specs.Prelude.{ℕ, List, Option}
 use Rattle.pcboard_words.specs.ProbeLine.{AnswersProbe as AnswersWords}
 use Rattle.pcboard_texts.specs.declared.fault.Fault.{Fault}

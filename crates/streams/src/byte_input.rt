@@ -3,9 +3,9 @@ ghost use Rattle.std.specs.Prelude.{◌≡◌, ◌≤◌, ◌<◌, ◌++◌, ℕ
 ghost use Rattle.std.specs.Io.{ReadsAtMost};
 ghost use Rattle.std.specs.Io.KnownBytes.{Consumes, IsAtEnd};
 ghost use Rattle.std.specs.Result.{IsErrOf};
-ghost use Rattle.loader.specs.ByteInput.{CountsNone, CountsOne, CountsRefusal, IsAllWanted};
-ghost use Rattle.loader.specs.Given.{consumes_none, consumes_on};
-ghost use Rattle.loader.specs.declared.byte_input.ReadFault.TheVariants.{Failed as failed, Memory};
+ghost use Rattle.streams.specs.ByteInput.{CountsNone, CountsOne, CountsRefusal, IsAllWanted};
+ghost use Rattle.streams.specs.InTurn.{consumes_none, consumes_on};
+ghost use Rattle.streams.specs.declared.byte_input.ReadFault.TheVariants.{Failed as failed, Memory};
 
 use std::alloc::{AllocError, Global};
 use std::io::{ErrorKind, Read};
