@@ -66,6 +66,7 @@ SECONDS = {
     'board_lines': 17,
     'debugger_meaning': 38,
     'board': 180,
+    'streams': 18,
     'loader': 62,
     'pcboard_words': 50,
     'pcboard_texts': 45,

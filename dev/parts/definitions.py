@@ -65,8 +65,10 @@ class Root(NamedTuple):
     scope: Scope
 
     def is_named(self, name: str) -> bool:
-        """Whether a word means it: its crate, its own name, with its type, or with its crate too."""
-        return name in (self.crate, self.call, self.call.rpartition('::')[2], f'{self.crate}::{self.call}')
+        """Whether a word means it: its crate, its own name, with its type, or with its crate too, or with the program that the
+        crate is the library of."""
+        owners = (self.crate, self.crate.removesuffix('_program'))
+        return name in (self.crate, self.call, self.call.rpartition('::')[2], *(f'{each}::{self.call}' for each in owners))
 
 
 class Definitions:
@@ -153,9 +155,16 @@ class Definitions:
         return self.called(names)
 
     def called(self, names: Iterable[str]) -> list[Root]:
-        """What callers reach of those of these names that there are, in the order of `crates`."""
-        names = list(names)
-        return sorted((each for each in self.roots if any(map(each.is_named, names))), key=lambda each: self.crates.index(each.crate))
+        """What callers reach of those of these names that there are, in the order of `crates`. Of functions with one name, it alone
+        means the one whose crate comes first in crates.txt, as `program` that of pcboard_program."""
+        places = {number for name in names for number in self.meant_by(name)}
+        return sorted((self.roots[number] for number in sorted(places)), key=lambda each: self.crates.index(each.crate))
+
+    def meant_by(self, name: str) -> list[int]:
+        """Which of the roots a name means."""
+        found = {number: each for number, each in enumerate(self.roots) if each.is_named(name)}
+        first = max((self.crates.index(each.crate) for each in found.values() if each.call == name), default=0)
+        return [number for number, each in found.items() if each.call != name or self.crates.index(each.crate) == first]
 
     def reached(self, roots: Iterable[Root], views: bool = False) -> list[Node]:
         """The nodes that the clauses of some lead to, each once: those that they name, then those that these name, and so on. With
