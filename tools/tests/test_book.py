@@ -235,6 +235,13 @@ class Books(ToolCase):
         self.assertNotIn('ghost view', text)
         self.assertIn('    ghost Value = { List (ℕ × ℕ) };', text_of(self.book('run_image')))
 
+    def test_programs_are_named_with_their_functions(self) -> None:
+        """Alone the name is that of the headline."""
+        for names, own in ((('program', 'pcboard::program', 'pcboard_program::program'), 'pcboard'), (('pcprobe::program',), 'pcprobe')):
+            for name in names:
+                self.assertEqual([each.crate for each in self.found.wanted([name])], [f'{own}_program'], name)
+        self.assertIn('/// Runs `pcprobe`: does what `words`', text_of(self.book('pcprobe::program')))
+
     def test_what_readers_ask_first_and_the_names_of_the_kit(self) -> None:
         book = self.book(*CALLS)
         nodes = {each.definition.node for each in book.entries}

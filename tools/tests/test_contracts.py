@@ -60,6 +60,12 @@ class Contracts(ToolCase):
         self.assertIn('- `waves_as_told`', printed)
         self.assertIn('Wrong bodies that the prover refuses: ', printed)
 
+    def test_a_program_with_the_library_of_its_contract(self) -> None:
+        for program in ('pcboard', 'pcprobe'):
+            printed, _ = self.tool('dev/contracts', program)
+            self.assertEqual(re.findall(r'^## (\w+)$', printed, re.M), [f'{program}_program', program])
+            self.assertIn(f'- `program`: Runs `{program}`', printed)
+
     def test_a_changed_comment_and_a_new_clause_are_printed(self) -> None:
         for folder in ('dev', 'tools'):
             (self.path / folder).mkdir()

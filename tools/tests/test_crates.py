@@ -12,6 +12,7 @@ from toolbox.crates import Crates
 
 HEADINGS = 9
 LONGEST = 400  # of a line of cases, in characters
+CALLS = ['run_on_system', 'program', 'alloc', 'new', 'new', 'stdin', 'new', 'stdout', 'new', 'stderr']  # what a main calls
 
 
 def read(path: str) -> str:
@@ -59,6 +60,17 @@ class List(unittest.TestCase):
             found = {name: fnmatch.filter(crates, name) for name in names}
             self.assertEqual({crate for each in found.values() for crate in each}, {*crates}, heading)
             self.assertEqual([name for name in names if not found[name]], [], heading)
+
+
+class Mains(unittest.TestCase):
+    """What starts pcboard and pcprobe."""
+
+    def test_each_calls_the_program_of_its_name_and_nothing_else(self) -> None:
+        texts = {name: re.sub(r'//.*\n', '', read(f'crates/{name}/src/main.rt')).replace(name, 'NAME') for name in ('pcboard', 'pcprobe')}
+        found = [sorted(each.replace('NAME_texts', 'pcboard_texts').splitlines()) for each in texts.values()]
+        self.assertEqual(found[0], found[1])
+        self.assertIn('use NAME_program::program::program;', found[0])
+        self.assertEqual(re.findall(r'(\w+)\(', texts['pcboard'].partition('fn main(')[2]), CALLS)
 
 
 class Cases(unittest.TestCase):

@@ -1,5 +1,5 @@
 //! Bytes that come from outside, from an input that may fail.
-ghost use Rattle.std.specs.Prelude.{◌≡◌, ◌≤◌, ◌<◌, ◌++◌, ℕ, take, length, IfOk, List, [], Option, None};
+ghost use Rattle.std.specs.Prelude.{◌≡◌, ◌≤◌, ◌<◌, ◌++◌, ℕ, take, length, IfOk, List, [], MatchResult, Option, None};
 ghost use Rattle.std.specs.Io.{ReadsAtMost};
 ghost use Rattle.std.specs.Io.KnownBytes.{Consumes, IsAtEnd};
 ghost use Rattle.std.specs.Result.{IsErrOf};
@@ -31,10 +31,11 @@ pub trait ByteInput {
     ghost failures: { Self → Option ℕ } = { λ _. None };
 
     /// Puts the next bytes into the front of `buf`, and answers how many they are: none only at the end, or if `buf`
-    /// has no room. Refused if the input failed.
+    /// has no room. Refused if the input failed, which then gives none of its bytes.
     fn read(&mut self, buf: &mut [u8]) -> Result<usize, Failed>
         ensures bound { ReadsAtMost result buf.new }
-        ensures bytes { IfOk result (λ n. gave self.old self.new (take n buf.new)) }
+        ensures bytes { MatchResult result (λ n. gave self.old self.new (take n buf.new))
+            (λ _. gave self.old self.new []) }
         ensures end { IfOk result (λ n. n ≡ 0 → 0 < length buf.new → ended self.new) }
         ensures failures { CountsRefusal (failures self.old) (failures self.new) result };
 

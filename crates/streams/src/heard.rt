@@ -1,5 +1,5 @@
 //! An input with the bytes that it gave.
-ghost use Rattle.std.specs.Prelude.{◌≡◌, ◌≤◌, ◌<◌, ◌++◌, ℕ, [], take, length, IfErr, IfOk, true, false};
+ghost use Rattle.std.specs.Prelude.{◌≡◌, ◌≤◌, ◌<◌, ◌++◌, ℕ, [], take, length, IfOk, MatchResult, true, false};
 ghost use Rattle.std.specs.Io.{ReadsAtMost};
 ghost use Rattle.streams.specs.ByteInput.{CountsRefusal};
 ghost use Rattle.streams.specs.InTurn.{grows_none, grows_on};
@@ -48,14 +48,12 @@ impl<I: ByteInput> ByteInput for Heard<I> {
     /// Reads from the input, and notes what it gave.
     fn read(&mut self, buf: &mut [u8]) -> Result<usize, Failed>
         ensures bound { ReadsAtMost result buf.new }
-        ensures bytes { IfOk result (λ n. (self.new.log.bytes ≡ self.old.log.bytes ++ take n buf.new)
-            × I.gave self.old.inner self.new.inner (take n buf.new)) }
+        ensures bytes { MatchResult result (λ n. (self.new.log.bytes ≡ self.old.log.bytes ++ take n buf.new)
+            × I.gave self.old.inner self.new.inner (take n buf.new)) (λ _. (self.new.log.bytes ≡ self.old.log.bytes ++ [])
+            × I.gave self.old.inner self.new.inner []) }
         ensures end { IfOk result (λ n. n ≡ 0 → 0 < length buf.new
             → (self.new.ended ≡ true) × I.ended self.new.inner) }
         ensures failures { CountsRefusal (I.failures self.old.inner) (I.failures self.new.inner) result }
-
-        // A read that is refused adds no bytes.
-        ensures none { IfErr result (λ _. self.new.log.bytes ≡ self.old.log.bytes) }
 
         // It meets no end that the input didn't meet.
         ensures met { IfOk result (λ n. self.new.ended ≡ true → I.ended self.new.inner) }
