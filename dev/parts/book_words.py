@@ -18,7 +18,7 @@ CONTRACT: Rows = [
     ('result', 'what the call answers'),
     ('x.old, x.new', 'what a `&mut` argument points to, before the call and after it; `x.now` of a `&` argument, `x.entry` what was passed'),
     ('ghost Value = { T }', 'what clauses see of a type of the code: its view, a value of `T`. How the code keeps it has no place in a contract'),
-    ('ghost member: { T }', 'of a trait: what its implementer says of a value, as the bytes that an input still has'),
+    ('ghost member: { T }', 'of a trait: what its implementer says of a value, as the bytes that an input gave. Of a type: a field that no code can read'),
 ]
 NOTATION: Rows = [
     ('f : ℕ → Bool → Line', '`f` takes a number and a truth value, and gives a line. It is written `f n b`, without parentheses or commas'),
@@ -47,6 +47,7 @@ NOTATION: Rows = [
 # A question, and the definitions that answer it, in the order to read them in.
 WAYS: list[tuple[str, list[Node]]] = [
     ('what status 0 prints', [('pcboard_texts', 'Answer', 'Prints'), ('pcboard_texts', 'Answer', 'PrintsTask')]),
+    ('what was read, by the lists that note it', [('pcboard_texts', 'Given', 'noted'), ('streams', 'FileLists', 'NotesFile')]),
     ('what a refusal tells', [('pcboard_texts', 'Refusal', 'TellsA'), ('pcboard_texts', 'Refusal', 'IsTrueOfWords')]),
     ('what a run file may say', [('loader', 'RunFile', 'run_of_text'), ('loader', 'RunFile', 'run_of')]),
     ('which image a source gives', [('assembler', 'Gives', 'Gives')]),
@@ -82,6 +83,7 @@ WAYS: list[tuple[str, list[Node]]] = [
     ('what the probe answers', [('probe', 'Probe', 'AnswersStopping'), ('probe', 'InquirySession', 'AnswersProbe')]),
     ('when a stop on what happens holds', [('probe', 'ProbeStops', 'meets')]),
     ("where the probe's `go` stops", [('probe', 'ProbeStops', 'EndsAt')]),
+    ('what pcprobe prints', [('pcprobe_program', 'Probing', 'PrintsProbing')]),
 ]
 # What the kit's library says of its own names, in short. Operators and constructors are in the first chapter.
 KIT: dict[str, str] = {

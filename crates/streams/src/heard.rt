@@ -55,7 +55,7 @@ impl<I: ByteInput> ByteInput for Heard<I> {
             → (self.new.ended ≡ true) × I.ended self.new.inner) }
         ensures failures { CountsRefusal (I.failures self.old.inner) (I.failures self.new.inner) result }
 
-        // It meets no end that the input didn't meet.
+        // No end is met that the input didn't meet.
         ensures met { IfOk result (λ n. self.new.ended ≡ true → I.ended self.new.inner) }
     {
         let has_room = !buf.is_empty();
