@@ -3,9 +3,14 @@ tool itself."""
 from __future__ import annotations
 
 import contextlib
+import errno
+import glob
+import io
 import json
+import mmap
 import os
 import re
+import resource
 import subprocess
 import sys
 import tempfile
@@ -14,16 +19,21 @@ from typing import Any, Callable
 from unittest import mock
 
 from tests import test_gdb
-from tests.support import RESET, SECONDS, TOOLS, ToolCase, children, example
+from tests.support import RESET, SECONDS, TOOLS, TOP, ToolCase, children, example, main_of
 from tests.terminal import Terminal
 from tests.test_dap import Client as Editor
 
-from toolbox.command import MISTAKE
+sys.path.insert(0, f'{TOP}/dev')
+from parts import trials
+from toolbox import framing, starting
+from toolbox.command import MISTAKE, start
 from toolbox.desk.drafts import Drafts
 from toolbox.desk.files import Given
 from toolbox.desk.words import Desk
-from toolbox.program import path
+from toolbox.moments import Worker
+from toolbox.program import Files, ProbeSession, path
 from toolbox.runfile import DEFAULTS
+from toolbox.threads import STACK, begin
 
 # In place of a program: it refuses the first command of a name, and hands on all else, as what the tools ask to know where an answer
 # ends. Each answer is known to be whole by what is asked behind it.
@@ -267,6 +277,73 @@ class Broken(ToolCase):
         came = subprocess.run([sys.executable, '-c', code], cwd=TOOLS, capture_output=True, text=True, timeout=SECONDS, check=False)
         self.assertEqual((came.returncode, came.stdout), (2, ''))
         self.assertRegex(came.stderr, r'^-c: a mistake of this tool has ended it: IndexError: list index out of range \(<string>, line 7\)\n$')
+
+
+class NoThread(ToolCase):
+    """A thread that can't be started, and one that fails, end a tool with a sentence; nothing waits for them."""
+
+    SENTENCE = "a thread can't be started: Cannot allocate memory\n"
+
+    def test_only_one_way_begins_threads(self) -> None:
+        found = list[str]()
+        for path in (*glob.glob(f'{TOOLS}/toolbox/**/*.py', recursive=True), *filter(os.path.isfile, glob.glob(f'{TOOLS}/*'))):
+            with open(path, encoding='utf-8') as file:
+                text = file.read()
+            if re.search(r'\bThread\(|start_new_thread|ThreadPool', text):
+                found.append(os.path.relpath(path, TOOLS))
+                self.assertIn('want()', text, path)
+        self.assertEqual(sorted(found), ['toolbox/classes.py', 'toolbox/threads.py'])
+
+    def test_without_memory(self) -> None:
+        """The stacks of threads that have ended are there for the next one, which then lacks the memory to begin."""
+
+        def work(_: list[str]) -> int:
+            for _ in range(3):
+                begin(lambda: None).join()
+            most = trials.sizes()[0] + STACK
+            resource.setrlimit(resource.RLIMIT_AS, (most, most))
+            begin(lambda: None)
+            return 0
+
+        ended = trials.tried(lambda: start(work), self.room)
+        self.assertEqual((ended.status, ended.err), (2, f'{os.path.basename(sys.argv[0])}: {self.SENTENCE}'))
+
+    def test_tools(self) -> None:
+        source, run = example('ticks')
+        os.mkdir(f'{self.room}/state')
+        self.file('page', 'shows = HI\n')
+        for name, words in (
+            ('dap', []),
+            ('lsp', []),
+            ('desk', [source, run, '--no-open']),
+            ('moments', [f'{self.room}/page', source, run, '--key', '1E', '--at', '1..9']),
+            ('judge', ['--class', f'{self.room}/page', source]),
+        ):
+            with self.subTest(name), mock.patch.object(mmap, 'mmap', side_effect=OSError(errno.ENOMEM, os.strerror(errno.ENOMEM))):
+                ended = trials.tried(trials.started(name, words), self.room)
+                self.assertEqual((ended.status, ended.err), (2, f'{name}: {self.SENTENCE}'), ended)
+
+    def test_sessions_of_threads(self) -> None:
+        """A session that needs the thread which starts processes says so, and another one is begun later."""
+        files = Files(*example('ticks'))
+        with mock.patch.object(starting, '_STARTERS', []), mock.patch('threading.active_count', return_value=2):
+            with mock.patch.object(mmap, 'mmap', side_effect=OSError(errno.ENOMEM, os.strerror(errno.ENOMEM))):
+                self.assertRaisesRegex(OSError, self.SENTENCE.strip(), ProbeSession, files)
+            with ProbeSession(files) as session:
+                self.assertEqual(session.go(5), 'clock 5')
+
+    def test_a_message_for_which_there_is_no_memory(self) -> None:
+        with mock.patch.object(framing.Reader, 'next', side_effect=MemoryError):
+            messages = framing.reading(0)
+            told, end = messages.get(timeout=SECONDS), messages.get(timeout=SECONDS)
+        assert isinstance(told, framing.Broken)
+        self.assertEqual((told.why, end), ("a message can't be read: there is no memory for it", None))
+
+    def test_moments_whose_thread_fails(self) -> None:
+        page, err = self.file('page', 'shows = HI\n'), io.StringIO()
+        with mock.patch.object(Worker, 'ask', side_effect=MemoryError), contextlib.redirect_stderr(err):
+            with self.assertRaises(MemoryError):
+                main_of('moments')([page, *example('ticks'), '--key', '1E', '--at', '1..9'])
 
 
 if __name__ == '__main__':

@@ -9,7 +9,7 @@ import signal
 import subprocess
 import sys
 import tempfile
-from concurrent.futures import ThreadPoolExecutor
+from concurrent.futures import Future, ThreadPoolExecutor
 from dataclasses import dataclass, field, replace
 from itertools import zip_longest
 from typing import Any, Iterator
@@ -20,6 +20,7 @@ from toolbox.expectations import Outcome, Planned
 from toolbox.marks import Row, as_csv, as_junit, cell, line_of, tell_copies
 from toolbox.program import path as program_path
 from toolbox.starting import started
+from toolbox.threads import want
 
 HIDDEN = argparse.SUPPRESS
 JUDGE = os.path.join(os.path.dirname(os.path.dirname(os.path.realpath(__file__))), 'judge')
@@ -146,7 +147,10 @@ def rows_of(them: Class, files: list[str], folders: list[str]) -> Iterator[Row]:
     """Each file's row as it is ready, in the order of the files. Once that is broken off, the others that are done come, and what is
     at work is ended."""
     pool = ThreadPoolExecutor(os.cpu_count() or 1)
-    waited = [pool.submit(them.row, file, folder) for file, folder in zip_longest(files, folders)]
+    waited = list[Future[Row]]()
+    for file, folder in zip_longest(files, folders):
+        want()
+        waited.append(pool.submit(them.row, file, folder))
     try:
         while waited:
             row = waited[0].result()

@@ -11,6 +11,7 @@ import time
 from typing import Callable, Iterator
 
 from toolbox import reading
+from toolbox.threads import begin
 from toolbox.writing import write_whole
 
 HINT_STATUS = 2
@@ -87,8 +88,7 @@ def waiting(what: str, seconds: float = 2) -> Iterator[Callable[[str], None]]:
     def say(how_far: str) -> None:
         far[0] = f': {how_far}'
 
-    teller = threading.Thread(target=tell, daemon=True)
-    teller.start()
+    teller = begin(tell)
     try:
         yield say
     finally:

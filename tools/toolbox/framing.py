@@ -6,8 +6,9 @@ import json
 import os
 import queue
 import re
-import threading
 from typing import Any, Callable
+
+from toolbox.threads import begin
 
 LONGEST_BODY, LONGEST_HEADER = 1 << 23, 4096  # a source of the greatest length fits, all its characters escaped
 
@@ -90,9 +91,12 @@ def reading(handle: int) -> queue.Queue[Read]:
                 message = reader.next()
             except OSError:
                 message = None
+            except MemoryError:
+                found.put(Broken("a message can't be read: there is no memory for it"))
+                message = None
             found.put(message)
 
-    threading.Thread(target=read, daemon=True).start()
+    begin(read)
     return found
 
 

@@ -3,6 +3,7 @@ by side."""
 from __future__ import annotations
 
 import contextlib
+import functools
 import hashlib
 import json
 import math
@@ -31,6 +32,7 @@ from toolbox.poking import Count
 from toolbox.program import LAST_CLOCK, Files, ProbeSession, path as program_path
 from toolbox.runfile import DEFAULTS, text_of
 from toolbox.symbols import path_of
+from toolbox.threads import begin
 
 AT_ONCE = 8  # moments that a process is handed
 LONGEST_KEPT = 1 << 28  # bytes of the file that keeps what was tried
@@ -358,7 +360,7 @@ class Feeder:
         self._todo, self._lock = chunks(found), threading.Lock()
         self.workers = [Worker(plan.words(room)) for _ in range(min(jobs, math.ceil(found.is_tried.count(0) / AT_ONCE)))]
         for worker in self.workers:
-            threading.Thread(target=self._feed, args=(worker,), daemon=True).start()
+            begin(functools.partial(self._feed, worker))
 
     def _feed(self, worker: Worker) -> None:
         """Hands it moments to their end, which None tells."""
@@ -370,7 +372,7 @@ class Feeder:
                     return
                 for moment, outcome in zip(chunk, worker.ask(chunk)):
                     self.answers.put((moment, outcome))
-        except (Sorry, ValueError, OSError) as error:
+        except Exception as error:  # pylint: disable=broad-exception-caught
             self.answers.put(error)
         finally:
             self.answers.put(None)

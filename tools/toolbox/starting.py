@@ -10,6 +10,8 @@ import subprocess
 import threading
 from typing import Any
 
+from toolbox.threads import begin
+
 PR_SET_PDEATHSIG = 1
 _LIBRARY = ctypes.CDLL(None)
 
@@ -20,7 +22,7 @@ class Starter:
     def __init__(self) -> None:
         self.process = os.getpid()
         self._asked = queue.SimpleQueue[tuple[list[str], dict[str, Any], 'queue.SimpleQueue[Any]']]()
-        threading.Thread(target=self._start_them, daemon=True).start()
+        begin(self._start_them)
 
     def started(self, words: list[str], how: dict[str, Any]) -> subprocess.Popen[bytes]:
         """The process of a command, begun in this thread; OSError where it can't be."""

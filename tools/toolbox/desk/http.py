@@ -16,6 +16,8 @@ import threading
 import time
 from typing import Any, Callable, Iterable
 
+from toolbox.threads import begin
+
 Fields = dict[str, Any]
 HOST, COOKIE = '127.0.0.1', 'desk'
 # A source of 1,048,576 bytes, written as JSON, fits twice.
@@ -120,7 +122,7 @@ class Server(http.server.ThreadingHTTPServer):
             self._strangers.pop(oldest, None)
         if oldest:
             shut(oldest)
-        super().process_request(request, client_address)
+        begin(lambda: self.process_request_thread(request, client_address))
 
     def process_request_thread(self, request: Any, client_address: Any) -> None:
         """A connection, in its thread."""

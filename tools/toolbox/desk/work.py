@@ -11,6 +11,7 @@ from typing import Any, Callable, Iterator
 from toolbox.command import Sorry
 from toolbox.program import Files, ProbeSession, refusal
 from toolbox.starting import started
+from toolbox.threads import begin
 
 Fields = dict[str, Any]
 # Of the processor's time, so that on a busy machine as much is told.
@@ -24,7 +25,7 @@ class Job:
         self._work, self._result = work, Fields()
         self._error: BaseException | None = None
         self.over = threading.Event()
-        threading.Thread(target=self._do, daemon=True).start()
+        begin(self._do)
 
     def _do(self) -> None:
         try:

@@ -4,6 +4,7 @@ from __future__ import annotations
 import functools
 import re
 from dataclasses import dataclass
+from typing import NamedTuple
 
 from toolbox.lsp.words import SEGMENT_REGISTERS, kinds
 
@@ -12,8 +13,7 @@ DATA = ('DB', 'DW', 'DD')
 LABEL, CONSTANT, SEGMENT = 'label', 'constant', 'segment'
 
 
-@dataclass(frozen=True)
-class Token:
+class Token(NamedTuple):
     """A word, number, text, sign or comment. A word is also a mnemonic, prefix, register, directive, operator or name."""
 
     kind: str

@@ -2,6 +2,7 @@
 from __future__ import annotations
 
 import os
+import re
 import urllib.parse
 from pathlib import Path
 from typing import Iterable, Iterator
@@ -13,7 +14,8 @@ from toolbox.lsp.text import Fields, Text
 from toolbox.reading import read_whole
 
 NAMESPACE, FUNCTION, VARIABLE, CONSTANT_SYMBOL = 3, 12, 13, 14
-MOST_FILES, LONGEST_FILE, MOST_FOUND = 500, 1 << 20, 1000
+MOST_FILES, LONGEST_FILE, MOST_FOUND, LONGEST_LINE = 500, 1 << 20, 1000, 1000
+LONG = re.compile(rf'^([^\r\n]{{{LONGEST_LINE}}})[^\r\n]+', re.M)
 
 
 def symbol_kind(source: Source, definition: Definition) -> int:
@@ -78,9 +80,9 @@ def sources_below(folders: Iterable[str]) -> Iterator[str]:
 
 
 def read(path: str) -> Source | None:
-    """A file's source, or None if it can't be read or is too long."""
+    """A file's source, with the beginnings of its long lines, or None if it can't be read or is too long."""
     try:
-        return Source(Text.of(read_whole(path, LONGEST_FILE).decode('utf-8', 'replace')))
+        return Source(Text.of(LONG.sub(r'\1', read_whole(path, LONGEST_FILE).decode('utf-8', 'replace'))))
     except OSError:
         return None
 
