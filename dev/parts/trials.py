@@ -20,12 +20,14 @@ from typing import Callable
 
 TOP = os.path.dirname(os.path.dirname(os.path.dirname(os.path.realpath(__file__))))
 MOST_MEMORY = 2 << 30  # bytes of addresses beside those that it begins with, by which a run that takes all there is ends
+SMALL = 48 << 20  # bytes that a process has which has loaded a tool and nothing else
 HANGS = 60  # seconds after which a run that takes no processor time is ended
 
 
 @dataclass(frozen=True)
 class Ended:
-    """How a run ended: its status, or the signal's number below 0; what it printed; the processor time and the memory that it took."""
+    """How a run ended: its status, or the signal's number below 0; what it printed; the processor time that it took, and the memory,
+    without what a long run of tests had left the process from which it was split off."""
 
     status: int
     out: bytes
@@ -75,6 +77,7 @@ def tried(work: Callable[[], None], folder: str, given: bytes = b'', seconds: in
     with tempfile.TemporaryFile() as stdin, tempfile.TemporaryFile() as out, tempfile.TemporaryFile() as err:
         stdin.write(given)
         stdin.seek(0)
+        held = left()
         child = os.fork()
         if child == 0:
             status = 1
@@ -85,7 +88,7 @@ def tried(work: Callable[[], None], folder: str, given: bytes = b'', seconds: in
         status, used = waited(child)
         out.seek(0)
         err.seek(0)
-        return Ended(status, out.read(), err.read().decode('utf-8', 'replace'), used.ru_utime + used.ru_stime, used.ru_maxrss >> 10)
+        return Ended(status, out.read(), err.read().decode('utf-8', 'replace'), used.ru_utime + used.ru_stime, (used.ru_maxrss >> 10) - (held >> 20))
 
 
 def inside(work: Callable[[], None], folder: str, streams: tuple[int, ...], seconds: int) -> int:
@@ -99,7 +102,7 @@ def inside(work: Callable[[], None], folder: str, streams: tuple[int, ...], seco
     for number in (signal.SIGINT, signal.SIGTERM, signal.SIGHUP):
         signal.signal(number, signal.default_int_handler if number == signal.SIGINT else signal.SIG_DFL)
     resource.setrlimit(resource.RLIMIT_CPU, (seconds, seconds + 1))
-    most = addresses() + MOST_MEMORY
+    most = sizes()[0] + MOST_MEMORY
     resource.setrlimit(resource.RLIMIT_AS, (most, most))
     resource.setrlimit(resource.RLIMIT_CORE, (0, 0))
     try:
@@ -116,10 +119,16 @@ def inside(work: Callable[[], None], folder: str, streams: tuple[int, ...], seco
                 stream.flush()
 
 
-def addresses() -> int:
-    """The bytes of addresses that this process has, among them what a long run of tests has left it."""
+def sizes() -> list[int]:
+    """The bytes of addresses that this process has, of its memory, and of the memory that is a file's."""
     with open('/proc/self/statm', encoding='ascii') as file:
-        return int(file.read().split()[0]) * resource.getpagesize()
+        return [int(pages) * resource.getpagesize() for pages in file.read().split()[:3]]
+
+
+def left() -> int:
+    """The bytes of memory that a process which is split off from this one begins with, beyond those of a small one."""
+    _, resident, shared = sizes()
+    return max(0, resident - shared - SMALL)
 
 
 def ticks_of(group: int) -> int:

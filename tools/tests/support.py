@@ -29,6 +29,8 @@ signal.signal(signal.SIGHUP, signal.SIG_DFL)
 
 # Whatever ends at all has ended in so many seconds, however busy the machine is; then a wait is given up.
 SECONDS = 300
+# The processor time that `slower` needs on the machine on which the tests' limits of such time were set.
+STANDARD = 0.016
 RESET = "ENDS\nSEGMENT RESET AT 0FFFFh\n        JMP FAR start\nENDS\n"
 # Runs a command, and tells the processor time and the most memory that it took.
 MEASURED = """import resource, subprocess, sys
@@ -140,6 +142,18 @@ def processor_seconds(of: int) -> float:
     return sum(map(int, state_of(of)[11:13])) / os.sysconf('SC_CLK_TCK')
 
 
+def slower() -> float:
+    """How many times slower this machine is, with all else that it does now, than the one on which the tests' limits of time were set."""
+
+    def once() -> float:
+        begun = time.process_time()
+        for number in range(100_000):
+            hash(str(number))
+        return time.process_time() - begun
+
+    return max(1, max(once() for _ in range(5)) / STANDARD)
+
+
 def until(holds: Callable[[], Any], pause: float = 0.01) -> bool:
     """Waits until something holds, and tells whether it does at last."""
     end = time.monotonic() + SECONDS
@@ -198,6 +212,10 @@ class ToolCase(unittest.TestCase):
         HLT in 79 and not 71."""
         fields = f'"version":2,"ram":64,"sw1":0,"sw2":0,"budget":{budget},"keys":[],"timer":"8253","clocks":"C2"'
         return example('hello')[0], self.file('c2.json', f'{{{fields}}}')
+
+    def assert_within(self, spent: float, most: float, what: object = None) -> None:
+        """Something has taken less than so many seconds of a processor, or, on a slow or busy machine, so many times more."""
+        self.assertLess(spent, most * (slower() if spent >= most else 1), what)
 
     def tool(self, name: str, *words: str, given: str = '', status: int | None = 0) -> tuple[str, str]:
         """What a tool prints on its two streams, where it ends with this status. One of another folder is named with it."""

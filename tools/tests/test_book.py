@@ -268,7 +268,7 @@ class Books(ToolCase):
     def test_it_is_made_in_a_few_seconds(self) -> None:
         before = resource.getrusage(resource.RUSAGE_CHILDREN).ru_utime
         self.tool('dev/book', 'program', '--out', f'{self.room}/book.html')
-        self.assertLess(resource.getrusage(resource.RUSAGE_CHILDREN).ru_utime - before, 30)
+        self.assert_within(resource.getrusage(resource.RUSAGE_CHILDREN).ru_utime - before, 30)
         with open(f'{self.room}/book.html', encoding='utf-8') as file:
             self.assertTrue(file.read().startswith('<!DOCTYPE html>'))
 

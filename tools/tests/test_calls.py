@@ -482,7 +482,7 @@ class Speed(CallsCase):
             text=True,
             check=True,
         )
-        self.assertLess(float(done.stderr.split()[0]), 3)
+        self.assert_within(float(done.stderr.split()[0]), 3)
 
 
 if __name__ == '__main__':

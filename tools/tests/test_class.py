@@ -329,7 +329,7 @@ class Strangers(ToolCase):
         )
         self.assertIn('\t0\tno: refused: fault 41 Memory\t', ran.stdout)
         seconds, kilobytes = map(float, ran.stderr.split())
-        self.assertLess(seconds, 10)
+        self.assert_within(seconds, 10)
         self.assertLess(kilobytes, 256 * 1024)
         self.assertRegex(self.feedback('flood'), r'judge flood/1\.page flood/flood\.asm flood/1\.json --memory=256\n')
         for words, why in (('--memory=1', '--memory takes 16 to'), ('--seconds=0', '--seconds takes 1 to'), ('--keep=x', 'goes with one FILE')):

@@ -119,7 +119,7 @@ class Held(Stepped):
         board.asked = {stop: [Asked(lambda at: Expression(at, Listing([], {}, {}), 'BX = 0EFFh').holds())]}
         before = spent()
         self.assertEqual(board.run([stop], board.budget), stop)
-        self.assertLess(spent() - before, 15 / 16)
+        self.assert_within(spent() - before, 15 / 16)
         self.assertEqual(board.registers()['BX'], 61_440 // 16 - 1)
 
 

@@ -689,7 +689,7 @@ class Boards(Served):
         begun = time.process_time() + sum(os.times()[2:4])
         long = self.client.ask('open', source=f"{'x' * 200_000}\n{'x' * 200_000}", run=RUN)['refused']
         self.assertEqual([(refusal['line'], refusal['text'].partition(':')[0]) for refusal in long], [(1, 'BadLine'), (2, 'BadLine')])
-        self.assertLess(time.process_time() + sum(os.times()[2:4]) - begun, 10)
+        self.assert_within(time.process_time() + sum(os.times()[2:4]) - begun, 10)
         self.assertEqual(os.listdir(self.room), [])
 
     def test_hex(self) -> None:
@@ -782,7 +782,7 @@ class Boards(Served):
             typed = self.client.ask('type', board=board, codes=[30, 158])
             self.assertEqual((typed['clock'], len(typed['keys'])), (here, 2 * count))
         self.client.ask('marks', board=board)
-        self.assertLess(processor_seconds(process) - before + sum(os.times()[2:4]) - ended, 0.2)
+        self.assert_within(processor_seconds(process) - before + sum(os.times()[2:4]) - ended, 0.2)
         self.assertEqual(children(os.getpid()), them)
         stamps = [each[0] for each in typed['keys']]
         self.assertEqual(stamps, [here + 1000 * each for each in range(1, 41)])
@@ -1051,7 +1051,7 @@ class Boards(Served):
             self.client.ask('why', board=board)
             spent = time.process_time() + sum(os.times()[2:4]) - before
             spent += sum(processor_seconds(process) - started.get(process, 0) for process in children(os.getpid()))
-            self.assertLess(spent, 1, clocks)
+            self.assert_within(spent, 1, clocks)
             self.client.ask('close', board=board)
 
     def test_how_fast_it_is(self) -> None:
@@ -1068,7 +1068,7 @@ class Boards(Served):
             before = spent()
             for _ in range(8):
                 self.client.ask(word, board=board, seen=1)
-            self.assertLess((spent() - before) / 8, most, word)
+            self.assert_within((spent() - before) / 8, most, word)
 
 
 class Heard(unittest.TestCase):

@@ -156,7 +156,7 @@ class OnePage(ToolCase):
         browser = page.browser
         before = page.spent()
         page.example('fibonacci')
-        self.assertLess(page.spent() - before, 5)
+        self.assert_within(page.spent() - before, 5)
         report = self.report('fibonacci')
         self.assertEqual((page.screen(), page.clock), (report.screen, report.clock))
         self.assertEqual(browser.run("$('registers').textContent"), ''.join(f'{name} {value:04X}' for name, value in report.registers.items()))
@@ -480,7 +480,7 @@ class OnePage(ToolCase):
         # Meanwhile the page has little to do.
         before = browser.thread_seconds()
         browser.run('new Promise(it=>setTimeout(it,1000))')
-        self.assertLess(browser.thread_seconds() - before, 0.5)
+        self.assert_within(browser.thread_seconds() - before, 0.5)
         browser.click('#run')
         page.settled("$('run').textContent==='Run'&&view.clock<2**40")
         page.click('#start', 'view.clock===0')
@@ -629,7 +629,7 @@ class OnePage(ToolCase):
         # The page's own time counts; a machine that is too busy for it is told.
         passed = f'(performance.now()-{begun})/1000'
         page.browser.until(f"Math.abs((view.clock-{here})/HERTZ-{passed})<.5||$('said').textContent==='slower than a real board'")
-        self.assertLess(page.spent() - before, 0.1 * page.browser.run(passed))
+        self.assert_within(page.spent() - before, 0.1 * page.browser.run(passed))
         page.click('#run', "$('run').textContent==='Run'")
         self.fine(page)
 
@@ -649,7 +649,7 @@ class OnePage(ToolCase):
         browser.press('a')
         page.settled("view.keys.length===2&&$('said').textContent==='stamped 1,200,002,000; run on to see its effect'")
         self.assertEqual(browser.run('view.clock'), 1_200_000_000)
-        self.assertLess(processor_seconds(board) - before, 0.2)
+        self.assert_within(processor_seconds(board) - before, 0.2)
         # Of keys that are dropped the run is made anew without them; until then it may be paused.
         page.click('#tab-keys')
         browser.click('#keys-drop')
@@ -752,7 +752,7 @@ class OnePage(ToolCase):
             for _ in range(5):
                 browser.press('b')
             rounds.append(browser.thread_seconds('ScriptDuration') - before)
-        self.assertLess(min(rounds) / 5, 0.016)
+        self.assert_within(min(rounds) / 5, 0.016)
         self.assertGreater(min(rounds), 0)
         self.assertEqual(browser.run("$('source').value.split('b'.repeat(40)).length"), 2)
         self.assertTrue(browser.run("[...$('ink').children].some(it=>it.textContent.includes('b'.repeat(40)))"))

@@ -92,6 +92,7 @@ MAY_SUCCEED = {'tools/why fault', 'tools/trace --vcd', 'tools/try hello.asm --wr
 WRITTEN = ('tools/trace --vcd', 'tools/try hello.asm --write', 'tools/sound')  # there the path is what is written
 MORE_THAN_A_PIPE = 1 << 17
 MOST_SECONDS, MOST_MEGABYTES = 5, 300  # of the processor, and of the largest process
+ENDED = 4 * MOST_SECONDS  # also on a slow machine
 MOST_PRINTED = 20_000  # bytes
 
 
@@ -265,8 +266,8 @@ class NoFile(ToolCase):
             os.environ.update(self.environment)
             work()
 
-        ended = trials.tried(at_home, self.room, given, MOST_SECONDS)
-        self.assertLess(ended.seconds, MOST_SECONDS, what)
+        ended = trials.tried(at_home, self.room, given, ENDED)
+        self.assert_within(ended.seconds, MOST_SECONDS, what)
         self.assertLess(ended.megabytes, MOST_MEGABYTES, what)
         self.assertGreaterEqual(ended.status, 0, what)
         self.assertLess(len(ended.out) + len(ended.err), MOST_PRINTED, what)

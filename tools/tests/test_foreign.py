@@ -293,8 +293,9 @@ class Foreign(ToolCase):
             after = resource.getrusage(resource.RUSAGE_CHILDREN)
             return after.ru_utime + after.ru_stime - before.ru_utime - before.ru_stime
 
-        least = [min(seconds(*words) for _ in range(5)) for words in ((f'{self.room}/kept.asm', '--services'), (loop,))]
-        self.assertLess(least[1] - least[0], 0.1)
+        rounds = [(seconds(f'{self.room}/kept.asm', '--services'), seconds(loop)) for _ in range(5)]
+        least, own = map(min, zip(*rounds))
+        self.assertLess(own / least, 1.5)
 
 
 @unittest.skipUnless(has_pcmasm(), 'no pcmasm')

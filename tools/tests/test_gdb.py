@@ -590,7 +590,7 @@ class Served(ToolCase):
             for _ in range(5):
                 client.ask(request)
                 client.ask('g')
-            self.assertLess((spent() - before) / 5, most, request)
+            self.assert_within((spent() - before) / 5, most, request)
 
     def test_refusals(self) -> None:
         self.assertIn('fault 3', self.tool('gdb', '--serve', example('hello')[1], example('hello')[1], status=2)[1])

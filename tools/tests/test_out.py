@@ -192,12 +192,12 @@ class Out(ToolCase):
             machine.run({break_at(machine.listing.labels['w1']) if move == machine.out else 'break F000:3'}, 1000)
             before = spent()
             move(set())
-            self.assertLess(spent() - before, 0.5)
+            self.assert_within(spent() - before, 0.5)
             self.assertEqual(machine.clock, end)
         before = spent()
         out, _ = self.tool('dbg', machine.files.file, machine.files.run_file, given='to 200\nfinish\n')
         self.assertIn(f'clock {end}', out)
-        self.assertLess(spent() - before, 1.5)  # with the start of Python, the assembly and the listing
+        self.assert_within(spent() - before, 1.5)  # with the start of Python, the assembly and the listing
 
     def test_it_can_be_paused(self) -> None:
         """Between the pieces of a way."""

@@ -95,7 +95,7 @@ class Pictures(ToolCase):
                 preexec_fn=lambda: resource.setrlimit(resource.RLIMIT_DATA, (50 << 20, 50 << 20)),
             )
             after = resource.getrusage(resource.RUSAGE_CHILDREN)
-            self.assertLess(after.ru_utime - before.ru_utime, 2)
+            self.assert_within(after.ru_utime - before.ru_utime, 2)
 
     def test_names(self) -> None:
         self.assertTrue(self.tool('picture', '-', given=stored('hello'))[0].startswith('<svg '))

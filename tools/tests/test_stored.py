@@ -878,7 +878,7 @@ class Gate(ToolCase):
         after = resource.getrusage(resource.RUSAGE_CHILDREN)
         self.assertEqual((ran.returncode, ran.stdout[: len(printed) - 1]), (0, printed.rstrip()))
         self.assertIn('proved elsewhere', ran.stderr)
-        self.assertLess(after.ru_utime + after.ru_stime - before.ru_utime - before.ru_stime, 1)  # of a processor, however busy it is
+        self.assert_within(after.ru_utime + after.ru_stime - before.ru_utime - before.ru_stime, 1)
         self.assertEqual(self.launch(top, line).stderr, '')
         probed = self.launch(top, f'echo list FFFF0 1 | {line.replace("./pcboard run", "./pcprobe")}')
         self.assertEqual((probed.returncode, probed.stdout, probed.stderr), (0, 'F000:FFF0 EA000000F0 JMP FAR 0F000h:00000h\n', ''))

@@ -367,7 +367,7 @@ class Terminals(ToolCase):
             first, before = self.far(terminal.grid), self.spent(terminal)
             self.assertTrue(terminal.until(lambda each, first=first: self.far(each) > first + 3 * HERTZ))
             used = self.spent(terminal) - before
-            self.assertLess(used, most * (self.far(terminal.grid) - first) / HERTZ, source)
+            self.assert_within(used, most * (self.far(terminal.grid) - first) / HERTZ, source)
             self.leave(terminal)
 
     @staticmethod

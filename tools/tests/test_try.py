@@ -122,7 +122,7 @@ class Tries(ToolCase):
         )
         seconds, kilobytes = map(float, ran.stderr.split())
         self.assertIn('2499985 changes of the speaker', ran.stdout)
-        self.assertLess(seconds, 20)
+        self.assert_within(seconds, 20)
         self.assertLess(kilobytes, 256 * 1024)
 
     def test_refusals(self) -> None:

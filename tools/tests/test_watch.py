@@ -146,7 +146,7 @@ class Held(Stepped):
         self.assertIsNone(board.run([stop], LOOP_CLOCKS))
         before = spent()
         self.assertEqual((board.back_to([stop]), board.clock), (stop, first))
-        self.assertLess(max(forth, spent() - before), 1)
+        self.assert_within(max(forth, spent() - before), 1)
         self.assertIn('01234 was 00, is 06: clock', what_was_seen(board, listing_of(files), stop))
 
 
