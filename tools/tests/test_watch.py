@@ -200,9 +200,11 @@ class Words(ToolCase):
             ('when', 'use: when'),
             ('when all', 'is none of starts'),
             ('when starts=5', 'is none of starts'),
-            ('when ports=21-20', 'fault 51'),
+            ('when ports=21-20', 'ports=21-20: 21 comes after 20, and a range begins with its lowest'),
+            ('when ports=10000', '10000 is no hexadecimal number up to FFFF'),
+            ('log ports=21-20 5', '21 comes after 20'),
             ('log writes', 'use: log'),
-            ('log writes=F-0 10', 'fault 51'),
+            ('log writes=F-0 10', 'writes=F-0: F comes after 0'),
             ('last write', 'no label'),
             ('last 500', 'nothing changed there'),
         )
@@ -211,7 +213,7 @@ class Words(ToolCase):
 
     def test_kinds(self) -> None:
         self.assertEqual(kind_of('writes=a-b', {'a': 0x500, 'b': 0x50F}.__getitem__), 'writes=500-50F')
-        self.assertEqual([kind_of(kind, int) for kind in ('starts', 'ports=60', 'writes')], ['starts', 'ports=60', 'writes'])
+        self.assertEqual([kind_of(kind, int) for kind in ('starts', 'ports=60', 'ports=20h-21', 'writes')], ['starts', 'ports=60-60', 'ports=20-21', 'writes'])
         self.assertEqual(
             [list(watched_by(stop)) for stop in ('changes B0000', 'changes B0000 2', 'when writes=B0000-B0001', 'when keys', 'break F000:0')][2:],
             [[0xB0000, 0xB0001], [], []],

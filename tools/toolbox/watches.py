@@ -10,7 +10,7 @@ from toolbox.command import Sorry
 from toolbox.data_labels import SIZES, kind_in
 from toolbox.following import writer_in
 from toolbox.listing import Listing, physical
-from toolbox.places import told_of
+from toolbox.places import number_of, told_of
 from toolbox.session_board import SessionBoard
 
 MEMORY, MOST_WATCHED = 1 << 20, 1 << 16
@@ -42,14 +42,22 @@ def watch_size(listing: Listing, address: int) -> int:
 
 
 def kind_of(text: str, address: Callable[[str], int]) -> str:
-    """A kind as the probe takes it, of one in whose range of writes places stand."""
+    """A kind as the probe takes it, of one in whose range of writes places stand, and in whose range of ports their numbers."""
     name, sign, places = text.partition('=')
     if name not in KINDS or sign and name not in ('writes', 'ports'):
         raise Sorry(f'{text} is none of {", ".join(KINDS)}; writes=FIRST-LAST and ports=FIRST-LAST are some of them')
-    if name != 'writes' or not sign:
+    if not sign:
         return text
     first, _, last = places.partition('-')
-    return f'{name}={address(first):X}-{address(last or first):X}'
+    begin, end = map(address if name == 'writes' else port_of, (first, last or first))
+    if begin > end:
+        raise Sorry(f'{text}: {begin:X} comes after {end:X}, and a range begins with its lowest')
+    return f'{name}={begin:X}-{end:X}'
+
+
+def port_of(text: str) -> int:
+    """A port's number."""
+    return number_of(text, 0xFFFF)
 
 
 @dataclass(frozen=True)
