@@ -286,12 +286,12 @@ class NoThread(ToolCase):
 
     def test_only_one_way_begins_threads(self) -> None:
         found = list[str]()
-        for path in (*glob.glob(f'{TOOLS}/toolbox/**/*.py', recursive=True), *filter(os.path.isfile, glob.glob(f'{TOOLS}/*'))):
-            with open(path, encoding='utf-8') as file:
+        for place in (*glob.glob(f'{TOOLS}/toolbox/**/*.py', recursive=True), *filter(os.path.isfile, glob.glob(f'{TOOLS}/*'))):
+            with open(place, encoding='utf-8') as file:
                 text = file.read()
             if re.search(r'\bThread\(|start_new_thread|ThreadPool', text):
-                found.append(os.path.relpath(path, TOOLS))
-                self.assertIn('want()', text, path)
+                found.append(os.path.relpath(place, TOOLS))
+                self.assertIn('want()', text, place)
         self.assertEqual(sorted(found), ['toolbox/classes.py', 'toolbox/threads.py'])
 
     def test_without_memory(self) -> None:
@@ -335,9 +335,9 @@ class NoThread(ToolCase):
     def test_a_message_for_which_there_is_no_memory(self) -> None:
         with mock.patch.object(framing.Reader, 'next', side_effect=MemoryError):
             messages = framing.reading(0)
-            told, end = messages.get(timeout=SECONDS), messages.get(timeout=SECONDS)
-        assert isinstance(told, framing.Broken)
-        self.assertEqual((told.why, end), ("a message can't be read: there is no memory for it", None))
+            broken, end = messages.get(timeout=SECONDS), messages.get(timeout=SECONDS)
+        assert isinstance(broken, framing.Broken)
+        self.assertEqual((broken.why, end), ("a message can't be read: there is no memory for it", None))
 
     def test_moments_whose_thread_fails(self) -> None:
         page, err = self.file('page', 'shows = HI\n'), io.StringIO()
