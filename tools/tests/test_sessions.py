@@ -157,14 +157,19 @@ class Truth:
         return next((int(line[0]) - stamp for line in lines if int(line[0]) > stamp and line[2] == place), None)
 
     def latencies(self) -> tuple[list[int], list[int]]:
-        """Of the timer's requests how long each one waited until its handler began, or until it fell before."""
-        taken, fell, waits, rise = list[int](), list[int](), None, None
-        offset, segment = struct.unpack('<HH', self.bytes(CLOCKS, 0x20, 4))
+        """Of the timer's requests how long each one waited until its handler began, or until it fell before. One that a poll takes does
+        neither."""
+        taken, fell, waits, rise, place, is_polled = list[int](), list[int](), None, None, '', False
         for clock, what, *words in map(str.split, self.ask(f'events {CLOCKS} starts entries wires ports=20-20')[:-1]):
-            if what == 'start' and rise is not None and words[0] == f'{segment:04X}:{offset:04X}':
+            if what == 'start' and rise is not None and words[0] == place:
                 taken, rise = [*taken, int(clock) - rise], None
             elif what == 'entry' and words == ['08']:
                 rise, waits = waits, None
+                place = '{1:04X}:{0:04X}'.format(*struct.unpack('<HH', self.bytes(int(clock), 0x20, 4)))
+            elif what == 'in' and is_polled:
+                waits, is_polled = waits if words[1] != '80' else None, False
+            elif what == 'out' and int(words[1], 16) & 0x1C == 0x0C:  # the next read is a poll
+                is_polled = True
             elif [what, *words] == ['out', '0020', '13']:  # an initialisation forgets
                 waits = None
             elif [what, words[0]] == ['wire', 'IR0']:
