@@ -86,6 +86,9 @@ class Truth:
             for call in self.calls:
                 if call in taken or call.end is None and call.slot < before:
                     call.end = number
+        elif code[0] == 0xBC:  # MOV SP, as when a wild jump has begun the program anew: what lies below is gone
+            for call in [call for call in self.calls if call.end is None and call.slot < after]:
+                call.end = number
         elif code[0] == 0xFF and code[1] >= 0xE0:
             for call in [call for call in self.calls if call.end is None and call.slot == before - 2][-1:]:
                 call.end = number
