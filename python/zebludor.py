@@ -224,10 +224,11 @@ def program(name: str = 'pcboard') -> str:
 
 @functools.cache
 def taken(name: str) -> str:
-    """The program that the launcher of this name takes, as its `--version` tells, which says once to each user where that is the
-    stored one."""
+    """The program that the launcher of this name takes for a run, as its `--version` tells then, which says once to each user where that
+    is the stored one."""
+    env = os.environ | {'ZEBLUDOR_TAKES': name}
     try:
-        printed = subprocess.run([f'{TOP}/{name}', '--version'], stdin=subprocess.DEVNULL, stdout=subprocess.PIPE, text=True, check=False).stdout
+        printed = subprocess.run([f'{TOP}/{name}', '--version'], stdin=subprocess.DEVNULL, stdout=subprocess.PIPE, env=env, text=True, check=False).stdout
     except OSError:
         raise Unfit(f"no launcher is in {TOP}, to which this copy of zebludor.py belongs: name the program in {name.upper()}") from None
     path = re.search(r'^program (\w+/[\w/]+)', printed, re.M)

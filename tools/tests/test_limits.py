@@ -180,7 +180,7 @@ class Runs(ToolCase):
         source, run = example('hello')[0], self.file('deep.json', DEEP)
         for words in (('try', source, '--run', run), ('keys', '--read', run), ('trace', source, run), ('dbg', source, run), ('desk', source, run)):
             self.assertEqual(self.called(*words, status=2), ('', f'{words[0]}: {run} is no run file: its brackets are nested too deep\n'))
-        self.assertIn('(fault 31, NotJson)', self.called('why', 'run', source, run, status=1)[1])
+        self.assertIn('(fault 31, NotJson)\nwhy: its brackets are nested too deep\n', self.called('why', 'run', source, run, status=1)[1])
         for depth, fault in ((127, 'fault 32 BadField'), (128, 'fault 31 NotJson')):
             run = self.file('it.json', '{"keys":' + '[' * (depth - 1) + ']' * (depth - 1) + '}')
             self.assertEqual(self.pcboard('run', source, run).stderr, f'{fault}\n')

@@ -261,6 +261,8 @@ class Stored(Repository):
         self.assertIn("stored/pcboard isn't taken: it isn't the one of which stored/PROVED tells: its SHA-256 is another", told.stdout)
         self.assertIn('program none\n', told.stdout)
         self.assertNotIn("isn't taken", self.launch(has_rt=False).stderr)
+        told = self.start('env', 'ZEBLUDOR_TAKES=pcboard', f'{self.top}/pcboard', '--version', has_rt=False)
+        self.assertIn('program stored/pcboard, proved elsewhere\n', told.stdout)
 
     def test_it_ends_on_no_option_of_a_shell(self) -> None:
         self.store()

@@ -170,7 +170,9 @@ def of_a_run_file(path: str, number: int) -> list[str]:
             f'line {error.lineno}, column {error.colno}: {error.msg}',
             'hint: JSON has double quotes, decimal numbers, no comments and no comma before a closing bracket',
         ]
-    except (ValueError, RecursionError) as error:
+    except RecursionError:
+        return ['its brackets are nested too deep']
+    except ValueError as error:
         return [str(error)]
     if number == 32:
         return bad_fields(fields)
