@@ -140,8 +140,8 @@ class Pages(ToolCase):
             self.file(f'{name}.txt', self.pcboard('run', f'{self.room}/{name}.asm', f'{self.room}/run.json').stdout)
 
     def shell(self, command: str, typed: str = '') -> str:
-        """What a command prints, on both streams. How far a tool is, which it tells on a busy machine, is none of the lines that are counted."""
-        command = command.replace(' | head ', " | grep -vE '^[a-z]+(: .*)?, [0-9]+ s$' | head ")
+        """What a command prints, on both streams, without how far a tool was, which no first lines count."""
+        command = command.replace(' | head', r" | sed -E '/^\w+(: .*)?, [0-9]+ s$/d' | head")
         ran = subprocess.run(command, shell=True, input=typed, stdout=subprocess.PIPE, stderr=subprocess.STDOUT, text=True, cwd=self.room, check=False)
         return but_progress(ran.stdout)
 
