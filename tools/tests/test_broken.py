@@ -286,12 +286,12 @@ class NoThread(ToolCase):
 
     def test_only_one_way_begins_threads(self) -> None:
         found = list[str]()
-        for place in (*glob.glob(f'{TOOLS}/toolbox/**/*.py', recursive=True), *filter(os.path.isfile, glob.glob(f'{TOOLS}/*'))):
-            with open(place, encoding='utf-8') as file:
+        for module in (*glob.glob(f'{TOOLS}/toolbox/**/*.py', recursive=True), *filter(os.path.isfile, glob.glob(f'{TOOLS}/*'))):
+            with open(module, encoding='utf-8') as file:
                 text = file.read()
             if re.search(r'\bThread\(|start_new_thread|ThreadPool', text):
-                found.append(os.path.relpath(place, TOOLS))
-                self.assertIn('want()', text, place)
+                found.append(os.path.relpath(module, TOOLS))
+                self.assertIn('want()', text, module)
         self.assertEqual(sorted(found), ['toolbox/classes.py', 'toolbox/threads.py'])
 
     def test_without_memory(self) -> None:

@@ -40,6 +40,18 @@ echo '3 passed, 0 failed'
 """
 
 
+def incomparable(name: str, stored: proved.Proved, built: proved.Proved | None, present: str) -> str | None:
+    """Why a stored program and one that the gate built need not have the same bytes, where the present sources have this sum;
+    None where they need."""
+    if stored.made[name].sources != present:
+        return f'stored/{name} was made of other sources than the present ones; dev/build --store renews it'
+    if built is None:
+        return f'nothing tells what the {name} that is tested was made of'
+    if built.made[name].sources != present:
+        return f'the {name} that is tested was made of other sources than the present ones'
+    return None if built.kit == stored.kit else f'{stored.kit} made stored/{name}, {built.kit} the {name} that is tested'
+
+
 class Stored(Repository):
     """Stored programs in that repository."""
 
@@ -261,8 +273,8 @@ class Stored(Repository):
         self.assertIn("stored/pcboard isn't taken: it isn't the one of which stored/PROVED tells: its SHA-256 is another", told.stdout)
         self.assertIn('program none\n', told.stdout)
         self.assertNotIn("isn't taken", self.launch(has_rt=False).stderr)
-        told = self.start('env', 'ZEBLUDOR_TAKES=pcboard', f'{self.top}/pcboard', '--version', has_rt=False)
-        self.assertIn('program stored/pcboard, proved elsewhere\n', told.stdout)
+        asked = self.start('env', 'ZEBLUDOR_TAKES=pcboard', f'{self.top}/pcboard', '--version', has_rt=False)
+        self.assertIn('program stored/pcboard, proved elsewhere\n', asked.stdout)
 
     def test_it_ends_on_no_option_of_a_shell(self) -> None:
         self.store()
@@ -819,7 +831,7 @@ class Gate(ToolCase):
         built = proved.read(os.path.dirname(path))
         if built and not built.of(path):
             built = None
-        why = proved.incomparable(name, stored, built, present)
+        why = incomparable(name, stored, built, present)
         if why or built is None:
             not_run(str(why))
             return
@@ -840,7 +852,7 @@ class Gate(ToolCase):
             (replace(stored, made=made_of('other')), 'sources', 'that is tested was made of other sources'),
             (replace(stored, kit='other'), 'sources', 'kit made stored/pcprobe, other the pcprobe that is tested'),
         ):
-            said = proved.incomparable('pcprobe', stored, built, present)
+            said = incomparable('pcprobe', stored, built, present)
             self.assertTrue(said is None if why is None else said and why in said, said)
 
     def clone(self) -> str:

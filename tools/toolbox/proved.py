@@ -166,18 +166,6 @@ def compared(name: str, built: Proved) -> str | None:
     return f'its bytes are those of {path}{by}, {verdicts}'
 
 
-def incomparable(name: str, stored: Proved, built: Proved | None, present: str) -> str | None:
-    """Why a stored program and one that the gate built need not have the same bytes, where the present sources have this sum;
-    None where they need."""
-    if stored.made[name].sources != present:
-        return f'stored/{name} was made of other sources than the present ones; dev/build --store renews it'
-    if built is None:
-        return f'nothing tells what the {name} that is tested was made of'
-    if built.made[name].sources != present:
-        return f'the {name} that is tested was made of other sources than the present ones'
-    return None if built.kit == stored.kit else f'{stored.kit} made stored/{name}, {built.kit} the {name} that is tested'
-
-
 def built_here(name: str) -> Proved:
     """What is known of the program of this name that stands in its crate's folder, and has to be made of the present sources. One
     that `rt ci` left tells nothing of itself; then none of them may be newer, and what it printed for `rt ci` stands beside it."""
