@@ -11,4 +11,5 @@ pub mod Requests
 pub mod Wires
 pub mod Joining
 pub mod Working
+pub mod Changing
 mod Rows

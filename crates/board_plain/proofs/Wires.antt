@@ -73,7 +73,7 @@ holds_next table cpu busy s next acted keys t is after holds =
     } in
     subst WiresHold (sym after) all
 
-one_holds : (s : Plain) → WiresHold s.chips → WiresHold (after_clock s).chips
+pub one_holds : (s : Plain) → WiresHold s.chips → WiresHold (after_clock s).chips
 unfolding after_clock
 one_holds s holds = holds_next s.clocks s.cpu s.busy s.chips (next_act s) (after_act s.clocks s.cpu s.busy s.chips (next_act s)) s.keys _ refl refl holds
 

@@ -89,7 +89,7 @@ act_takes table cpu busy s (Instruction decoded) address =
     (λ t port byte same. chips_keep_bytes.output_fixed t port byte address ∙ same)
     cpu s decoded refl
 
-one_takes : (s : Plain) (address : ℕ) → is_writable (after_clock s).chips address ≡ is_writable s.chips address
+pub one_takes : (s : Plain) (address : ℕ) → is_writable (after_clock s).chips address ≡ is_writable s.chips address
 unfolding after_clock
 one_takes s address =
     chips_take (after_act s.clocks s.cpu s.busy s.chips (next_act s)).bus s.keys address ∙ act_takes s.clocks s.cpu s.busy s.chips (next_act s) address

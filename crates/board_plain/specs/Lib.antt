@@ -6,4 +6,6 @@ pub mod Board
 pub mod Stops
 pub mod Lasts
 pub mod Work
+pub mod Changes
+pub mod ChangeLaws
 pub mod BoardLaws

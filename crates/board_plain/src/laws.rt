@@ -1,4 +1,5 @@
 //! What holds of every plain board, over the definitions alone.
+ghost use Rattle.board_plain.specs.ChangeLaws.{ByteIsShown, ChangesLeaveWired, ClocksLeaveWired, RegistersAreShown, RunningOnKeeps, SameByteStays};
 ghost use Rattle.board_plain.specs.BoardLaws.{AtMostOneStep, AtMostTwoEdges, HaltIsQuiet, IdleHasNoWork, JamIsQuiet, LeastNumberIsTold, LevelIsPredicted, MemoryTakesBytes, NoRequestWithoutIf, RequestIsTaken, RunsHaveOneEnd, RunsJoin, SearchesJoin, StayingRequestIsTaken, WiresAlwaysHold};
 
 /// If the wires hold, the speaker's level at the next clock is known from the port writes that the processor is about
@@ -75,4 +76,20 @@ pub fn idle_has_no_work()
     ensures step { AtMostOneStep }
     ensures edges { AtMostTwoEdges }
     ensures idle { IdleHasNoWork }
+{}
+
+/// A change of a register shows in the registers and nowhere else, and a change of a byte in that byte and nowhere else,
+/// whether or not the processor could write it; a byte that stands there already changes nothing at all.
+pub fn changes_are_shown()
+    ensures registers { RegistersAreShown }
+    ensures running_on { RunningOnKeeps }
+    ensures byte { ByteIsShown }
+    ensures same_byte { SameByteStays }
+{}
+
+/// In a changed board, too, the wires hold at every clock, and the addresses of RAM and of text memory take the
+/// processor's bytes: each clock and each change leaves that as it was.
+pub fn changed_boards_stay_wired()
+    ensures clocks { ClocksLeaveWired }
+    ensures changes { ChangesLeaveWired }
 {}

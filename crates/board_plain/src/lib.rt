@@ -4,6 +4,7 @@
 #![tactic(auto)]
 
 pub mod act;
+pub mod change;
 pub mod config;
 pub mod fault;
 pub mod laws;

@@ -1,4 +1,5 @@
 pub mod Kept
+pub mod Cells
 pub mod Quiet
 pub mod Lag
 pub mod AtSeenClock

@@ -2,6 +2,7 @@
 #![tactic(auto)]
 
 pub mod by_slot;
+pub mod change;
 pub mod course;
 pub mod cpu;
 mod effect;

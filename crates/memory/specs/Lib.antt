@@ -1,3 +1,4 @@
 pub mod Regions
 pub mod Map
+pub mod Cells
 pub mod MemoryLaws

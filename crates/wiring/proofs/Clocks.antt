@@ -6,6 +6,7 @@ use Rattle.bus.specs.PortWriteBus.{after_port_writes}
 use Rattle.wiring.specs.declared.port.Port.{Port}
 use Rattle.wiring.specs.declared.port.Port.TheVariants.{Controller, Timer, Parallel, Adapter, Nothing}
 use Rattle.wiring.specs.Chips.{ChipsState}
+use Rattle.wiring.specs.Cells.{with_cell}
 use Rattle.wiring.specs.Ports.{with_byte, port_at, after_port_read, after_port_write, after_input, after_output}
 use Rattle.wiring.specs.Wires.{after_settling, after_clock, after_clocks, after_arrival, after_arrivals, after_key_settling, after_acknowledge}
 
@@ -49,6 +50,10 @@ choose false clock s t first second = second
 pub clock_of_byte : (s : ChipsState) (address byte : ℕ) → (with_byte s address byte).clock ≡ s.clock
 unfolding with_byte
 clock_of_byte s address byte = choose (is_text_address address) s.clock _ _ refl refl
+
+pub clock_of_cell : (s : ChipsState) (address byte : ℕ) → (with_cell s address byte).clock ≡ s.clock
+unfolding with_cell
+clock_of_cell s address byte = choose (is_text_address address) s.clock _ _ refl refl
 
 read_clock : (s : ChipsState) (port : Port) → (after_port_read s port).clock ≡ s.clock
 read_clock s (Controller a0) = refl

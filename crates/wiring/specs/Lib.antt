@@ -1,5 +1,6 @@
 pub mod Chips
 pub mod Ports
+pub mod Cells
 pub mod Wires
 pub mod EachWire
 pub mod Sound

@@ -3,6 +3,7 @@
 //! Monochrome Display and Parallel Printer Adapter").
 #![tactic(auto)]
 
+pub mod cells;
 pub mod chips;
 pub mod laws;
 pub mod port;
