@@ -7,6 +7,7 @@ mod acts;
 mod arrivals;
 mod block_steps;
 pub mod board;
+pub mod change;
 mod chips;
 mod doing;
 mod engine;
