@@ -9,7 +9,7 @@ use Rattle.board_plain.proofs.Joining.{early_join, lengths_join, no_stop_add, se
 use Rattle.board_plain.proofs.Runs.{ran_none}
 use Rattle.debugger_meaning.specs.declared.answer.Answer.{Answer}
 use Rattle.debugger_meaning.specs.declared.fault.DebugFault.{DebugFault}
-use Rattle.debugger_meaning.specs.declared.fault.DebugFault.TheVariants.{BadScan, StampsFall, ClockLimit, BadCommand, TooManyStops, Memory, BeforeStart}
+use Rattle.debugger_meaning.specs.declared.fault.DebugFault.TheVariants.{BadScan, StampsFall, ClockLimit, BadCommand, TooManyStops, Memory, BeforeStart, NoCell}
 use Rattle.debugger_meaning.specs.Session.{FindsNoMemory, Goes, RefusesGo, RefusesRun, Runs, told_of}
 use Rattle.debugger_meaning.specs.Stands.{SessionState}
 
@@ -146,3 +146,4 @@ refuses_go count left piece s t u (Memory None) few went is stops first = absurd
 refuses_go count left piece s t u (Memory (Some clock)) few went is stops first =
     (lacks_on count left piece clock s t u.board few went is, stops ∙ went.stops, first ∙ went.first)
 refuses_go count left piece s t u BeforeStart few went is stops first = absurd is
+refuses_go count left piece s t u NoCell few went is stops first = absurd is

@@ -10,7 +10,7 @@ use Rattle.debugger_meaning.specs.Back.{GoesBack, GoesBackTo, RefusesBack, Refus
 use Rattle.debugger_meaning.specs.declared.answer.Answer.{Answer}
 use Rattle.debugger_meaning.specs.declared.answer.Answer.TheVariants.{Clock}
 use Rattle.debugger_meaning.specs.declared.fault.DebugFault.{DebugFault}
-use Rattle.debugger_meaning.specs.declared.fault.DebugFault.TheVariants.{BadScan, StampsFall, ClockLimit, BadCommand, TooManyStops, Memory, BeforeStart}
+use Rattle.debugger_meaning.specs.declared.fault.DebugFault.TheVariants.{BadScan, StampsFall, ClockLimit, BadCommand, TooManyStops, Memory, BeforeStart, NoCell}
 use Rattle.debugger_meaning.specs.SessionInvariant.{FindsNone, StandsNow}
 use Rattle.debugger_meaning.specs.Stands.{SessionState, StandsAt, gone}
 
@@ -68,6 +68,7 @@ finds_none sought old new TooManyStops is some same = absurd is
 finds_none sought old new (Memory None) is some same = (some, same)
 finds_none sought old new (Memory (Some clock)) is some same = absurd is
 finds_none sought old new BeforeStart is some same = (is, same)
+finds_none sought old new NoCell is some same = absurd is
 
 nothing_holds : (s : Plain) → holding [] s ≡ None
 unfolding holding

@@ -12,7 +12,7 @@ use Rattle.board_plain.specs.Trail.{trail_in}
 use Rattle.board_plain.proofs.LastEntries.{last_within}
 use Rattle.board_plain.proofs.Runs.{ran_none, runs_join}
 use Rattle.debugger_meaning.specs.declared.fault.DebugFault.{DebugFault}
-use Rattle.debugger_meaning.specs.declared.fault.DebugFault.TheVariants.{BadScan, StampsFall, ClockLimit, BadCommand, TooManyStops, Memory, BeforeStart}
+use Rattle.debugger_meaning.specs.declared.fault.DebugFault.TheVariants.{BadScan, StampsFall, ClockLimit, BadCommand, TooManyStops, Memory, BeforeStart, NoCell}
 use Rattle.debugger_meaning.specs.SessionInvariant.{AreKept, IsSession, StandsNow}
 use Rattle.debugger_meaning.specs.Session.{RefusesRun, Runs}
 use Rattle.debugger_meaning.specs.Stands.{SessionState, Shown, shown_of, Stands, StandsAfter, StandsAt}
@@ -67,6 +67,7 @@ stands_refused first stops k b c TooManyStops at is = absurd is
 stands_refused first stops k b c (Memory None) at is = absurd is
 stands_refused first stops k b c (Memory (Some clock)) at is = stands_early first k b c at is.early
 stands_refused first stops k b c BeforeStart at is = absurd is
+stands_refused first stops k b c NoCell at is = absurd is
 
 -- a board that shows the same stands at the same clock
 pub stands_same : (first : Shown) (b c : BoardState) → shown_of c ≡ shown_of b → StandsAfter first b → StandsAfter first c

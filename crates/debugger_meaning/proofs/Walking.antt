@@ -11,7 +11,7 @@ use Rattle.debugger_meaning.specs.declared.answer.Answer.TheVariants.{StopAt}
 use Rattle.debugger_meaning.specs.declared.command.Command.{Command}
 use Rattle.debugger_meaning.specs.declared.command.Command.TheVariants as commands
 use Rattle.debugger_meaning.specs.declared.fault.DebugFault.{DebugFault}
-use Rattle.debugger_meaning.specs.declared.fault.DebugFault.TheVariants.{BadScan, StampsFall, ClockLimit, BadCommand, TooManyStops, Memory, BeforeStart}
+use Rattle.debugger_meaning.specs.declared.fault.DebugFault.TheVariants.{BadScan, StampsFall, ClockLimit, BadCommand, TooManyStops, Memory, BeforeStart, NoCell}
 use Rattle.debugger_meaning.specs.DebuggerLaws.{SessionsStand, Walk}
 use Rattle.debugger_meaning.specs.Session.{Answers, AnswersStop, RefusesStep, Runs}
 use Rattle.debugger_meaning.specs.Stands.{SessionState, Shown, StandsAfter, session_about, shown_of}
@@ -57,6 +57,7 @@ of_no_step first old new (Memory None) at is = absurd is
 of_no_step first old new (Memory (Some clock)) at is =
     same_first first old new at is.2 (stands_early old.first _ old.board new.board (own first old at) is.0.early)
 of_no_step first old new BeforeStart at is = absurd is
+of_no_step first old new NoCell at is = absurd is
 
 of_step : (first : Shown) (old new : SessionState) (result : Result Answer DebugFault)
     → StandsFrom first old → Answers commands.Step old result new → StandsFrom first new
@@ -72,6 +73,7 @@ of_no_back first n old new TooManyStops at is = absurd is
 of_no_back first n old new (Memory None) at is = same_state first old new at is.1
 of_no_back first n old new (Memory (Some clock)) at is = absurd is
 of_no_back first n old new BeforeStart at is = same_state first old new at is.1
+of_no_back first n old new NoCell at is = absurd is
 
 of_back : (first : Shown) (n : ℕ) (old new : SessionState) (result : Result Answer DebugFault)
     → StandsFrom first old → Answers (commands.Back n) old result new → StandsFrom first new
@@ -88,6 +90,7 @@ of_no_back_to first sought old new TooManyStops at is = absurd is
 of_no_back_to first sought old new (Memory None) at is = same_state first old new at is.1
 of_no_back_to first sought old new (Memory (Some clock)) at is = absurd is
 of_no_back_to first sought old new BeforeStart at is = same_state first old new at is.1
+of_no_back_to first sought old new NoCell at is = absurd is
 
 of_back_to : (first : Shown) (sought : List Condition) (tell : ℕ → ℕ → Answer) (old new : SessionState) (answer : Answer)
     → StandsFrom first old → GoesBackTo sought tell old new answer → StandsFrom first new

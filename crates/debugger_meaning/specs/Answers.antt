@@ -7,7 +7,7 @@ use Rattle.debugger_meaning.specs.declared.answer.Answer.{Answer}
 use Rattle.debugger_meaning.specs.declared.answer.Answer.TheVariants.{Stop, Clock, StopAt, Text}
 use Rattle.debugger_meaning.specs.declared.fault.DebugFault.{DebugFault}
 use Rattle.debugger_meaning.specs.declared.fault.DebugFault.TheVariants.{BadScan, StampsFall, ClockLimit, BadCommand}
-use Rattle.debugger_meaning.specs.declared.fault.DebugFault.TheVariants.{TooManyStops, Memory, BeforeStart}
+use Rattle.debugger_meaning.specs.declared.fault.DebugFault.TheVariants.{TooManyStops, Memory, BeforeStart, NoCell}
 
 -- an answer as text, each line of it ended by a line feed
 abbrev pub answer_text : Answer → List ℕ
@@ -26,6 +26,7 @@ fault_title BadCommand = (51, codes "BadCommand")
 fault_title TooManyStops = (52, codes "TooManyStops")
 fault_title (Memory clock) = (53, codes "Memory")
 fault_title BeforeStart = (54, codes "BeforeStart")
+fault_title NoCell = (55, codes "NoCell")
 
 abbrev pub fault_number : DebugFault → ℕ
 fault_number fault = (fault_title fault).0

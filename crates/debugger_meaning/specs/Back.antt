@@ -7,7 +7,7 @@ use Rattle.board_plain.specs.Plain.{clock_of}
 use Rattle.debugger_meaning.specs.declared.answer.Answer.{Answer}
 use Rattle.debugger_meaning.specs.declared.answer.Answer.TheVariants.{Clock}
 use Rattle.debugger_meaning.specs.declared.fault.DebugFault.{DebugFault}
-use Rattle.debugger_meaning.specs.declared.fault.DebugFault.TheVariants.{Memory, BeforeStart}
+use Rattle.debugger_meaning.specs.declared.fault.DebugFault.TheVariants.{Memory, BeforeStart, NoCell}
 use Rattle.debugger_meaning.specs.Stands.{SessionState, StandsAt, gone}
 
 -- back by n clocks, one at least; the stops stay
@@ -39,6 +39,7 @@ tell_clock number clock = Clock clock
 abbrev pub RefusesBack : ℕ → SessionState → SessionState → DebugFault → Type 0
 RefusesBack n old new (Memory None) = (clock_of old.first.plain + n ≤ clock_of old.board.plain) × (new ≡ old)
 RefusesBack n old new BeforeStart = (clock_of old.board.plain < clock_of old.first.plain + n) × (new ≡ old)
+RefusesBack n old new NoCell = ⊥
 RefusesBack n old new _ = ⊥
 
 -- a way back to a condition is refused if none holds at any clock from the first one up to the one before this, and for
@@ -46,4 +47,5 @@ RefusesBack n old new _ = ⊥
 abbrev pub RefusesBackTo : List Condition → SessionState → SessionState → DebugFault → Type 0
 RefusesBackTo stops old new (Memory None) = (1 ≤ length stops) × (new ≡ old)
 RefusesBackTo stops old new BeforeStart = NoneHeld stops (gone old) old.first.plain × (new ≡ old)
+RefusesBackTo stops old new NoCell = ⊥
 RefusesBackTo stops old new _ = ⊥

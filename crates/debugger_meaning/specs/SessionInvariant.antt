@@ -8,7 +8,7 @@ use Rattle.board_plain.specs.Stops.{HasAddress}
 use Rattle.board_plain.specs.Plain.{clock_of}
 use Rattle.debugger_meaning.specs.declared.fault.DebugFault.{DebugFault}
 use Rattle.debugger_meaning.specs.declared.fault.DebugFault.TheVariants.{BadScan, StampsFall, ClockLimit, BadCommand}
-use Rattle.debugger_meaning.specs.declared.fault.DebugFault.TheVariants.{TooManyStops, Memory, BeforeStart}
+use Rattle.debugger_meaning.specs.declared.fault.DebugFault.TheVariants.{TooManyStops, Memory, BeforeStart, NoCell}
 use Rattle.debugger_meaning.specs.Stands.{SessionState, shown_of, StandsAfter, StandsAt, gone}
 
 -- each board that is kept afterwards was kept before, or is a copy of this one
@@ -43,3 +43,4 @@ FindsNone stops s TooManyStops = ⊥
 FindsNone stops s (Memory None) = Unit {0}
 FindsNone stops s (Memory (Some clock)) = ⊥
 FindsNone stops s BeforeStart = NoneHeld stops (gone s) s.first.plain
+FindsNone stops s NoCell = ⊥

@@ -26,6 +26,9 @@ pub enum DebugFault {
     Memory(Option<Clock>),
     #[error("no such clock since the session's first")]
     BeforeStart,
+    /// Answered by a probe alone, to a change of a byte.
+    #[error("no memory is at this address")]
+    NoCell,
 }
 
 /// Want of memory for a text.
@@ -40,7 +43,7 @@ impl From<AllocError> for DebugFault {
 }
 
 impl DebugFault {
-    /// The fault's number, 33 to 54, which the program prints, and by which callers in other languages tell faults
+    /// The fault's number, 33 to 55, which the program prints, and by which callers in other languages tell faults
     /// apart.
     pub fn number(self) -> u8
         ensures { result ≡ fault_number self }
@@ -53,6 +56,7 @@ impl DebugFault {
             DebugFault::TooManyStops => 52,
             DebugFault::Memory(_) => 53,
             DebugFault::BeforeStart => 54,
+            DebugFault::NoCell => 55,
         }
     }
 
@@ -68,6 +72,7 @@ impl DebugFault {
             DebugFault::TooManyStops => "TooManyStops",
             DebugFault::Memory(_) => "Memory",
             DebugFault::BeforeStart => "BeforeStart",
+            DebugFault::NoCell => "NoCell",
         }
     }
 
@@ -83,7 +88,8 @@ impl DebugFault {
             | DebugFault::ClockLimit
             | DebugFault::BadCommand
             | DebugFault::TooManyStops
-            | DebugFault::BeforeStart => None,
+            | DebugFault::BeforeStart
+            | DebugFault::NoCell => None,
         }
     }
 }

@@ -13,7 +13,7 @@ use Rattle.debugger_meaning.specs.declared.answer.Answer.TheVariants as answers
 use Rattle.debugger_meaning.specs.declared.command.Command.{Command}
 use Rattle.debugger_meaning.specs.declared.command.Command.TheVariants as commands
 use Rattle.debugger_meaning.specs.declared.fault.DebugFault.{DebugFault}
-use Rattle.debugger_meaning.specs.declared.fault.DebugFault.TheVariants.{BadScan, StampsFall, ClockLimit, BadCommand, TooManyStops, Memory, BeforeStart}
+use Rattle.debugger_meaning.specs.declared.fault.DebugFault.TheVariants.{BadScan, StampsFall, ClockLimit, BadCommand, TooManyStops, Memory, BeforeStart, NoCell}
 use Rattle.debugger_meaning.specs.Back.{GoesBackTo, RefusesBackTo}
 use Rattle.debugger_meaning.specs.Commands.{command_of}
 use Rattle.debugger_meaning.specs.Session.{Answers, AnswersLine, AnswersStop, Goes, RefusesGo}
@@ -74,6 +74,7 @@ adds condition old new (Err TooManyStops) stand refuses = (
 adds condition old new (Err (Memory None)) stand refuses = let never : false ≡ true = refuses.1 in absurd (cc)
 adds condition old new (Err (Memory (Some clock))) stand refuses = absurd refuses
 adds condition old new (Err BeforeStart) stand refuses = absurd refuses
+adds condition old new (Err NoCell) stand refuses = absurd refuses
 
 -- a run
 
@@ -123,6 +124,7 @@ goes n old new (Err (Memory (Some clock))) stand refuses = (
   still_stand old new stand refuses.stops,
 )
 goes n old new (Err BeforeStart) stand refuses = absurd refuses
+goes n old new (Err NoCell) stand refuses = absurd refuses
 
 -- a way back
 
@@ -164,6 +166,7 @@ back old new (Err BeforeStart) stand refuses = (
   (λ j within. held old j old.first.plain stand ∙ refuses.0 j within, same_session old new refuses.1),
   still_stand old new stand (ap (λ (s : ProbeState). s.stops) refuses.1),
 )
+back old new (Err NoCell) stand refuses = absurd refuses
 
 -- any other line
 

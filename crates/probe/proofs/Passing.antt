@@ -4,7 +4,7 @@ use Rattle.debugger_meaning.specs.declared.answer.Answer.{Answer}
 use Rattle.debugger_meaning.specs.declared.command.Command.{Command}
 use Rattle.debugger_meaning.specs.declared.command.Command.TheVariants as commands
 use Rattle.debugger_meaning.specs.declared.fault.DebugFault.{DebugFault}
-use Rattle.debugger_meaning.specs.declared.fault.DebugFault.TheVariants.{BadScan, StampsFall, ClockLimit, BadCommand, TooManyStops, Memory, BeforeStart}
+use Rattle.debugger_meaning.specs.declared.fault.DebugFault.TheVariants.{BadScan, StampsFall, ClockLimit, BadCommand, TooManyStops, Memory, BeforeStart, NoCell}
 use Rattle.board_plain.specs.declared.stop.Condition.{Condition}
 use Rattle.board_plain.specs.declared.stop.Condition.TheVariants.{Free}
 use Rattle.std.specs.Prelude.{MatchResult}
@@ -39,6 +39,7 @@ refuses_making n s t TooManyStops is = absurd is
 refuses_making n s t (Memory None) is = absurd is
 refuses_making n s t (Memory (Some clock)) is = is.stops
 refuses_making n s t BeforeStart is = absurd is
+refuses_making n s t NoCell is = absurd is
 
 makes : (n : ℕ) (text : List ℕ) (s t : SessionState) (result : Result Answer DebugFault) → AnswersMaking n text s result t → same s t
 makes n text s t (Ok answer) is = is.stops
@@ -62,6 +63,7 @@ refuses_step s t TooManyStops is = absurd is
 refuses_step s t (Memory None) is = absurd is
 refuses_step s t (Memory (Some clock)) is = is.1
 refuses_step s t BeforeStart is = absurd is
+refuses_step s t NoCell is = absurd is
 
 refuses_back : (n : ℕ) (s t : SessionState) (fault : DebugFault) → RefusesBack n s t fault → same s t
 refuses_back n s t ClockLimit is = absurd is
@@ -72,6 +74,7 @@ refuses_back n s t TooManyStops is = absurd is
 refuses_back n s t (Memory None) is = unchanged s t is.1
 refuses_back n s t (Memory (Some clock)) is = absurd is
 refuses_back n s t BeforeStart is = unchanged s t is.1
+refuses_back n s t NoCell is = absurd is
 
 refuses_back_to : (sought : List Condition) (s t : SessionState) (fault : DebugFault) → RefusesBackTo sought s t fault → same s t
 refuses_back_to sought s t ClockLimit is = absurd is
@@ -82,6 +85,7 @@ refuses_back_to sought s t TooManyStops is = absurd is
 refuses_back_to sought s t (Memory None) is = unchanged s t is.1
 refuses_back_to sought s t (Memory (Some clock)) is = absurd is
 refuses_back_to sought s t BeforeStart is = unchanged s t is.1
+refuses_back_to sought s t NoCell is = absurd is
 
 commanded : (command : Option Command) (s t : SessionState) (result : Result Answer DebugFault)
     → request_by command ≡ None → AnswersLine command s result t → same s t

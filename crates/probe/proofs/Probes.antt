@@ -12,7 +12,7 @@ use Rattle.board_plain.specs.Stops.{holding, IsStopOf, NoStop, run_length}
 use Rattle.debugger_meaning.specs.declared.answer.Answer.{Answer}
 use Rattle.debugger_meaning.specs.declared.answer.Answer.TheVariants as answers
 use Rattle.debugger_meaning.specs.declared.fault.DebugFault.{DebugFault}
-use Rattle.debugger_meaning.specs.declared.fault.DebugFault.TheVariants.{BadScan, StampsFall, ClockLimit, BadCommand, TooManyStops, Memory, BeforeStart}
+use Rattle.debugger_meaning.specs.declared.fault.DebugFault.TheVariants.{BadScan, StampsFall, ClockLimit, BadCommand, TooManyStops, Memory, BeforeStart, NoCell}
 use Rattle.debugger_meaning.specs.Back.{GoesBack, GoesBackTo, RefusesBack, RefusesBackTo}
 use Rattle.debugger_meaning.specs.Session.{AnswersStop, FindsNoMemory, Goes, RefusesGo, told_of}
 use Rattle.debugger_meaning.specs.Stands.{SessionState, Shown, shown_of, StandsAt}
@@ -90,6 +90,7 @@ refuses_going n old new stops TooManyStops are is refuses = absurd refuses.0
 refuses_going n old new stops (Memory None) are is refuses = absurd refuses.0
 refuses_going n old new stops (Memory (Some clock)) are is refuses = stops_short n clock old new stops are is refuses.0 refuses.2
 refuses_going n old new stops BeforeStart are is refuses = absurd refuses.0
+refuses_going n old new stops NoCell are is refuses = absurd refuses.0
 
 pub goes_standing : (n : ℕ) (old new : SessionState) (stops : List Stop) (result : Result Answer DebugFault)
     → list_all is_standing stops ≡ true → old.stops ≡ conditions_of stops → MatchResult result (Goes n old new) (RefusesGo n old new)
@@ -137,6 +138,7 @@ refuses_back old new stops (Memory None) are is few refuses =
 refuses_back old new stops (Memory (Some clock)) are is few refuses = absurd refuses
 refuses_back old new stops BeforeStart are is few refuses =
     (λ j within. held_of stops old.stops j old.first.plain are is ∙ refuses.0 j within, same_probe old new stops refuses.1)
+refuses_back old new stops NoCell are is few refuses = absurd refuses
 
 pub fewer : (stops : List Stop) → length (conditions_of stops) ≤ length stops
 fewer [] = omega arith
@@ -218,6 +220,7 @@ goes_short n end old new stops (Memory (Some clock)) within at short =
       clock_is = short.clock_is;
     }
 goes_short n end old new stops BeforeStart within at short = absurd short
+goes_short n end old new stops NoCell within at short = absurd short
 
 -- a way back to what was found
 
@@ -260,6 +263,7 @@ refuses_back_found count clock number old new stops BeforeStart some last is ref
     let before = refuses.0 in
     let within = last.within in
     let place = last.clock_is in absurd (omega (arith, before, is, within, place))
+refuses_back_found count clock number old new stops NoCell some last is refuses = absurd refuses
 
 pub goes_back_by : (p : ProbeState) (count clock number : ℕ) (old new : SessionState) (stops : List Stop) (back : Result Answer DebugFault)
     → probe_of old stops ≡ p → MetLast p.stops (gone_by p) p.first.plain clock number → 1 ≤ length p.stops
@@ -284,6 +288,7 @@ finds_no_stop old stops TooManyStops some finds = absurd finds
 finds_no_stop old stops (Memory None) some finds = (some, refl)
 finds_no_stop old stops (Memory (Some clock)) some finds = absurd finds
 finds_no_stop old stops BeforeStart some finds = (finds, refl)
+finds_no_stop old stops NoCell some finds = absurd finds
 
 -- stops that aren't all conditions are at least one
 
@@ -365,6 +370,7 @@ short_keeps stops end old new TooManyStops short = absurd short
 short_keeps stops end old new (Memory None) short = absurd short
 short_keeps stops end old new (Memory (Some clock)) short = short.kept
 short_keeps stops end old new BeforeStart short = absurd short
+short_keeps stops end old new NoCell short = absurd short
 
 pub run_keeps : (stops : List Stop) (end : ℕ) (old new : SessionState) (result : Result (Option ℕ) DebugFault)
     → MatchResult result (RanToStop stops end old new) (ShortOfMemory stops end old new) → new.stops ≡ old.stops

@@ -7,7 +7,7 @@ use Rattle.board_plain.specs.Plain.{clock_of}
 use Rattle.debugger_meaning.specs.declared.answer.Answer.{Answer}
 use Rattle.debugger_meaning.specs.declared.command.Command.{Command}
 use Rattle.debugger_meaning.specs.declared.fault.DebugFault.{DebugFault}
-use Rattle.debugger_meaning.specs.declared.fault.DebugFault.TheVariants.{BadScan, StampsFall, ClockLimit, BadCommand, TooManyStops, Memory, BeforeStart}
+use Rattle.debugger_meaning.specs.declared.fault.DebugFault.TheVariants.{BadScan, StampsFall, ClockLimit, BadCommand, TooManyStops, Memory, BeforeStart, NoCell}
 use Rattle.debugger_meaning.specs.Commands.{command_of}
 use Rattle.debugger_meaning.specs.Session.{AnswersLine}
 use Rattle.debugger_meaning.specs.Stands.{SessionState, Shown, shown_of, StandsAfter, StandsAt}
@@ -49,6 +49,7 @@ short first n s t TooManyStops at is = absurd is
 short first n s t (Memory None) at is = absurd is
 short first n s t (Memory (Some clock)) at is = same_first first s t at is.first (stands_further s.first is.passed s.board t.board (own first s at) is.stands)
 short first n s t BeforeStart at is = absurd is
+short first n s t NoCell at is = absurd is
 
 makes : (first : Shown) (n : ℕ) (text : List ℕ) (s t : SessionState) (result : Result Answer DebugFault)
     → StandsFrom first s → AnswersMaking n text s result t → StandsFrom first t
@@ -106,6 +107,7 @@ refuses_stop first stop s t TooManyStops at is = same_state first (session_of s)
 refuses_stop first stop s t (Memory None) at is = same_state first (session_of s) (session_of t) at (same_session s t is.2)
 refuses_stop first stop s t (Memory (Some clock)) at is = absurd is
 refuses_stop first stop s t BeforeStart at is = absurd is
+refuses_stop first stop s t NoCell at is = absurd is
 
 refuses_going : (first : Shown) (n : ℕ) (s t : ProbeState) (fault : DebugFault)
     → StandsFrom first (session_of s) → RefusesGoing n s t fault → StandsFrom first (session_of t)
@@ -118,6 +120,7 @@ refuses_going first n s t (Memory None) at is = absurd is
 refuses_going first n s t (Memory (Some clock)) at is =
     same_first first (session_of s) (session_of t) at is.first (stands_early s.first n s.board t.board (own first (session_of s) at) is.early)
 refuses_going first n s t BeforeStart at is = absurd is
+refuses_going first n s t NoCell at is = absurd is
 
 refuses_back : (first : Shown) (s t : ProbeState) (fault : DebugFault)
     → StandsFrom first (session_of s) → RefusesBackToStop s t fault → StandsFrom first (session_of t)
@@ -129,6 +132,7 @@ refuses_back first s t TooManyStops at is = absurd is
 refuses_back first s t (Memory None) at is = same_state first (session_of s) (session_of t) at (same_session s t is.1)
 refuses_back first s t (Memory (Some clock)) at is = absurd is
 refuses_back first s t BeforeStart at is = same_state first (session_of s) (session_of t) at (same_session s t is.1)
+refuses_back first s t NoCell at is = absurd is
 
 requested : (first : Shown) (request : Request) (s t : ProbeState) (result : Result Answer DebugFault)
     → StandsFrom first (session_of s) → AnswersRequest request s result t → StandsFrom first (session_of t)

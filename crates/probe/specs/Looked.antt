@@ -10,7 +10,7 @@ use Rattle.debugger_meaning.specs.declared.answer.Answer.{Answer}
 use Rattle.debugger_meaning.specs.declared.answer.Answer.TheVariants as answers
 use Rattle.debugger_meaning.specs.declared.fault.DebugFault.{DebugFault}
 use Rattle.debugger_meaning.specs.declared.fault.DebugFault.TheVariants.{BadScan, StampsFall, ClockLimit, BadCommand}
-use Rattle.debugger_meaning.specs.declared.fault.DebugFault.TheVariants.{TooManyStops, Memory, BeforeStart}
+use Rattle.debugger_meaning.specs.declared.fault.DebugFault.TheVariants.{TooManyStops, Memory, BeforeStart, NoCell}
 use Rattle.debugger_meaning.specs.Stands.{SessionState}
 use Rattle.events.specs.declared.access.Access.{Access}
 use Rattle.probe.specs.declared.event_lines.Seen.{Seen}
@@ -62,6 +62,7 @@ ShortOfMemory stops end old new TooManyStops = ⊥
 ShortOfMemory stops end old new (Memory None) = ⊥
 ShortOfMemory stops end old new (Memory (Some clock)) = RanShort stops end old new clock
 ShortOfMemory stops end old new BeforeStart = ⊥
+ShortOfMemory stops end old new NoCell = ⊥
 
 -- the stop that is met n clocks after a board; at its own clock only if it is a session's first
 abbrev pub met_after : Bool → List Stop → Plain → ℕ → Option ℕ
@@ -93,6 +94,7 @@ FindsNoStop stops n first TooManyStops = ⊥
 FindsNoStop stops n first (Memory None) = Unit {0}
 FindsNoStop stops n first (Memory (Some clock)) = ⊥
 FindsNoStop stops n first BeforeStart = NoneMetFrom stops n first
+FindsNoStop stops n first NoCell = ⊥
 
 -- the first clock for which a stretch from a board can tell what was met
 abbrev pub from_of : Bool → ℕ → ℕ

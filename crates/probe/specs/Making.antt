@@ -6,7 +6,7 @@ use Rattle.board_plain.specs.Plain.{clock_of}
 use Rattle.debugger_meaning.specs.declared.answer.Answer.{Answer}
 use Rattle.debugger_meaning.specs.declared.fault.DebugFault.{DebugFault}
 use Rattle.debugger_meaning.specs.declared.fault.DebugFault.TheVariants.{BadScan, StampsFall, ClockLimit, BadCommand}
-use Rattle.debugger_meaning.specs.declared.fault.DebugFault.TheVariants.{TooManyStops, Memory, BeforeStart}
+use Rattle.debugger_meaning.specs.declared.fault.DebugFault.TheVariants.{TooManyStops, Memory, BeforeStart, NoCell}
 use Rattle.debugger_meaning.specs.Session.{IsText}
 use Rattle.debugger_meaning.specs.Stands.{SessionState, shown_of, StandsAt}
 
@@ -39,6 +39,7 @@ RefusesMaking n old new TooManyStops = ⊥
 RefusesMaking n old new (Memory None) = ⊥
 RefusesMaking n old new (Memory (Some clock)) = StandsShort n old new clock
 RefusesMaking n old new BeforeStart = ⊥
+RefusesMaking n old new NoCell = ⊥
 
 abbrev pub AnswersMaking : ℕ → List ℕ → SessionState → Result Answer DebugFault → SessionState → Type 0
 AnswersMaking n text old result new = MatchResult result (Makes n text old new) (RefusesMaking n old new)

@@ -12,7 +12,7 @@ use Rattle.board_plain.specs.Plain.{Plain, clock_of}
 use Rattle.debugger_meaning.specs.declared.answer.Answer.{Answer}
 use Rattle.debugger_meaning.specs.declared.fault.DebugFault.{DebugFault}
 use Rattle.debugger_meaning.specs.declared.fault.DebugFault.TheVariants.{BadScan, StampsFall, ClockLimit, BadCommand}
-use Rattle.debugger_meaning.specs.declared.fault.DebugFault.TheVariants.{TooManyStops, Memory, BeforeStart}
+use Rattle.debugger_meaning.specs.declared.fault.DebugFault.TheVariants.{TooManyStops, Memory, BeforeStart, NoCell}
 use Rattle.debugger_meaning.specs.Session.{IsText}
 use Rattle.events_laws.specs.WithKey.{with_key}
 use Rattle.probe.specs.declared.moments.Ends.{Ends}
@@ -105,6 +105,7 @@ CannotBeTried clock trial (Memory (Some at)) = ⊥
 CannotBeTried clock trial BadCommand = ⊥
 CannotBeTried clock trial TooManyStops = ⊥
 CannotBeTried clock trial BeforeStart = ⊥
+CannotBeTried clock trial NoCell = ⊥
 
 abbrev pub AnswersTrial : List Stop → Plain → Trial → Result Answer DebugFault → Type 0
 AnswersTrial stops s trial result = MatchResult result (TellsMoments stops s trial) (CannotBeTried (clock_of s) trial)

@@ -11,7 +11,7 @@ use Rattle.debugger_meaning.specs.declared.answer.Answer.{Answer}
 use Rattle.debugger_meaning.specs.declared.answer.Answer.TheVariants as answers
 use Rattle.debugger_meaning.specs.declared.fault.DebugFault.{DebugFault}
 use Rattle.debugger_meaning.specs.declared.fault.DebugFault.TheVariants.{BadScan, StampsFall, ClockLimit, BadCommand}
-use Rattle.debugger_meaning.specs.declared.fault.DebugFault.TheVariants.{TooManyStops, Memory, BeforeStart}
+use Rattle.debugger_meaning.specs.declared.fault.DebugFault.TheVariants.{TooManyStops, Memory, BeforeStart, NoCell}
 use Rattle.debugger_meaning.specs.Session.{told_of}
 use Rattle.debugger_meaning.specs.Stands.{SessionState, Shown, shown_of, StandsAt}
 use Rattle.probe.specs.declared.stops.Request.{Request}
@@ -66,6 +66,7 @@ RefusesStop stop old new TooManyStops = (length old.stops ≡ 16) × (new ≡ ol
 RefusesStop stop old new (Memory None) = (length old.stops < 16) × IsTrue (asks_changes stop) × (new ≡ old)
 RefusesStop stop old new (Memory (Some clock)) = ⊥
 RefusesStop stop old new BeforeStart = ⊥
+RefusesStop stop old new NoCell = ⊥
 
 -- a run of at most n clocks, up to the first one after the start at which a stop is met
 pub record GoesOn (n : ℕ) (old new : ProbeState) (answer : Answer) : Type 0 where
@@ -97,6 +98,7 @@ RefusesGoing n old new TooManyStops = ⊥
 RefusesGoing n old new (Memory None) = ⊥
 RefusesGoing n old new (Memory (Some clock)) = StopsShort n old new clock
 RefusesGoing n old new BeforeStart = ⊥
+RefusesGoing n old new NoCell = ⊥
 
 -- back to the last earlier clock at which a stop was met
 pub record GoesBackToStop (old new : ProbeState) (answer : Answer) : Type 0 where
@@ -117,6 +119,7 @@ RefusesBackToStop old new TooManyStops = ⊥
 RefusesBackToStop old new (Memory None) = (1 ≤ length old.stops) × (new ≡ old)
 RefusesBackToStop old new (Memory (Some clock)) = ⊥
 RefusesBackToStop old new BeforeStart = NoneMetFrom old.stops (gone_by old) old.first.plain × (new ≡ old)
+RefusesBackToStop old new NoCell = ⊥
 
 abbrev pub AnswersRequest : Request → ProbeState → Result Answer DebugFault → ProbeState → Type 0
 AnswersRequest (Add stop) old result new = MatchResult result (AddsStop stop old new) (RefusesStop stop old new)

@@ -10,7 +10,7 @@ use Rattle.board_plain.specs.Plain.{clock_of}
 use Rattle.debugger_meaning.specs.declared.answer.Answer.{Answer}
 use Rattle.debugger_meaning.specs.declared.fault.DebugFault.{DebugFault}
 use Rattle.debugger_meaning.specs.declared.fault.DebugFault.TheVariants.{BadScan, StampsFall, ClockLimit, BadCommand}
-use Rattle.debugger_meaning.specs.declared.fault.DebugFault.TheVariants.{TooManyStops, Memory, BeforeStart}
+use Rattle.debugger_meaning.specs.declared.fault.DebugFault.TheVariants.{TooManyStops, Memory, BeforeStart, NoCell}
 use Rattle.debugger_meaning.specs.Session.{IsText}
 use Rattle.debugger_meaning.specs.Stands.{SessionState}
 use Rattle.events_laws.specs.WithKey.{with_key}
@@ -51,6 +51,7 @@ IsRefused clock key (Memory (Some at)) = ⊥
 IsRefused clock key BadCommand = ⊥
 IsRefused clock key TooManyStops = ⊥
 IsRefused clock key BeforeStart = ⊥
+IsRefused clock key NoCell = ⊥
 
 -- a key isn't taken, and nothing changes
 abbrev pub RefusesKey : StampedKey → SessionState → SessionState → DebugFault → Type 0
