@@ -1,5 +1,5 @@
 //! Changes of registers and memory while a board stands at a clock.
-ghost use Rattle.std.specs.Prelude.{◌≡◌, ◌<◌, ◌^◌};
+ghost use Rattle.std.specs.Prelude.{◌≡◌, ◌<◌, ◌≤◌, ◌^◌, length};
 ghost use Rattle.board_plain.specs.Changes.{HasPlace, changed, takes};
 ghost use Rattle.board_plain.specs.declared.change.Change.TheVariants as changes;
 
@@ -24,7 +24,8 @@ impl<A: Allocator> Board<A> {
     /// changes and of the trail stay.
     pub fn change(&mut self, change: &Change)
         requires { HasPlace change.now }
-        ensures { self.new ≡ record self.old { plain = changed change.now self.old.plain } }
+        ensures changed { self.new ≡ record self.old { plain = changed change.now self.old.plain } }
+        ensures few { length self.old.trail ≤ 32 }
     {
         self.engine.change(change);
     }
