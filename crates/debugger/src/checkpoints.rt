@@ -94,6 +94,13 @@ impl<A: Allocator> Checkpoints<A> {
         }
     }
 
+    /// Drops all copies, since the board that they are copies of has changed.
+    pub(crate) fn clear(&mut self)
+        ensures { self.new ≡ [] }
+    {
+        self.kept.clear();
+    }
+
     /// Gives a typed key to the copies that stand before its stamp, since ways back must find it there. The others are
     /// dropped, as they ran without it, and so are those for whose keys there is no memory.
     pub(crate) fn take_key(&mut self, alloc: Global, key: &StampedKey)

@@ -6,6 +6,7 @@ ghost use Rattle.board.specs.HeldBack.{IsHeldBack};
 ghost use Rattle.board.specs.OneTurn.{IsOneTurn};
 ghost use Rattle.events.specs.Accesses.{accesses_next};
 ghost use Rattle.board_plain.specs.Board.{Ran};
+ghost use Rattle.board_plain.specs.Changes.{HasPlace, changed};
 ghost use Rattle.board_plain.specs.Lasts.{HeldLast, IsLastOf};
 ghost use Rattle.board_plain.specs.Plain.{clock_of, registers_of, screen_of};
 ghost use Rattle.board_plain.specs.Stops.{HasAddress};
@@ -26,6 +27,7 @@ use crate::trail_text::trail_text;
 use board::board::Board;
 use board::one_turn::Begun;
 use board_lines::lines::register_lines;
+use board_plain::change::Change;
 use board_plain::fault::BoardFault;
 use board_plain::stop::{Condition, Stopped, Stops};
 use board_types::clock::Clock;
@@ -309,6 +311,29 @@ impl<A: Allocator> Session<A> {
         let (board, found) = self.last_held(&self.stops, u64::MAX)?;
         self.stand(board);
         Ok(Answer::StopAt(found.1, found.0))
+    }
+
+    /// Makes a change of the board as it stands at the session's first clock, as if the session had begun with it. Copies
+    /// of the board at later clocks go, since they ran without the change.
+    pub fn change(&mut self, change: &Change)
+        requires place { HasPlace change.now }
+        requires start { clock_of self.old.board.plain ≡ clock_of self.old.first.plain }
+        ensures board { self.new.board ≡ record self.old.board { plain = changed change.now self.old.board.plain } }
+        ensures first { self.new.first ≡ shown_of self.new.board }
+        ensures stops { self.new.stops ≡ self.old.stops }
+    {
+        self.first.change(change);
+        self.board.change(change);
+        self.checkpoints.clear();
+    }
+
+    /// Takes the stops of another session, which gives place to this one and has none from then on.
+    pub fn take_stops(&mut self, other: &mut Session<A>)
+        ensures taken { self.new ≡ record self.old { stops = other.old.stops } }
+        ensures given { other.new ≡ record other.old { stops = [] } }
+    {
+        let stops = mem::replace(&mut other.stops, Stops::new());
+        drop(mem::replace(&mut self.stops, stops));
     }
 
     /// Finds the last earlier clock at which one of `stops` held, for `back step` and `back stop`. Returns a board at
