@@ -24,3 +24,4 @@ mod Ending
 mod Ranges
 mod Once
 mod Trying
+mod Labs

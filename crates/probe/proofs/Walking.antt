@@ -146,7 +146,7 @@ requested first BackStop s t (Ok answer) at is = same_first first (session_of s)
 requested first BackStop s t (Err fault) at is = refuses_back first s t fault at is
 requested first (Try trial) s t result at is = same_state first (session_of s) (session_of t) at (same_session s t is.1)
 
-answered : (first : Shown) (request : Option Request) (line : List ℕ) (s t : ProbeState) (result : Result Answer DebugFault)
+pub answered : (first : Shown) (request : Option Request) (line : List ℕ) (s t : ProbeState) (result : Result Answer DebugFault)
     → StandsFrom first (session_of s) → AnswersUnless request line s result t
     → Leads first (key_typed request (inquiry_of line) (clock_of s.board.plain) result) (session_of t)
 answered first (Some request) line s t result at is = no_keys first (session_of t) (requested first request s t result at is)

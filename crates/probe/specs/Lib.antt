@@ -21,6 +21,9 @@ pub mod Listing
 pub mod Typed
 pub mod InquirySession
 pub mod Probe
+pub mod Wishes
+pub mod Lab
+pub mod LabLaws
 pub mod Watched
 pub mod Looked
 pub mod Tried

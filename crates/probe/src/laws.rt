@@ -1,5 +1,6 @@
 //! What holds of counts, of stops, of probes and of what `chips` prints, by the definitions alone.
 ghost use Rattle.probe.specs.ChipLaws.{LoadsAsTold};
+ghost use Rattle.probe.specs.LabLaws.{ChangeBegins, LabsStand, NoWayBackBefore, UndoGoesBack};
 ghost use Rattle.probe.specs.MomentLaws.{EachMomentOnce, MomentsAreRuns, OneListOfRanges, PastTheEndAlike};
 ghost use Rattle.probe.specs.ProbeLaws.{AnswersAsDebugger, CountsAddUp, ProbesStand, StandingEndsAlike, StandingMetAlike};
 
@@ -44,4 +45,13 @@ pub fn moments_are_runs()
 /// The next tick of a counter loads its newest count if the line of `chips` says `load 1`, and else it doesn't.
 pub fn loads_as_told()
     ensures { LoadsAsTold }
+{}
+
+/// A change of the board begins a probe about the changed board, before which no way back leads, with the stops that it
+/// had; an undo brings back all that was; and after any lines all boards stand some clocks after their first ones.
+pub fn changes_begin_anew()
+    ensures undo { UndoGoesBack }
+    ensures begins { ChangeBegins }
+    ensures back { NoWayBackBefore }
+    ensures stand { LabsStand }
 {}

@@ -1,19 +1,24 @@
 //! A probe: a session that answers inquiries, and has stops of its own.
 ghost use Rattle.std.specs.Prelude.{◌≡◌, ◌==◌, ◌<◌, ◌≤◌, ◌^◌, ◌++◌, [], ◌∷◌, All, IfOk, MatchResult, length};
 ghost use Rattle.std.specs.Result.{IfErr};
-ghost use Rattle.debugger_meaning.specs.Stands.{Stands, gone};
+ghost use Rattle.board_plain.specs.Plain.{clock_of};
+ghost use Rattle.debugger_meaning.specs.Stands.{Stands, gone, shown_of};
+ghost use Rattle.probe.specs.Lab.{left_by, shown_edited, takes_edit};
 ghost use Rattle.probe.specs.Looked.{FindsNoStop, answer_at, from_of, with_number};
 ghost use Rattle.probe.specs.Moments.{AnswersTrial};
+ghost use Rattle.probe.specs.Wishes.{HasPlaces};
 ghost use Rattle.probe.specs.Probe.{AddsStop, AnswersStopping, GoesBackToStop, GoesOn, RefusesBackToStop, RefusesGoing, RefusesStop, conditions_of, gone_by, probe_about, session_of};
 ghost use Rattle.probe.specs.Requests.{IsRising};
 ghost use Rattle.probe.specs.ProbeStops.{HasBytes, MetLast};
 ghost use Rattle.probe.specs.Watched.{IsWatched, KeepsStops, stops_of};
 
+use crate::edits::{edit_board, edit_session, takes_edit};
 use crate::looking::{last_met, run_to_stop};
 use crate::moments::{Trial, tell_moments};
 use crate::session::command;
 use crate::stops::{Request, Stop, read_request};
 use crate::watched::{Watched, Watches, all_stand, with_room};
+use crate::wishes::Edit;
 use board::board::Board;
 use board_types::clock::Clock;
 use debugger::session::Session;
@@ -21,6 +26,7 @@ use debugger_meaning::answer::Answer;
 use debugger_meaning::fault::DebugFault;
 use std::alloc::Global;
 use std::marker::Model;
+use std::mem;
 
 /// `back stop` searches this many clocks before the present one first, after one run to them: a stop that is met often
 /// is met there.
@@ -168,6 +174,66 @@ impl Probe {
             self.watches.as_mut_slice(),
             trial,
         )
+    }
+
+    /// The clock at which the board stands.
+    pub(crate) fn clock(&self) -> Clock
+        ensures { result ≡ clock_of self.now.board.plain }
+    {
+        self.session.board().clock()
+    }
+
+    /// The clock of the first board.
+    pub(crate) fn first_clock(&self) -> Clock
+        ensures { result ≡ clock_of self.now.first.plain }
+    {
+        self.session.first_clock()
+    }
+
+    /// Whether the board can be changed so.
+    pub(crate) fn takes(&self, edit: &Edit) -> bool
+        requires { HasPlaces edit.now }
+        ensures { result ≡ takes_edit edit.now self.now.board.plain }
+    {
+        takes_edit(self.session.board(), edit)
+    }
+
+    /// Returns a session about a copy of the board as it stands, but for the change, without stops. Refused as `Memory`
+    /// if there is none.
+    pub(crate) fn changed(&self, alloc: Global, edit: &Edit) -> Result<Session, DebugFault>
+        requires { HasPlaces edit.now }
+        ensures first { IfOk result (λ session. session.first ≡ shown_edited edit.now (shown_of self.now.board)) }
+        ensures board { IfOk result (λ session. shown_of session.board ≡ session.first) }
+        ensures fault { IfErr result (λ fault. fault ≡ DebugFault.Memory None) }
+    {
+        match self.session.board().copy() {
+            Ok(mut board) => {
+                edit_board(&mut board, edit);
+                Session::new(alloc, board)
+            }
+            Err(_) => Err(DebugFault::Memory(None)),
+        }
+    }
+
+    /// Makes a change of the board as it stands at the first clock, as if the probe had begun with it.
+    pub(crate) fn change(&mut self, edit: &Edit)
+        requires places { HasPlaces edit.now }
+        requires start { clock_of self.old.board.plain ≡ clock_of self.old.first.plain }
+        ensures first { self.new.first ≡ shown_edited edit.now (shown_of self.old.board) }
+        ensures board { shown_of self.new.board ≡ self.new.first }
+        ensures stops { self.new.stops ≡ self.old.stops }
+    {
+        edit_session(&mut self.session, edit);
+    }
+
+    /// Puts another session in place of its own, and gives it the stops. Returns the one that it had.
+    pub(crate) fn exchange(&mut self, session: Session) -> Session
+        ensures now { self.new ≡ record self.old { first = session.first; board = session.board } }
+        ensures left { result ≡ left_by self.old }
+    {
+        let mut session = session;
+        session.take_stops(&mut self.session);
+        mem::replace(&mut self.session, session)
     }
 
     /// Finds the last earlier clock at which a stop was met, for `back stop`, and the least number of those that were.
