@@ -7,11 +7,11 @@ use Rattle.pcboard_texts.specs.Answer.{PrintsFor}
 use Rattle.pcboard_texts.specs.Given.{Given}
 use Rattle.pcboard_texts.specs.Refusal.{IsTrueOfWordsFor, PrintsNoAnswerFor, RefusesWordsFor}
 use Rattle.pcboard_texts.specs.Transcript.{Answering}
-use Rattle.probe.specs.Probe.{AnswersStopping, ProbeState, probe_about}
+use Rattle.probe.specs.Lab.{AnswersLab, LabState, lab_about}
 
 -- how the probe's sessions begin, and how they answer a line
-abbrev pub AnswersProbing : Answering ProbeState
-AnswersProbing = record { begins = probe_about; answers = AnswersStopping }
+abbrev pub AnswersProbing : Answering LabState
+AnswersProbing = record { begins = lab_about; answers = AnswersLab }
 
 -- the words name a session, and the replies to its lines are added
 abbrev pub PrintsProbing : List (List ℕ) → Given → Option (List ℕ) → Option (List ℕ) → Type 0

@@ -9,7 +9,7 @@ use debugger_meaning::fault::DebugFault;
 use pcboard_program::tool::Tool;
 use pcboard_words::probe_line::read_probe_words;
 use pcboard_words::task::{LineFault, Task};
-use probe::probe::Probe;
+use probe::lab::Lab;
 use std::alloc::Global;
 
 /// The program `pcprobe`, whose sessions answer the debugger's commands and inquiries.
@@ -18,7 +18,7 @@ pub struct Pcprobe;
 impl Tool for Pcprobe {
     ghost reads = { AnswersWords };
 
-    type Session = Probe;
+    type Session = Lab;
 
     ghost answers = { AnswersProbing };
 
@@ -30,12 +30,12 @@ impl Tool for Pcprobe {
     }
 
     /// Begins a probe of the board, which answers the lines typed. Refused as `Memory` if there is none.
-    fn begin(alloc: Global, board: Board) -> Result<Probe, DebugFault> {
-        Probe::new(alloc, board)
+    fn begin(alloc: Global, board: Board) -> Result<Lab, DebugFault> {
+        Lab::new(alloc, board)
     }
 
-    /// Answers a typed line: a command of the debugger or an inquiry.
-    fn answer(alloc: Global, session: &mut Probe, line: &str) -> Result<Answer, DebugFault> {
+    /// Answers a typed line: a command of the debugger, an inquiry, or a change of the board.
+    fn answer(alloc: Global, session: &mut Lab, line: &str) -> Result<Answer, DebugFault> {
         session.command(alloc, line)
     }
 }
