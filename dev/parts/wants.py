@@ -6,7 +6,7 @@ from collections.abc import Iterator
 
 from parts.definitions import COMMENT, Definition, Definitions, Node, named
 
-LINES = ('Command', 'Inquiry', 'Request')  # the types of a session's lines, whose cases are the commands
+LINES = ('Command', 'Inquiry', 'Request', 'Wish')  # the types of a session's lines, whose cases are the commands
 CASE = re.compile(r'\S+ \(?(?:\w+\.)?([A-Z]\w*)\b')
 REFUSED = re.compile(r'\(?Memory (None|\(Some \w+\))\)?$')
 # Cases whose words aren't their names: of the stops only that of changes has a copy that may lack memory.
@@ -17,7 +17,7 @@ ALL_SAID = 'StoppedEarly'  # a run that stops short says by this that the speake
 def wanting() -> list[str]:
     """The commands of the debugger and the probe that may always be refused as Memory."""
     found = Definitions()
-    answers = next(root for root in found.roots if root.call == 'Probe::command')
+    answers = next(root for root in found.roots if root.call == 'Lab::command')
     reached = [found.texts[node] for node in found.reached([answers]) if node in found.texts]
     return sorted({word for each in reached for word in refused_words(found, each)})
 

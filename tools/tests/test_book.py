@@ -15,10 +15,10 @@ from parts.book_page import page_of
 from parts.definitions import Definitions
 from tests.support import TOP, ToolCase
 
-CALLS = ('program', 'run_source', 'run_image', 'Session::command', 'Probe::command', 'pcprobe::program')
+CALLS = ('program', 'run_source', 'run_image', 'Session::command', 'Lab::command', 'pcprobe::program')
 NAMES = (*CALLS, 'pit8253', 'pcboard_texts')  # crates, all of whose calls are taken
 # At most so many lines of definitions, with their comments: nobody can check more than he reads.
-MOST = {'program': 5700, 'run_source': 4400, 'pcprobe::program': 6650}
+MOST = {'program': 5700, 'run_source': 4400, 'pcprobe::program': 6900}
 
 
 WIRE = """//! A wire.
@@ -185,7 +185,7 @@ class Books(ToolCase):
 
     def test_believed_starts_at_the_same_call(self) -> None:
         """It lists the files in the order of the book's chapters."""
-        for call in ('program', 'Session::command', 'Probe::command'):
+        for call in ('program', 'Session::command', 'Lab::command'):
             listed = self.tool('dev/believed', '--order', call)[0].splitlines()
             text = self.tool('dev/book', call, '--text')[0]
             self.assertEqual([f'crates/{each}' for each in re.findall(r'^# (\w+/specs/\w+\.antt)$', text, re.M)], listed)
