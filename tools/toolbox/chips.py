@@ -1,9 +1,10 @@
 """What the chips hold at a clock, as `pcprobe` tells it (docs/probe.md), and what of it keeps an interrupt or a key away."""
 from __future__ import annotations
 
-from typing import Any, Callable
+from typing import Any, Callable, Sequence
 
 from toolbox.asking import Raw, said
+from toolbox.changes import Changes, Deed
 from toolbox.program import Files, ProbeSession
 
 END_OF_INTERRUPT = 'no end of interrupt (20h to port 20h)'
@@ -124,13 +125,19 @@ def of_requests(chips: Chips, ends: Callable[[int], dict[str, Any]]) -> list[Fac
     return found
 
 
-def ends_before(files: Files, clock: int, kind: int) -> dict[str, Any]:
-    """What ends of interrupt have come before a clock since this type was entered last: `since` when, the trail's line of that, `taken`,
-    and in words."""
-    first = max(0, clock - ASKED_BACK)
+def ends_before(files: Files, clock: int, kind: int, deeds: Sequence[Deed] = ()) -> dict[str, Any]:
+    """What ends of interrupt have come before a clock, of a board that was changed so, since this type was entered last: `since` when,
+    the trail's line of that, `taken`, and in words."""
+    first, found = max(0, clock - ASKED_BACK), list[bytes]()
     with ProbeSession(files) as probe:
-        probe.go_to(first)
-        lines = [line.decode('ascii').split() for line in probe.lines(clock - first, 'entries ports=20-20')]
+
+        def go(to: int) -> None:
+            probe.go_to(max(probe.clock, min(first, to)))
+            found.extend(probe.lines(to - probe.clock, 'entries ports=20-20'))
+
+        Changes().make(list(deeds), go, lambda command: probe.unrefused(probe.one(command)))
+        go(clock)
+    lines = [line.decode('ascii').split() for line in found]
     taken = next((at for at in reversed(range(len(lines))) if lines[at][1:] == ['entry', f'{kind:02X}']), None)
     ends = sum(words[1] == 'out' and int(words[3], 16) & 0x38 == 0x20 for words in lines[taken or 0 :])
     since = first if taken is None else int(lines[taken][0])

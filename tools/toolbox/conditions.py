@@ -67,8 +67,16 @@ class Asked:
         """Looks for the hits that aren't known yet, up to where the board stands, by another board."""
         found = list[int]()
         with contextlib.closing(SessionBoard(board.files, board.budget, board.poll)) as other:
-            other.go_to(self.until)
-            while other.run([stop], board.clock):
-                if self.holds is None or self.holds(other):
-                    found.append(other.clock)
+            other.stand_as(board, self.until)
+
+            def on(end: int) -> None:
+                while other.run([stop], end):
+                    if self.holds is None or self.holds(other):
+                        found.append(other.clock)
+
+            other.stand_as(board, go=on)
         self.hits, self.until = self.hits + found, board.clock
+
+    def forget_after(self, clock: int) -> None:
+        """Of later clocks nothing is known: the board was changed at this one."""
+        self.hits, self.until = self.hits[: bisect_right(self.hits, clock)], min(self.until, clock)

@@ -1,6 +1,9 @@
 """A board whose calls are followed, as the probe's lines tell them: what has called what runs where it stands."""
 from __future__ import annotations
 
+import copy
+import re
+
 from toolbox.effects import Far
 from toolbox.following import Follower, Frame, Mark, Marks, Start, State, states_in
 from toolbox.served_board import ServedBoard
@@ -18,6 +21,22 @@ class FollowedBoard(ServedBoard):
         if is_other:
             self._known: tuple[int, Follower | None] = (-1, None)  # the calls under way at a clock
             self.is_whole, self._reader = False, Marks()  # whether they were followed from power-on on
+            self._bases = dict[int, 'tuple[Follower, bool] | None']()  # by a change's clock the calls under way, and whether these are all
+
+    def _are_others(self) -> None:
+        super()._are_others()
+        self._known = (-1, None)
+
+    def _make(self, command: str) -> None:
+        """A change leaves the calls that are under way, unless it is one of the stack's place."""
+        base, is_known = self._bases.get(self.clock), self.clock in self._bases and self.clock == self.changes.first
+        if re.match('set S[PS] ', command):
+            base = None
+        elif command.startswith('set') and not is_known:
+            base = copy.deepcopy(self.follower()), self.is_whole
+        super()._make(command)
+        if command.startswith('set'):
+            self._bases[self.clock] = base
 
     def _beginning(self) -> Follower:
         """A follower from here on."""
@@ -42,11 +61,12 @@ class FollowedBoard(ServedBoard):
 
     def follower(self) -> Follower:
         """The calls under way, as the last clocks before this one tell them, or from power-on on."""
-        here = self.clock
-        known, follower = self._known if 0 <= here - self._known[0] <= MOST_PIECE else (-1, None)
+        here, first = self.clock, self.changes.first
+        known, follower = self._known if 0 <= here - self._known[0] <= MOST_PIECE and self._known[0] >= first else (-1, None)
         if follower is None:
-            known = max(0, here - LOOKED_BACK)
-            self.is_whole = not known
+            known = max(first, here - LOOKED_BACK)
+            base = self._bases.get(first) if known == first else None
+            follower, self.is_whole = copy.deepcopy(base) if base else (None, not known)
         self.go_to(known)
         follower = follower or self._beginning()
         self._follow(follower, here)

@@ -51,5 +51,5 @@ def code_of_word(text: str) -> int:
 def key_lines(board: SessionBoard) -> list[str]:
     """The run's keys, typed ones too: stamp, code, name, down or up."""
     known = names()
-    keys = read_run_file(board.files.run_file)['keys']
+    keys = sorted([*map(tuple, read_run_file(board.files.run_file)['keys']), *board.changes.keys()], key=lambda key: key[0])
     return [f'{stamp:>12} {code:02X} {known.get(code % UP, "?")} {"up" if code >= UP else "down"}' for stamp, code in keys]

@@ -61,7 +61,7 @@ class ServedBoard(SessionBoard):
         for number, span in enumerate(LOOKED_BACK if len(own) < len(found) else ()):
             if len(own) == TRAIL or number and own:
                 break
-            self.go_to(max(0, here - span))
+            self.go_to(max(self.changes.first, here - span))
             events = Part.of(self.lines(here - self.clock, 'starts')).events
             own = self._as_trails_tell([event.clock for event in events if event.address < SERVICES][-TRAIL:], here)
         return own

@@ -7,6 +7,7 @@ import time
 from dataclasses import dataclass, replace
 from typing import TYPE_CHECKING, Callable, Collection, Iterable, Iterator, TypeVar
 
+from toolbox.changes import Changes, Deed
 from toolbox.command import Sorry
 from toolbox.effects import Far
 from toolbox.listing import physical
@@ -28,12 +29,17 @@ LOGGED_AT_ONCE = 100_000  # clocks
 PASSED_AT_ONCE = 1 << 20  # clocks that are gone past stops without a new session
 TRIED_AT_ONCE = 100  # clocks of a key
 T = TypeVar('T')
-HLT, ROM = b'\xF4', 0xF0000  # from there on no byte changes
+HLT, ROM = b'\xF4', 0xF0000  # from there on no byte changes but by `set`
+MEMORY, SET_AT_ONCE = 1 << 20, 16
 KEY_REFUSED = {
     33: 'no key sends {code:02X}: 01 to 53 are keys that go down, 81 to D3 keys that come up',
     34: 'a key comes at a later clock than the present one, {clock}',
     42: 'no run goes beyond clock 2^40, and no key comes there',
     53: 'there is no memory for one more key, and none was typed',
+}
+SET_REFUSED = {
+    53: 'there is no memory for the change, and nothing is set',
+    55: 'no byte can be set there: beside RAM, text memory (B0000 to B0FFF) and ROM (F0000 to FFFFF) nothing keeps one',
 }
 
 
@@ -88,7 +94,8 @@ def place_of(stop: str) -> Far | None:
 class SessionBoard:
     """A board. A stop is the debugger's command that sets it. Those of a session can't be taken out: places that nobody wants any
     more are passed, and where they are many, or the sixteen used up, a session is begun anew. `poll` is called between the pieces
-    of a run, and raises Paused to end it. Where keys are typed, the run file is a copy."""
+    of a run, and raises Paused to end it. Where keys are typed, the run file is a copy. What is set belongs to the run: a session
+    that is begun anew is changed so at the same clocks, and a way back to before a change undoes it, which `undone` tells."""
 
     def __init__(self, files: Files, budget: int, poll: Callable[[], None] = lambda: None) -> None:
         self._files, self.budget, self.poll = files, budget, poll
@@ -96,6 +103,7 @@ class SessionBoard:
         self._stops, self._piece = list[str](), FIRST_PIECE
         self.asked: dict[str, list[Asked]] = {}  # what stops ask besides
         self._halts = dict[int, bool]()  # whether HLT stands at an address of ROM
+        self.changes, self.undone = Changes(), list[str]()  # the latter: what ways back undid, in words
         self._forget()
         self._session = ProbeSession(files)
         try:
@@ -105,8 +113,9 @@ class SessionBoard:
             raise
 
     def _forget(self, is_other: bool = True) -> None:
-        """The registers and the trail are asked for once at each clock: what a board holds there is determined, until keys change, or
-        it is of other files."""
+        """The registers and the trail are asked for once at each clock: what a board holds there is determined, until keys change, it
+        is changed, or of other files."""
+        self._halts.clear()
         self._registers, self._trail = (-1, dict[str, int]()), (-1, list[Event]())
 
     @property
@@ -225,8 +234,9 @@ class SessionBoard:
             self.one('step')
 
     def happened(self, kinds: str) -> list[str]:
-        """What happened in the clock that led to the present one, as lines of the probe's events; stops are passed."""
-        if not self.clock:
+        """What happened in the clock that led to the present one, as lines of the probe's events; stops are passed. To a change's
+        clock none led."""
+        if self.clock == self.changes.first:
             return []
         self.one('back 1')
         *lines, last = self._talk(lambda: self._session.happenings(f'events 1 {kinds}'))
@@ -244,8 +254,11 @@ class SessionBoard:
         if fault and fault.number in KEY_REFUSED:
             raise Sorry(KEY_REFUSED[fault.number].format(code=code, clock=self.clock))
         stamp = int(refused(answer).split()[2])
-        with self._typing:
-            self._typed.append((stamp, code))
+        if self.changes.deeds:
+            self.changes.type(f'key {code:X} {stamp}')
+        else:
+            with self._typing:
+                self._typed.append((stamp, code))
         self._forget(is_other=False)
         return stamp
 
@@ -254,6 +267,86 @@ class SessionBoard:
         if keys[-1][0] > LAST_CLOCK:
             raise Sorry(KEY_REFUSED[42])
         return [(self.type(code, stamp), code) for stamp, code in keys]
+
+    # Changes
+
+    def set_register(self, name: str, word: int) -> None:
+        """A register gets a word, by its name in `regs`."""
+        self._set(f'set {name} {word:X}')
+
+    def set_bytes(self, address: int, octets: bytes) -> None:
+        """Bytes get these values, from a physical address on; all of them, or none."""
+        if not octets or not 0 <= address <= MEMORY - len(octets):
+            raise Sorry(f'{len(octets)} bytes from {address:05X} on: at least one can be set, up to FFFFF')
+        before, begun = self.dump(address, len(octets)), False
+        for at in range(0, len(octets), SET_AT_ONCE):
+            try:
+                begun |= self._set(f'set {address + at:X} {octets[at : at + SET_AT_ONCE].hex(" ").upper()}')
+            except Sorry:
+                if begun:
+                    self.undo()
+                elif at:
+                    self.set_bytes(address, before[:at])
+                raise
+
+    def _set(self, command: str) -> bool:
+        """Changes the board as it stands; whether that is a change of its own, and not one more at the clock of the last."""
+        self._make(command)
+        is_new = self.changes.take(self.clock, command)
+        self._are_others()
+        return is_new
+
+    def _make(self, command: str) -> None:
+        """Gives the session a command that changes it."""
+        answer = self.answer(command)
+        fault = fault_in(answer)
+        if fault and fault.number in SET_REFUSED:
+            raise Sorry(SET_REFUSED[fault.number])
+        refused(answer)
+
+    def _are_others(self) -> None:
+        """The board was changed at the present clock, so what is known of it and of later ones holds no more."""
+        self._forget(is_other=False)
+        for one in (one for them in self.asked.values() for one in them):
+            one.forget_after(self.clock)
+
+    def undo(self) -> str:
+        """Goes back to before the last change; what that was, in words. One that the session doesn't keep any more is left out of
+        another that is begun."""
+        if not self.changes.deeds:
+            raise Sorry('nothing was set that could be undone')
+        clock, what, deeds = self.changes.first, self.changes.last(), list(self.changes.deeds)
+        is_kept = self.one('undo') != BEFORE_START
+        self.changes.undo()
+        if not is_kept:
+            self.begin_anew(self._stops, clock, deeds=deeds[: len(self.changes.deeds)])
+        self._are_others()
+        return f'clock {clock}: {what} is undone'
+
+    def _undo_on_the_way(self) -> None:
+        """Undoes the change to which a way back has come."""
+        self.undone.append(self.undo())
+
+    def mark(self) -> tuple[int, list[Deed]]:
+        """Where the board stands, and how it was changed."""
+        return self.clock, list(self.changes.deeds)
+
+    def return_to(self, mark: tuple[int, list[Deed]]) -> None:
+        """The board as it was marked, from a way on which changes may have been undone."""
+        clock, deeds = mark
+        if deeds == self.changes.deeds:
+            self.go_to(clock)
+        else:
+            self.undone.clear()
+            self.begin_anew(self._stops, clock, deeds=deeds)
+
+    def stand_as(self, other: SessionBoard, clock: int | None = None, go: Callable[[int], object] | None = None) -> None:
+        """Goes to where another board of the same files stands, or to an earlier clock, by those of its changes that this one hasn't."""
+        to, go = other.clock if clock is None else clock, go or self.go_to
+        left = other.changes.deeds[len(self.changes.deeds) :]
+        self.changes.make([deed for deed in left if deed[0] <= to], go, self._make)
+        self._are_others()
+        go(to)
 
     def moments(self, code: int, first: int, last: int, clocks: int) -> Iterator[Moments]:
         """How a run of so many clocks would end, by the session's stops, if a key came at the first of these clocks, at the next one, and
@@ -285,18 +378,20 @@ class SessionBoard:
 
     # Stops
 
-    def begin_anew(self, stops: Iterable[str] = (), clock: int | None = None, files: Files | None = None) -> None:
-        """A session at this clock, else at the present one, with these stops alone; of other files, if they are given. The stops are set
-        there, so that none is met on the way. Until it stands there, the old one stays; if the way is ended beyond that one's clock, it
-        is the new one's."""
-        to, them, ended = self.clock if clock is None else clock, list(stops), None
+    def begin_anew(
+        self, stops: Iterable[str] = (), clock: int | None = None, files: Files | None = None, deeds: list[Deed] | None = None
+    ) -> None:
+        """A session at this clock, else at the present one, with these stops alone, and with the board's changes up to there, or these
+        ones; of other files, if they are given, which have all keys. The stops are set there, so that none is met on the way. Until it
+        stands there, the old one stays; if the way is ended beyond that one's clock, it is the new one's."""
+        to, them, ended, changes = self.clock if clock is None else clock, list(stops), None, Changes()
+        deeds = [one for one in (self.changes.deeds if deeds is None else deeds) if one[0] <= to and not (files and one[1].startswith('key'))]
         is_other, files = files is not None, files or self.files
         session = ProbeSession(files)
         try:
             try:
-                while session.clock < to:
-                    self._run_a_piece(session, to)
-                    self.poll()
+                changes.make(deeds, lambda clock: self._run_by_pieces(session, clock), lambda command: refused(session.one(command)))
+                self._run_by_pieces(session, to)
             except Paused as paused:
                 if isinstance(paused, Left) or session.clock <= self.clock:
                     raise
@@ -306,7 +401,7 @@ class SessionBoard:
         except BaseException:
             session.close()
             raise
-        old, self._session, self._stops, self._files = self._session, session, them, files
+        old, self._session, self._stops, self._files, self.changes = self._session, session, them, files, changes
         self._forget(is_other)
         old.close()
         if ended:
@@ -337,6 +432,12 @@ class SessionBoard:
             self._piece = paced(self._piece, time.monotonic() - begun)
         return answer
 
+    def _run_by_pieces(self, session: ProbeSession, end: int) -> None:
+        """A session without stops goes on to this clock."""
+        while session.clock < end:
+            self._run_a_piece(session, end)
+            self.poll()
+
     def _stop_in(self, answer: str) -> str | None:
         """The stop that an answer tells."""
         words = answer.split()
@@ -353,6 +454,8 @@ class SessionBoard:
 
     def go_to(self, clock: int) -> None:
         """The board at this clock, earlier or later, past all stops."""
+        while clock < self.changes.first:
+            self._undo_on_the_way()
         if clock < self.clock:
             self.one(f'back {self.clock - clock}')
         elif clock > self.clock and self._stops and clock - self.clock > PASSED_AT_ONCE:
@@ -398,6 +501,8 @@ class SessionBoard:
         kind, _, rest = stop.partition(' ')
         if kind != 'changes':
             return kind == 'when' and bool(self.happened(rest))
+        if self.clock == self.changes.first:
+            return False
         address, count = rest.split()
         bytes_now = self.dump(int(address, 16), int(count))
         self.one('back 1')
@@ -446,6 +551,9 @@ class SessionBoard:
         passed = 0
         while wanted and self.clock:
             met = self._stop_in(self._last_stop())
+            if met is None and self.changes.deeds:
+                self._undo_on_the_way()
+                continue
             if met is None:
                 break
             if place_of(met) and self._is_behind_a_halt() and self.is_halted:
@@ -460,6 +568,14 @@ class SessionBoard:
         self.go_to(0)
         return None
 
+    def step_back(self) -> bool:
+        """To the last earlier clock at which the processor was free; whether there is one."""
+        while self.one('back step') == BEFORE_START:
+            if not self.changes.deeds:
+                return False
+            self._undo_on_the_way()
+        return True
+
     def _last_stop(self) -> str:
         """The answer to `back stop`. Where it is ended before, the board stands where it was, or on the way there."""
 
@@ -472,8 +588,9 @@ class SessionBoard:
                 return True
             return False
 
-        self._session, answer = self._talk(lambda: last_stop(self._session, self.files, is_ended))
+        self._session, answer, changes = self._talk(lambda: last_stop(self._session, self.files, self.changes, is_ended))
         if not answer:
-            self._stops = []
+            self._stops, self.changes = [], changes
+            self._forget(is_other=False)
             raise Paused('paused')
         return refused(answer)

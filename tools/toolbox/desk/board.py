@@ -445,7 +445,7 @@ class Board:
     def chips(self) -> Fields:
         """What the chips hold, and what in them keeps an interrupt or a key away."""
         lines = self.machine.chips()
-        return {'lines': lines, 'facts': facts(lines, lambda kind: ends_before(self.files, self.clock, kind))}
+        return {'lines': lines, 'facts': facts(lines, lambda kind: ends_before(self.files, self.clock, kind, self.machine.changes.deeds))}
 
     def data(self) -> Fields:
         """The program's labels of data, with what memory holds there; of Intel HEX without their lines, which the editor hasn't."""
