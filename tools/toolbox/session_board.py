@@ -289,6 +289,11 @@ class SessionBoard:
                     self.set_bytes(address, before[:at])
                 raise
 
+    def set_by(self, command: str) -> str:
+        """What `set` says is done; where the board stands."""
+        self._set(command)
+        return f'clock {self.clock}'
+
     def _set(self, command: str) -> bool:
         """Changes the board as it stands; whether that is a change of its own, and not one more at the clock of the last."""
         self._make(command)

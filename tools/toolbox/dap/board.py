@@ -12,7 +12,7 @@ from toolbox.followed import MOST_PIECE, STACKED, FollowedBoard
 from toolbox.following import CALLING, Out
 from toolbox.listing import Listing, physical
 from toolbox.places import Event, is_repeated
-from toolbox.program import BEFORE_START, Files
+from toolbox.program import Files
 from toolbox.session_board import MOST_STOPS, place_of
 from toolbox.watches import MEMORY, watch_of
 from toolbox.way_back import paced
@@ -71,7 +71,7 @@ class Machine(FollowedBoard):
             self.go_to(own[-1].clock)
         elif self.is_halted:
             self.go_to(self.trail()[-1].clock)
-        elif self.one('back step') == BEFORE_START:
+        elif not self.step_back():
             raise Sorry('this is the start of the run')
 
     def next(self, wanted: Collection[str], run: Run | None = None) -> str | None:

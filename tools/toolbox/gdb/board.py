@@ -5,7 +5,7 @@ from dataclasses import dataclass
 from typing import Iterable
 
 from toolbox.followed import FollowedBoard
-from toolbox.program import BEFORE_START, LAST_CLOCK, Files
+from toolbox.program import LAST_CLOCK, Files
 from toolbox.session_board import Paused
 from toolbox.watches import changed, watched_by
 
@@ -72,10 +72,6 @@ class Board(FollowedBoard):
         self.poll = lambda: None
         if not self._session.is_idle:
             self.begin_anew(self.named)
-
-    def back_step(self) -> bool:
-        """To the last earlier clock at which the processor was free, if there is one."""
-        return self.one('back step') != BEFORE_START
 
     def wake(self, breaks: list[str]) -> Met:
         """From within a halt to where the interrupt that ends it has been entered, at most to a stop or to the budget's end."""

@@ -3,18 +3,21 @@ from __future__ import annotations
 
 import functools
 import re
+from typing import Callable
 
 from toolbox.command import Sorry
 from toolbox.conditions import Asked
+from toolbox.edits import assign
 from toolbox.gdb.board import Board, Met
 from toolbox.gdb.bytecode import Condition
 from toolbox.gdb.features import FIRST_OWN, OWN, UNKNOWN, WORD_OF_FRAMES, description, without_value
 from toolbox.gdb.frames import RECORD, RECORDS, Frames
 from toolbox.gdb.wire import MOST_BYTES, Wire
+from toolbox.gdb.written import differing, write_memory, write_register, written_register
 from toolbox.keying import key_lines, type_words
 from toolbox.listing import Listing, physical
 from toolbox.places import far_of_address
-from toolbox.program import LAST_CLOCK
+from toolbox.program import BEFORE_START, LAST_CLOCK
 from toolbox.session_board import MOST_STOPS, Gone, Paused, SessionBoard, break_at
 from toolbox.watches import MEMORY, NO_READS, watch_of, watched_by, what_was_seen
 
@@ -26,7 +29,6 @@ MOST_MEMORY = MOST_BYTES // 4
 STOPS, MOVES = ('break', 'byte', 'sound', 'halted', 'changes', 'when'), ('to', 'go', 'step', 'back')
 RUNS = ('counts', 'signals', 'events')  # of the probe, which pass breakpoints
 FULL = f'the board has room for {MOST_STOPS} stops'
-READ_ONLY = "E.the board's answers are those of its source: nothing is written"
 
 
 def word_of(value: int) -> str:
@@ -110,8 +112,8 @@ class Stub:
             return self._memory(request[1:])
         if first in ('Z', 'z'):
             return self._breakpoint(request)
-        if first in ('G', 'P', 'M'):
-            return READ_ONLY
+        if first in ('G', 'P', 'M', 'X'):
+            return self._write(request)
         if first in ('q', 'Q'):
             return self._question(request)
         if first in ('H', 'T'):
@@ -166,6 +168,26 @@ class Stub:
         if value is None:
             return without_value(number) or 'E01'
         return word_of(value) if number < len(NAMES) else value.to_bytes(2, 'little').hex()
+
+    def _write(self, request: str) -> str:
+        """Registers or memory as gdb wants them. What was known of callers may hold no more."""
+        self._records, first = (-1, b''), request[0]
+        if first in 'MX':
+            write_memory(self._board, request)
+        elif first == 'P':
+            self._write_register(*written_register(request[1:]))
+        else:
+            for number, value in differing(request[1:], self._registers(self._board), len(NAMES)).items():
+                self._write_register(number, value)
+        return 'OK'
+
+    def _write_register(self, number: int, value: int) -> None:
+        """A register, by its number."""
+        own = list(OWN.values())[number - FIRST_OWN : number - FIRST_OWN + 1] if number >= FIRST_OWN else []
+        if number >= len(NAMES) and not own:
+            raise Sorry('the 8086 has no such register')
+        name = own[0] if own else NAMES[number]
+        write_register(self._board, self._listing, name, value, '' if own else SEGMENT_OF.get(name, ''))
 
     @staticmethod
     def _described(request: str) -> str:
@@ -248,12 +270,12 @@ class Stub:
         return found
 
     def _run(self, request: str) -> str:
-        """A run, forth or back. An address to go on from would be a change of the board."""
-        if re.fullmatch('[cs].+|[CS]..;.*', request):
-            return READ_ONLY
+        """A run, forth or back, from an address on if one is told."""
+        if found := re.fullmatch('[cs]([0-9a-f]{1,16})|[CS]..;([0-9a-f]{1,16})', request):
+            self._write_register(NAMES.index('IP'), int(found[1] or found[2], 16))
         if request == 'bs':
             self._state, before = 'running', self._watched()
-            return self._stopped(TRAP, self._changed_since(before)) if self._board.back_step() else self._stopped(TRAP, 'replaylog:begin;')
+            return self._stopped(TRAP, self._changed_since(before)) if self._board.step_back() else self._stopped(TRAP, 'replaylog:begin;')
         if request[0] in 'sS':
             return self._step()
         before = self._board.clock
@@ -315,9 +337,15 @@ class Stub:
         return self._stopped(ILLEGAL if self._state == 'jammed' and met.how == 'budget' else signal)
 
     def _stopped(self, signal: int, why: str = '') -> str:
-        """A stop, which `?` asks for again."""
+        """A stop, which `?` asks for again, behind what a way back has undone."""
+        self._tell_undone()
         self._last = f'T{signal:02x}'
         return self._last + why + 'thread:1;'
+
+    def _tell_undone(self) -> None:
+        """Tells what a way back has undone."""
+        while self._board.undone:
+            self.tell(self._board.undone.pop(0))
 
     def _monitor(self, text: str) -> str:
         """A command of the debugger, with its answer shown as it comes."""
@@ -327,7 +355,7 @@ class Stub:
             return 'E.no command of the debugger'
         words = command.split() or ['']
         if words[0] in ('', 'help') or not command.isprintable():
-            self.tell('commands: ' + ', '.join((*STOPS, *MOVES, 'clock', 'key', 'keys', 'regs', 'screen', 'dump', 'trail', 'chips')) + ' (docs/debugger.md)')
+            self.tell('commands: ' + ', '.join((*STOPS, *MOVES, 'clock', 'set', 'undo', 'key', 'keys', 'regs', 'screen', 'dump', 'trail', 'chips')) + ' (docs/debugger.md)')
         elif words[0] == 'quit':
             self.tell("gdb's own quit ends the session")
         elif words == ['exit']:
@@ -335,11 +363,16 @@ class Stub:
         elif words[0] in STOPS:
             self.tell(self._board.name(command))
         elif words[0] in MOVES:
-            self.tell(self._moved(words))
+            answer = self._moved(words)
+            self._tell_undone()
+            self.tell(answer)
         elif words == ['clock']:
             self.tell(f'clock {self._board.clock}')
         elif words[0] == 'key':
-            self.tell(self._typed(words[1:]))
+            self.tell(self._or_why(lambda: type_words(self._board, words[1:])))
+        elif words[0] in ('set', 'undo'):
+            self._state, self._may_be_within = 'running', True
+            self.tell(self._or_why(lambda: self._changed(command)))
         elif words == ['keys']:
             self.tell('\n'.join(key_lines(self._board)) or 'no keys')
         elif words[0] in RUNS:
@@ -348,11 +381,20 @@ class Stub:
             self.tell('\n'.join(line.rstrip() for line in self._board.many(command)))
         return 'OK'
 
-    def _typed(self, words: list[str]) -> str:
-        """The answer to `key`: when the codes come, or why none does. What is known of a later clock isn't known any more."""
+    def _changed(self, command: str) -> str:
+        """The answer to `set`, as the debugger takes it or with `=`, and to `undo`."""
+        if command == 'undo':
+            return self._board.undo()
+        if '=' in command:
+            return assign(self._board, self._listing, command.removeprefix('set'))
+        return self._board.set_by(command)
+
+    def _or_why(self, answer: Callable[[], str]) -> str:
+        """The answer to a command that changes what comes, or why nothing is changed. What is known of a later clock isn't known any
+        more."""
         self._records = (-1, b'')
         try:
-            return type_words(self._board, words)
+            return answer()
         except Gone:
             raise
         except Sorry as sorry:
@@ -366,11 +408,15 @@ class Stub:
         if words[0] == 'go' and len(words) == 2 and re.fullmatch('[0-9]{1,13}', words[1]):
             return self._answered(self._board.go([], self._board.clock + int(words[1])))
         if words == ['back', 'stop']:
-            here, met = self._board.clock, self._board.back([])
+            here, met = self._board.mark(), self._board.back([])
             if met.how == 'begin':
-                self._board.go_to(here)
-                return 'fault 54 BeforeStart'
+                self._board.return_to(here)
+                return BEFORE_START
             return self._answered(met)
+        if words == ['back', 'step']:
+            return f'clock {self._board.clock}' if self._board.step_back() else BEFORE_START
+        if words[0] == 'back' and len(words) == 2 and re.fullmatch('[1-9][0-9]{0,12}', words[1]) and int(words[1]) <= self._board.clock:
+            return self._gone_to([str(self._board.clock - int(words[1]))])
         return self._board.answer(' '.join(words))
 
     def _gone_to(self, words: list[str]) -> str:
