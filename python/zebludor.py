@@ -29,7 +29,7 @@ import threading
 import time
 import weakref
 from dataclasses import dataclass
-from typing import IO, TYPE_CHECKING, Any, Callable, Iterator, NamedTuple, NoReturn, Sequence, TypeVar
+from typing import IO, TYPE_CHECKING, Any, Callable, Iterable, Iterator, Mapping, NamedTuple, NoReturn, Sequence, TypeVar
 
 if TYPE_CHECKING:
     import ctypes  # else imported where the chips are loaded: what only runs programs begins sooner without it
@@ -48,6 +48,11 @@ SESSIONS = f'{TOP}/lib/libzebludor_session.so', f'{TOP}/crates/zebludor_session/
 ROWS, COLUMNS = 25, 80
 REGISTER_LINES = (('AX', 'BX', 'CX', 'DX', 'SP', 'BP', 'SI', 'DI'), ('CS', 'DS', 'ES', 'SS', 'IP', 'FL'))
 REGISTERS = REGISTER_LINES[0] + REGISTER_LINES[1]
+HALVES = {f'{name}{half}': (f'{name}X', shift) for name in 'ABCD' for half, shift in (('L', 0), ('H', 8))}
+# What stands on the stack where a routine is called: the bytes of its return address, and of FL; and the offset to which it returns.
+RETURNS, RETURNED_TO = {'near': 2, 'far': 4, 'iret': 6}, 0xFFFF
+SET_AT_ONCE = 16  # bytes of a command
+GIVEN_AT_ONCE = 200  # commands: their answers fit in the pipe
 FLAGS = {'CF': 0, 'PF': 2, 'AF': 4, 'ZF': 6, 'SF': 7, 'TF': 8, 'IF': 9, 'DF': 10, 'OF': 11}
 DEFAULTS: dict[str, Any] = {'version': 1, 'ram': 64, 'sw1': 0, 'sw2': 0, 'budget': 10_000_000, 'keys': []}
 # What version 2 of run files has besides: which chip the timer is, and which table the clocks. Of version 1 they are the first.
@@ -60,6 +65,10 @@ T = TypeVar('T')
 
 class Unfit(Exception):
     """What is asked for isn't there, or a text isn't what it is taken for; its text is a sentence."""
+
+
+class NotReturned(Exception):
+    """A routine that was called hasn't returned within its clocks."""
 
 
 class Fault(Exception):
@@ -551,10 +560,30 @@ class Dialogue:
         self.begin(command)
         return self.rest()
 
+    def some(self, commands: list[str]) -> list[str]:
+        """The answers of commands that have a single line each, given at once, as far as the pipe holds them."""
+        found = list[str]()
+        for at in range(0, len(commands), GIVEN_AT_ONCE):
+            some = commands[at : at + GIVEN_AT_ONCE]
+            self._send('\n'.join(some) + '\n')
+            found += [self.rest() for _ in some]
+        return found
+
+    def some_and(self, commands: list[str], question: str) -> tuple[list[str], list[str]]:
+        """The answers of such commands, and that of a question behind them, which has many lines."""
+        first, last = commands[:-GIVEN_AT_ONCE], commands[-GIVEN_AT_ONCE:]
+        found = self.some(first)
+        self._send('\n'.join([*last, question, 'go 0']) + '\n')
+        return found + [self.rest() for _ in last], self._lines()
+
     def many(self, command: str) -> list[str]:
         """The answer of any other command. `go 0` behind it changes nothing, and its answer marks the end: a line of the screen may
         say what it likes, but has 80 characters."""
         self._send(command + '\ngo 0\n')
+        return self._lines()
+
+    def _lines(self) -> list[str]:
+        """The lines up to the answer of `go 0`."""
         lines: list[str] = []
         while True:
             line = self._line()
@@ -809,7 +838,7 @@ class Session:
     """A session of the debugger, as a context manager: a board at clock 0 that goes forth and back. Stops are numbered from 1,
     and stay for the whole session; what goes to a stop answers the number of the one that holds, or None. Its commands are
     those of docs/debugger.md; a refused one is raised as Fault. Services are as for `run`. `source` tells where labels and lines stand. With `probe` it is
-    one of pcprobe, which has `events`, `key`, `watch` and `stop_when`. Any thread may use it: a command waits until those of
+    one of pcprobe, which has `events`, `key`, `watch` and `stop_when`, `set`, `undo` and `call`. Any thread may use it: a command waits until those of
     others are answered, and so does `close`, after which each is Unfit."""
 
     def __init__(
@@ -824,6 +853,8 @@ class Session:
     ) -> None:
         self.source, self._is_probe = Places(source, is_hex=is_hex, symbols=symbols), probe
         self._lock, self._is_closed = threading.Lock(), False
+        self._changes = list[tuple[int, list[str]]]()  # the last ones: their clocks, and what was given then, with the keys since
+        self._returns = dict[tuple[int, int], int]()  # the stops to which routines return
         with _made(source, is_hex, services, fields) as words:
             called = called_of(words)
             if called:
@@ -974,7 +1005,73 @@ class Session:
         fault = fault_in(answer)
         if fault:
             raise fault
-        return int(answer.split()[2])
+        stamp = int(answer.split()[2])
+        for _, given in self._changes[-1:]:
+            given.append(f'key {code:X} {stamp}')
+        return stamp
+
+    def set(self, place: str | int, value: int | bytes, size: int = 1) -> None:
+        """Changes the board as it stands: a register, a half of one or a flag, by its name in capitals; else what stands at a label, at
+        another place of `source`, or at a physical address: bytes, or a number of so many. All that follows is of the changed board;
+        `undo` takes it back, and no way back leads before it. Changes at one clock are one."""
+        self._of_the_probe('set')
+        if isinstance(place, str) and (place in REGISTERS or place in HALVES or place in FLAGS):
+            self._change([f'set {name} {word:X}' for name, word in with_parts(self.registers(), {place: value}).items()])
+            return
+        octets, at = value if isinstance(value, bytes) else _octets(value, size), self._address(place)
+        before = self.dump(at, len(octets)) if len(octets) > SET_AT_ONCE else b''
+        lines = _set_lines(dict(enumerate(octets, at)))
+        for number, line in enumerate(lines):
+            try:
+                self._change([line])
+            except Fault:
+                self._change(_set_lines(dict(enumerate(before[: number * SET_AT_ONCE], at))))
+                raise
+
+    def _change(self, lines: list[str]) -> None:
+        """Gives the session commands that change it. A refusal is raised once all are answered."""
+        if lines and not (self._changes and self._changes[-1][0] == self.clock):
+            self._changes = [*self._changes, (self.clock, list[str]())][-16:]
+        self._took(lines, self._asked(self._dialogue.some, lines))
+
+    def _took(self, lines: list[str], answers: list[str]) -> None:
+        """What was given at the clock of the last change, so that it can be given again; what was refused is raised."""
+        if lines:
+            self._changes[-1][1].extend(line for line, answer in zip(lines, answers) if not answer.startswith('fault'))
+            if not self._changes[-1][1]:
+                self._changes.pop()
+        for fault in filter(None, map(fault_in, answers)):
+            raise fault
+
+    def undo(self) -> None:
+        """Goes back to before the last change; the last sixteen are kept. Keys that were typed since are gone."""
+        self._of_the_probe('undo')
+        self._one('undo')
+        self._changes.pop()
+
+    def routine(self, place: str | tuple[int, int], *, returns: str = 'near', most: int = 1_000_000, with_memory: bool = False) -> Routine:
+        """A routine at a label or another place, to be called many times, each time on the board as it stands now: a context manager, at
+        whose end the session is as it was. `returns` is `near`, `far` or `iret`; a call may take so many clocks at most."""
+        self._of_the_probe('routine')
+        if returns not in RETURNS:
+            raise ValueError(f'{returns} is no way to return: {", ".join(RETURNS)}')
+        return Routine(self, self.source.place(place) if isinstance(place, str) else place, returns, most, with_memory)
+
+    def call(
+        self,
+        place: str | tuple[int, int],
+        *,
+        returns: str = 'near',
+        stack: Sequence[int] = (),
+        memory: Mapping[str | int, int | bytes] | None = None,
+        most: int = 1_000_000,
+        **registers: int,
+    ) -> Returned:
+        """Calls a routine on the board as it stands, with these registers (`ax=5`, `cl=1`, ..), words on the stack behind its return
+        address, the nearest first, and memory, by labels or physical addresses. What it came to; NotReturned, if it takes more clocks.
+        The session stands as before then."""
+        with self.routine(place, returns=returns, most=most, with_memory=True) as routine:
+            return routine(stack=stack, memory=memory, **registers)
 
     def _of_the_probe(self, name: str) -> None:
         """Refuses what `pcboard debug` hasn't."""
@@ -992,6 +1089,159 @@ class Session:
     def trail(self) -> list[Event]:
         """The last 32 instruction starts and interrupt entries, the oldest first."""
         return [event_of(it) for it in self._many('trail')]
+
+
+def _octets(value: int, size: int) -> bytes:
+    """A number's bytes as memory has them, with a sign or without."""
+    if not -(1 << 8 * size - 1) <= value < 1 << 8 * size:
+        raise ValueError(f'{value} is no number of {size} bytes')
+    return (value % (1 << 8 * size)).to_bytes(size, 'little')
+
+
+def with_parts(now: Mapping[str, int], given: Mapping[str, Any]) -> dict[str, int]:
+    """The registers that are given, by their names, or by those of halves and flags, which change what stands in theirs now."""
+    found = {name: int.from_bytes(_octets(value, 2), 'little') for name, value in given.items() if name in REGISTERS}
+    for name, value in ((name, value) for name, value in given.items() if name not in REGISTERS):
+        if name not in HALVES and name not in FLAGS:
+            raise ValueError(f'{name} is no register, half of one, or flag')
+        whole, shift = HALVES[name] if name in HALVES else ('FL', FLAGS[name])
+        part = _octets(value, 1)[0] if name in HALVES else int(bool(value))
+        most = 0xFF if name in HALVES else 1
+        found[whole] = found.get(whole, now[whole]) & ~(most << shift) | part << shift
+    return found
+
+
+def _runs(addresses: Iterable[int], most: int) -> Iterator[range]:
+    """Addresses as ranges of neighbours, each of so many at most."""
+    found: range | None = None
+    for at in sorted(addresses):
+        if found and at == found.stop and len(found) < most:
+            found = range(found.start, at + 1)
+            continue
+        if found:
+            yield found
+        found = range(at, at + 1)
+    if found:
+        yield found
+
+
+def _set_lines(octets: Mapping[int, int]) -> list[str]:
+    """The commands that set bytes by their addresses."""
+    return [f'set {run.start:X} {" ".join(f"{octets[at]:02X}" for at in run)}' for run in _runs(octets, SET_AT_ONCE)]
+
+
+class Returned(NamedTuple):
+    """What a call came to: the registers where the routine has returned, the bytes that differ from before by their addresses, those of
+    the stack too, and the clocks that it took."""
+
+    registers: dict[str, int]
+    memory: dict[int, int]
+    clocks: int
+
+
+class Routine:
+    """A routine of a session's board. Each call is one of the board as it stood when the routine was asked for, which the session is
+    again at the end. Between calls it stands where the last one has returned, and may be looked at."""
+
+    def __init__(self, session: Session, place: tuple[int, int], returns: str, most: int, with_memory: bool) -> None:
+        self._session, self._place, self._returns, self._most, self._with_memory = session, place, returns, most, with_memory
+        self._clock, self._were, self._bytes_were = session.clock, session.registers(), dict[int, int]()
+        # What stands there at its clock by now. IP is set once even if it is the same: that ends a halt.
+        self._are, self._bytes_are, self._is_changed = {**self._were, 'IP': -1}, dict[int, int](), False
+        self._kept = next((list(given) for clock, given in session._changes[-1:] if clock == self._clock), None)
+        self._left = int(session._many('chips')[-1].split()[3])  # clocks of what is under way
+        self._back_to = (place[0] if returns == 'near' else RETURNED_TO, RETURNED_TO)
+        if self._back_to not in session._returns:
+            session._returns[self._back_to] = session.stop_at('%X:%X' % self._back_to)
+
+    def __enter__(self) -> Routine:
+        return self
+
+    def __exit__(self, *_: object) -> None:
+        self.close()
+
+    def close(self) -> None:
+        """The session is as it was before."""
+        if self._is_changed and not self._session._is_closed:
+            self._is_changed = False
+            self._session.undo()
+            self._session._change(self._kept or [])
+
+    def __call__(self, *, stack: Sequence[int] = (), memory: Mapping[str | int, int | bytes] | None = None, **registers: int) -> Returned:
+        wanted = with_parts(self._were, {name.upper(): value for name, value in registers.items()})
+        frame, segment = self._frame(wanted, stack), wanted.get('SS', self._were['SS'])
+        wanted |= {'SP': (wanted.get('SP', self._were['SP']) - len(frame)) % 0x10000, 'CS': self._place[0], 'IP': self._place[1]}
+        octets = {(16 * segment + (wanted['SP'] + at) % 0x10000) % MEMORY: octet for at, octet in enumerate(frame)}
+        for place, value in (memory or {}).items():
+            octets |= enumerate(value if isinstance(value, bytes) else _octets(value, 1), self._session._address(place))
+        self._look_at(octets)
+        found, clocks = self._run(wanted, octets), self._session.clock - self._clock
+        return Returned(found, self._written(clocks) if self._with_memory else {}, clocks - self._left)
+
+    def _frame(self, wanted: dict[str, int], stack: Sequence[int]) -> bytes:
+        """What stands on the stack where the routine begins."""
+        words = (self._back_to[1], self._back_to[0], wanted.get('FL', self._were['FL']))[: RETURNS[self._returns] // 2]
+        return b''.join(_octets(word, 2) for word in (*words, *stack))
+
+    def _back(self) -> list[str]:
+        """The command that leads back to where each call begins."""
+        return [f'back {self._session.clock - self._clock}'] if self._session.clock > self._clock else []
+
+    def _look_at(self, octets: dict[int, int]) -> None:
+        """What stands at addresses that no call has set before, and whether bytes can be set there."""
+        if octets.keys() <= self._bytes_were.keys():
+            return
+        for command in self._back():
+            self._session._one(command)
+        before = dict[int, int]()
+        for run in _runs(octets.keys() - self._bytes_were.keys(), 4096):
+            before |= enumerate(self._session.dump(run.start, len(run)), run.start)
+        self._took(self._session._asked(self._session._dialogue.some, _set_lines(before)))
+        self._bytes_were |= before
+
+    def _took(self, answers: list[str]) -> None:
+        """Raises what was refused. The first `set` that wasn't has begun a change, unless it belongs to one."""
+        if not self._is_changed and any(answer == f'clock {self._clock}' for answer in answers):
+            self._is_changed, changes = True, self._session._changes
+            self._session._changes = changes if self._kept is not None else [*changes, (self._clock, list[str]())][-16:]
+        for fault in filter(None, map(fault_in, answers)):
+            raise fault
+
+    def _run(self, wanted: dict[str, int], octets: dict[int, int]) -> dict[str, int]:
+        """The registers where the routine has returned, of the board with these registers and bytes and all else as it was. Other stops
+        are passed."""
+        session, then, bytes_then = self._session, self._were | wanted, self._bytes_were | octets
+        names = [name for name, word in then.items() if self._are.get(name) != word]
+        sets = _set_lines({at: octet for at, octet in bytes_then.items() if self._bytes_are.get(at, self._bytes_were[at]) != octet})
+        sets += [f'set {name} {then[name]:X}' for name in names]
+        answers, lines = session._asked(session._dialogue.some_and, [*self._back(), *sets, f'go {self._most}'], 'regs')
+        self._took(answers)
+        self._are, self._bytes_are = then, bytes_then
+        met, end = answers[-1].split(), self._clock + self._most
+        while not (met[0] == 'stop' and (int(met[1]) == session._returns[self._back_to] or self._has_returned(lines))):
+            if session.clock >= end:
+                raise NotReturned(f"the routine hasn't returned within {self._most:,} clocks")
+            answers, lines = session._asked(session._dialogue.some_and, [f'go {end - session.clock}'], 'regs')
+            self._took(answers)
+            met = answers[-1].split()
+        return registers_of(lines)
+
+    def _has_returned(self, lines: list[str]) -> bool:
+        """Whether it has, where another stop holds, which is told first."""
+        registers = registers_of(lines)
+        return (registers['CS'], registers['IP']) == self._back_to and ' busy 0 ' in self._session._many('chips')[-1]
+
+    def _written(self, clocks: int) -> dict[int, int]:
+        """The bytes that differ from where the call began."""
+        session = self._session
+        session.back(clocks)
+        runs = list(_runs({one.place for one in session.events(clocks, 'writes')}, 4096))
+        after = [session.dump(run.start, len(run)) for run in runs]
+        session.back(clocks)
+        before = [session.dump(run.start, len(run)) for run in runs]
+        session.events(clocks, 'keys')
+        pairs = ((at, old, new) for run, olds, news in zip(runs, before, after) for at, old, new in zip(run, olds, news))
+        return {at: new for at, old, new in pairs if old != new}
 
 
 # The chips.

@@ -3,6 +3,7 @@ desk have of `set`."""
 from __future__ import annotations
 
 import re
+from dataclasses import dataclass
 from typing import Callable
 
 from toolbox.command import Sorry
@@ -15,6 +16,16 @@ from toolbox.watches import watch_size
 
 SIZES = {'BYTE': 1, 'WORD': 2}
 PLACE = re.compile(r'(?:(BYTE|WORD)\s*)?\[([^\[\]]*)\]', re.I)
+COMMA = re.compile(r",(?=(?:[^']*'[^']*')*[^']*$)")  # none of a sign's
+
+
+@dataclass(frozen=True)
+class Target:
+    """What gets a value: a register, a half of one or a flag by its name; else bytes from an address on, so many for each value."""
+
+    register: str = ''
+    address: int = 0
+    size: int = 1
 
 
 def bytes_of(number: int, size: int) -> bytes:
@@ -36,19 +47,30 @@ def set_register(board: SessionBoard, name: str, number: int) -> None:
         whole, number = 'FL', registers['FL'] & ~(1 << FLAG_BITS[upper]) | number << FLAG_BITS[upper]
     else:
         whole = upper
-    if whole not in registers:
-        raise Sorry(f'{name} is no register')
     board.set_register(whole, int.from_bytes(bytes_of(number, 2), 'little'))
 
 
-def is_register(board: SessionBoard, name: str) -> bool:
-    """Whether a name is a register's, a half's or a flag's."""
-    return name.upper() in (*board.registers(), *BYTE_REGISTERS, *FLAG_BITS)
+def set_target(board: SessionBoard, target: Target, numbers: list[int]) -> str:
+    """A register gets a number, or bytes get several; what stands there now, in words."""
+    if not target.register:
+        octets = b''.join(bytes_of(number, target.size) for number in numbers)
+        board.set_bytes(target.address, octets)
+        return f'{target.address:05X}: {octets.hex(" ").upper()}'
+    if len(numbers) > 1:
+        raise Sorry(f'{target.register} takes one value')
+    set_register(board, target.register, numbers[0])
+    return f'{target.register} = {Expression(board, Listing(), target.register).value().shown()}'
 
 
 def values_of(board: SessionBoard, listing: Listing, text: str) -> list[Value]:
     """The values of expressions between commas."""
-    return [Expression(board, listing, part).value() for part in re.split(r",(?=(?:[^']*'[^']*')*[^']*$)", text)]
+    return [Expression(board, listing, part).value() for part in COMMA.split(text)]
+
+
+def as_said(text: str) -> str:
+    """A value as it is shown, as one is said: `B000h`, or `0B0h (176) '.'`."""
+    shown = re.fullmatch(r"\s*([0-9A-F]{2,9}h)(\s.*)?", text)
+    return f'0{shown[1]}' if shown else text
 
 
 def assign(board: SessionBoard, listing: Listing, text: str, said: Callable[[str], str] = str) -> str:
@@ -58,27 +80,24 @@ def assign(board: SessionBoard, listing: Listing, text: str, said: Callable[[str
     left, _, right = (part.strip() for part in text.partition('='))
     if not left or not right:
         raise Sorry('use: AX = 5, or [PLACE] = 90h')
-    values = values_of(board, listing, right)
-    if is_register(board, left):
-        if len(values) > 1:
-            raise Sorry(f'{left} takes one value')
-        set_register(board, left, values[0].number)
-        return f'{left.upper()} = {Expression(board, listing, left).value().shown()}'
-    place, size = place_of(board, listing, left, said)
-    octets = b''.join(bytes_of(value.number, size) for value in values)
-    board.set_bytes(place, octets)
-    return f'{place:05X}: {octets.hex(" ").upper()}'
+    numbers = [value.number for value in values_of(board, listing, right)]
+    found = PLACE.fullmatch(left)
+    address = _address(listing, said(found[2].strip())) if found else None
+    if found and address is not None:
+        target = Target(address=address, size=SIZES[found[1].upper()] if found[1] else watch_size(listing, address))
+    else:
+        target = target_of(board, listing, left)
+    return set_target(board, target, numbers)
 
 
-def place_of(board: SessionBoard, listing: Listing, text: str, said: Callable[[str], str]) -> tuple[int, int]:
-    """The address that is assigned to, and of how many bytes a value is."""
-    found = PLACE.fullmatch(text)
-    if found and (place := _address(listing, said(found[2].strip()))) is not None:
-        return place, SIZES[found[1].upper()] if found[1] else watch_size(listing, place)
+def target_of(board: SessionBoard, listing: Listing, text: str) -> Target:
+    """What an expression names that can be set: a register, a half of one, a flag, or memory."""
+    if text.upper() in (*board.registers(), *BYTE_REGISTERS, *FLAG_BITS):
+        return Target(register=text.upper())
     value = Expression(board, listing, text).value()
     if value.address is None or '[' not in text:
         raise Sorry(f'{text} is no register, and no place: AX = 5, or [PLACE] = 90h')
-    return value.address, value.size
+    return Target(address=value.address, size=value.size)
 
 
 def _address(listing: Listing, text: str) -> int | None:

@@ -326,7 +326,7 @@ class SessionBoard:
         if not is_kept:
             self.begin_anew(self._stops, clock, deeds=deeds[: len(self.changes.deeds)])
         self._are_others()
-        return f'clock {clock}: {what} is undone'
+        return f'clock {clock}: undone: {what}'
 
     def _undo_on_the_way(self) -> None:
         """Undoes the change to which a way back has come."""

@@ -17,6 +17,7 @@ from toolbox.dap.sources import Sources, path_in
 from toolbox.dap.values import Disassembly, Expression, is_code
 from toolbox.dap.variables import Variables
 from toolbox.data_labels import labels_of_data
+from toolbox.edits import Target, as_said, assign, set_target, target_of, values_of
 from toolbox.effects import Far
 from toolbox.framing import Broken, Read
 from toolbox.guests import Guest
@@ -39,6 +40,9 @@ CAPABILITIES = {
     'supportsStepBack': True,
     'supportsEvaluateForHovers': True,
     'supportsReadMemoryRequest': True,
+    'supportsWriteMemoryRequest': True,
+    'supportsSetVariable': True,
+    'supportsSetExpression': True,
     'supportsDisassembleRequest': True,
     'supportsInstructionBreakpoints': True,
     'supportsFunctionBreakpoints': True,
@@ -51,7 +55,6 @@ CAPABILITIES = {
     'exceptionBreakpointFilters': [{'filter': name, 'label': label, 'default': False} for name, label in FILTERS.items()],
 }
 SHOWING = ('regs', 'screen', 'dump', 'trail', 'chips')
-READ_ONLY = "the board's answers are those of its source: registers and memory can't be written"
 BESIDE_A_RUN = (
     'pause',
     'disconnect',
@@ -75,11 +78,11 @@ def field(fields: Fields, name: str, kind: type, default: Any = None) -> Any:
     return found
 
 
-def first_lost(files: Files, begun: int, end: int) -> int | None:
-    """The first clock above one at which another key was lost, if one was up to the end."""
-    with contextlib.closing(SessionBoard(files, end)) as board:
-        board.go_to(begun)
-        return next((int(line.split()[0]) for line in board.log(end, 'keys') if line.endswith(' lost')), None)
+def first_lost(of: SessionBoard, begun: int) -> int | None:
+    """The first clock above one at which another key was lost, if one was up to where a board stands."""
+    with contextlib.closing(SessionBoard(of.files, of.clock)) as board:
+        board.stand_as(of, begun)
+        return next((int(line.split()[0]) for line in board.log(of.clock, 'keys') if line.endswith(' lost')), None)
 
 
 class Adapter:
@@ -201,6 +204,7 @@ class Adapter:
         """Tells a stop, and the screen if it is another."""
         self.tell_edited()
         here, lines = list[str](), list[str]()
+        self.tell_undone()
         try:
             here, lines = self.holding(reason), self.board().many('screen')
         except Gone as gone:
@@ -215,6 +219,11 @@ class Adapter:
         hit = [self.breakpoints[kind][stop] for kind, them in self.asked.items() for stop in here if stop in them and self.is_hit(them[stop])]
         body = {'reason': reason, 'description': text, 'text': text, 'threadId': THREAD, 'allThreadsStopped': True}
         self.event('stopped', body | ({'hitBreakpointIds': hit} if hit else {}))
+
+    def tell_undone(self) -> None:
+        """Tells what a way back has undone."""
+        while self.machine and self.machine.undone:
+            self.output(f'{self.machine.undone.pop(0)}\n', 'important')
 
     def holding(self, reason: str) -> list[str]:
         """The stops that hold where the board has stopped at one."""
@@ -492,7 +501,7 @@ class Adapter:
         kind = board.state() if self.filters else 'running'
         if kind == 'halted':
             kind = kind if board.registers()['FL'] & IF else 'halted for good'
-        if 'key lost' in self.filters and (clock := first_lost(board.files, begun, board.clock)):
+        if 'key lost' in self.filters and (clock := first_lost(board, begun)):
             board.go_to(clock)
             return 'exception', f'clock {clock}: {FILTERS["key lost"]}'
         if kind in self.filters and board.trail()[-1].clock >= begun:
@@ -630,10 +639,36 @@ class Adapter:
             raise Sorry('no board is launched')
         return {'variables': self.variables.of(which, first, count)}
 
-    def on_setVariable(self, _: Fields) -> Fields:
-        raise Sorry(READ_ONLY)
+    def on_setVariable(self, given: Fields) -> Fields:
+        which, name, board = field(given, 'variablesReference', int), field(given, 'name', str), self.board()
+        assert self.variables
+        self.give(self.variables.target(which, name), field(given, 'value', str))
+        shown = next((one for one in self.variables.of(which, 0, 0) if one['name'] == name), {'value': str(board.clock)})
+        return {key: shown[key] for key in ('value', 'type', 'variablesReference', 'memoryReference') if key in shown}
 
-    on_setExpression = on_writeMemory = on_setVariable
+    def on_setExpression(self, given: Fields) -> Fields:
+        text, board = field(given, 'expression', str).strip(), self.board()
+        self.give(target_of(board, board.listing, text), field(given, 'value', str))
+        return {'value': Expression(board, board.listing, text).value().shown()}
+
+    def give(self, target: Target, text: str) -> None:
+        """What the client shows, or one of its expressions, gets a value."""
+        board = self.board()
+        set_target(board, target, [value.number for value in values_of(board, board.listing, as_said(text))])
+        self.tell_changed()
+
+    def tell_changed(self) -> None:
+        """Tells a client that asks again then that the board is another."""
+        if self.knows.get('supportsInvalidatedEvent'):
+            self.event('invalidated', {'areas': ['all']})
+
+    def on_writeMemory(self, given: Fields) -> Fields:
+        address = self.address(field(given, 'memoryReference', str)) + field(given, 'offset', int, 0)
+        octets = base64.b64decode(field(given, 'data', str), validate=True)
+        if octets:
+            self.board().set_bytes(address, octets)
+            self.tell_changed()
+        return {'bytesWritten': len(octets)}
 
     def on_toClock(self, given: Fields) -> tuple[Fields, Callable[[], tuple[str, str]]]:
         """A request of our own: to a clock, earlier or later, past all breakpoints."""
@@ -653,6 +688,8 @@ class Adapter:
         name, *words = text.split() or ['']
         if name == 'key' and words:
             return type_words(board, words)
+        if name == 'set' and words:
+            return assign(board, board.listing, text.removeprefix('set'))
         if text == 'keys':
             return '\n'.join(key_lines(board)) or 'no keys'
         return '\n'.join(line.rstrip() for line in board.many(text)).rstrip() if name in SHOWING and '\n' not in text else None
@@ -662,7 +699,12 @@ class Adapter:
         if given.get('context') == 'repl' and (found := re.fullmatch(r'to\s+([\d,_]+)', text)):
             body, then = self.on_toClock({'clock': int(re.sub('[,_]', '', found[1]) or -1)})
             return {'result': f'to clock {found[1]}', 'variablesReference': 0}, then
+        if given.get('context') == 'repl' and text == 'undo':
+            undone = board.undo()
+            return {'result': undone, 'variablesReference': 0}, lambda: ('goto', undone)
         if given.get('context') == 'repl' and (shown := self.console(board, text)) is not None:
+            if text.startswith('set '):
+                self.tell_changed()
             return {'result': shown, 'variablesReference': 0}
         value = Expression(board, board.listing, text).value()
         at = {} if value.address is None else {'memoryReference': f'0x{value.address:05X}'}

@@ -8,6 +8,7 @@ from toolbox.command import Sorry
 from toolbox.dap.board import FLAG_BITS, Machine
 from toolbox.dap.values import Value
 from toolbox.data_labels import MOST_BYTES, SIZES, Datum
+from toolbox.edits import Target
 from toolbox.listing import physical
 
 Fields = dict[str, Any]
@@ -62,6 +63,24 @@ class Variables:
             return None
         at = physical(*datum.place) + first
         return range(at, at + length)
+
+    def target(self, number: int, name: str) -> Target:
+        """What is set by a variable of a reference: a register, or bytes."""
+        if 0 < number <= 2 and name in [one['name'] for one in self.of(number, 0, 0)]:
+            return Target(register=name)
+        if number == SCOPES.index('Stack') + 1 and (found := re.fullmatch(r'SP\+(\d{1,2})', name)):
+            registers = self._board.registers()
+            return Target(address=physical(registers['SS'], registers['SP'] + int(found[1])), size=2)
+        places, datum = self.places(number, name), self._datum(number, name)
+        if not places or not datum:
+            raise Sorry(f"{name} can't be set: a register, a flag, data and words of the stack can")
+        return Target(address=places[0], size=SIZES[datum.kind])
+
+    def _datum(self, number: int, name: str) -> Datum | None:
+        """The label of data that a variable is, or belongs to."""
+        if number == SCOPES.index('Data') + 1:
+            return next((one for one in self.data() if one.name == name), None)
+        return self.data()[number - FIRST_DATUM] if 0 <= number - FIRST_DATUM < len(self.data()) else None
 
     def _flags_of(self) -> dict[str, int]:
         flags = self._board.registers()['FL']
