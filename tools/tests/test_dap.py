@@ -394,7 +394,67 @@ class Sessions(ToolCase):
         client.ask('setFunctionBreakpoints', breakpoints=[{'name': 'tick'}, {'name': 'F600:61'}, {'name': 'nope'}])
         client.move('continue')
         self.assertEqual(client.line(), 44)
-        self.assertIn("can't be written", client.refused('setVariable', variablesReference=1, name='AX', value='1'))
+        self.assertEqual(client.leave(), 0)
+
+    def test_changes(self) -> None:
+        """Registers, halves, flags, data and its elements, the stack, memory; undone by the console, and by a step back over them."""
+        lines = (
+            '        MOV SP,400h\n        MOV AX,1234h\n        PUSH AX\n        CALL inner\n        HLT\ninner:  NOP\n        NOP\n        RET\nENDS\n'
+            "SEGMENT MINE AT 40h\nname:   DB 'HI',0\ncount:  DW 65535\nlist:   DW 1,2,3"
+        )
+        client = self.client()
+        source, run = self.program(lines)
+        client.ask('initialize', adapterID='zebludor', supportsVariableType=True, supportsMemoryReferences=True, supportsInvalidatedEvent=True)
+        client.ask('launch', program=source, run=run)
+        client.lines(source, 8)
+        client.ask('configurationDone')
+        client.event('stopped')
+        before, names = client.clock(), [frame['name'] for frame in client.ask('stackTrace', threadId=1)['stackFrames']]
+        for which, name, value, shown in (
+            (1, 'AX', '5', '0005h'),
+            (1, 'FL', 'F0D7h SF', 'F0D7h SF ZF AF PF CF'),
+            (2, 'ZF', '0', '0'),
+            (4, 'count', 'count+1', '00004h (4)'),
+            (4, 'name', "'A', 42h", "41 42 00  'AB.'"),
+            (4, 'list', '7, 8', '0007 0008 0003'),
+            (9, '[2]', '-1', '0FFFFh (65535)'),
+            (5, 'SP+2', '0ABCDh', 'ABCDh'),
+        ):
+            answer = client.ask('setVariable', variablesReference=which, name=name, value=value)
+            self.assertEqual((answer['value'], client.event('invalidated')), (shown, {'areas': ['all']}), name)
+        self.assertEqual(client.ask('setExpression', expression='BYTE SS:[SP+3]', value='1')['value'], '001h (1)')
+        self.assertEqual(client.ask('setExpression', expression='CL', value='0FFh')['value'], '0FFh (255)')
+        octets = bytes(range(40))
+        self.assertEqual(client.ask('writeMemory', memoryReference='0x500', offset=3, data=base64.b64encode(octets).decode()), {'bytesWritten': 40})
+        self.assertEqual(base64.b64decode(client.ask('readMemory', memoryReference='0x503', count=40)['data']), octets)
+        self.assertEqual(client.ask('evaluate', expression='set [count] = 5', context='repl')['result'], '00403: 05 00')
+        now = client.variables(1)
+        self.assertEqual((now['AX'], now['CX'], now['FL'], client.clock()), ('0005h', '00FFh', 'F097h SF AF PF CF', before))
+        self.assertEqual([frame['name'] for frame in client.ask('stackTrace', threadId=1)['stackFrames']], names)
+        for command, given, why in (
+            ('setVariable', {'variablesReference': 1, 'name': 'AX', 'value': '70000'}, 'no number of 16 bits'),
+            ('setVariable', {'variablesReference': 2, 'name': 'ZF', 'value': '2'}, '0 or 1'),
+            ('setVariable', {'variablesReference': 3, 'name': 'clock', 'value': '5'}, "can't be set"),
+            ('setVariable', {'variablesReference': 4, 'name': 'nope', 'value': '5'}, "can't be set"),
+            ('setVariable', {'variablesReference': 1, 'name': 'AX', 'value': ''}, '1 to 200 words'),
+            ('setExpression', {'expression': 'AX+1', 'value': '1'}, 'no register, and no place'),
+            ('writeMemory', {'memoryReference': '0xFFF8', 'data': base64.b64encode(bytes(20)).decode()}, 'no byte can be set there'),
+            ('writeMemory', {'memoryReference': '0xFFFFF', 'data': 'AAAA'}, 'up to FFFFF'),
+            ('writeMemory', {'memoryReference': '0x500', 'data': 'A'}, "isn't as the protocol has it"),
+        ):
+            self.assertIn(why, client.refused(command, **given), given)
+        client.move('stepIn')
+        client.events.clear()
+        client.move('stepBack')
+        self.assertEqual((client.clock(), client.variables(1)['AX']), (before, '0005h'))
+        client.move('stepBack')
+        self.assertIn('undone: AX 5, ', client.event('output')['output'])
+        self.assertLess(client.clock(), before)
+        here = client.clock()
+        client.ask('setVariable', variablesReference=1, name='AX', value='5')
+        self.assertEqual(client.ask('evaluate', expression='undo', context='repl')['result'], f'clock {here}: undone: AX 5')
+        self.assertEqual((client.event('stopped')['reason'], client.variables(1)['AX']), ('goto', '1234h'))
+        self.assertIn('nothing was set', client.refused('evaluate', expression='undo', context='repl'))
         self.assertEqual(client.leave(), 0)
 
     def test_data(self) -> None:

@@ -116,6 +116,38 @@ class Sessions(ToolCase):
                 with open(count, encoding='ascii') as file:
                     self.assertEqual(len(file.readlines()), wanted, commands)
 
+    def test_changes(self) -> None:
+        """They stay where the session is begun anew, and for what runs a board of its own; a way back undoes them, and says so."""
+        answers = self.dbg(
+            'ticks',
+            *('to 1000', 'AX = 1234h', 'AL = 7', '[tick] = 90h', 'ZF = 1', 'regs', 'break tick', 'to 2000000', 'clear 1', 'state', 'u tick 1', 'undo'),
+            *('to 1100', 'BX = 5', 'key a 3000', 'next', 'back 3', 'keys', 'to 1100', '[400] = 1, 2', 'last 400', 'to 1000', 'undo', 'AX = 70000', 'Q = 1'),
+            *('AX = 5 5', '[A0000] = 1', '[nope] = 1', 'undo 1', 'log writes 300'),
+        )
+        for wanted in (
+            'AX = 01234h (4660)',
+            'AX=1207 BX=FFFF CX=0000 DX=03B8 SP=FFFA BP=0000 SI=0000 DI=0000',
+            'F6058: 90',
+            'ZF = 001h (1)',
+            'set: PF AF ZF SF',
+            'F600:0058 tick         90             NOP',
+            'clock 1000: undone: AX 1234, AX 1207, F6058 90, FL F0D6',
+            'BX = 00005h (5)',
+            'clock 1100: undone: BX 5',
+            'no keys',
+            '00400: 01 02',
+            'nothing changed there before this clock',
+            'clock 1100: undone: 400 01 02',
+            'nothing was set that could be undone',
+            '70000 is no number of 16 bits',
+            'Q is no register, flag, label or number',
+            '5 is one word too many',
+            'no byte can be set there: beside RAM, text memory (B0000 to B0FFF) and ROM (F0000 to FFFFF) nothing keeps one',
+        ):
+            self.assertIn(wanted, answers)
+        self.assertRegex('\n'.join(answers), r'clock 2000000: (halted|running)')
+        self.assertIn('\n', self.called('dbg', *example('ticks'), given='help set\nhelp undo\n')[0])
+
     def test_keys_that_are_typed(self) -> None:
         """They come at their stamps, also after a way back and where the session is begun anew; a report has them; what is written
         repeats the run."""

@@ -434,12 +434,63 @@ class Served(ToolCase):
         self.assertEqual(busy.packet(), 'OK')
         self.assertRegex(busy.shown, r'^interrupted, clock [1-9]\d+\n$')
 
-    def test_nothing_is_written(self) -> None:
-        client = self.client(*example('hello'))
-        before = client.registers()
-        for request in ('G00', 'P0=00000000', 'M500,1:00'):
-            self.assertIn('nothing is written', client.ask(request))
-        self.assertEqual(client.registers(), before)
+    def test_what_is_written(self) -> None:
+        """Registers one by one and together, those that are addresses too; memory; and a place to go on from."""
+        client = self.client(*example('ticks'))
+        client.monitor('to 1000')
+        before = client.registers()[:14]
+        for request, wanted in (
+            ('P0=34120000', {'AX': 0x1234}),
+            ('P1=ffff0000', {'CX': 0xFFFF}),
+            ('P9=d7ff0000', {'FL': 0xFFD7}),
+            ('P4=00020000', {'SP': 0x200}),
+            ('P8=5f600f00', {'IP': 0x5F}),
+            ('P8=f0ff0f00', {'CS': 0xFFFF, 'IP': 0}),
+            ('P20=0700', {'IP': 7}),
+            ('P21=0800', {'SP': 8}),
+            ('P22=0900', {'BP': 9}),
+        ):
+            self.assertEqual(client.ask(request), 'OK', request)
+            self.assertLessEqual(wanted.items(), registers_of(client.monitor('regs').splitlines()).items(), request)
+        self.assertIn('undone: AX 1234, CX FFFF', client.monitor('undo'))
+        self.assertEqual(client.registers()[:14], before)
+        self.assertEqual(client.ask('G' + ''.join(value.to_bytes(4, 'little').hex() for value in [7, *before[1:9], 0xF002, *before[10:]]) + 16 * '0'), 'OK')
+        self.assertEqual(client.monitor('undo'), 'clock 1000: undone: AX 7, FL F002\n')
+        for request, address, octets in (('M400,2:4142', 0x400, '4142'), ('Xf6058,1:\x7d\x03', 0xF6058, '23'), ('X0,0:', 0x400, '4142')):
+            self.assertEqual((client.ask(request), client.ask(f'm{address:x},{len(octets) // 2}')), ('OK', octets))
+        self.assertEqual(client.ask('cf6055')[:3], 'T18')
+        self.assertEqual(client.monitor('to 999'), 'clock 1000: undone: 400 41 42, F6058 23, IP 55\nclock 999\n')
+        for request in ('P0=00000100', 'P0=00', 'P4=00000f00', 'Pe=00000000', 'P7f=00000000', 'G00', 'M500,1:', 'M500,1:zz', 'M500,2:00', 'Ma0000,1:00', 'Mfffff,2:0000', 'X', 'M'):
+            self.assertEqual(client.ask(request)[:1], 'E', request)
+        self.assertEqual(client.registers()[8], 0xF6058)
+        self.leaves(client)
+
+    def test_set_and_undo_of_monitor(self) -> None:
+        """As the debugger takes it, or with =; a way back over a change tells of it, one that leads to nothing leaves it."""
+        client = self.client(*example('ticks'))
+        client.monitor('to 1000')
+        for command, shown in (
+            ('set AX 5', 'clock 1000'),
+            ('set AL = 7', 'AL = 007h (7)'),
+            ('set [tick] = 90h', 'F6058: 90'),
+            ('go 5', 'clock 1005'),
+            ('set BX 1', 'clock 1005'),
+            ('back 6', 'clock 1005: undone: BX 1\nclock 1000: undone: AX 5, AX 7, F6058 90\nclock 999'),
+            ('set BX 1', 'clock 999'),
+            ('back step', 'clock 999: undone: BX 1\nclock 948'),
+            ('set BX 1', 'clock 948'),
+            ('byte 400 77', 'stop 1'),
+            ('back stop', 'fault 54 BeforeStart'),
+            ('undo', 'clock 948: undone: BX 1'),
+            ('undo', 'nothing was set that could be undone'),
+            ('set AX', 'the debugger refuses: fault 51 BadCommand'),
+            ('set A0000 1', 'no byte can be set there: beside RAM, text memory (B0000 to B0FFF) and ROM (F0000 to FFFFF) nothing keeps one'),
+        ):
+            self.assertEqual(client.monitor(command), f'{shown}\n', command)
+        client.monitor('set BX 1')
+        client.shown = ''
+        self.assertEqual((client.ask('bs'), client.shown), ('T05thread:1;', 'clock 948: undone: BX 1\n'))
+        self.leaves(client)
 
     def test_an_interrupt(self) -> None:
         client = self.client(self.program(BUSY)[0], self.file('long.json', LONG))
@@ -626,8 +677,20 @@ class Gdb(ToolCase):
             'reverse-continue',
             'x/2xb 0xf6058',
             'monitor regs',
+            'continue',
             'set {char}0x500 = 1',
-            'set $eax = 1',
+            'x/bx 0x500',
+            'set $ax = 5',
+            'set $bh = 6',
+            'info registers ax bx',
+            'set {char}&tick = 0x90',
+            'x/i &tick',
+            'jump *0xf6061',
+            'monitor clock',
+            'monitor to 1000',
+            'monitor set AX 7',
+            'monitor undo',
+            'set {char}0xa0000 = 1',
             'monitor go 0',
         )
         for wanted in (
@@ -639,8 +702,14 @@ class Gdb(ToolCase):
                 'No more reverse-execution history.',
                 '0xf6058 <tick>:	0x26	0xfe',
                 'CS=FFFF DS=0000 ES=0000 SS=0000 IP=0000',
-                'Writing to memory is not allowed',
-                'Writing to registers is not allowed',
+                '0x500:	0x01',
+                'ax             0x5                 5',
+                'bx             0x6ff               1791',
+                '0xf6058 <tick>:	nop',
+                'clock 1397',
+                'clock 1009: undone: 500 01, AX 5, BX 6FF, F6058 90, IP 61',
+                'undone: AX 7',
+                'Cannot access memory at address 0xa0000',
             )
             if GDB
             else ()
