@@ -13,35 +13,22 @@ pub enum Spelling {
 
 /// The number that the word spells, with the letter that tells its base, and how; `None` if it spells none of 63 bits.
 pub fn number_of(word: &[u8]) -> Option<(i64, Spelling)> {
-    match word {
-        [digits @ .., b'h' | b'H'] => hexadecimal(digits),
-        [b'0', b'x' | b'X', digits @ ..] => hexadecimal(digits),
-        [digits @ .., b'b' | b'B' | b'y' | b'Y'] => {
-            Some((number_to(2, digits)?, Spelling::Binary(count_of(digits))))
-        }
-        [digits @ .., b'o' | b'O' | b'q' | b'Q'] => Some((
-            number_to(8, digits)?,
-            Spelling::Decimal,
-        )),
-        [digits @ .., b'd' | b'D' | b't' | b'T'] => Some((
-            number_to(10, digits)?,
-            Spelling::Decimal,
-        )),
-        digits => Some((number_to(10, digits)?, Spelling::Decimal)),
-    }
-}
-
-/// The number of hexadecimal digits.
-fn hexadecimal(digits: &[u8]) -> Option<(i64, Spelling)> {
-    Some((
-        number_to(16, digits)?,
-        Spelling::Hexadecimal(count_of(digits)),
-    ))
-}
-
-/// How many digits they are, at most as many as a number has.
-fn count_of(digits: &[u8]) -> u8 {
-    digits.len().min(32) as u8
+    let (base, digits) = match word {
+        [digits @ .., b'h' | b'H'] => (16, digits),
+        [b'0', b'x' | b'X', digits @ ..] => (16, digits),
+        [digits @ .., b'b' | b'B' | b'y' | b'Y'] => (2, digits),
+        [digits @ .., b'o' | b'O' | b'q' | b'Q'] => (8, digits),
+        [digits @ .., b'd' | b'D' | b't' | b'T'] => (10, digits),
+        digits => (10, digits),
+    };
+    // a number is written with no more than 32 digits
+    let count = digits.len().min(32) as u8;
+    let spelling = match base {
+        16 => Spelling::Hexadecimal(count),
+        2 => Spelling::Binary(count),
+        _ => Spelling::Decimal,
+    };
+    Some((number_to(base, digits)?, spelling))
 }
 
 /// The number that the digits spell to this base.

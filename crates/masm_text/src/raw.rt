@@ -12,21 +12,24 @@ pub fn without_comment(line: &[u8]) -> &[u8]
 {
     let mut rest = line;
     while let [first, after @ ..] = rest {
-        match first {
-            b';' => return &line[..line.len() - rest.len()],
-            b'\'' | b'"' => rest = after_text(after, *first),
-            _ => rest = after,
+        if *first == b';' {
+            return &line[..line.len() - rest.len()];
         }
+        rest = after_character(*first, after);
     }
     line
 }
 
-/// What follows the quote that ends a text.
-fn after_text(text: &[u8], quote: u8) -> &[u8]
-    ensures { length result.now ≤ length text.now }
+/// What follows a character, or, if it is a quote, the text that it begins.
+fn after_character(first: u8, after: &[u8]) -> &[u8]
+    ensures { length result.now ≤ length after.now }
 {
-    match &text[text_length(text, quote)..] {
-        [] => &[],
+    let rest = match first {
+        b'\'' | b'"' => &after[text_length(after, first)..],
+        _ => return after,
+    };
+    match rest {
+        [] => rest,
         [_, after @ ..] => after,
     }
 }
@@ -54,17 +57,11 @@ pub fn split_argument(list: &[u8]) -> (&[u8], Option<&[u8]>)
     while let [first, after @ ..] = rest {
         match first {
             b',' if depth == 0 => return (&list[..list.len() - rest.len()], Some(after)),
-            b'\'' | b'"' => rest = after_text(after, *first),
-            b'<' | b'(' => {
-                depth = depth.saturating_add(1);
-                rest = after;
-            }
-            b'>' | b')' => {
-                depth = depth.saturating_sub(1);
-                rest = after;
-            }
-            _ => rest = after,
+            b'<' | b'(' => depth = depth.saturating_add(1),
+            b'>' | b')' => depth = depth.saturating_sub(1),
+            _ => {}
         }
+        rest = after_character(*first, after);
     }
     (list, None)
 }

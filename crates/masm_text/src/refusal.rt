@@ -6,78 +6,68 @@ ghost use Rattle.masm_text.specs.UserLines.{AreRefusals, IsFailure, IsLine};
 
 use crate::place::{Place, Text};
 use std::alloc::{AllocError, AllocFailed};
+use thiserror::Error;
 
 /// Why a line can't be translated.
-#[derive(Clone, Copy, PartialEq, Eq, PartialOrd, Ord)]
+#[derive(Clone, Copy, Debug, PartialEq, Eq, PartialOrd, Ord, Drop, Error)]
 pub enum Reason {
+    #[error("a character that no line may have outside quotes and comments")]
     BadCharacter,
+    #[error("the quote that ends the text is missing")]
     OpenText,
+    #[error("a name has at most 31 characters")]
     LongName,
+    #[error("no number: hexadecimal ends with h, binary with b, and has 63 bits at most")]
     BadNumber,
+    #[error("this is no expression")]
     BadExpression,
+    #[error("a number is needed that is known here")]
     NotConstant,
+    #[error("the number is too large")]
     Overflow,
+    #[error("a division by zero")]
     DivisionByZero,
+    #[error("two labels can't be added")]
     TwoLabels,
+    #[error("a name that nothing defines")]
     UnknownName,
+    #[error("the name is defined already")]
     DefinedTwice,
+    #[error("neither an instruction nor a directive nor a macro")]
     UnknownStatement,
+    #[error("the instruction has no such operand")]
     BadOperand,
     /// Nothing tells whether an operand in memory is a byte or a word.
+    #[error("a byte or a word? Write BYTE PTR or WORD PTR")]
     NoSize,
+    #[error("this can't be data of this size")]
     BadData,
+    #[error("too many segments: at most 14")]
     TooManySegments,
-    /// An instruction or a register of a later processor.
+    #[error("no 8086 has this instruction or register")]
     LaterProcessor,
-    /// A directive of a later assembler, or one that isn't taken.
+    /// A directive of a later assembler, or one that has no meaning here.
+    #[error("this directive isn't taken")]
     NotTaken,
-    /// Macros or included texts that call one another; nothing is read after it.
+    /// Nothing is read after it.
+    #[error("macros and included texts may stand 64 deep")]
     TooDeep,
     /// Nothing is read after it.
+    #[error("more than 1,000,000 lines come of macros")]
     TooManyLines,
+    #[error("too much comes of this line")]
     TooLong,
+    #[error("ENDM, ENDIF, ENDS or the end of COMMENT is missing")]
     NoEnd,
+    #[error("there is nothing here that it ends")]
     NothingToEnd,
 }
 
-impl Reason {
-    /// The reason in words.
-    pub fn words(self) -> &'static str {
-        match self {
-            Reason::BadCharacter => "a character that no line may have outside quotes and comments",
-            Reason::OpenText => "the quote that ends the text is missing",
-            Reason::LongName => "a name has at most 31 characters",
-            Reason::BadNumber =>
-                "no number: hexadecimal ends with h, binary with b, and has 63 bits at most",
-            Reason::BadExpression => "this is no expression",
-            Reason::NotConstant => "a number is needed that is known here",
-            Reason::Overflow => "the number is too large",
-            Reason::DivisionByZero => "a division by zero",
-            Reason::TwoLabels => "two labels can't be added",
-            Reason::UnknownName => "a name that nothing defines",
-            Reason::DefinedTwice => "the name is defined already",
-            Reason::UnknownStatement => "neither an instruction nor a directive nor a macro",
-            Reason::BadOperand => "the instruction has no such operand",
-            Reason::NoSize => "a byte or a word? Write BYTE PTR or WORD PTR",
-            Reason::BadData => "this can't be data of this size",
-            Reason::TooManySegments => "too many segments: at most 14",
-            Reason::LaterProcessor => "no 8086 has this instruction or register",
-            Reason::NotTaken => "this directive isn't taken",
-            Reason::TooDeep => "macros and included texts may stand 64 deep",
-            Reason::TooManyLines => "more than 1,000,000 lines come of macros",
-            Reason::TooLong => "too much comes of this line",
-            Reason::NoEnd => "ENDM, ENDIF, ENDS or the end of COMMENT is missing",
-            Reason::NothingToEnd => "there is nothing here that it ends",
-        }
-    }
-}
-
 /// What a line is taken for that has another effect with MASM.
-#[derive(Clone, Copy, PartialEq, Eq)]
+#[derive(Clone, Copy, Debug, PartialEq, Eq)]
 pub enum Remark {
     /// A later processor is named; an instruction that it adds is refused.
     LaterProcessor,
-    /// Nothing is aligned.
     NotAligned,
     /// A shift by a number, which no 8086 has, is made of shifts by one.
     Repeated,

@@ -39,6 +39,32 @@ pub enum Token<'a> {
     Mark(Mark),
 }
 
+impl<'a> Token<'a> {
+    /// The word that the token is.
+    pub fn word(&self) -> Option<Name> {
+        match self {
+            Token::Word(name) => Some(*name),
+            _ => None,
+        }
+    }
+
+    /// Whether the token is this word, which is given in upper case.
+    pub fn is_word(&self, word: &[u8]) -> bool {
+        match self {
+            Token::Word(name) => name.is(word),
+            _ => false,
+        }
+    }
+
+    /// Whether the token is this mark.
+    pub fn is_mark(&self, mark: Mark) -> bool {
+        match self {
+            Token::Mark(found) => *found == mark,
+            _ => false,
+        }
+    }
+}
+
 /// The tokens of a line, which has no comment.
 pub fn tokens_of<'a>(alloc: Global, line: &'a [u8]) -> Result<Vec<Token<'a>>, Stop> {
     let mut tokens = Vec::new(alloc);
