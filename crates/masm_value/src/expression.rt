@@ -82,12 +82,8 @@ pub fn value_of(light: Light, tokens: &[Token]) -> Result<Value, Stop> {
 
 /// Whether a token is `b` or `w` before a dot, which is emu8086's BYTE PTR or WORD PTR.
 fn is_shorthand(light: Light, token: Token, next: Option<&Token>) -> bool {
-    match (token, next) {
-        (Token::Word(name), Some(Token::Mark(Mark::Dot))) => {
-            (name.is(b"B") || name.is(b"W")) && light.symbols.get(name).is_none()
-        }
-        _ => false,
-    }
+    let is_letter = token.is_word(b"B") || token.is_word(b"W");
+    is_letter && !is_defined(light, token) && next.is_some_and(|next| next.is_mark(Mark::Dot))
 }
 
 /// Whether the token is a name that the source defines, though it is an operator elsewhere.
@@ -177,15 +173,12 @@ impl Reader {
             return Err(Stop::Refused(Reason::BadExpression));
         };
         let is_number = value.constant().is_some() && !light.symbols.is_loose;
-        let value = value.addressed()?;
-        self.values.push(Value {
-            kind: if is_number {
-                Kind::Number
-            } else {
-                Kind::Memory
-            },
-            ..value
-        })?;
+        let kind = if is_number {
+            Kind::Number
+        } else {
+            Kind::Memory
+        };
+        self.values.push(value.addressed()?.with_kind(kind))?;
         Ok(())
     }
 
@@ -216,15 +209,13 @@ impl Reader {
 
 /// Applies an operator to the last values, in a line that stands at `here`.
 fn apply(values: &mut Vec<Value>, here: Value, waiting: Waiting) -> Result<(), Stop> {
-    let Some(right) = values.pop() else {
-        return Err(Stop::Refused(Reason::BadExpression));
-    };
+    let right = values.pop().ok_or(Reason::BadExpression)?;
     let value = match waiting {
         Waiting::Prefix(prefix) => prefix.apply(here, right)?,
-        Waiting::Infix(infix) => match values.pop() {
-            Some(left) => infix.apply(left, right)?,
-            None => return Err(Stop::Refused(Reason::BadExpression)),
-        },
+        Waiting::Infix(infix) => {
+            let left = values.pop().ok_or(Reason::BadExpression)?;
+            infix.apply(left, right)?
+        }
         Waiting::Parenthesis | Waiting::Bracket => {
             return Err(Stop::Refused(Reason::BadExpression));
         }
@@ -253,8 +244,8 @@ fn operand(light: Light, token: Token) -> Result<Value, Stop> {
         }
         Token::Text([high, low], _) => Ok(Value::number(*high as i64 * 256 + *low as i64)),
         Token::Word(name) => match name.text() {
-            b"@B" if light.anonymous > 0 => near(anonymous_name(light.alloc, light.anonymous)?),
-            b"@F" => near(anonymous_name(light.alloc, light.anonymous.saturating_add(1))?),
+            b"@B" if light.anonymous > 0 => anonymous(light, light.anonymous),
+            b"@F" => anonymous(light, light.anonymous.saturating_add(1)),
             _ => Ok(light.symbols.value(light.known_as(name)?)?),
         },
         Token::Mark(Mark::Unknown) => Ok(Value::number(0)),
@@ -263,10 +254,7 @@ fn operand(light: Light, token: Token) -> Result<Value, Stop> {
     }
 }
 
-/// The place of a label.
-fn near(name: Name) -> Result<Value, Stop> {
-    Ok(Value {
-        plus: Some(name),
-        ..Value::of(Kind::Near)
-    })
+/// The place of the label `@@` of this number.
+fn anonymous(light: Light, number: u32) -> Result<Value, Stop> {
+    Ok(Value::label(anonymous_name(light.alloc, number)?, None))
 }

@@ -188,10 +188,7 @@ impl Infix {
                 (_, Kind::Structure) => Ok(left),
                 // a float
                 (Kind::Number, Kind::Number) => Err(Reason::BadExpression),
-                _ => Ok(Value {
-                    kind: Kind::Memory,
-                    ..left.plus(right)?
-                }),
+                _ => Ok(left.plus(right)?.with_kind(Kind::Memory)),
             },
             _ => Ok(Value::number(self.calculate(number_of(&left)?, number_of(&right)?)?)),
         }
@@ -203,8 +200,8 @@ impl Infix {
             Infix::Multiply => left.checked_mul(right).ok_or(Reason::Overflow),
             Infix::Divide => left.checked_div(right).ok_or(Reason::DivisionByZero),
             Infix::Modulo => left.checked_rem(right).ok_or(Reason::DivisionByZero),
-            Infix::ShiftLeft => Ok(shifted(bits_of(left)?, right)),
-            Infix::ShiftRight => Ok(shifted_back(bits_of(left)?, right)),
+            Infix::ShiftLeft => shifted(left, right, true),
+            Infix::ShiftRight => shifted(left, right, false),
             Infix::And => Ok(left & right),
             Infix::Or => Ok(left | right),
             Infix::Xor => Ok(left ^ right),
@@ -226,28 +223,17 @@ fn truth(holds: bool) -> i64 {
     if holds { -1 } else { 0 }
 }
 
-/// The 32 bits of a number, with a sign or without.
-fn bits_of(number: i64) -> Result<i64, Reason> {
-    match number {
-        -0x8000_0000..=0xFFFF_FFFF => Ok(number & 0xFFFF_FFFF),
-        _ => Err(Reason::Overflow),
+/// The 32 bits of a number, with a sign or without, shifted to the left or to the right.
+fn shifted(number: i64, by: i64, is_left: bool) -> Result<i64, Reason> {
+    let bits = match number {
+        -0x8000_0000..=0xFFFF_FFFF => number & 0xFFFF_FFFF,
+        _ => return Err(Reason::Overflow),
+    };
+    match by {
+        0..=31 if is_left => Ok((bits << by as u32) & 0xFFFF_FFFF),
+        0..=31 => Ok(bits >> by as u32),
+        _ => Ok(0),
     }
-}
-
-/// 32 bits, shifted to the left.
-fn shifted(bits: i64, by: i64) -> i64 {
-    if by < 0 || by > 31 {
-        return 0;
-    }
-    ((bits & 0xFFFF_FFFF) << by as u32) & 0xFFFF_FFFF
-}
-
-/// 32 bits, shifted to the right.
-fn shifted_back(bits: i64, by: i64) -> i64 {
-    if by < 0 || by > 31 {
-        return 0;
-    }
-    (bits & 0xFFFF_FFFF) >> by as u32
 }
 
 /// The number that a value is.
@@ -273,7 +259,7 @@ fn width_of(value: &Value) -> i64 {
 fn offset_of(value: Value) -> Result<Value, Reason> {
     match value.kind {
         Kind::Register(_) | Kind::Type(_) => Err(Reason::BadExpression),
-        _ if value.base.is_some() || value.index.is_some() => Err(Reason::BadExpression),
+        _ if value.is_addressed() => Err(Reason::BadExpression),
         _ => Ok(Value {
             kind: Kind::Number,
             width: None,
@@ -309,14 +295,8 @@ fn size_of(value: &Value, count: u32) -> Result<Value, Reason> {
 /// The value with a type.
 fn typed(left: Value, right: Value) -> Result<Value, Reason> {
     match (left.kind, right.kind) {
-        (Kind::Type(Type::Near), _) => Ok(Value {
-            kind: Kind::Near,
-            ..right
-        }),
-        (Kind::Type(Type::Far), _) => Ok(Value {
-            kind: Kind::Far,
-            ..right
-        }),
+        (Kind::Type(Type::Near), _) => Ok(right.with_kind(Kind::Near)),
+        (Kind::Type(Type::Far), _) => Ok(right.with_kind(Kind::Far)),
         (Kind::Type(Type::Data(width)), Kind::Near | Kind::Far) => Ok(Value {
             kind: Kind::Memory,
             width: Some(width),

@@ -18,8 +18,8 @@ pub enum Symbol {
     Segment(usize),
     /// The number of a structure.
     Structure(usize),
-    /// A constant, and whether it may get another value.
-    Value(Value, bool),
+    /// The number of a constant's value, and whether it may get another.
+    Constant(usize, bool),
 }
 
 /// A name of data.
@@ -60,22 +60,10 @@ pub struct Segment {
     pub leader: usize,
 }
 
-/// What a name stands for, as the table has it.
-#[derive(Clone, Copy)]
-enum Entry {
-    Near(Option<Location>),
-    Far,
-    Variable(Variable),
-    Segment(usize),
-    Structure(usize),
-    /// The number of a constant's value, and whether it may get another.
-    Value(usize, bool),
-}
-
 /// The names of a source.
 #[derive(Drop)]
 pub struct Symbols {
-    entries: BTreeMap<Key, Entry>,
+    entries: BTreeMap<Key, Symbol>,
     values: Vec<Value>,
     /// The segments in the order in which they are opened first.
     pub segments: Vec<Segment>,
@@ -107,56 +95,59 @@ impl Symbols {
 
     /// What the name stands for.
     pub fn get(&self, name: Name) -> Option<Symbol> {
-        let symbol = match self.entries.get(&name.key()).copied()? {
-            Entry::Near(at) => Symbol::Near(at),
-            Entry::Far => Symbol::Far,
-            Entry::Variable(variable) => Symbol::Variable(variable),
-            Entry::Segment(number) => Symbol::Segment(number),
-            Entry::Structure(number) => Symbol::Structure(number),
-            Entry::Value(number, is_again) => {
-                Symbol::Value(self.values.get(number).copied()?, is_again)
-            }
-        };
-        Some(symbol)
+        self.entries.get(&name.key()).copied()
     }
 
     /// Gives a name its meaning, whatever it had.
     pub fn set(&mut self, name: Name, symbol: Symbol) -> Result<(), Stop> {
-        let entry = match symbol {
-            Symbol::Near(at) => Entry::Near(at),
-            Symbol::Far => Entry::Far,
-            Symbol::Variable(variable) => Entry::Variable(variable),
-            Symbol::Segment(number) => Entry::Segment(number),
-            Symbol::Structure(number) => Entry::Structure(number),
-            Symbol::Value(value, is_again) => Entry::Value(self.keep(name, value)?, is_again),
-        };
-        self.entries.insert(name.key(), entry)?;
+        self.entries.insert(name.key(), symbol)?;
         Ok(())
     }
 
-    /// Keeps the value of a constant in place of the one that it had, and gives its number.
-    fn keep(&mut self, name: Name, value: Value) -> Result<usize, Stop> {
-        if let Some(Entry::Value(number, _)) = self.entries.get(&name.key()).copied()
-            && let Some(old) = self.values.get_mut(number)
-        {
-            *old = value;
-            return Ok(number);
+    /// Gives a name its meaning; fails if it has one.
+    pub fn define(&mut self, name: Name, symbol: Symbol) -> Result<(), Stop> {
+        if self.get(name).is_some() {
+            return Err(Stop::Refused(Reason::DefinedTwice));
         }
-        let number = self.values.len();
-        self.values.push(value)?;
-        Ok(number)
+        self.set(name, symbol)
     }
 
-    /// Gives a name its meaning; fails if it has one that may not change.
-    pub fn define(&mut self, name: Name, symbol: Symbol) -> Result<(), Stop> {
-        match (self.get(name), symbol) {
-            (None, _) | (Some(Symbol::Value(_, true)), Symbol::Value(_, true)) => {
-                self.set(name, symbol)
-            }
-            (Some(Symbol::Value(old, _)), Symbol::Value(new, _))
-                if old.constant().is_some() && old.constant() == new.constant() => { Ok(()) }
-            _ => Err(Stop::Refused(Reason::DefinedTwice)),
+    /// Gives a constant its value, in place of the one that it had.
+    pub fn set_constant(&mut self, name: Name, value: Value, is_again: bool) -> Result<(), Stop> {
+        let number = match self.get(name) {
+            Some(Symbol::Constant(number, _)) => number,
+            _ => self.values.len(),
+        };
+        match self.values.get_mut(number) {
+            Some(old) => *old = value,
+            None => self.values.push(value)?,
         }
+        self.set(name, Symbol::Constant(number, is_again))
+    }
+
+    /// Gives a constant its value; fails if the name has another meaning that may not change.
+    pub fn define_constant(
+        &mut self,
+        name: Name,
+        value: Value,
+        is_again: bool,
+    ) -> Result<(), Stop> {
+        let old = match (self.get(name), is_again) {
+            (None, _) | (Some(Symbol::Constant(_, true)), true) => {
+                return self.set_constant(name, value, is_again);
+            }
+            (Some(Symbol::Constant(number, _)), _) => self.constant(number),
+            _ => None,
+        };
+        if old.is_none() || old != value.constant() {
+            return Err(Stop::Refused(Reason::DefinedTwice));
+        }
+        Ok(())
+    }
+
+    /// The number that the constant of this number stands for, if it is one.
+    fn constant(&self, number: usize) -> Option<i64> {
+        self.values.get(number).and_then(|value| value.constant())
     }
 
     /// The number of the segment of this name, which is opened first here if it isn't known.
@@ -193,26 +184,23 @@ impl Symbols {
 
     /// The number of the first segment of the group in which this one stands.
     pub fn leader(&self, number: usize) -> usize {
-        match self.segments.get(number) {
-            Some(segment) => segment.leader,
-            None => number,
-        }
+        self.segments
+            .get(number)
+            .map_or(number, |segment| segment.leader)
     }
 
     /// Whether AT gives the segment a paragraph, so that nothing is placed there.
     pub fn is_elsewhere(&self, number: usize) -> bool {
-        match self.segments.get(number) {
-            Some(segment) => segment.paragraph.is_some(),
-            None => false,
-        }
+        self.segments
+            .get(number)
+            .is_some_and(|segment| segment.paragraph.is_some())
     }
 
     /// How many bytes a structure has.
     pub fn size_of(&self, number: usize) -> u32 {
-        match self.structures.get(number) {
-            Some(structure) => structure.size,
-            None => 0,
-        }
+        self.structures
+            .get(number)
+            .map_or(0, |structure| structure.size)
     }
 
     /// Begins a structure of this name, and gives its number.
@@ -243,55 +231,44 @@ impl Symbols {
     }
 
     /// The number of the structure that this names.
-    pub fn structure(&self, name: Name) -> Option<usize> {
+    pub fn structure(&self, name: Name) -> Result<usize, Reason> {
         match self.get(name) {
-            Some(Symbol::Structure(number)) => Some(number),
-            _ => None,
+            Some(Symbol::Structure(number)) => Ok(number),
+            _ => Err(Reason::UnknownStatement),
         }
     }
 
     /// The paragraph of a segment.
     pub fn paragraph(&self, number: usize) -> i64 {
-        match self.segments.get(self.leader(number)) {
-            Some(
-                Segment {
-                    paragraph: Some(paragraph),
-                    ..
-                },
-            ) => *paragraph as i64,
-            Some(segment) if !self.is_tiny && segment.leader < SEGMENT_LIMIT => {
+        let Some(segment) = self.segments.get(self.leader(number)) else {
+            return 0x100;
+        };
+        match segment.paragraph {
+            Some(paragraph) => paragraph as i64,
+            None if !self.is_tiny && segment.leader < SEGMENT_LIMIT => {
                 0x1000 * (segment.leader as i64 + 1)
             }
-            _ => 0x100,
+            None => 0x100,
         }
     }
 
-    /// The number of the segment of this name, or else of the first one.
-    pub fn named_segment(&self, word: &[u8]) -> usize {
-        let name = Name::of(word);
-        match name.and_then(|name| self.get(name)) {
-            Some(Symbol::Segment(number)) => number,
-            _ => 0,
-        }
-    }
-
-    /// The number of the segment of data that .DATA opens, if there is one.
-    pub fn data_segment(&self) -> Option<usize> {
-        match self.get(Name::of(b"_DATA")?) {
+    /// The number of the segment of this name.
+    pub fn named_segment(&self, word: &[u8]) -> Option<usize> {
+        match self.get(Name::of(word)?) {
             Some(Symbol::Segment(number)) => Some(number),
             _ => None,
         }
     }
 
-    /// The paragraph of a segment as a value.
-    fn paragraph_value(&self, number: usize) -> Value {
-        Value::spelled(self.paragraph(number), Spelling::Hexadecimal(4))
+    /// The paragraph of the segment of this name, or else of the first one.
+    pub fn named_paragraph(&self, word: &[u8]) -> i64 {
+        self.paragraph(self.named_segment(word).unwrap_or(0))
     }
 
     /// The value of a word in an expression.
     pub fn value(&self, name: Name) -> Result<Value, Reason> {
         if let Some(symbol) = self.get(name) {
-            return Ok(self.value_of(name, symbol));
+            return self.value_of(name, symbol);
         }
         if let Some(Meaning::Register(register)) = meaning_of(name.text()) {
             return Ok(Value::of(Kind::Register(register)));
@@ -300,8 +277,8 @@ impl Symbols {
             return Ok(Value::of(Kind::Type(class)));
         }
         match name.text() {
-            b"@DATA" | b"DGROUP" => Ok(self.paragraph_value(self.named_segment(b"_DATA"))),
-            b"@CODE" => Ok(self.paragraph_value(self.named_segment(b"_TEXT"))),
+            b"@DATA" | b"DGROUP" => Ok(paragraph_value(self.named_paragraph(b"_DATA"))),
+            b"@CODE" => Ok(paragraph_value(self.named_paragraph(b"_TEXT"))),
             b"EAX" | b"EBX" | b"ECX" | b"EDX" | b"ESI" | b"EDI" | b"EBP" | b"ESP" | b"FS" | b"GS" =>
                 { Err(Reason::LaterProcessor) }
             _ => Err(Reason::UnknownName),
@@ -309,34 +286,34 @@ impl Symbols {
     }
 
     /// The value of a name that stands for this.
-    fn value_of(&self, name: Name, symbol: Symbol) -> Value {
-        let place = Value {
-            plus: Some(name),
-            ..Value::of(Kind::Near)
-        };
-        match symbol {
-            Symbol::Near(at) => Value { at, ..place },
-            Symbol::Far => Value {
-                kind: Kind::Far,
-                ..place
-            },
+    fn value_of(&self, name: Name, symbol: Symbol) -> Result<Value, Reason> {
+        let value = match symbol {
+            Symbol::Near(at) => Value::label(name, at),
+            Symbol::Far => Value::label(name, None).with_kind(Kind::Far),
             Symbol::Variable(variable) => Value {
                 kind: Kind::Memory,
                 width: variable.width,
                 size: variable.size,
                 count: variable.count,
                 segment: Some(variable.segment),
-                at: variable.at,
-                ..place
+                ..Value::label(name, variable.at)
             },
-            Symbol::Segment(number) => self.paragraph_value(number),
+            Symbol::Segment(number) => paragraph_value(self.paragraph(number)),
             Symbol::Structure(number) => Value {
                 number: self.size_of(number) as i64,
                 ..Value::of(Kind::Structure)
             },
-            Symbol::Value(value, _) => value,
-        }
+            Symbol::Constant(number, _) => {
+                self.values.get(number).copied().ok_or(Reason::UnknownName)?
+            }
+        };
+        Ok(value)
     }
+}
+
+/// A paragraph as a value.
+fn paragraph_value(paragraph: i64) -> Value {
+    Value::spelled(paragraph, Spelling::Hexadecimal(4))
 }
 
 /// Whether the register is that of a segment.

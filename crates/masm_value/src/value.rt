@@ -159,6 +159,20 @@ impl Value {
         }
     }
 
+    /// The place of a label.
+    pub fn label(name: Name, at: Option<Location>) -> Value {
+        Value {
+            plus: Some(name),
+            at,
+            ..Value::of(Kind::Near)
+        }
+    }
+
+    /// The value as one of another kind.
+    pub fn with_kind(self, kind: Kind) -> Value {
+        Value { kind, ..self }
+    }
+
     /// The number that it is without labels and registers.
     pub fn constant(&self) -> Option<i64> {
         match (self.kind, self.plus, self.minus) {
@@ -183,18 +197,17 @@ impl Value {
         let Kind::Register(register) = self.kind else {
             return Ok(self);
         };
-        let memory = Value::of(Kind::Memory);
+        let mut memory = Value::of(Kind::Memory);
         match register {
-            Register::Word(base @ (WordRegister::Bx | WordRegister::Bp)) => Ok(Value {
-                base: Some(base),
-                ..memory
-            }),
-            Register::Word(index @ (WordRegister::Si | WordRegister::Di)) => Ok(Value {
-                index: Some(index),
-                ..memory
-            }),
-            _ => Err(Reason::BadOperand),
+            Register::Word(base @ (WordRegister::Bx | WordRegister::Bp)) => {
+                memory.base = Some(base);
+            }
+            Register::Word(index @ (WordRegister::Si | WordRegister::Di)) => {
+                memory.index = Some(index);
+            }
+            _ => return Err(Reason::BadOperand),
         }
+        Ok(memory)
     }
 
     /// The sum of both.
@@ -206,11 +219,11 @@ impl Value {
             kind: kind_of_sum(left.kind, right.kind)?,
             number: number.ok_or(Reason::Overflow)?,
             spelling: one_spelling(left.spelling, right.spelling),
-            plus: one_of(left.plus, right.plus)?,
+            plus: one_of(left.plus, right.plus, Reason::TwoLabels)?,
             at: left.at.or(right.at),
-            minus: one_of(left.minus, right.minus)?,
-            base: one_register(left.base, right.base)?,
-            index: one_register(left.index, right.index)?,
+            minus: one_of(left.minus, right.minus, Reason::TwoLabels)?,
+            base: one_of(left.base, right.base, Reason::BadOperand)?,
+            index: one_of(left.index, right.index, Reason::BadOperand)?,
             over: left.over.or(right.over),
             width: left.width.or(right.width),
             size: left.size.max(right.size),
@@ -227,9 +240,8 @@ impl Value {
 
     /// The difference of both; a number if both are places whose distance is known.
     pub fn minus(self, other: Value) -> Result<Value, Reason> {
-        match other.kind {
-            Kind::Register(_) | Kind::Type(_) => return Err(Reason::BadExpression),
-            _ => {}
+        if matches!(other.kind, Kind::Register(_) | Kind::Type(_)) {
+            return Err(Reason::BadExpression);
         }
         if let (Some(distance), None) = (distance(&self, &other), other.minus) {
             let number = self
@@ -257,6 +269,11 @@ impl Value {
         Ok(difference)
     }
 
+    /// Whether a register addresses it.
+    pub fn is_addressed(&self) -> bool {
+        self.base.is_some() || self.index.is_some()
+    }
+
     /// Whether it is a place in a segment.
     fn is_place(&self) -> bool {
         matches!(self.kind, Kind::Near | Kind::Far | Kind::Memory)
@@ -265,7 +282,7 @@ impl Value {
 
 /// How many bytes the label of one value stands after that of another, if that is known.
 fn distance(left: &Value, right: &Value) -> Option<i64> {
-    let is_plain = left.base.is_none() && left.index.is_none() && left.minus.is_none();
+    let is_plain = !left.is_addressed() && left.minus.is_none();
     match (left.at, right.at) {
         (Some(left), Some(right)) if is_plain && left.run == right.run => {
             Some(left.offset as i64 - right.offset as i64)
@@ -278,29 +295,15 @@ fn distance(left: &Value, right: &Value) -> Option<i64> {
 fn one_spelling(left: Option<Spelling>, right: Option<Spelling>) -> Option<Spelling> {
     match (left, right) {
         (Some(_), Some(_)) => None,
-        (None, right) => right,
-        (left, None) => left,
+        _ => left.or(right),
     }
 }
 
-/// The one of both that is there; fails if both are.
-fn one_of(left: Option<Name>, right: Option<Name>) -> Result<Option<Name>, Reason> {
+/// The one of both that is there; refused for a reason if both are.
+fn one_of<T: Copy>(left: Option<T>, right: Option<T>, both: Reason) -> Result<Option<T>, Reason> {
     match (left, right) {
-        (Some(_), Some(_)) => Err(Reason::TwoLabels),
-        (None, right) => Ok(right),
-        (left, None) => Ok(left),
-    }
-}
-
-/// The one of both that is there; fails if both are.
-fn one_register(
-    left: Option<WordRegister>,
-    right: Option<WordRegister>,
-) -> Result<Option<WordRegister>, Reason> {
-    match (left, right) {
-        (Some(_), Some(_)) => Err(Reason::BadOperand),
-        (None, right) => Ok(right),
-        (left, None) => Ok(left),
+        (Some(_), Some(_)) => Err(both),
+        _ => Ok(left.or(right)),
     }
 }
 
