@@ -114,11 +114,19 @@ fn items_of(light: Light, form: Form, tokens: &[Token], depth: u8) -> Result<Ite
 }
 
 /// The count before DUP.
-pub fn dup_count(light: Light, tokens: &[Token]) -> Result<u32, Stop> {
+fn dup_count(light: Light, tokens: &[Token]) -> Result<u32, Stop> {
     let value = value_of(light, tokens)?;
     match value.constant().ok_or(Reason::NotConstant)? {
         count @ 1..=65535 => Ok(count as u32),
         _ => Err(Stop::Refused(Reason::BadData)),
+    }
+}
+
+/// How many instances of a structure the tokens before DUP say, one if there are none.
+pub fn instance_count(light: Light, tokens: &[Token]) -> Result<u32, Stop> {
+    match tokens {
+        [] => Ok(1),
+        _ => dup_count(light, tokens),
     }
 }
 
@@ -159,10 +167,9 @@ fn write_item(light: Light, items: &mut Items, form: Form, item: &[Token]) -> Re
     let value = value_of(light, item)?.narrowed(Some(form.width));
     match value.kind {
         Kind::Register(_) | Kind::Type(_) => Err(Stop::Refused(Reason::BadData)),
-        _ if value.base.is_some() || value.index.is_some() => {
+        _ if value.is_addressed() || !fits(form.width, value.constant()) => {
             Err(Stop::Refused(Reason::BadData))
         }
-        _ if !fits(form.width, value.constant()) => Err(Stop::Refused(Reason::BadData)),
         _ if form.words > 0 => write_words(&mut items.text, form, &value),
         _ => write_terms(&mut items.text, &value, false),
     }
@@ -181,26 +188,9 @@ fn fits(width: Width, number: Option<i64>) -> bool {
 /// Writes an item as words: a place as its offset and its segment, a number from its lowest word on.
 fn write_words(out: &mut Vec<u8>, form: Form, value: &Value) -> Result<(), Stop> {
     if let Some(number) = value.constant() {
-        if form.width == Width::Ten && number != 0 {
-            // MASM has ten bytes as decimal digits, or as a float
-            return Err(Stop::Refused(Reason::BadData));
-        }
-        for place in 0..form.words {
-            if place > 0 {
-                out.push(b',')?;
-            }
-            let word = if place < 4 {
-                number >> (16 * place as u32) & 0xFFFF
-            } else {
-                0
-            };
-            write_number(out, word)?;
-        }
-        return Ok(());
+        return write_number_words(out, form, number);
     }
-    let Some(name) = value.plus else {
-        return Err(Stop::Refused(Reason::BadData));
-    };
+    let name = value.plus.ok_or(Reason::BadData)?;
     if form.width != Width::Double {
         return Err(Stop::Refused(Reason::BadData));
     }
@@ -210,6 +200,27 @@ fn write_words(out: &mut Vec<u8>, form: Form, value: &Value) -> Result<(), Stop>
     }
     out.extend_from_slice(b",SEG ")?;
     write_name(out, name)
+}
+
+/// Writes a number as words, from its lowest one on.
+fn write_number_words(out: &mut Vec<u8>, form: Form, number: i64) -> Result<(), Stop> {
+    if form.width == Width::Ten && number != 0 {
+        // MASM has ten bytes as decimal digits, or as a float
+        return Err(Stop::Refused(Reason::BadData));
+    }
+    for place in 0..form.words {
+        if place > 0 {
+            out.push(b',')?;
+        }
+        // the fifth word is that of ten bytes, which are zero
+        let word = if place < 4 {
+            number >> (16 * place as u32) & 0xFFFF
+        } else {
+            0
+        };
+        write_number(out, word)?;
+    }
+    Ok(())
 }
 
 /// Writes the characters of a text, and says how many they are: those that the dialect takes between quotes, the others

@@ -1,6 +1,6 @@
 //! Instructions.
 use crate::output::{write_brackets, write_terms};
-use crate::statement::{is_among, is_mark, split_item, word_of};
+use crate::statement::{is_among, split_item};
 use dialect::meaning::{Meaning, meaning_of};
 use dialect::mnemonic::Mnemonic;
 use dialect::register::Register;
@@ -31,11 +31,47 @@ pub struct Around {
     pub assumed: Assumed,
 }
 
+/// What an instruction is written by.
+#[derive(Clone, Copy)]
+struct Setting<'s> {
+    light: Light<'s>,
+    around: Around,
+    mnemonic: Mnemonic,
+}
+
 /// An instruction's operands.
 #[derive(Clone, Copy)]
 struct Operands {
     left: Option<Value>,
     right: Option<Value>,
+}
+
+impl<'s> Setting<'s> {
+    /// The transfer that the mnemonic stands for, if it is one.
+    fn transfer(&self) -> Option<Transfer> {
+        match self.mnemonic {
+            Mnemonic::Plain(Operation::Transfer(transfer)) => Some(transfer),
+            _ => None,
+        }
+    }
+
+    /// Whether the mnemonic is JMP or CALL.
+    fn is_jump(&self) -> bool {
+        matches!(self.mnemonic, Mnemonic::Jmp | Mnemonic::Call)
+    }
+
+    /// Whether the mnemonic is a shift or a rotation.
+    fn is_shift(&self) -> bool {
+        matches!(self.mnemonic, Mnemonic::Plain(Operation::Shift(_)))
+    }
+
+    /// How many times a shift is to be made: as often as a number says, which an 8086 doesn't take.
+    fn times(&self, right: Option<Value>) -> u8 {
+        match right.and_then(|value| value.constant()) {
+            Some(times @ 1..=31) if self.is_shift() => times as u8,
+            _ => 1,
+        }
+    }
 }
 
 /// The prefixes before a mnemonic, the mnemonic and what follows it.
@@ -61,16 +97,23 @@ pub fn instruction_lines(
     let Some(Meaning::Mnemonic(mnemonic)) = meaning_of(word.text()) else {
         return other_lines(light, front, word, rest);
     };
+    let setting = Setting {
+        light,
+        around,
+        mnemonic,
+    };
     let operands = operands_of(light, without_colon(rest))?;
-    refuse_later(mnemonic, operands)?;
-    if is_translation(mnemonic) {
+    if is_later(mnemonic, operands) {
+        return Err(Stop::Refused(Reason::LaterProcessor));
+    }
+    if matches!(setting.transfer(), Some(Transfer::Xlat)) {
         write_override(&mut front, operands.left)?;
     }
-    front.extend_from_slice(mnemonic_text(mnemonic, word, around)?.spelling())?;
+    front.extend_from_slice(mnemonic_text(setting, &word))?;
     let mut lines = Vec::new(light.alloc);
-    for _ in 0..times_of(mnemonic, &operands.right) {
+    for _ in 0..setting.times(operands.right) {
         let mut line = Vec::from_slice(light.alloc, front.as_slice())?;
-        write_operands(&mut line, light, around, mnemonic, operands)?;
+        write_operands(&mut line, setting, operands)?;
         lines.push(line)?;
     }
     Ok(lines)
@@ -87,7 +130,7 @@ fn after_prefixes<'t, 'a>(
     let mut rest = rest;
     while let [second, after @ ..] = rest {
         if is_prefix(word) {
-            let Some(next) = word_of(Some(second)) else {
+            let Some(next) = second.word() else {
                 break;
             };
             front.extend_from_slice(word.spelling())?;
@@ -95,8 +138,8 @@ fn after_prefixes<'t, 'a>(
             word = next;
             rest = after;
         } else if let [third, later @ ..] = after
-            && let Some(next) = word_of(Some(third))
-            && is_mark(Some(second), Mark::Colon)
+            && let Some(next) = third.word()
+            && second.is_mark(Mark::Colon)
         {
             front.extend_from_slice(word.spelling())?;
             front.extend_from_slice(b": ")?;
@@ -109,45 +152,35 @@ fn after_prefixes<'t, 'a>(
     Ok(Split { front, word, rest })
 }
 
-/// Refuses forms that later processors added.
-fn refuse_later(mnemonic: Mnemonic, operands: Operands) -> Result<(), Stop> {
-    let is_number = match operands.left {
-        Some(left) => matches!(left.kind, Kind::Number),
-        None => false,
-    };
+/// Whether the instruction has a form that later processors added.
+fn is_later(mnemonic: Mnemonic, operands: Operands) -> bool {
     match mnemonic {
-        Mnemonic::Plain(Operation::Product(Product::Imul)) if operands.right.is_some() => {
-            Err(Stop::Refused(Reason::LaterProcessor))
+        Mnemonic::Plain(Operation::Product(Product::Imul)) => operands.right.is_some(),
+        Mnemonic::Plain(Operation::Transfer(Transfer::Push)) => {
+            operands
+                .left
+                .is_some_and(|left| matches!(left.kind, Kind::Number))
         }
-        Mnemonic::Plain(Operation::Transfer(Transfer::Push)) if is_number => {
-            Err(Stop::Refused(Reason::LaterProcessor))
-        }
-        _ => Ok(()),
+        _ => false,
     }
 }
 
 /// Writes an instruction's operands; of a shift that is made again and again the count is one.
-fn write_operands(
-    out: &mut Vec<u8>,
-    light: Light,
-    around: Around,
-    mnemonic: Mnemonic,
-    operands: Operands,
-) -> Result<(), Stop> {
+fn write_operands(out: &mut Vec<u8>, setting: Setting, operands: Operands) -> Result<(), Stop> {
     let Operands { left, right } = operands;
-    if is_translation(mnemonic) {
+    if matches!(setting.transfer(), Some(Transfer::Xlat)) {
         return Ok(());
     }
     if let Some(value) = left {
         out.push(b' ')?;
-        write_operand(out, light, around, mnemonic, value, right)?;
+        write_operand(out, setting, value, right)?;
     }
     if let Some(value) = right {
         out.push(b',')?;
-        if times_of(mnemonic, &right) > 1 {
+        if setting.times(right) > 1 {
             out.push(b'1')?;
         } else {
-            write_operand(out, light, around, mnemonic, value, left)?;
+            write_operand(out, setting, value, left)?;
         }
     }
     Ok(())
@@ -156,7 +189,7 @@ fn write_operands(
 /// The tokens without a colon at their end, which emu8086 takes after a target.
 fn without_colon<'t, 'a>(tokens: &'t [Token<'a>]) -> &'t [Token<'a>] {
     match tokens {
-        [front @ .., last] if is_mark(Some(last), Mark::Colon) => front,
+        [front @ .., last] if last.is_mark(Mark::Colon) => front,
         _ => tokens,
     }
 }
@@ -166,63 +199,32 @@ fn is_prefix(word: Name) -> bool {
     matches!(meaning_of(word.text()), Some(Meaning::Prefix(_)))
 }
 
-/// Whether the mnemonic is XLAT.
-fn is_translation(mnemonic: Mnemonic) -> bool {
-    matches!(
-        mnemonic,
-        Mnemonic::Plain(Operation::Transfer(Transfer::Xlat))
-    )
-}
-
-/// Whether the mnemonic is LEA.
-fn is_address(mnemonic: Mnemonic) -> bool {
-    matches!(
-        mnemonic,
-        Mnemonic::Plain(Operation::Transfer(Transfer::Lea))
-    )
-}
-
 /// The values of at most two operands.
 fn operands_of(light: Light, tokens: &[Token]) -> Result<Operands, Stop> {
+    let mut operands = Operands {
+        left: None,
+        right: None,
+    };
     if tokens.is_empty() {
-        return Ok(Operands {
-            left: None,
-            right: None,
-        });
+        return Ok(operands);
     }
     let (left, rest) = split_item(tokens);
-    let left = Some(value_of(light, left)?);
-    let Some(rest) = rest else {
-        return Ok(Operands { left, right: None });
-    };
-    match split_item(rest) {
-        (right, None) => Ok(Operands {
-            left,
-            right: Some(value_of(light, right)?),
-        }),
+    operands.left = Some(value_of(light, left)?);
+    if let Some(rest) = rest {
         // IMUL of a later processor has three operands
-        _ => Err(Stop::Refused(Reason::BadOperand)),
+        let (right, None) = split_item(rest) else {
+            return Err(Stop::Refused(Reason::BadOperand));
+        };
+        operands.right = Some(value_of(light, right)?);
     }
+    Ok(operands)
 }
 
 /// The mnemonic that the dialect has: RETF for RET in a far procedure.
-fn mnemonic_text(mnemonic: Mnemonic, word: Name, around: Around) -> Result<Name, Reason> {
-    match mnemonic {
-        Mnemonic::Plain(Operation::Control(Control::Ret)) if around.is_far => {
-            Name::of(b"RETF").ok_or(Reason::LongName)
-        }
-        _ => Ok(word),
-    }
-}
-
-/// How many times a shift is to be made: as often as a number says, which an 8086 doesn't take.
-fn times_of(mnemonic: Mnemonic, right: &Option<Value>) -> u8 {
-    if !matches!(mnemonic, Mnemonic::Plain(Operation::Shift(_))) {
-        return 1;
-    }
-    match right.and_then(|value| value.constant()) {
-        Some(times @ 1..=31) => times as u8,
-        _ => 1,
+fn mnemonic_text<'n>(setting: Setting, word: &'n Name) -> &'n [u8] {
+    match setting.mnemonic {
+        Mnemonic::Plain(Operation::Control(Control::Ret)) if setting.around.is_far => b"RETF",
+        _ => word.spelling(),
     }
 }
 
@@ -259,9 +261,7 @@ fn other_lines(
         }
         _ => return Err(Stop::Refused(Reason::UnknownStatement)),
     }
-    let mut lines = Vec::new(light.alloc);
-    lines.push(line)?;
-    Ok(lines)
+    Ok(vec![in light.alloc; line]?)
 }
 
 /// Writes the segment register of an operand that isn't written, if it isn't DS.
@@ -304,9 +304,7 @@ fn width_of(value: &Value) -> Option<Width> {
 /// Writes an operand, of which `other` is beside it.
 fn write_operand(
     out: &mut Vec<u8>,
-    light: Light,
-    around: Around,
-    mnemonic: Mnemonic,
+    setting: Setting,
     value: Value,
     other: Option<Value>,
 ) -> Result<(), Stop> {
@@ -314,17 +312,19 @@ fn write_operand(
     match value.kind {
         Kind::Register(register) => Ok(out.extend_from_slice(register.name().as_bytes())?),
         Kind::Memory => {
-            write_size(out, light, mnemonic, &value, other)?;
-            write_segment(out, light, around, &value)?;
+            write_size(out, setting, &value, other)?;
+            write_segment(out, setting, &value)?;
             write_brackets(out, &value)
         }
-        Kind::Near | Kind::Far if is_address(mnemonic) => write_brackets(out, &value),
-        Kind::Far if matches!(mnemonic, Mnemonic::Jmp | Mnemonic::Call) => {
+        Kind::Near | Kind::Far if matches!(setting.transfer(), Some(Transfer::Lea)) => {
+            write_brackets(out, &value)
+        }
+        Kind::Far if setting.is_jump() => {
             out.extend_from_slice(b"FAR ")?;
             write_terms(out, &value, false)
         }
         Kind::Number | Kind::Near | Kind::Far | Kind::Type(_) | Kind::Structure => {
-            if value.is_short && matches!(mnemonic, Mnemonic::Jmp) {
+            if value.is_short && matches!(setting.mnemonic, Mnemonic::Jmp) {
                 out.extend_from_slice(b"SHORT ")?;
             }
             match (value.kind, value.constant()) {
@@ -340,22 +340,20 @@ fn write_operand(
 /// Writes the size of an operand in memory, if its instruction wants one.
 fn write_size(
     out: &mut Vec<u8>,
-    light: Light,
-    mnemonic: Mnemonic,
+    setting: Setting,
     value: &Value,
     other: Option<Value>,
 ) -> Result<(), Stop> {
-    let is_jump = matches!(mnemonic, Mnemonic::Jmp | Mnemonic::Call);
-    if is_jump && value.width == Some(Width::Double) {
+    if setting.is_jump() && value.width == Some(Width::Double) {
         return Ok(out.extend_from_slice(b"FAR ")?);
     }
-    if let Mnemonic::Plain(
-        Operation::Transfer(Transfer::Lea | Transfer::Les | Transfer::Lds),
-    ) = mnemonic
-    {
+    if matches!(
+        setting.transfer(),
+        Some(Transfer::Lea | Transfer::Les | Transfer::Lds)
+    ) {
         return Ok(());
     }
-    match size_of(light, mnemonic, value, other)? {
+    match size_of(setting, value, other)? {
         Some(Width::Byte) => Ok(out.extend_from_slice(b"BYTE ")?),
         Some(Width::Word) => Ok(out.extend_from_slice(b"WORD ")?),
         Some(_) => Err(Stop::Refused(Reason::BadOperand)),
@@ -364,30 +362,24 @@ fn write_size(
 }
 
 /// The width that is written before an operand in memory; `None` if a register or the mnemonic tells it.
-fn size_of(
-    light: Light,
-    mnemonic: Mnemonic,
-    value: &Value,
-    other: Option<Value>,
-) -> Result<Option<Width>, Reason> {
+fn size_of(setting: Setting, value: &Value, other: Option<Value>) -> Result<Option<Width>, Reason> {
     if value.width.is_some() {
         return Ok(value.width);
     }
-    let is_shift = matches!(mnemonic, Mnemonic::Plain(Operation::Shift(_)));
+    let is_loose = setting.light.symbols.is_loose;
     match other {
-        Some(other) if !is_shift => match (other.kind, other.constant()) {
+        Some(other) if !setting.is_shift() => match (other.kind, other.constant()) {
             (Kind::Register(_), _) => Ok(None),
             _ if other.width.is_some() => Ok(other.width),
             // MASM asks for a size
-            _ if !light.symbols.is_loose => Err(Reason::NoSize),
+            _ if !is_loose => Err(Reason::NoSize),
             (_, Some(-128..=255)) => Ok(Some(Width::Byte)),
             _ => Ok(Some(Width::Word)),
         },
-        _ => match mnemonic {
-            Mnemonic::Jmp
-            | Mnemonic::Call
-            | Mnemonic::Plain(Operation::Transfer(Transfer::Push | Transfer::Pop)) => Ok(None),
-            _ if light.symbols.is_loose => Ok(Some(Width::Byte)),
+        _ => match setting.transfer() {
+            _ if setting.is_jump() => Ok(None),
+            Some(Transfer::Push | Transfer::Pop) => Ok(None),
+            _ if is_loose => Ok(Some(Width::Byte)),
             _ => Err(Reason::NoSize),
         },
     }
@@ -395,46 +387,43 @@ fn size_of(
 
 /// Writes the segment register before an operand in memory: the one that is written, or that which is assumed to hold
 /// the segment of the variable, if it isn't the one that the processor takes.
-fn write_segment(
-    out: &mut Vec<u8>,
-    light: Light,
-    around: Around,
-    value: &Value,
-) -> Result<(), Stop> {
+fn write_segment(out: &mut Vec<u8>, setting: Setting, value: &Value) -> Result<(), Stop> {
     let needed = match value.segment {
-        Some(segment) if !light.symbols.is_tiny => register_of(light, around, segment, value.base),
+        Some(segment) if !setting.light.symbols.is_tiny => {
+            register_of(setting, segment, value.base)
+        }
         _ => None,
     };
-    let Some(segment) = value.over.or(needed) else {
-        return Ok(());
-    };
-    out.extend_from_slice(Register::Segment(segment).name().as_bytes())?;
-    out.push(b':')?;
+    if let Some(segment) = value.over.or(needed) {
+        out.extend_from_slice(Register::Segment(segment).name().as_bytes())?;
+        out.push(b':')?;
+    }
     Ok(())
 }
 
 /// The segment register that an operand in this segment needs; `None` if it is the one that the processor takes, or if
 /// none is assumed to hold the segment.
 fn register_of(
-    light: Light,
-    around: Around,
+    setting: Setting,
     segment: usize,
     base: Option<WordRegister>,
 ) -> Option<SegmentRegister> {
-    let wanted = Some(light.symbols.leader(segment));
-    let Assumed { data, extra, stack } = around.assumed;
+    let symbols = setting.light.symbols;
+    let wanted = Some(symbols.leader(segment));
+    let Assumed { data, extra, stack } = setting.around.assumed;
     let by_stack = matches!(base, Some(WordRegister::Bp));
     if (if by_stack { stack } else { data }) == wanted {
-        None
-    } else if data == wanted {
-        Some(SegmentRegister::Ds)
-    } else if extra == wanted {
-        Some(SegmentRegister::Es)
-    } else if Some(light.symbols.leader(around.segment)) == wanted {
-        Some(SegmentRegister::Cs)
-    } else if stack == wanted {
-        Some(SegmentRegister::Ss)
-    } else {
-        None
+        return None;
     }
+    let held = [
+        (data, SegmentRegister::Ds),
+        (extra, SegmentRegister::Es),
+        (
+            Some(symbols.leader(setting.around.segment)),
+            SegmentRegister::Cs,
+        ),
+        (stack, SegmentRegister::Ss),
+    ];
+    let found = held.iter().find(|one| one.0 == wanted)?;
+    Some(found.1)
 }

@@ -120,8 +120,7 @@ pub fn write_brackets(out: &mut Vec<u8>, value: &Value) -> Result<(), Stop> {
         }
         out.extend_from_slice(Register::Word(index).name().as_bytes())?;
     }
-    let has_front = value.base.is_some() || value.index.is_some();
-    write_terms(out, value, has_front)?;
+    write_terms(out, value, value.is_addressed())?;
     out.push(b']')?;
     Ok(())
 }

@@ -36,29 +36,16 @@ pub enum Statement<'t, 'a> {
     Refused(Reason),
 }
 
-/// The word that a token is.
-pub fn word_of(token: Option<&Token>) -> Option<Name> {
-    match token {
-        Some(Token::Word(name)) => Some(*name),
-        _ => None,
-    }
-}
-
-/// Whether the token is this mark.
-pub fn is_mark(token: Option<&Token>, mark: Mark) -> bool {
-    match token {
-        Some(Token::Mark(found)) => *found == mark,
-        _ => false,
-    }
+/// The word that the first token is.
+pub fn first_word(tokens: &[Token]) -> Option<Name> {
+    tokens.first()?.word()
 }
 
 /// The label before a colon, and what follows it.
 pub fn split_label<'t, 'a>(tokens: &'t [Token<'a>]) -> (Option<Name>, &'t [Token<'a>]) {
     match tokens {
         [Token::Word(name), second, rest @ ..]
-            if is_mark(Some(second), Mark::Colon) && !is_segment_register(*name) => {
-            (Some(*name), rest)
-        }
+            if second.is_mark(Mark::Colon) && !is_segment_register(*name) => { (Some(*name), rest) }
         _ => (None, tokens),
     }
 }
@@ -95,7 +82,7 @@ pub fn statement_of<'t, 'a>(tokens: &'t [Token<'a>]) -> Statement<'t, 'a> {
         {
             return statement;
         }
-        if is_mark(Some(second), Mark::Equals) {
+        if second.is_mark(Mark::Equals) {
             return Statement::Constant(first, rest, true);
         }
     }
@@ -110,7 +97,7 @@ pub fn statement_of<'t, 'a>(tokens: &'t [Token<'a>]) -> Statement<'t, 'a> {
 
 /// What a line says that begins with a mark: emu8086's kind of program, as `#make_com#`.
 fn marked<'t, 'a>(after: &'t [Token<'a>]) -> Statement<'t, 'a> {
-    match word_of(after.first()) {
+    match first_word(after) {
         Some(word) if is_among(word, "MAKE_COM MAKE_EXE") => Statement::Nothing,
         _ => Statement::Refused(Reason::UnknownStatement),
     }
@@ -143,77 +130,60 @@ fn named<'t, 'a>(first: Name, second: Name, rest: &'t [Token<'a>]) -> Option<Sta
 
 /// Whether what follows a type makes it one of an operand, as in `INC BYTE PTR [BX]`.
 fn is_operand(rest: &[Token]) -> bool {
-    match word_of(rest.first()) {
-        Some(name) => name.is(b"PTR"),
-        None => is_mark(rest.first(), Mark::OpenBracket),
+    match rest.first() {
+        Some(token) => token.is_word(b"PTR") || token.is_mark(Mark::OpenBracket),
+        None => false,
     }
 }
 
 /// Whether the word FAR stands among the tokens.
 pub fn has_far(tokens: &[Token]) -> bool {
-    tokens.iter().any(|token| match token {
-        Token::Word(name) => name.is(b"FAR"),
-        _ => false,
-    })
+    tokens.iter().any(|token| token.is_word(b"FAR"))
 }
 
 /// The type that the first token names.
 fn type_at(tokens: &[Token]) -> Option<Type> {
-    Type::of(word_of(tokens.first())?.text())
+    Type::of(first_word(tokens)?.text())
 }
 
-/// The tokens between angle brackets, if they stand there.
-fn within_angles<'t, 'a>(tokens: &'t [Token<'a>]) -> Option<&'t [Token<'a>]> {
+/// The tokens between two marks, if they stand there.
+fn between<'t, 'a>(tokens: &'t [Token<'a>], open: Mark, close: Mark) -> Option<&'t [Token<'a>]> {
     match tokens {
-        [less, items @ .., greater]
-            if is_mark(Some(less), Mark::Less) && is_mark(Some(greater), Mark::Greater) => {
-            Some(items)
-        }
+        [first, inner @ .., last] if first.is_mark(open) && last.is_mark(close) => Some(inner),
         _ => None,
-    }
-}
-
-/// The tokens before the word DUP, and those after it.
-pub fn around_dup<'t, 'a>(item: &'t [Token<'a>]) -> Option<(&'t [Token<'a>], &'t [Token<'a>])> {
-    let place = item.iter().position(|token| is_dup(token))?;
-    Some((&item[..place], &item[place + 1..]))
-}
-
-/// Whether the token is the word DUP.
-fn is_dup(token: &Token) -> bool {
-    match token {
-        Token::Word(name) => name.is(b"DUP"),
-        _ => false,
     }
 }
 
 /// The tokens between parentheses, if they stand there.
 pub fn inside<'t, 'a>(tokens: &'t [Token<'a>]) -> Option<&'t [Token<'a>]> {
-    match tokens {
-        [first, inner @ .., last]
-            if is_mark(Some(first), Mark::Open) && is_mark(Some(last), Mark::Close) => {
-            Some(inner)
-        }
-        _ => None,
-    }
+    between(tokens, Mark::Open, Mark::Close)
+}
+
+/// The tokens before the word DUP, and those after it.
+pub fn around_dup<'t, 'a>(item: &'t [Token<'a>]) -> Option<(&'t [Token<'a>], &'t [Token<'a>])> {
+    let place = item.iter().position(|token| token.is_word(b"DUP"))?;
+    Some((&item[..place], &item[place + 1..]))
 }
 
 /// How many instances of a structure DUP makes, nothing without DUP, and the items between angle brackets.
 fn instances<'t, 'a>(tokens: &'t [Token<'a>]) -> Option<(&'t [Token<'a>], &'t [Token<'a>])> {
-    if let Some(items) = within_angles(tokens) {
+    if let Some(items) = between(tokens, Mark::Less, Mark::Greater) {
         return Some((&tokens[..0], items));
     }
     let (times, repeated) = around_dup(tokens)?;
-    Some((times, within_angles(inside(repeated)?)?))
+    Some((
+        times,
+        between(inside(repeated)?, Mark::Less, Mark::Greater)?,
+    ))
 }
 
 /// What a line says whose first word is a directive; `None` if it is none.
 fn directive<'t, 'a>(first: Name, after: &'t [Token<'a>]) -> Option<Statement<'t, 'a>> {
     let statement = match first.text() {
-        b".CODE" | b".DATA" | b".DATA?" | b".CONST" | b".FARDATA" => Statement::Segment(
-            first, after,
-        ),
-        b".MODEL" => Statement::Model(word_of(after.first())),
+        b".CODE" | b".DATA" | b".DATA?" | b".CONST" | b".FARDATA" => {
+            Statement::Segment(first, after)
+        }
+        b".MODEL" => Statement::Model(first_word(after)),
         b"CODESEG" => Statement::Segment(Name::of(b".CODE")?, after),
         b"DATASEG" | b"UDATASEG" => Statement::Segment(Name::of(b".DATA")?, after),
         b".STARTUP" | b"STARTUPCODE" => Statement::Startup,
@@ -222,7 +192,7 @@ fn directive<'t, 'a>(first: Name, after: &'t [Token<'a>]) -> Option<Statement<'t
         b"ENDP" => Statement::EndProcedure,
         b"ASSUME" => Statement::Assume(after),
         b"ORG" => Statement::Origin(after),
-        b"END" => Statement::End(word_of(after.first())),
+        b"END" => Statement::End(first_word(after)),
         b"EVEN" | b"ALIGN" => Statement::Remarked(Remark::NotAligned),
         word => match Width::of_directive(word) {
             Some(width) => Statement::Data(None, width, after),
