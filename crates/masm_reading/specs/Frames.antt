@@ -4,11 +4,13 @@ use Rattle.std.specs.Prelude.{ℕ, ◌≡◌, ◌-◌, List, [], length, take, d
 use Rattle.std.specs.List.{All}
 use Rattle.board_types.specs.TextLines.{text_lines}
 use Rattle.masm_text.specs.UserLines.{IsFailure, IsLine, lines_of, AreRefusals}
+use Rattle.masm_text.specs.declared.place.Place.{Place}
 use Rattle.masm_text.specs.declared.place.Text.{Text}
 use Rattle.masm_text.specs.declared.refusal.Failure.{Failure}
 use Rattle.masm_text.specs.declared.refusal.Refusal.{Refusal}
 use Rattle.masm_reading.specs.declared.frames.Frame.{Frame}
 use Rattle.masm_reading.specs.declared.frames.Frame.TheVariants.{Given, Made}
+use Rattle.masm_reading.specs.declared.frames.Next.{Next}
 use Rattle.masm_reading.specs.declared.frames.SourceLine.{SourceLine}
 use Rattle.masm_reading.specs.declared.reading.Progress.{Progress}
 use Rattle.masm_reading.specs.declared.reading.Reading.{Reading}
@@ -28,9 +30,10 @@ abbrev pub IsFrame : List Text → Frame → Type 0
 IsFrame texts (Given given) = IsRest texts given.text given.line given.rest.now
 IsFrame texts (Made made) = IsLine texts made.place
 
--- all of them do
-abbrev pub AreFrames : List Text → List Frame → Type 0
-AreFrames texts frames = All (IsFrame texts) frames
+-- a step reads a line of theirs, and leaves lines of theirs
+abbrev pub IsNext : List Text → Next → Type 0
+IsNext texts step =
+    IfSome step.line (λ (line : SourceLine). IsLine texts line.place) × IfSome step.left (IsFrame texts)
 
 -- each line is one of the user's, or made of one
 abbrev pub AreLines : List Text → List SourceLine → Type 0
@@ -39,9 +42,13 @@ AreLines texts lines = All (λ (line : SourceLine). IsLine texts line.place) lin
 -- all that the first pass has of lines comes from the texts
 abbrev pub IsSound : List Text → Progress → Type 0
 IsSound texts progress =
-    AreFrames texts progress.frames.items × AreLines texts progress.lines.items ×
+    All (IsFrame texts) progress.frames.items × AreLines texts progress.lines.items ×
     AreRefusals texts progress.refusals.items × IfSome progress.begun (IsLine texts) ×
     IfSome progress.last (IsLine texts) × IfSome progress.end (λ (refusal : Refusal). IsLine texts refusal.place)
+
+-- all that it has comes from the texts, and so does the line that a call takes in
+abbrev pub Takes : List Text → Progress → Place → Type 0
+Takes texts progress place = IsSound texts progress × IsLine texts place
 
 -- all that it has comes from the texts after a call too, which fails with lines of theirs
 abbrev pub GoesOn : {A : Type 0} → List Text → Progress → Result A Failure → Type 0

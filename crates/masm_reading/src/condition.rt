@@ -19,24 +19,21 @@ pub struct Conditions {
 /// What IF and its kind ask.
 #[derive(Clone, Copy)]
 pub enum Question {
-    /// Whether it is the first pass, which MASM asks by IF1.
-    First(bool),
+    /// Whether it is the first pass, as which MASM's first one is taken.
+    FirstPass,
+    /// Whether an expression isn't zero.
     Number,
-    Zero,
     Defined,
-    NotDefined,
     Blank,
-    NotBlank,
     /// Whether two arguments are the same, perhaps but for the case of their letters.
     Same(bool),
-    Different(bool),
 }
 
-/// A line that belongs to an IF.
+/// A line that belongs to an IF. One that asks something has the answer with which its part is read.
 #[derive(Clone, Copy)]
 pub enum ConditionLine {
-    If(Question),
-    ElseIf(Question),
+    If(Question, bool),
+    ElseIf(Question, bool),
     Else,
     EndIf,
 }
@@ -46,26 +43,32 @@ pub fn condition_line(word: Name) -> Option<ConditionLine> {
     match word.text() {
         b"ELSE" => Some(ConditionLine::Else),
         b"ENDIF" => Some(ConditionLine::EndIf),
-        [b'E', b'L', b'S', b'E', rest @ ..] => Some(ConditionLine::ElseIf(question_of(rest)?)),
-        word => Some(ConditionLine::If(question_of(word)?)),
+        [b'E', b'L', b'S', b'E', rest @ ..] => {
+            let (question, wanted) = question_of(rest)?;
+            Some(ConditionLine::ElseIf(question, wanted))
+        }
+        word => {
+            let (question, wanted) = question_of(word)?;
+            Some(ConditionLine::If(question, wanted))
+        }
     }
 }
 
-/// What a word asks; `None` if it isn't one of the IFs.
-fn question_of(word: &[u8]) -> Option<Question> {
+/// What a word asks, and the answer with which the lines after it are read; `None` if it isn't one of the IFs.
+fn question_of(word: &[u8]) -> Option<(Question, bool)> {
     match word {
-        b"IF1" => Some(Question::First(true)),
-        b"IF2" => Some(Question::First(false)),
-        b"IF" => Some(Question::Number),
-        b"IFE" => Some(Question::Zero),
-        b"IFDEF" => Some(Question::Defined),
-        b"IFNDEF" => Some(Question::NotDefined),
-        b"IFB" => Some(Question::Blank),
-        b"IFNB" => Some(Question::NotBlank),
-        b"IFIDN" => Some(Question::Same(false)),
-        b"IFIDNI" => Some(Question::Same(true)),
-        b"IFDIF" => Some(Question::Different(false)),
-        b"IFDIFI" => Some(Question::Different(true)),
+        b"IF1" => Some((Question::FirstPass, true)),
+        b"IF2" => Some((Question::FirstPass, false)),
+        b"IF" => Some((Question::Number, true)),
+        b"IFE" => Some((Question::Number, false)),
+        b"IFDEF" => Some((Question::Defined, true)),
+        b"IFNDEF" => Some((Question::Defined, false)),
+        b"IFB" => Some((Question::Blank, true)),
+        b"IFNB" => Some((Question::Blank, false)),
+        b"IFIDN" => Some((Question::Same(false), true)),
+        b"IFIDNI" => Some((Question::Same(true), true)),
+        b"IFDIF" => Some((Question::Same(false), false)),
+        b"IFDIFI" => Some((Question::Same(true), false)),
         _ => None,
     }
 }
@@ -123,9 +126,7 @@ impl Conditions {
 
     /// Takes in an ENDIF.
     pub fn end(&mut self) -> Result<(), Stop> {
-        match self.open.pop() {
-            Some(_) => Ok(()),
-            None => Err(Stop::Refused(Reason::NothingToEnd)),
-        }
+        let _ = self.open.pop().ok_or(Reason::NothingToEnd)?;
+        Ok(())
     }
 }

@@ -1,7 +1,7 @@
 //! Lines that are still to be read: of the texts, of macros and of repetitions.
 ghost use Rattle.std.specs.Prelude.{IfOk, IfSome};
 ghost use Rattle.masm_text.specs.UserLines.{IsLine};
-ghost use Rattle.masm_reading.specs.Frames.{IsFrame, IsRest, IsWritten};
+ghost use Rattle.masm_reading.specs.Frames.{IsFrame, IsNext, IsRest, IsWritten};
 
 use board_types::text::next_line;
 use masm_text::place::{Place, Text, bytes_at};
@@ -80,15 +80,17 @@ pub fn conditions_before(frame: &Frame) -> Option<usize> {
     }
 }
 
-/// The next line of a frame, which may begin anew instead, and what is left of the frame.
-pub fn step<'a>(
-    alloc: Global,
-    texts: &[Text<'a>],
-    frame: Frame<'a>,
-) -> Result<(Option<SourceLine>, Option<Frame<'a>>), AllocError>
+/// What a step reads: a line, if it doesn't begin anew instead, and what is left of the frame.
+#[derive(Drop)]
+pub struct Next<'a> {
+    pub line: Option<SourceLine>,
+    pub left: Option<Frame<'a>>,
+}
+
+/// The step that a frame is read by.
+pub fn step<'a>(alloc: Global, texts: &[Text<'a>], frame: Frame<'a>) -> Result<Next<'a>, AllocError>
     requires { IsFrame texts.now frame }
-    ensures line { IfOk result (λ p. IfSome p.0 (λ line. IsLine texts.now line.place)) }
-    ensures left { IfOk result (λ p. IfSome p.1 (IsFrame texts.now)) }
+    ensures { IfOk result (IsNext texts.now) }
 {
     match frame {
         Frame::Given(given) => given_step(alloc, texts, given),
@@ -102,65 +104,66 @@ fn given_step<'a>(
     alloc: Global,
     texts: &[Text<'a>],
     given: GivenLines<'a>,
-) -> Result<(Option<SourceLine>, Option<Frame<'a>>), AllocError>
+) -> Result<Next<'a>, AllocError>
     requires { IsRest texts.now given.text given.line given.rest.now }
-    ensures said { IfOk result (λ p. IfSome p.0 (IsWritten texts.now)) }
-    ensures line { IfOk result (λ p. IfSome p.0 (λ line. IsLine texts.now line.place)) }
-    ensures left { IfOk result (λ p. IfSome p.1 (IsFrame texts.now)) }
+    ensures said { IfOk result (λ step. IfSome step.line (IsWritten texts.now)) }
+    ensures sound { IfOk result (IsNext texts.now) }
 {
+    let end = Next {
+        line: None,
+        left: None,
+    };
     let GivenLines { text, line, rest } = given;
     let Some((bytes, rest)) = next_line(rest) else {
-        return Ok((None, None));
+        return Ok(end);
     };
     // no text has so many lines that they can't be counted
     let Some(line) = line.checked_add(1) else {
-        return Ok((None, None));
+        return Ok(end);
     };
     let source_line = SourceLine {
         place: Place { text, line },
         text: Vec::from_slice(alloc, without_comment(bytes))?,
     };
-    let left = GivenLines { text, line, rest };
-    Ok((Some(source_line), Some(Frame::Given(left))))
+    Ok(Next {
+        line: Some(source_line),
+        left: Some(Frame::Given(GivenLines { text, line, rest })),
+    })
 }
 
 /// The next line of those that were made, and what is left of them.
-fn made_step<'a>(
-    alloc: Global,
-    texts: &[Text<'a>],
-    made: MadeLines,
-) -> Result<(Option<SourceLine>, Option<Frame<'a>>), AllocError>
+fn made_step<'a>(alloc: Global, texts: &[Text<'a>], made: MadeLines) -> Result<Next<'a>, AllocError>
     requires { IsLine texts.now made.place }
-    ensures line { IfOk result (λ p. IfSome p.0 (λ line. IsLine texts.now line.place)) }
-    ensures left { IfOk result (λ p. IfSome p.1 (IsFrame texts.now)) }
+    ensures { IfOk result (IsNext texts.now) }
 {
-    let MadeLines {
-        place,
-        lines,
-        next,
-        rounds,
-        conditions,
-    } = made;
-    let Some(line) = lines.get(next) else {
-        if rounds <= 1 {
-            return Ok((None, None));
-        }
-        let left = MadeLines {
-            place,
-            lines,
-            next: 0,
-            rounds: rounds - 1,
-            conditions,
-        };
-        return Ok((None, Some(Frame::Made(left))));
+    let mut made = made;
+    let Some(line) = made.lines.get(made.next) else {
+        return Ok(Next {
+            line: None,
+            left: again(texts, made),
+        });
     };
-    let text = Vec::from_slice(alloc, line.as_slice())?;
-    let left = MadeLines {
-        place,
-        lines,
-        next: next + 1,
-        rounds,
-        conditions,
+    let source_line = SourceLine {
+        place: made.place,
+        text: Vec::from_slice(alloc, line.as_slice())?,
     };
-    Ok((Some(SourceLine { place, text }), Some(Frame::Made(left))))
+    made.next += 1;
+    Ok(Next {
+        line: Some(source_line),
+        left: Some(Frame::Made(made)),
+    })
+}
+
+/// The lines that were made, from the first one on again, if they come once more.
+fn again<'a>(texts: &[Text<'a>], made: MadeLines) -> Option<Frame<'a>>
+    requires { IsLine texts.now made.place }
+    ensures { IfSome result (IsFrame texts.now) }
+{
+    if made.rounds <= 1 {
+        return None;
+    }
+    let mut made = made;
+    made.next = 0;
+    made.rounds -= 1;
+    Some(Frame::Made(made))
 }

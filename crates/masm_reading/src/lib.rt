@@ -2,6 +2,7 @@
 //! for, and names get their meanings.
 #![tactic(auto)]
 
+pub mod action;
 pub mod condition;
 pub mod frames;
 pub mod macros;

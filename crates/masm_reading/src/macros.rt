@@ -1,4 +1,5 @@
 //! Macros, and lines that are gathered for them and for repetitions.
+use crate::action::Action;
 use masm_text::name::{Key, Name};
 use masm_text::raw::{Binding, bare, split_argument, split_word, with_arguments};
 use masm_text::refusal::{Reason, Stop};
@@ -31,15 +32,6 @@ struct Gathering {
     body: Vec<Vec<u8>>,
     /// How many further ENDMs come before.
     depth: u32,
-}
-
-/// What comes of lines that were gathered.
-#[derive(Drop)]
-pub enum Gathered {
-    /// They aren't all there yet, or make a macro.
-    Nothing,
-    /// They come so many times.
-    Repeat(Vec<Vec<u8>>, u32),
 }
 
 /// The macros so far.
@@ -101,53 +93,42 @@ impl Macros {
         });
     }
 
-    /// Gathers a line, or ends the gathering; `None` if no lines are gathered.
-    pub fn gather(&mut self, line: &[u8]) -> Result<Option<Gathered>, Stop> {
-        let Some(
-            Gathering {
-                purpose,
-                mut body,
-                depth,
-            },
-        ) = self.gathering.take()
-        else {
+    /// Gathers a line, or ends the gathering, and says what becomes of it; `None` if no lines are gathered.
+    pub fn gather(&mut self, line: &[u8]) -> Result<Option<Action>, Stop> {
+        let Some(mut gathering) = self.gathering.take() else {
             return Ok(None);
         };
         let change = nesting_of(line);
-        if change == Nesting::Ends && depth == 0 {
-            return Ok(Some(self.end(purpose, body)?));
+        if change == Nesting::Ends && gathering.depth == 0 {
+            return Ok(Some(self.end(gathering.purpose, gathering.body)?));
         }
-        body.push(Vec::from_slice(self.alloc, line)?)?;
-        let depth = match change {
-            Nesting::Begins => depth.saturating_add(1),
-            Nesting::Ends => depth.saturating_sub(1),
-            Nesting::Stays => depth,
-        };
-        self.gathering = Some(Gathering {
-            purpose,
-            body,
-            depth,
-        });
-        Ok(Some(Gathered::Nothing))
+        gathering.body.push(Vec::from_slice(self.alloc, line)?)?;
+        match change {
+            Nesting::Begins => gathering.depth = gathering.depth.saturating_add(1),
+            Nesting::Ends => gathering.depth = gathering.depth.saturating_sub(1),
+            Nesting::Stays => {}
+        }
+        self.gathering = Some(gathering);
+        Ok(Some(Action::Leave))
     }
 
     /// Does with gathered lines what they were gathered for.
-    fn end(&mut self, purpose: Purpose, body: Vec<Vec<u8>>) -> Result<Gathered, Stop> {
+    fn end(&mut self, purpose: Purpose, body: Vec<Vec<u8>>) -> Result<Action, Stop> {
         match purpose {
             Purpose::Macro(name, parameters) => {
                 self.macros.insert(name.key(), Macro { parameters, body })?;
-                Ok(Gathered::Nothing)
+                Ok(Action::Leave)
             }
-            Purpose::Repeat(0) => Ok(Gathered::Nothing),
-            Purpose::Repeat(rounds) => Ok(Gathered::Repeat(body, rounds)),
+            Purpose::Repeat(0) => Ok(Action::Leave),
+            Purpose::Repeat(rounds) => Ok(Action::Repeat(body, rounds)),
             Purpose::Each(name, arguments) => {
                 let mut lines = Vec::new(self.alloc);
-                for argument in arguments {
+                for text in arguments {
                     self.count(body.len())?;
-                    let bindings = one_binding(self.alloc, name, argument)?;
-                    push_bound(self.alloc, &mut lines, body.as_slice(), bindings.as_slice())?;
+                    let binding = vec![in self.alloc; Binding { name, text }]?;
+                    push_bound(self.alloc, &mut lines, body.as_slice(), binding.as_slice())?;
                 }
-                Ok(Gathered::Repeat(lines, 1))
+                Ok(Action::Repeat(lines, 1))
             }
         }
     }
@@ -164,10 +145,10 @@ impl Macros {
 
     /// The lines that the call of a macro makes.
     pub fn call(&mut self, name: Name, arguments: Vec<Vec<u8>>) -> Result<Vec<Vec<u8>>, Stop> {
-        let count = match self.macros.get(&name.key()) {
-            Some(found) => found.body.len(),
-            None => 0,
-        };
+        let count = self
+            .macros
+            .get(&name.key())
+            .map_or(0, |found| found.body.len());
         self.count(count)?;
         let mut lines = Vec::new(self.alloc);
         let Some(found) = self.macros.get(&name.key()) else {
@@ -251,13 +232,6 @@ pub fn characters_of(alloc: Global, list: &[u8]) -> Result<Vec<Vec<u8>>, AllocEr
         arguments.push(Vec::from_slice(alloc, &[*byte])?)?;
     }
     Ok(arguments)
-}
-
-/// A parameter and its argument.
-fn one_binding(alloc: Global, name: Name, text: Vec<u8>) -> Result<Vec<Binding>, AllocError> {
-    let mut bindings = Vec::new(alloc);
-    bindings.push(Binding { name, text })?;
-    Ok(bindings)
 }
 
 /// The parameters of a macro and the arguments of a call, which may be fewer.

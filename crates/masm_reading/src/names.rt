@@ -1,13 +1,13 @@
 //! The meanings that lines give to names.
-use masm_line::data::{count_of_items, dup_count};
-use masm_line::statement::{Statement, has_far, split_item, split_label, statement_of, word_of};
+use masm_line::data::{count_of_items, instance_count};
+use masm_line::statement::{Statement, first_word, has_far, split_item, split_label, statement_of};
 use masm_text::name::Name;
 use masm_text::raw::split_word;
 use masm_text::refusal::{Reason, Stop};
 use masm_text::token::Token;
 use masm_value::expression::{Light, local_name, value_of};
 use masm_value::symbol::{Field, Symbol, Symbols, Variable};
-use masm_value::value::{Count, Kind, Location, Type, Value, Width};
+use masm_value::value::{Count, Location, Type, Value, Width};
 use std::alloc::Global;
 
 /// A procedure, and the run that it begins.
@@ -136,49 +136,33 @@ impl Names {
     /// Gives the names of a statement their meaning.
     fn define(&mut self, statement: Statement<'_, '_>) -> Result<(), Stop> {
         match statement {
-            Statement::Segment(name, rest) => self.define_segment(name, rest),
-            Statement::Group(name, rest) => self.define_group(name, rest),
-            Statement::Procedure(name, rest) => self.define_procedure(name, rest),
-            Statement::EndProcedure => {
-                self.procedure = None;
-                Ok(())
-            }
-            Statement::Label(name, class) => {
-                let symbol = self.labelled(class)?;
-                self.symbols.define(name, symbol)
-            }
+            Statement::Segment(name, rest) => self.define_segment(name, rest)?,
+            Statement::Group(name, rest) => self.define_group(name, rest)?,
+            Statement::Procedure(name, rest) => self.define_procedure(name, rest)?,
+            Statement::EndProcedure => self.procedure = None,
+            Statement::Label(name, class) => self.define_labelled(name, class)?,
             Statement::Constant(name, tokens, is_again) => {
-                self.define_constant(name, tokens, is_again)
+                self.define_constant(name, tokens, is_again)?;
             }
-            Statement::Data(name, width, tokens) => self.define_data(name, width, tokens),
+            Statement::Data(name, width, tokens) => self.define_data(name, width, tokens)?,
             Statement::Instance(name, structure, times, _) => {
-                self.define_instance(name, structure, times)
+                self.define_instance(name, structure, times)?;
             }
-            Statement::Model(model) => {
-                self.define_model(model);
-                Ok(())
-            }
-            Statement::End(entry) => {
-                self.entry = entry;
-                Ok(())
-            }
+            Statement::Model(model) => self.define_model(model),
+            Statement::End(entry) => self.entry = entry,
             Statement::Structure(name) => {
                 self.structure = Some(self.symbols.begin_structure(self.alloc, name)?);
-                Ok(())
             }
-            Statement::Origin(tokens) => self.define_origin(tokens),
+            Statement::Origin(tokens) => self.define_origin(tokens)?,
             Statement::Instruction(..) | Statement::Startup | Statement::Exit(_) => {
                 self.has_startup = self.has_startup || matches!(statement, Statement::Startup);
                 self.current_segment()?;
                 self.begin_run();
-                Ok(())
             }
-            Statement::EndSegment => {
-                self.begin_run();
-                Ok(())
-            }
-            _ => Ok(()),
+            Statement::EndSegment => self.begin_run(),
+            _ => {}
         }
+        Ok(())
     }
 
     /// Takes in which memory model the source names.
@@ -220,12 +204,12 @@ impl Names {
 
     /// Has the segments of a list stand after one another, so that one paragraph serves all of them.
     fn define_group(&mut self, name: Name, list: &[Token]) -> Result<(), Stop> {
-        let first = word_of(list.first()).ok_or(Reason::UnknownStatement)?;
+        let first = first_word(list).ok_or(Reason::UnknownStatement)?;
         let leader = self.symbols.open(first)?;
         let mut left = Some(list);
         while let Some(list) = left {
             let (item, after) = split_item(list);
-            let member = word_of(item.first()).ok_or(Reason::UnknownStatement)?;
+            let member = first_word(item).ok_or(Reason::UnknownStatement)?;
             let number = self.symbols.open(member)?;
             self.symbols.join(number, leader);
             left = after;
@@ -247,10 +231,7 @@ impl Names {
     /// Gives a procedure its meaning.
     fn define_procedure(&mut self, name: Name, rest: &[Token]) -> Result<(), Stop> {
         self.current_segment()?;
-        let is_near = match word_of(rest.first()) {
-            Some(word) => word.is(b"NEAR"),
-            None => false,
-        };
+        let is_near = rest.first().is_some_and(|first| first.is_word(b"NEAR"));
         let symbol = if has_far(rest) || self.is_far && !is_near {
             Symbol::Far
         } else {
@@ -265,19 +246,34 @@ impl Names {
         Ok(())
     }
 
-    /// What a name before LABEL stands for.
-    fn labelled(&mut self, class: Option<Type>) -> Result<Symbol, Stop> {
-        match class {
-            Some(Type::Data(width)) => Ok(Symbol::Variable(Variable {
-                width: Some(width),
-                size: 0,
-                count: Some(Count::ONE),
-                segment: self.current_segment()?,
-                at: Some(self.at),
-            })),
-            Some(Type::Far) => Ok(Symbol::Far),
-            Some(Type::Near) | None => Ok(Symbol::Near(Some(self.at))),
-        }
+    /// Gives a name before LABEL its meaning.
+    fn define_labelled(&mut self, name: Name, class: Option<Type>) -> Result<(), Stop> {
+        let symbol = match class {
+            Some(Type::Data(width)) => {
+                return self.define_variable(name, Some(width), 0, Some(Count::ONE));
+            }
+            Some(Type::Far) => Symbol::Far,
+            Some(Type::Near) | None => Symbol::Near(Some(self.at)),
+        };
+        self.symbols.define(name, symbol)
+    }
+
+    /// Gives the name of data that stand here its meaning.
+    fn define_variable(
+        &mut self,
+        name: Name,
+        width: Option<Width>,
+        size: u32,
+        count: Option<Count>,
+    ) -> Result<(), Stop> {
+        let variable = Variable {
+            width,
+            size,
+            count,
+            segment: self.current_segment()?,
+            at: Some(self.at),
+        };
+        self.symbols.define(name, Symbol::Variable(variable))
     }
 
     /// Gives a constant its value, if it is known already.
@@ -296,7 +292,7 @@ impl Names {
         self.constants
             .push(value.and_then(|value| value.constant()))?;
         match value {
-            Some(value) => self.symbols.define(name, Symbol::Value(value, is_again)),
+            Some(value) => self.symbols.define_constant(name, value, is_again),
             None => Ok(()),
         }
     }
@@ -308,17 +304,10 @@ impl Names {
         width: Width,
         tokens: &[Token],
     ) -> Result<(), Stop> {
-        let segment = self.current_segment()?;
+        self.current_segment()?;
         let count = known(count_of_items(self.light()?, width, tokens))?;
         if let Some(name) = name {
-            let variable = Variable {
-                width: Some(width),
-                size: 0,
-                count,
-                segment,
-                at: Some(self.at),
-            };
-            self.symbols.define(name, Symbol::Variable(variable))?;
+            self.define_variable(name, Some(width), 0, count)?;
         }
         self.advance(count.map(|count| count.all), width.bytes());
         Ok(())
@@ -331,29 +320,16 @@ impl Names {
         structure: Name,
         times: &[Token],
     ) -> Result<(), Stop> {
-        let segment = self.current_segment()?;
-        let number = self
-            .symbols
-            .structure(structure)
-            .ok_or(Reason::UnknownStatement)?;
+        self.current_segment()?;
+        let number = self.symbols.structure(structure)?;
         let size = self.symbols.size_of(number);
-        let times = if times.is_empty() {
-            Some(1)
-        } else {
-            known(dup_count(self.light()?, times))?
-        };
+        let times = known(instance_count(self.light()?, times))?;
         if let Some(name) = name {
-            let variable = Variable {
-                width: None,
-                size,
-                count: times.map(|times| Count {
-                    all: times,
-                    first: times,
-                }),
-                segment,
-                at: Some(self.at),
-            };
-            self.symbols.define(name, Symbol::Variable(variable))?;
+            let count = times.map(|times| Count {
+                all: times,
+                first: times,
+            });
+            self.define_variable(name, None, size, count)?;
         }
         self.advance(times, size);
         Ok(())
@@ -388,7 +364,7 @@ impl Names {
                     width: Some(width),
                     ..Value::number(offset as i64)
                 };
-                self.symbols.set(name, Symbol::Value(value, false))
+                self.symbols.set_constant(name, value, false)
             }
             _ => Err(Stop::Refused(Reason::UnknownStatement)),
         }
@@ -406,11 +382,7 @@ fn known<T: Copy>(found: Result<T, Stop>) -> Result<Option<T>, Stop> {
 
 /// The place of a line whose first byte the name stands for.
 pub fn here(name: &[u8], at: Option<Location>) -> Result<Value, Stop> {
-    Ok(Value {
-        plus: Some(Name::of(name).ok_or(Reason::LongName)?),
-        at,
-        ..Value::of(Kind::Near)
-    })
+    Ok(Value::label(Name::of(name).ok_or(Reason::LongName)?, at))
 }
 
 /// The place that `$` stands for in the constant of this number. The label that names it is one that no user can write.

@@ -1,11 +1,12 @@
 //! The first pass: macros, conditions and included texts are replaced by the lines that they stand for.
 ghost use Rattle.std.specs.Prelude.{IfOk, IfErr, IfSome, IfNone};
 ghost use Rattle.masm_text.specs.UserLines.{AreRefusals, IsFailure, IsLine, IsNotGiven};
-ghost use Rattle.masm_reading.specs.Frames.{GoesOn, IsFrame, IsReading, IsSound};
+ghost use Rattle.masm_reading.specs.Frames.{GoesOn, IsFrame, IsReading, IsSound, Takes};
 
-use crate::frames::{Frame, SourceLine, conditions_before, made, step, whole};
+use crate::action::Action;
+use crate::frames::{Frame, Next, SourceLine, conditions_before, made, step, whole};
 use crate::names::Names;
-use crate::state::{Action, State};
+use crate::state::State;
 use masm_text::place::{Place, Text};
 use masm_text::refusal::{Failure, Reason, Refusal, Stop, refused};
 use std::alloc::{AllocError, Global};
@@ -68,7 +69,7 @@ pub fn read<'a>(alloc: Global, texts: &'a [Text<'a>]) -> Result<Reading, Failure
     }
     match progress.last {
         Some(place) => {
-            end(texts, &mut progress, place, Reason::TooManyLines);
+            progress.end(texts, place, Reason::TooManyLines);
             finish(texts, progress, state)
         }
         // no line was read at all
@@ -89,113 +90,133 @@ fn go_on<'a>(
     let Some(frame) = progress.frames.pop() else {
         return Ok(false);
     };
-    let (line, left) = step(alloc, texts, frame)?;
-    put_back(texts, progress, left)?;
+    let Next { line, left } = step(alloc, texts, frame)?;
+    progress.put_back(texts, left)?;
     match line {
-        Some(line) => take(texts, progress, state, line)?,
+        Some(line) => progress.take(texts, state, line)?,
         None => {}
     }
     Ok(true)
 }
 
-/// Puts what is left of a frame back.
-fn put_back<'a>(
-    texts: &'a [Text<'a>],
-    progress: &mut Progress<'a>,
-    left: Option<Frame<'a>>,
-) -> Result<(), AllocError>
-    requires sound { IsSound texts.now progress.old }
-    requires left { IfSome left (IsFrame texts.now) }
-    ensures { IsSound texts.now progress.new }
-{
-    match left {
-        Some(left) => Ok(progress.frames.push(left)?),
-        None => Ok(()),
-    }
-}
-
-/// Takes a line in.
-fn take<'a>(
-    texts: &'a [Text<'a>],
-    progress: &mut Progress<'a>,
-    state: &mut State,
-    line: SourceLine,
-) -> Result<(), Failure>
-    requires sound { IsSound texts.now progress.old }
-    requires line { IsLine texts.now line.place }
-    ensures { GoesOn texts.now progress.new result }
-{
-    let place = line.place;
-    progress.last = Some(place);
-    match state.take(line.text.as_slice()) {
-        Ok(action) => act(texts, progress, state, line, action),
-        Err(Stop::Refused(reason)) => {
-            progress.refusals.push(Refusal { place, reason })?;
-            Ok(())
+impl<'a> Progress<'a> {
+    /// Puts what is left of a frame back.
+    fn put_back(&mut self, texts: &'a [Text<'a>], left: Option<Frame<'a>>) -> Result<(), AllocError>
+        requires sound { IsSound texts.now self.old }
+        requires left { IfSome left (IsFrame texts.now) }
+        ensures { IsSound texts.now self.new }
+    {
+        match left {
+            Some(left) => Ok(self.frames.push(left)?),
+            None => Ok(()),
         }
-        Err(Stop::Memory) => Err(Failure::Memory),
     }
-}
 
-/// Does with a line what the names and macros say.
-fn act<'a>(
-    texts: &'a [Text<'a>],
-    progress: &mut Progress<'a>,
-    state: &mut State,
-    line: SourceLine,
-    action: Action,
-) -> Result<(), Failure>
-    requires sound { IsSound texts.now progress.old }
-    requires line { IsLine texts.now line.place }
-    ensures { GoesOn texts.now progress.new result }
-{
-    let place = line.place;
-    match action {
-        Action::Leave => Ok(()),
-        Action::Keep => keep(texts, progress, line),
-        Action::Gather => {
-            progress.begun = Some(place);
-            Ok(())
-        }
-        Action::End => {
-            if let Some(frame) = progress.frames.pop() {
-                state.leave(conditions_before(&frame));
+    /// Takes a line in.
+    fn take(
+        &mut self,
+        texts: &'a [Text<'a>],
+        state: &mut State,
+        line: SourceLine,
+    ) -> Result<(), Failure>
+        requires { Takes texts.now self.old line.place }
+        ensures { GoesOn texts.now self.new result }
+    {
+        let place = line.place;
+        self.last = Some(place);
+        match state.take(line.text.as_slice()) {
+            Ok(action) => self.act(texts, state, line, action),
+            Err(Stop::Refused(reason)) => {
+                self.refusals.push(Refusal { place, reason })?;
+                Ok(())
             }
-            Ok(())
+            Err(Stop::Memory) => Err(Failure::Memory),
         }
-        Action::Call(lines) => {
-            let frame = made(texts, place, lines, 1, state.conditions());
-            enter(texts, progress, place, frame)
-        }
-        Action::Repeat(lines, rounds) => {
-            let begun = progress.begun.unwrap_or(place);
-            let frame = made(texts, begun, lines, rounds, state.conditions());
-            enter(texts, progress, begun, frame)
-        }
-        Action::Include(name) => match number_of(texts, name.as_slice()) {
-            Some(number) => enter(texts, progress, place, whole(texts, number)),
-            None => Err(Failure::Wanted(place, name)),
-        },
     }
-}
 
-/// Keeps a line for the second pass; reads no more if that were too many characters.
-fn keep<'a>(
-    texts: &'a [Text<'a>],
-    progress: &mut Progress<'a>,
-    line: SourceLine,
-) -> Result<(), Failure>
-    requires sound { IsSound texts.now progress.old }
-    requires line { IsLine texts.now line.place }
-    ensures { GoesOn texts.now progress.new result }
-{
-    progress.length = progress.length.saturating_add(line.text.len());
-    if progress.length <= LENGTH_LIMIT {
-        progress.lines.push(line)?;
-        return Ok(());
+    /// Does with a line what the names and macros say.
+    fn act(
+        &mut self,
+        texts: &'a [Text<'a>],
+        state: &mut State,
+        line: SourceLine,
+        action: Action,
+    ) -> Result<(), Failure>
+        requires { Takes texts.now self.old line.place }
+        ensures { GoesOn texts.now self.new result }
+    {
+        let place = line.place;
+        match action {
+            Action::Leave => Ok(()),
+            Action::Keep => self.keep(texts, line),
+            Action::Gather => {
+                self.begun = Some(place);
+                Ok(())
+            }
+            Action::End => {
+                if let Some(frame) = self.frames.pop() {
+                    state.leave(conditions_before(&frame));
+                }
+                Ok(())
+            }
+            Action::Call(lines) => {
+                let frame = made(texts, place, lines, 1, state.conditions());
+                self.enter(texts, place, frame)
+            }
+            Action::Repeat(lines, rounds) => {
+                let begun = self.begun.unwrap_or(place);
+                let frame = made(texts, begun, lines, rounds, state.conditions());
+                self.enter(texts, begun, frame)
+            }
+            Action::Include(name) => match number_of(texts, name.as_slice()) {
+                Some(number) => self.enter(texts, place, whole(texts, number)),
+                None => Err(Failure::Wanted(place, name)),
+            },
+        }
     }
-    end(texts, progress, line.place, Reason::TooLong);
-    Ok(())
+
+    /// Keeps a line for the second pass; reads no more if that were too many characters.
+    fn keep(&mut self, texts: &'a [Text<'a>], line: SourceLine) -> Result<(), Failure>
+        requires { Takes texts.now self.old line.place }
+        ensures { GoesOn texts.now self.new result }
+    {
+        self.length = self.length.saturating_add(line.text.len());
+        if self.length <= LENGTH_LIMIT {
+            self.lines.push(line)?;
+            return Ok(());
+        }
+        self.end(texts, line.place, Reason::TooLong);
+        Ok(())
+    }
+
+    /// Has a frame read next, which a line at `place` has made.
+    fn enter(
+        &mut self,
+        texts: &'a [Text<'a>],
+        place: Place,
+        frame: Frame<'a>,
+    ) -> Result<(), Failure>
+        requires line { Takes texts.now self.old place }
+        requires frame { IsFrame texts.now frame }
+        ensures { GoesOn texts.now self.new result }
+    {
+        if self.frames.len() < DEPTH_LIMIT {
+            self.frames.push(frame)?;
+            return Ok(());
+        }
+        // what follows would be refused again and again
+        self.end(texts, place, Reason::TooDeep);
+        Ok(())
+    }
+
+    /// Ends the work at a line, before all lines are read.
+    fn end(&mut self, texts: &'a [Text<'a>], place: Place, reason: Reason)
+        requires { Takes texts.now self.old place }
+        ensures { IsSound texts.now self.new }
+    {
+        self.frames.clear();
+        self.end = Some(Refusal { place, reason });
+    }
 }
 
 /// The number of the first text of this name, however its letters are written.
@@ -210,37 +231,6 @@ fn number_of(texts: &[Text], name: &[u8]) -> Option<usize>
         number = number.saturating_add(1);
     }
     None
-}
-
-/// Has a frame read next, which a line at `place` has made.
-fn enter<'a>(
-    texts: &'a [Text<'a>],
-    progress: &mut Progress<'a>,
-    place: Place,
-    frame: Frame<'a>,
-) -> Result<(), Failure>
-    requires sound { IsSound texts.now progress.old }
-    requires line { IsLine texts.now place }
-    requires frame { IsFrame texts.now frame }
-    ensures { GoesOn texts.now progress.new result }
-{
-    if progress.frames.len() < DEPTH_LIMIT {
-        progress.frames.push(frame)?;
-        return Ok(());
-    }
-    // what follows would be refused again and again
-    end(texts, progress, place, Reason::TooDeep);
-    Ok(())
-}
-
-/// Ends the work at a line, before all lines are read.
-fn end<'a>(texts: &'a [Text<'a>], progress: &mut Progress<'a>, place: Place, reason: Reason)
-    requires sound { IsSound texts.now progress.old }
-    requires line { IsLine texts.now place }
-    ensures { IsSound texts.now progress.new }
-{
-    progress.frames.clear();
-    progress.end = Some(Refusal { place, reason });
 }
 
 /// What the first pass leaves, at the end of all lines.

@@ -1,6 +1,7 @@
 //! What the lines of a source do in the first pass: macros, conditions and repetitions, and the meanings of names.
+use crate::action::Action;
 use crate::condition::{ConditionLine, Conditions, Question, condition_line};
-use crate::macros::{Gathered, Macros, Purpose, arguments_of, characters_of, names_of};
+use crate::macros::{Macros, Purpose, arguments_of, characters_of, names_of};
 use crate::names::Names;
 use masm_line::statement::is_among;
 use masm_text::name::Name;
@@ -9,25 +10,6 @@ use masm_text::refusal::{Reason, Stop};
 use masm_text::token::{after_blanks, tokens_of};
 use masm_value::expression::value_of;
 use std::alloc::{AllocError, Global};
-
-/// What becomes of a line.
-#[derive(Drop)]
-pub enum Action {
-    /// The line is kept for the second pass.
-    Keep,
-    /// The line is left out.
-    Leave,
-    /// The line is left out, and begins lines that are gathered.
-    Gather,
-    /// Lines that the line makes come next.
-    Call(Vec<Vec<u8>>),
-    /// Lines that were gathered come next, as many times as the number says; the line that began them makes them.
-    Repeat(Vec<Vec<u8>>, u32),
-    /// The text of this name comes next.
-    Include(Vec<u8>),
-    /// The macro whose line this is ends here.
-    End,
-}
 
 /// What the first pass knows.
 #[derive(Drop)]
@@ -100,10 +82,8 @@ impl State {
             }
             return Ok(Action::Leave);
         }
-        match self.macros.gather(line)? {
-            Some(Gathered::Nothing) => return Ok(Action::Leave),
-            Some(Gathered::Repeat(lines, rounds)) => return Ok(Action::Repeat(lines, rounds)),
-            None => {}
+        if let Some(action) = self.macros.gather(line)? {
+            return Ok(action);
         }
         let Some((first, after)) = split_word(line) else {
             return self.keep(line);
@@ -177,14 +157,16 @@ impl State {
             && let Some((second, _)) = split_word(later)
             && self.macros.has(second)
         {
-            let lines = label_and_call(self.alloc, first, later)?;
-            return Ok(Action::Call(lines));
+            let mut label = Vec::from_slice(self.alloc, first.spelling())?;
+            label.push(b':')?;
+            let call = Vec::from_slice(self.alloc, later)?;
+            return Ok(Action::Call(vec![in self.alloc; label, call]?));
         }
         if !self.texts.is_empty() {
             let replaced = with_arguments(self.alloc, line, self.texts.as_slice())?;
             if replaced.as_slice() != line {
                 self.macros.count(1)?;
-                return Ok(Action::Call(one_line(self.alloc, replaced)?));
+                return Ok(Action::Call(vec![in self.alloc; replaced]?));
             }
         }
         self.keep(line)
@@ -206,12 +188,14 @@ impl State {
     /// Takes in a line that belongs to an IF.
     fn take_condition(&mut self, line: ConditionLine, after: &[u8]) -> Result<(), Stop> {
         match line {
-            ConditionLine::If(question) => {
-                let holds = !self.conditions.is_skipped() && self.answer(question, after)?;
+            ConditionLine::If(question, wanted) => {
+                let is_skipped = self.conditions.is_skipped();
+                let holds = !is_skipped && self.answer(question, after)? == wanted;
                 self.conditions.begin(holds)
             }
-            ConditionLine::ElseIf(question) => {
-                let holds = self.conditions.is_asked() && self.answer(question, after)?;
+            ConditionLine::ElseIf(question, wanted) => {
+                let is_asked = self.conditions.is_asked();
+                let holds = is_asked && self.answer(question, after)? == wanted;
                 self.conditions.turn(holds)
             }
             ConditionLine::Else => self.conditions.turn(true),
@@ -222,15 +206,11 @@ impl State {
     /// The answer to what an IF asks.
     fn answer(&self, question: Question, text: &[u8]) -> Result<bool, Stop> {
         match question {
-            Question::First(is_first) => Ok(is_first),
+            Question::FirstPass => Ok(true),
             Question::Number => Ok(self.number_of(text)? != 0),
-            Question::Zero => Ok(self.number_of(text)? == 0),
             Question::Defined => Ok(self.is_defined(text)),
-            Question::NotDefined => Ok(!self.is_defined(text)),
             Question::Blank => Ok(bare(bare(text)).is_empty()),
-            Question::NotBlank => Ok(!bare(bare(text)).is_empty()),
             Question::Same(ignores_case) => Ok(are_same(text, ignores_case)),
-            Question::Different(ignores_case) => Ok(!are_same(text, ignores_case)),
         }
     }
 
@@ -342,23 +322,6 @@ fn without_marks(alloc: Global, text: &[u8]) -> Result<Vec<u8>, AllocError> {
         }
     }
     Ok(plain)
-}
-
-/// A label on a line of its own, and the macro's call after it.
-fn label_and_call(alloc: Global, name: Name, call: &[u8]) -> Result<Vec<Vec<u8>>, AllocError> {
-    let mut label = Vec::from_slice(alloc, name.spelling())?;
-    label.push(b':')?;
-    let mut lines = Vec::new(alloc);
-    lines.push(label)?;
-    lines.push(Vec::from_slice(alloc, call)?)?;
-    Ok(lines)
-}
-
-/// A line by itself.
-fn one_line(alloc: Global, line: Vec<u8>) -> Result<Vec<Vec<u8>>, AllocError> {
-    let mut lines = Vec::new(alloc);
-    lines.push(line)?;
-    Ok(lines)
 }
 
 /// The name of a text without quotes around it.
