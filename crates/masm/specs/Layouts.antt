@@ -3,8 +3,8 @@
 use Rattle.std.specs.Prelude.{List}
 use Rattle.std.specs.List.{All}
 use Rattle.masm_text.specs.UserLines.{AreNotes, AreRefusals, AreTranslated, IsLine}
-use Rattle.masm_text.specs.declared.place.Line.{Line}
 use Rattle.masm_text.specs.declared.place.Text.{Text}
+use Rattle.masm.specs.declared.layout.Layout.{Layout}
 use Rattle.masm.specs.declared.layout.Placed.{Placed}
 use Rattle.masm.specs.declared.translation.Translation.{Translation}
 use Rattle.masm.specs.declared.writing.Made.{Made}
@@ -13,9 +13,9 @@ use Rattle.masm.specs.declared.writing.Made.{Made}
 abbrev pub ArePlaced : List Text → List Placed → Type 0
 ArePlaced texts placed = All (λ (one : Placed). IsLine texts one.line.place) placed
 
--- so do those that are laid out, and those that aren't yet
-abbrev pub AreLaid : List Text → List Placed → List Line → Type 0
-AreLaid texts placed lines = ArePlaced texts placed × AreTranslated texts lines
+-- the lines that are laid out come from the user's lines, and so do all that were made
+abbrev pub IsLaid : List Text → Layout → Type 0
+IsLaid texts layout = ArePlaced texts layout.placed.now × AreTranslated texts layout.lines.items
 
 -- all that is made so far comes from the user's lines
 abbrev pub AreMade : List Text → Made → Type 0

@@ -1,7 +1,7 @@
 //! The lines of each segment, and how they become one text.
 ghost use Rattle.std.specs.Prelude.{IfOk, IfErr, IfSome};
 ghost use Rattle.masm_text.specs.UserLines.{AreTranslated, IsFailure, IsLine};
-ghost use Rattle.masm.specs.Layouts.{AreLaid, ArePlaced};
+ghost use Rattle.masm.specs.Layouts.{ArePlaced, IsLaid};
 
 use masm_line::output::{write_name, write_spelled};
 use masm_text::name::Name;
@@ -27,28 +27,63 @@ pub struct Plan<'s> {
     pub has_origin: bool,
 }
 
+impl<'s> Plan<'s> {
+    /// The number of the segment of code.
+    fn code(&self) -> usize {
+        self.symbols.named_segment(b"_TEXT").unwrap_or(0)
+    }
+
+    /// Whether a segment is of a group, or, without one, neither the code's nor one to which AT gives a paragraph.
+    fn has(&self, group: Option<usize>, number: usize) -> bool {
+        match group {
+            Some(leader) => self.symbols.leader(number) == leader,
+            None => number != self.code() && !self.symbols.is_elsewhere(number),
+        }
+    }
+
+    /// Whether a segment begins a group that is laid out by itself.
+    fn is_group(&self, number: usize) -> bool {
+        if self.symbols.is_tiny {
+            self.symbols.is_elsewhere(number)
+        } else {
+            self.symbols.leader(number) == number
+        }
+    }
+}
+
+/// Lines that are laid out.
+#[derive(Drop)]
+pub struct Layout<'s> {
+    plan: Plan<'s>,
+    /// All lines, in the order in which they were made.
+    placed: &'s [Placed],
+    /// Those that are laid out so far.
+    lines: Vec<Line>,
+}
+
 /// The text of a program.
-pub fn lay(
+pub fn lay<'s>(
     alloc: Global,
     texts: &[Text],
-    plan: Plan,
-    placed: &[Placed],
+    plan: Plan<'s>,
+    placed: &'s [Placed],
 ) -> Result<Vec<Line>, Failure>
     requires { ArePlaced texts.now placed.now }
     ensures ok { IfOk result (λ lines. AreTranslated texts.now lines.items) }
     ensures err { IfErr result (IsFailure texts.now) }
 {
+    let lines = Vec::new(alloc);
     let Some(first) = placed.first() else {
-        return Ok(Vec::new(alloc));
+        return Ok(lines);
     };
     let place = first.line.place;
-    let laid = if plan.symbols.is_tiny {
-        tiny(plan, texts, placed, place)
-    } else {
-        segmented(plan, texts, placed, place)
+    let mut layout = Layout {
+        plan,
+        placed,
+        lines,
     };
-    match laid {
-        Ok(lines) => Ok(lines),
+    match layout.program(texts, place) {
+        Ok(()) => Ok(layout.lines),
         Err(Stop::Memory) => Err(Failure::Memory),
         Err(Stop::Refused(reason)) => {
             let refusal = Refusal { place, reason };
@@ -57,21 +92,125 @@ pub fn lay(
     }
 }
 
-/// Puts a line after the others.
-fn push(
-    plan: Plan,
-    texts: &[Text],
-    lines: &mut Vec<Line>,
-    place: Place,
-    text: &[u8],
-) -> Result<(), Stop>
-    requires place { IsLine texts.now place }
-    requires lines { AreTranslated texts.now lines.old.items }
-    ensures { AreTranslated texts.now lines.new.items }
-{
-    let text = Vec::from_slice(plan.alloc, text)?;
-    lines.push(Line { place, text })?;
-    Ok(())
+impl<'s> Layout<'s> {
+    /// Lays out a program, of which the lines that no segment has stand at `place`.
+    fn program(&mut self, texts: &[Text], place: Place) -> Result<(), Stop>
+        requires laid { IsLaid texts.now self.old }
+        requires place { IsLine texts.now place }
+        ensures { IsLaid texts.now self.new }
+    {
+        if self.plan.symbols.is_tiny {
+            self.only_segment(texts, place)?;
+            self.groups(texts)
+        } else {
+            self.groups(texts)?;
+            self.entry(texts, place)
+        }
+    }
+
+    /// Puts a line after the others.
+    fn push(&mut self, texts: &[Text], place: Place, text: &[u8]) -> Result<(), Stop>
+        requires laid { IsLaid texts.now self.old }
+        requires place { IsLine texts.now place }
+        ensures { IsLaid texts.now self.new }
+    {
+        let text = Vec::from_slice(self.plan.alloc, text)?;
+        self.lines.push(Line { place, text })?;
+        Ok(())
+    }
+
+    /// Puts the lines of a segment after the others.
+    fn segment(&mut self, texts: &[Text], number: usize) -> Result<(), Stop>
+        requires { IsLaid texts.now self.old }
+        ensures { IsLaid texts.now self.new }
+    {
+        let placed = self.placed;
+        for one in placed {
+            if one.segment == number {
+                self.push(texts, one.line.place, one.line.text.as_slice())?;
+            }
+        }
+        Ok(())
+    }
+
+    /// Puts the lines of several segments after the others: those of a group, or, without one, those but the code's for
+    /// which AT gives no paragraph.
+    fn segments(&mut self, texts: &[Text], group: Option<usize>) -> Result<(), Stop>
+        requires { IsLaid texts.now self.old }
+        ensures { IsLaid texts.now self.new }
+    {
+        for number in 0..self.plan.symbols.segments.len() {
+            if self.plan.has(group, number) {
+                self.segment(texts, number)?;
+            }
+        }
+        Ok(())
+    }
+
+    /// Puts the groups of segments after the others; in a program of one segment those to which AT gives a paragraph.
+    fn groups(&mut self, texts: &[Text]) -> Result<(), Stop>
+        requires { IsLaid texts.now self.old }
+        ensures { IsLaid texts.now self.new }
+    {
+        for number in 0..self.plan.symbols.segments.len() {
+            if self.plan.is_group(number) {
+                self.group(texts, number)?;
+            }
+        }
+        Ok(())
+    }
+
+    /// Puts a group of segments after the others, between the lines that open and close it; nothing if it has no lines.
+    fn group(&mut self, texts: &[Text], leader: usize) -> Result<(), Stop>
+        requires { IsLaid texts.now self.old }
+        ensures { IsLaid texts.now self.new }
+    {
+        let symbols = self.plan.symbols;
+        let Some(segment) = symbols.segments.get(leader) else {
+            return Ok(());
+        };
+        let Some(first) = first_place(self.plan, texts, self.placed, leader) else {
+            return Ok(());
+        };
+        let text = opening(self.plan, segment.name, symbols.paragraph(leader))?;
+        self.push(texts, first, text.as_slice())?;
+        self.segments(texts, Some(leader))?;
+        self.push(texts, first, b"ENDS")
+    }
+
+    /// Puts the segment of a program that is one segment after the others, its code first.
+    fn only_segment(&mut self, texts: &[Text], place: Place) -> Result<(), Stop>
+        requires laid { IsLaid texts.now self.old }
+        requires place { IsLine texts.now place }
+        ensures { IsLaid texts.now self.new }
+    {
+        let name = Name::of(b"_TEXT").ok_or(Reason::LongName)?;
+        let text = opening(self.plan, name, 0x100)?;
+        self.push(texts, place, text.as_slice())?;
+        if !self.plan.has_origin {
+            self.push(texts, place, b"ORG 100h")?;
+        }
+        let code = self.plan.code();
+        self.segment(texts, code)?;
+        self.segments(texts, None)?;
+        self.push(texts, place, b"ENDS")
+    }
+
+    /// Puts the jump to the program's entry, where the processor begins, after the others.
+    fn entry(&mut self, texts: &[Text], place: Place) -> Result<(), Stop>
+        requires laid { IsLaid texts.now self.old }
+        requires place { IsLine texts.now place }
+        ensures { IsLaid texts.now self.new }
+    {
+        let Some(entry) = self.plan.entry else {
+            return Ok(());
+        };
+        let mut text = Vec::from_slice(self.plan.alloc, b"JMP FAR ")?;
+        write_name(&mut text, entry)?;
+        self.push(texts, place, b"SEGMENT M_0 AT 0FFFFh")?;
+        self.push(texts, place, text.as_slice())?;
+        self.push(texts, place, b"ENDS")
+    }
 }
 
 /// The line that opens a segment.
@@ -81,67 +220,6 @@ fn opening(plan: Plan, name: Name, paragraph: i64) -> Result<Vec<u8>, Stop> {
     text.extend_from_slice(b" AT ")?;
     write_spelled(&mut text, paragraph, Some(Spelling::Hexadecimal(1)))?;
     Ok(text)
-}
-
-/// Puts the lines of a segment after the others.
-fn push_segment(
-    plan: Plan,
-    texts: &[Text],
-    lines: &mut Vec<Line>,
-    placed: &[Placed],
-    number: usize,
-) -> Result<(), Stop>
-    requires { AreLaid texts.now placed.now lines.old.items }
-    ensures { AreTranslated texts.now lines.new.items }
-{
-    for one in placed {
-        if one.segment == number {
-            push(plan, texts, lines, one.line.place, one.line.text.as_slice())?;
-        }
-    }
-    Ok(())
-}
-
-/// Puts the lines of all segments of a group after the others.
-fn push_group(
-    plan: Plan,
-    texts: &[Text],
-    lines: &mut Vec<Line>,
-    placed: &[Placed],
-    leader: usize,
-) -> Result<(), Stop>
-    requires { AreLaid texts.now placed.now lines.old.items }
-    ensures { AreTranslated texts.now lines.new.items }
-{
-    for number in 0..plan.symbols.segments.len() {
-        if plan.symbols.leader(number) == leader {
-            push_segment(plan, texts, lines, placed, number)?;
-        }
-    }
-    Ok(())
-}
-
-/// Puts a group of segments after the others, between the lines that open and close it; nothing if it has no lines.
-fn push_whole(
-    plan: Plan,
-    texts: &[Text],
-    lines: &mut Vec<Line>,
-    placed: &[Placed],
-    leader: usize,
-) -> Result<(), Stop>
-    requires { AreLaid texts.now placed.now lines.old.items }
-    ensures { AreTranslated texts.now lines.new.items }
-{
-    let Some(segment) = plan.symbols.segments.get(leader) else {
-        return Ok(());
-    };
-    let Some(first) = first_place(plan, texts, placed, leader) else {
-        return Ok(());
-    };
-    let text = opening(plan, segment.name, plan.symbols.paragraph(leader))?;
-    push(plan, texts, lines, first, text.as_slice())?;
-    push_group(plan, texts, lines, placed, leader)?;
-    push(plan, texts, lines, first, b"ENDS")
 }
 
 /// The user's line from which the first line of a group of segments comes.
@@ -155,74 +233,4 @@ fn first_place(plan: Plan, texts: &[Text], placed: &[Placed], leader: usize) -> 
         }
     }
     None
-}
-
-/// The text of a program that is one segment, the code's lines first; segments to which AT gives a paragraph follow.
-fn tiny(plan: Plan, texts: &[Text], placed: &[Placed], place: Place) -> Result<Vec<Line>, Stop>
-    requires placed { ArePlaced texts.now placed.now }
-    requires place { IsLine texts.now place }
-    ensures { IfOk result (λ lines. AreTranslated texts.now lines.items) }
-{
-    let mut lines = Vec::new(plan.alloc);
-    let code = plan.symbols.named_segment(b"_TEXT");
-    let name = Name::of(b"_TEXT").ok_or(Reason::LongName)?;
-    push(
-        plan,
-        texts,
-        &mut lines,
-        place,
-        opening(plan, name, 0x100)?.as_slice(),
-    )?;
-    if !plan.has_origin {
-        push(plan, texts, &mut lines, place, b"ORG 100h")?;
-    }
-    push_segment(plan, texts, &mut lines, placed, code)?;
-    for number in 0..plan.symbols.segments.len() {
-        if number != code && !plan.symbols.is_elsewhere(number) {
-            push_segment(plan, texts, &mut lines, placed, number)?;
-        }
-    }
-    push(plan, texts, &mut lines, place, b"ENDS")?;
-    push_elsewhere(plan, texts, &mut lines, placed)?;
-    Ok(lines)
-}
-
-/// Puts the segments to which AT gives a paragraph after the others.
-fn push_elsewhere(
-    plan: Plan,
-    texts: &[Text],
-    lines: &mut Vec<Line>,
-    placed: &[Placed],
-) -> Result<(), Stop>
-    requires { AreLaid texts.now placed.now lines.old.items }
-    ensures { AreTranslated texts.now lines.new.items }
-{
-    for number in 0..plan.symbols.segments.len() {
-        if plan.symbols.is_elsewhere(number) {
-            push_whole(plan, texts, lines, placed, number)?;
-        }
-    }
-    Ok(())
-}
-
-/// The text of a program of several segments, with a jump to its entry where the processor begins.
-fn segmented(plan: Plan, texts: &[Text], placed: &[Placed], place: Place) -> Result<Vec<Line>, Stop>
-    requires placed { ArePlaced texts.now placed.now }
-    requires place { IsLine texts.now place }
-    ensures { IfOk result (λ lines. AreTranslated texts.now lines.items) }
-{
-    let mut lines = Vec::new(plan.alloc);
-    for number in 0..plan.symbols.segments.len() {
-        if plan.symbols.leader(number) == number {
-            push_whole(plan, texts, &mut lines, placed, number)?;
-        }
-    }
-    if let Some(entry) = plan.entry {
-        push(plan, texts, &mut lines, place, b"SEGMENT M_0 AT 0FFFFh")?;
-        let mut text = Vec::from_slice(plan.alloc, b"JMP FAR ")?;
-        write_name(&mut text, entry)?;
-        push(plan, texts, &mut lines, place, text.as_slice())?;
-        push(plan, texts, &mut lines, place, b"ENDS")?;
-    }
-    Ok(lines)
 }

@@ -1,9 +1,9 @@
 //! How a line becomes lines of the dialect.
 use crate::layout::Plan;
-use masm_line::data::{count_of_items, data_text, dup_count};
+use masm_line::data::{count_of_items, data_text, instance_count};
 use masm_line::instruction::{Around, Assumed, instruction_lines};
 use masm_line::output::{write_name, write_number, write_spelled};
-use masm_line::statement::{Statement, is_mark, split_item, split_label, statement_of, word_of};
+use masm_line::statement::{Statement, split_item, split_label, statement_of};
 use masm_reading::names::{Names, constant_here, here, segment_name};
 use masm_text::name::Name;
 use masm_text::number::Spelling;
@@ -14,8 +14,8 @@ use masm_value::symbol::{Field, Symbol, Symbols};
 use masm_value::value::{Value, Width};
 use std::alloc::{AllocError, Global};
 
-/// How many lines of data may come of a line of structures, but for the last of them.
-const LINE_LIMIT: usize = 0x1_0000;
+/// How many lines of data may come of a line of structures, but for those of the last structure.
+const INSTANCE_LIMIT: usize = 0x1_0000;
 
 /// A procedure whose end hasn't come.
 #[derive(Drop)]
@@ -45,6 +45,8 @@ pub struct Writer {
     /// How many labels `@@` came so far.
     anonymous: u32,
     has_origin: bool,
+    /// What the line becomes, each label by itself.
+    texts: Vec<Vec<u8>>,
     /// What is to be said of the line.
     remark: Option<Remark>,
 }
@@ -76,6 +78,7 @@ impl Writer {
             },
             anonymous: 0,
             has_origin: false,
+            texts: Vec::new(alloc),
             remark: None,
         }
     }
@@ -105,21 +108,29 @@ impl Writer {
         self.remark = None;
         let tokens = tokens_of(self.alloc, line)?;
         let (label, tokens) = split_label(tokens.as_slice());
-        let mut texts = Vec::new(self.alloc);
+        self.texts = Vec::new(self.alloc);
         if let Some(name) = label {
-            texts.push(self.label(name)?)?;
+            self.label(name)?;
         }
-        self.statement(&mut texts, statement_of(tokens))?;
-        joined(self.alloc, texts)
+        self.statement(statement_of(tokens))?;
+        joined(self.alloc, self.texts.as_slice())
     }
 
-    /// The line of a label.
-    fn label(&mut self, name: Name) -> Result<Vec<u8>, Stop> {
-        if !name.is(b"@@") {
-            return label_text(self.alloc, self.light()?.known_as(name)?);
-        }
-        self.anonymous = self.anonymous.saturating_add(1);
-        label_text(self.alloc, anonymous_name(self.alloc, self.anonymous)?)
+    /// Writes a line after those that the line has become so far.
+    fn push(&mut self, text: Vec<u8>) -> Result<(), Stop> {
+        Ok(self.texts.push(text)?)
+    }
+
+    /// Writes a label.
+    fn label(&mut self, name: Name) -> Result<(), Stop> {
+        let written = if name.is(b"@@") {
+            self.anonymous = self.anonymous.saturating_add(1);
+            anonymous_name(self.alloc, self.anonymous)?
+        } else {
+            self.light()?.known_as(name)?
+        };
+        let text = label_text(self.alloc, written)?;
+        self.push(text)
     }
 
     /// What the line of the dialect is written in the light of.
@@ -134,64 +145,57 @@ impl Writer {
     }
 
     /// Writes what a line says after its label.
-    fn statement(
-        &mut self,
-        texts: &mut Vec<Vec<u8>>,
-        statement: Statement<'_, '_>,
-    ) -> Result<(), Stop> {
+    fn statement(&mut self, statement: Statement<'_, '_>) -> Result<(), Stop> {
         match statement {
             Statement::Nothing
             | Statement::EndSegment
             | Statement::Group(..)
             | Statement::Structure(_)
-            | Statement::End(_) => Ok(()),
-            Statement::Remarked(remark) => {
-                self.remark = Some(remark);
-                Ok(())
-            }
+            | Statement::End(_) => {}
+            Statement::Remarked(remark) => self.remark = Some(remark),
             Statement::Model(_) => {
-                let data = self.symbols.data_segment();
+                let data = self.symbols.named_segment(b"_DATA");
                 self.assumed.data = data;
                 self.assumed.stack = data;
-                Ok(())
             }
-            Statement::Segment(name, _) => self.open(texts, name),
-            Statement::Assume(tokens) => {
-                self.assume(tokens);
-                Ok(())
-            }
-            Statement::Procedure(name, rest) => self.procedure(texts, name, rest),
+            Statement::Segment(name, _) => self.open(name)?,
+            Statement::Assume(tokens) => self.assume(tokens),
+            Statement::Procedure(name, rest) => self.procedure(name, rest)?,
             Statement::EndProcedure => {
                 let _ = self.procedures.pop();
-                Ok(())
             }
-            Statement::Label(name, _) => Ok(texts.push(self.label(name)?)?),
-            Statement::Constant(name, tokens, is_again) => {
-                self.constant(texts, name, tokens, is_again)
-            }
-            Statement::Data(name, width, tokens) => self.data(texts, name, width, tokens),
+            Statement::Label(name, _) => self.label(name)?,
+            Statement::Constant(name, tokens, is_again) => self.constant(name, tokens, is_again)?,
+            Statement::Data(name, width, tokens) => self.data(name, width, tokens)?,
             Statement::Instance(name, structure, times, items) => {
-                self.instance(texts, name, structure, times, items)
+                self.instance(name, structure, times, items)?;
             }
-            Statement::Origin(tokens) => self.origin(texts, tokens),
-            Statement::Startup => self.startup(texts),
-            Statement::Exit(tokens) => self.exit(texts, tokens),
-            Statement::Instruction(first, rest) => self.instruction(texts, first, rest),
-            Statement::Refused(reason) => Err(Stop::Refused(reason)),
+            Statement::Origin(tokens) => self.origin(tokens)?,
+            Statement::Startup => self.startup()?,
+            Statement::Exit(tokens) => self.exit(tokens)?,
+            Statement::Instruction(first, rest) => self.instruction(first, rest)?,
+            Statement::Refused(reason) => return Err(Stop::Refused(reason)),
         }
+        Ok(())
     }
 
     /// Goes on in a segment. A program without an entry begins with .CODE.
-    fn open(&mut self, texts: &mut Vec<Vec<u8>>, name: Name) -> Result<(), Stop> {
+    fn open(&mut self, name: Name) -> Result<(), Stop> {
         self.segment = self.symbols.open(segment_name(name)?)?;
         self.location = 0;
         let has_entry = self.entry.is_some() || self.has_startup || self.symbols.is_tiny;
-        if !has_entry && name.is(b".CODE") {
-            let entry = Name::of(b".00").ok_or(Reason::LongName)?;
-            self.entry = Some(entry);
-            texts.push(label_text(self.alloc, entry)?)?;
+        if has_entry || !name.is(b".CODE") {
+            return Ok(());
         }
-        Ok(())
+        self.enter(b".00")
+    }
+
+    /// Has the program begin here, by a name that no user can write.
+    fn enter(&mut self, word: &[u8]) -> Result<(), Stop> {
+        let entry = Name::of(word).ok_or(Reason::LongName)?;
+        self.entry = Some(entry);
+        let text = label_text(self.alloc, entry)?;
+        self.push(text)
     }
 
     /// Takes in which segments the segment registers are assumed to hold.
@@ -199,14 +203,10 @@ impl Writer {
         let mut left = Some(tokens);
         while let Some(tokens) = left {
             let (item, after) = split_item(tokens);
-            if let [register, colon, segment, ..] = item
-                && is_mark(Some(colon), Mark::Colon)
-                && let (Some(register), Some(segment)) = (
-                    word_of(Some(register)),
-                    word_of(Some(segment)),
-                )
+            if let [Token::Word(register), colon, Token::Word(segment), ..] = item
+                && colon.is_mark(Mark::Colon)
             {
-                self.assume_one(register, segment);
+                self.assume_one(*register, *segment);
             }
             left = after;
         }
@@ -216,7 +216,9 @@ impl Writer {
     fn assume_one(&mut self, register: Name, segment: Name) {
         let number = match self.symbols.get(segment) {
             Some(Symbol::Segment(number)) => Some(self.symbols.leader(number)),
-            _ if segment.is(b"@DATA") || segment.is(b"DGROUP") => self.symbols.data_segment(),
+            _ if segment.is(b"@DATA") || segment.is(b"DGROUP") => {
+                self.symbols.named_segment(b"_DATA")
+            }
             _ => None,
         };
         match register.text() {
@@ -228,17 +230,12 @@ impl Writer {
     }
 
     /// Writes the first lines of a procedure: its label, and what saves the registers that USES names.
-    fn procedure(
-        &mut self,
-        texts: &mut Vec<Vec<u8>>,
-        name: Name,
-        rest: &[Token],
-    ) -> Result<(), Stop> {
-        texts.push(self.label(name)?)?;
+    fn procedure(&mut self, name: Name, rest: &[Token]) -> Result<(), Stop> {
+        self.label(name)?;
         let is_far = matches!(self.symbols.get(name), Some(Symbol::Far));
         let saved = used_registers(self.alloc, rest)?;
         for register in saved.as_slice() {
-            texts.push(line_of(self.alloc, b"PUSH ", *register)?)?;
+            self.texts.push(line_of(self.alloc, b"PUSH ", *register)?)?;
         }
         self.procedures.push(Procedure {
             name,
@@ -249,21 +246,16 @@ impl Writer {
     }
 
     /// Writes an instruction; before a return what USES has saved is restored.
-    fn instruction(
-        &mut self,
-        texts: &mut Vec<Vec<u8>>,
-        first: Name,
-        rest: &[Token],
-    ) -> Result<(), Stop> {
-        let mut is_far = false;
-        if let Some(procedure) = self.procedures.last() {
-            is_far = procedure.is_far;
-            if first.is(b"RET") || first.is(b"RETN") || first.is(b"RETF") {
-                for register in procedure.saved.iter().rev() {
-                    texts.push(line_of(self.alloc, b"POP ", *register)?)?;
-                }
+    fn instruction(&mut self, first: Name, rest: &[Token]) -> Result<(), Stop> {
+        if first.is(b"RET") || first.is(b"RETN") || first.is(b"RETF") {
+            for line in self.restoring()? {
+                self.push(line)?;
             }
         }
+        let is_far = self
+            .procedures
+            .last()
+            .is_some_and(|procedure| procedure.is_far);
         let around = Around {
             is_far,
             segment: self.segment,
@@ -274,19 +266,24 @@ impl Writer {
             self.remark = Some(Remark::Repeated);
         }
         for line in lines {
-            texts.push(line)?;
+            self.push(line)?;
         }
         Ok(())
     }
 
+    /// The lines that restore the registers which the procedure around has saved.
+    fn restoring(&self) -> Result<Vec<Vec<u8>>, AllocError> {
+        let mut lines = Vec::new(self.alloc);
+        if let Some(procedure) = self.procedures.last() {
+            for register in procedure.saved.iter().rev() {
+                lines.push(line_of(self.alloc, b"POP ", *register)?)?;
+            }
+        }
+        Ok(lines)
+    }
+
     /// Gives a constant its value. If it still names the place of its line, that gets a label.
-    fn constant(
-        &mut self,
-        texts: &mut Vec<Vec<u8>>,
-        name: Name,
-        tokens: &[Token],
-        is_again: bool,
-    ) -> Result<(), Stop> {
+    fn constant(&mut self, name: Name, tokens: &[Token], is_again: bool) -> Result<(), Stop> {
         let number = self.constant;
         self.constant = number.saturating_add(1);
         let here = constant_here(self.alloc, number, None)?;
@@ -294,21 +291,19 @@ impl Writer {
         if let Some(label) = here.plus
             && (names(value.plus, label) || names(value.minus, label))
         {
-            texts.push(self.label(label)?)?;
+            self.label(label)?;
         }
-        self.symbols.set(name, Symbol::Value(value, is_again))
+        self.symbols.set_constant(name, value, is_again)
     }
 
     /// The value of a constant: the number that the first pass knew, since distances are known to it alone, or else what
     /// its expression is here.
     fn constant_value(&self, number: usize, here: Value, tokens: &[Token]) -> Result<Value, Stop> {
-        let value = value_of(
-            Light {
-                here,
-                ..self.light()?
-            },
-            tokens,
-        );
+        let light = Light {
+            here,
+            ..self.light()?
+        };
+        let value = value_of(light, tokens);
         let Some(Some(known)) = self.constants.get(number) else {
             return value;
         };
@@ -320,53 +315,38 @@ impl Writer {
     }
 
     /// Writes a line of data. In a segment whose paragraph AT gives nothing is placed: the location goes on.
-    fn data(
-        &mut self,
-        texts: &mut Vec<Vec<u8>>,
-        name: Option<Name>,
-        width: Width,
-        tokens: &[Token],
-    ) -> Result<(), Stop> {
+    fn data(&mut self, name: Option<Name>, width: Width, tokens: &[Token]) -> Result<(), Stop> {
         if let Some(name) = name {
-            texts.push(self.label(name)?)?;
+            self.label(name)?;
         }
         let text = data_text(self.light()?, width, tokens)?;
         if !self.symbols.is_elsewhere(self.segment) {
-            return Ok(texts.push(text)?);
+            return self.push(text);
         }
         let count = count_of_items(self.light()?, width, tokens)?.all;
         let size = count.checked_mul(width.bytes()).ok_or(Reason::Overflow)?;
         self.location = self.location.checked_add(size).ok_or(Reason::Overflow)?;
-        let location = Value::number(self.location as i64);
-        Ok(texts.push(origin_text(self.alloc, location)?)?)
+        self.numbered(b"ORG ", Value::number(self.location as i64))
     }
 
     /// Writes the lines of data of a structure's instances: the items that are given, and for the others those of the
     /// fields.
     fn instance(
         &mut self,
-        texts: &mut Vec<Vec<u8>>,
         name: Option<Name>,
         structure: Name,
         times: &[Token],
         items: &[Token],
     ) -> Result<(), Stop> {
         if let Some(name) = name {
-            texts.push(self.label(name)?)?;
+            self.label(name)?;
         }
-        let number = self
-            .symbols
-            .structure(structure)
-            .ok_or(Reason::UnknownStatement)?;
+        let number = self.symbols.structure(structure)?;
         let light = self.light()?;
         let Some(structure) = light.symbols.structures.get(number) else {
             return Ok(());
         };
-        let times = if times.is_empty() {
-            1
-        } else {
-            dup_count(light, times)?
-        };
+        let times = instance_count(light, times)?;
         let mut once = Vec::new(self.alloc);
         let mut left = Some(items);
         for field in structure.fields.as_slice() {
@@ -375,13 +355,13 @@ impl Writer {
             left = after;
         }
         match left {
-            None | Some([]) => repeat(self.alloc, texts, once.as_slice(), times),
+            None | Some([]) => repeat(self.alloc, &mut self.texts, once.as_slice(), times),
             Some(_) => Err(Stop::Refused(Reason::BadData)),
         }
     }
 
     /// Writes an ORG.
-    fn origin(&mut self, texts: &mut Vec<Vec<u8>>, tokens: &[Token]) -> Result<(), Stop> {
+    fn origin(&mut self, tokens: &[Token]) -> Result<(), Stop> {
         let value = value_of(self.light()?, tokens)?;
         let location = value.constant().ok_or(Reason::NotConstant)?;
         match location {
@@ -389,26 +369,23 @@ impl Writer {
             _ => return Err(Stop::Refused(Reason::Overflow)),
         }
         self.has_origin = true;
-        Ok(texts.push(origin_text(self.alloc, value)?)?)
+        self.numbered(b"ORG ", value)
     }
 
     /// Writes what .STARTUP stands for.
-    fn startup(&mut self, texts: &mut Vec<Vec<u8>>) -> Result<(), Stop> {
-        let name = Name::of(b".0").ok_or(Reason::LongName)?;
-        self.entry = Some(name);
-        texts.push(label_text(self.alloc, name)?)?;
+    fn startup(&mut self) -> Result<(), Stop> {
+        self.enter(b".0")?;
         if self.symbols.is_tiny {
             return Ok(());
         }
-        let data = self.symbols.paragraph(self.symbols.named_segment(b"_DATA"));
-        let mut text = Vec::from_slice(self.alloc, b"MOV AX,")?;
-        write_spelled(&mut text, data, Some(Spelling::Hexadecimal(4)))?;
-        texts.push(text)?;
-        Ok(texts.push(Vec::from_slice(self.alloc, b"MOV DS,AX")?)?)
+        let data = self.symbols.named_paragraph(b"_DATA");
+        self.numbered(b"MOV AX,", Value::spelled(data, Spelling::Hexadecimal(4)))?;
+        let text = Vec::from_slice(self.alloc, b"MOV DS,AX")?;
+        self.push(text)
     }
 
     /// Writes what .EXIT stands for, with the exit code that it has.
-    fn exit(&mut self, texts: &mut Vec<Vec<u8>>, tokens: &[Token]) -> Result<(), Stop> {
+    fn exit(&mut self, tokens: &[Token]) -> Result<(), Stop> {
         let code = match tokens {
             [] => 0,
             _ => match value_of(self.light()?, tokens)?.constant() {
@@ -416,10 +393,19 @@ impl Writer {
                 _ => return Err(Stop::Refused(Reason::NotConstant)),
             },
         };
-        let mut text = Vec::from_slice(self.alloc, b"MOV AX,")?;
-        write_spelled(&mut text, 0x4C00 + code, Some(Spelling::Hexadecimal(4)))?;
-        texts.push(text)?;
-        Ok(texts.push(Vec::from_slice(self.alloc, b"INT 21h")?)?)
+        self.numbered(
+            b"MOV AX,",
+            Value::spelled(0x4C00 + code, Spelling::Hexadecimal(4)),
+        )?;
+        let text = Vec::from_slice(self.alloc, b"INT 21h")?;
+        self.push(text)
+    }
+
+    /// Writes a line that begins so, and ends with the number of a value.
+    fn numbered(&mut self, front: &[u8], value: Value) -> Result<(), Stop> {
+        let mut text = Vec::from_slice(self.alloc, front)?;
+        write_spelled(&mut text, value.number, value.spelling)?;
+        self.push(text)
     }
 }
 
@@ -461,13 +447,6 @@ fn line_of(alloc: Global, front: &[u8], register: Name) -> Result<Vec<u8>, Alloc
     Ok(text)
 }
 
-/// The line of an ORG.
-fn origin_text(alloc: Global, location: Value) -> Result<Vec<u8>, AllocError> {
-    let mut text = Vec::from_slice(alloc, b"ORG ")?;
-    write_spelled(&mut text, location.number, location.spelling)?;
-    Ok(text)
-}
-
 /// The line of data of a field: what is given, filled up to the field's length, or else what the field has.
 fn field_text(light: Light, field: &Field, item: &[Token]) -> Result<Vec<u8>, Stop> {
     if item.is_empty() {
@@ -499,7 +478,7 @@ fn repeat(
     times: u32,
 ) -> Result<(), Stop> {
     for _ in 0..times {
-        if texts.len() > LINE_LIMIT {
+        if texts.len() > INSTANCE_LIMIT {
             return Err(Stop::Refused(Reason::TooLong));
         }
         push_copies(alloc, texts, once)?;
@@ -520,20 +499,20 @@ fn push_copies(
 }
 
 /// The texts, with each label on one line with what follows it, unless that is a label too.
-fn joined(alloc: Global, texts: Vec<Vec<u8>>) -> Result<Vec<Vec<u8>>, Stop> {
+fn joined(alloc: Global, texts: &[Vec<u8>]) -> Result<Vec<Vec<u8>>, Stop> {
     let mut lines = Vec::new(alloc);
     let mut front = Vec::new(alloc);
     for text in texts {
-        if text.as_slice().ends_with(b":") {
-            if !front.is_empty() {
-                lines.push(front)?;
-            }
-            front = text;
-        } else {
-            if !front.is_empty() {
-                front.push(b' ')?;
-            }
-            front.extend_from_slice(text.as_slice())?;
+        let is_label = text.as_slice().ends_with(b":");
+        if is_label && !front.is_empty() {
+            lines.push(front)?;
+            front = Vec::new(alloc);
+        }
+        if !front.is_empty() {
+            front.push(b' ')?;
+        }
+        front.extend_from_slice(text.as_slice())?;
+        if !is_label {
             lines.push(front)?;
             front = Vec::new(alloc);
         }
