@@ -4,8 +4,8 @@ use anyhow::{Result, bail};
 use masm::origin::{Origin, origin_of};
 use masm::translate::translate;
 use masm::translation::Translation;
-use masm_text::place::{Line, Place};
-use masm_text::refusal::{Failure, Reason, Remark};
+use masm_text::place::Place;
+use masm_text::refusal::Failure;
 use std::alloc::Global;
 use std::str;
 
@@ -29,28 +29,18 @@ fn push(answer: &mut String, mark: char, part: &str) -> Result<()> {
 
 /// The answer to a whole source: the lines of its translation.
 pub fn whole_answer(alloc: Global, text: &str) -> Result<String> {
-    lines_from(
-        alloc,
-        translated(alloc, text)?.lines.as_slice(),
-        1,
-        u32::MAX,
-    )
+    part_answer(alloc, text, 1, u32::MAX)
 }
 
 /// The lines of a translation that come from the user's lines `from` to `to`.
-pub fn lines_from(alloc: Global, lines: &[Line], from: u32, to: u32) -> Result<String> {
+pub fn part_answer(alloc: Global, text: &str, from: u32, to: u32) -> Result<String> {
     let mut answer = String::new(alloc);
-    for line in lines {
+    for line in translated(alloc, text)?.lines.as_slice() {
         if from <= line.place.line && line.place.line <= to {
             push(&mut answer, '|', str::from_utf8(line.text.as_slice())?)?;
         }
     }
     Ok(answer)
-}
-
-/// The lines of a translation that come from the user's lines `from` to `to`, or its refusals.
-pub fn part_answer(alloc: Global, text: &str, from: u32, to: u32) -> Result<String> {
-    lines_from(alloc, translated(alloc, text)?.lines.as_slice(), from, to)
 }
 
 /// The answer to a `map:` case.
@@ -87,7 +77,7 @@ fn failure_text(alloc: Global, failure: &Failure) -> Result<String> {
         Failure::Refused(refusals) => {
             for refusal in refusals.as_slice() {
                 let place = place_text(alloc, refusal.place)?;
-                let part = format!(in alloc; "{} {}", place.as_str(), name_of(refusal.reason))?;
+                let part = format!(in alloc; "{} {:?}", place.as_str(), refusal.reason)?;
                 push(&mut answer, '|', part.as_str())?;
             }
         }
@@ -106,16 +96,8 @@ pub fn notes_answer(alloc: Global, text: &str) -> Result<String> {
     let mut answer = String::new(alloc);
     for note in translated(alloc, text)?.notes.as_slice() {
         let place = place_text(alloc, note.place)?;
-        let name = match note.remark {
-            Remark::LaterProcessor => "LaterProcessor",
-            Remark::NotAligned => "NotAligned",
-            Remark::Repeated => "Repeated",
-        };
-        push(
-            &mut answer,
-            '|',
-            format!(in alloc; "{} {name}", place.as_str())?.as_str(),
-        )?;
+        let part = format!(in alloc; "{} {:?}", place.as_str(), note.remark)?;
+        push(&mut answer, '|', part.as_str())?;
     }
     Ok(answer)
 }
@@ -132,33 +114,4 @@ pub fn origin_answer(alloc: Global, text: &str) -> Result<String> {
         Origin::Dialect => "dialect",
     };
     Ok(format!(in alloc; "{name} {line}")?)
-}
-
-/// The name of a reason.
-fn name_of(reason: Reason) -> &'static str {
-    match reason {
-        Reason::BadCharacter => "BadCharacter",
-        Reason::OpenText => "OpenText",
-        Reason::LongName => "LongName",
-        Reason::BadNumber => "BadNumber",
-        Reason::BadExpression => "BadExpression",
-        Reason::NotConstant => "NotConstant",
-        Reason::Overflow => "Overflow",
-        Reason::DivisionByZero => "DivisionByZero",
-        Reason::TwoLabels => "TwoLabels",
-        Reason::UnknownName => "UnknownName",
-        Reason::DefinedTwice => "DefinedTwice",
-        Reason::UnknownStatement => "UnknownStatement",
-        Reason::BadOperand => "BadOperand",
-        Reason::NoSize => "NoSize",
-        Reason::BadData => "BadData",
-        Reason::TooManySegments => "TooManySegments",
-        Reason::LaterProcessor => "LaterProcessor",
-        Reason::NotTaken => "NotTaken",
-        Reason::TooDeep => "TooDeep",
-        Reason::TooManyLines => "TooManyLines",
-        Reason::TooLong => "TooLong",
-        Reason::NoEnd => "NoEnd",
-        Reason::NothingToEnd => "NothingToEnd",
-    }
 }

@@ -161,7 +161,7 @@ fn say<W: Write>(err: &mut W, texts: &[Text], failure: &Failure) -> io::Result<(
             for refusal in refusals.as_slice() {
                 if last != Some(*refusal) {
                     print_place(err, texts, refusal.place)?;
-                    writeln!(err, " {}", refusal.reason.words())?;
+                    writeln!(err, " {}", refusal.reason)?;
                 }
                 last = Some(*refusal);
             }
