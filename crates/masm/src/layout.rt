@@ -57,7 +57,7 @@ pub struct Layout<'s> {
     plan: Plan<'s>,
     /// All lines, in the order in which they were made.
     placed: &'s [Placed],
-    /// Those that are laid out so far.
+    /// The lines that are laid out so far.
     lines: Vec<Line>,
 }
 
