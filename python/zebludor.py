@@ -377,20 +377,8 @@ def _made(source: Source, is_hex: bool, services: bool | None, given: dict[str, 
         yield ['--hex', '--', *made] if made else [*words, *names]
 
 
-def _may_be_served(path: str) -> bool:
-    """Whether a source may have services, by the look of its bytes: it calls an interrupt, or has no segment of the dialect."""
-    try:
-        with open(path if os.path.isfile(path) else os.devnull, 'rb') as file:
-            text = file.read()
-    except OSError:
-        return False
-    return bool(text and (re.search(rb'\bINT\b', text, re.I) or not re.search(rb'\bSEGMENT\s+\w+\s+AT\b', text, re.I)))
-
-
 def _served(path: str, services: bool | None, given: dict[str, Any], room: str) -> list[str] | None:
     """The image and the run file of a program with services; None of what is none, or is refused. Where the tools aren't, none is."""
-    if not (services or path[-4:].lower() in ('.com', '.exe', '.bin') or _may_be_served(path)):
-        return None
     try:
         guests, command = _toolbox('guests', 'command')
     except ImportError as error:
@@ -398,8 +386,8 @@ def _served(path: str, services: bool | None, given: dict[str, Any], room: str) 
             raise Unfit(f"services want the tools, and {TOP}/tools hasn't them: {error}") from None
         return None
     try:
-        guest, fields = guests.Guest(path, is_served=bool(services)), _fields({'ram': guests.MOST_RAM} | given)
-        guest = guest if guest.is_one else guests.looked_at(guest)
+        guest = guests.looked_at(guests.Guest(path, is_served=bool(services)))
+        fields = _fields({'ram': guests.MOST_RAM} | given)
         made = guests.made_with(guest, fields, room) if guest.is_one else None
     except command.Sorry as sorry:
         raise Unfit(str(sorry).replace(f'{room}/source', 'the source')) from None
@@ -818,11 +806,9 @@ class Places:
         command, listings, _, programs = self._tools
         with _files(self._source) as names:
             try:
-                guest = None if self._is_hex or self._symbols else _toolbox('guests')[0].guest_in(names[-1])
-                if guest is None:
-                    return listings.listing_of(programs.Files(names[-1], '', self._is_hex, self._symbols))
-                with _toolbox('guests')[0].prepared(guest, programs.Files(names[-1], '')) as files:
-                    return listings.listing_of(files)
+                files = programs.Files(names[-1], '', self._is_hex, self._symbols)
+                with _toolbox('guests')[0].with_own_lines(files) as them:
+                    return listings.listing_of(them)
             except command.Sorry as sorry:
                 raise Unfit(str(sorry)) from None
 

@@ -85,7 +85,7 @@ def has_bcc() -> bool:
         with open(f'{room}/it.c', 'w', encoding='ascii') as file:
             file.write('int main() { return 0; }\n')
         try:
-            compiled(Guest(file.name, compiler='bcc'), room)
+            compiled(Guest(file.name, language='bcc'), room)
         except Sorry as sorry:
             not_run(f'what bcc makes; {sorry}')
             return False
@@ -96,7 +96,7 @@ def com_of(name: str, room: str) -> bytes:
     """A program as the bytes of a .COM program."""
     stem, ending = os.path.splitext(name)
     if ending in COMPILERS:
-        with open(compiled(Guest(f'{BOOKS}/{stem}{ending}', compiler=COMPILERS[ending]), room), 'rb') as file:
+        with open(compiled(Guest(f'{BOOKS}/{stem}{ending}', language=COMPILERS[ending]), room) + '.com', 'rb') as file:
             return file.read()
     image = image_of(answer_of(['asm', '--', f'{BOOKS}/{name}']))
     return bytes(image.get(address, 0) for address in range(0x1100, max(image) + 1))

@@ -230,17 +230,17 @@ class Foreign(ToolCase):
         self.assertIn('(ended with exit code 9', self.called('try', plain, '--masm')[0])
         loop = self.file('loop.asm', LOOP)
         self.assertIn("loop.asm, line 1: the line isn't in the grammar", self.called('try', loop, '--dialect', status=1)[1])
-        self.assertIn('a source is in one language, and here are --masm and --nasm', self.called('try', loop, '--nasm', '--masm', status=2)[1])
+        self.assertIn('argument --masm: not allowed with argument --nasm', self.called('try', loop, '--nasm', '--masm', status=2)[1])
         nasm = self.file('nasm.asm', 'BITS 16\nsection .text\nMOV AH,4Ch\nINT 21h\n')
         said = "nasm.asm, line 1, is NASM's, and the file is taken as one of the board's own dialect; --nasm or --masm says what it is"
         self.assertIn(said, self.called('try', nasm, status=1)[1])
         self.assertIn('neither an instruction nor a directive nor a macro', self.called('try', nasm, '--masm', status=1)[1])
 
     def test_a_source_of_the_dialect_stays_one(self) -> None:
-        self.assertEqual(foreign.origin_of(b'; END\nSEGMENT A AT 50h\nx: DB 1\nENDS\n'), foreign.Origin('dialect', 2))
-        self.assertEqual(foreign.origin_of(b'x EQU 5\n'), foreign.Origin('dialect'))
-        self.assertEqual(foreign.origin_of(b'x DB 5\n').name, 'masm')
-        self.assertEqual(foreign.origin_of(b'\n[BITS 16]\n'), foreign.Origin('nasm', 2))
+        self.assertEqual(foreign.origin_of(b'; END\nSEGMENT A AT 50h\nx: DB 1\nENDS\n'), ('dialect', 2))
+        self.assertEqual(foreign.origin_of(b'x EQU 5\n'), ('dialect', None))
+        self.assertEqual(foreign.origin_of(b'x DB 5\n')[0], 'masm')
+        self.assertEqual(foreign.origin_of(b'\n[BITS 16]\n'), ('nasm', 2))
 
     def test_refusals_name_its_own_lines(self) -> None:
         wrong = self.file('it.asm', WRONG)
@@ -385,7 +385,7 @@ class Lines(ToolCase):
     def test_data_have_names_lines_and_lengths(self) -> None:
         text = '.MODEL SMALL\n.DATA\nmsg DB "Hi"\n  DB "$"\nsmall? DW 2 DUP(?)\nlast DWORD ?\n.CODE\nmain: MOV AX,4C00h\n INT 21h\nEND main\n'
         path = self.file('it.asm', text)
-        with prepared(Guest(path, compiler='masm'), Files(path, '')) as files:
+        with prepared(Guest(path, language='masm'), Files(path, '')) as files:
             found = labels_of_data(files, listing_of(files))
         self.assertEqual([(one.name, one.line, one.kind, one.length) for one in found], [('msg', 3, 'DB', 3), ('small?', 5, 'DW', 4), ('last', 6, 'DD', 4)])
 

@@ -262,7 +262,7 @@ class Screen(ServiceCase):
     def test_others_are_noted(self) -> None:
         for function in (4, 0x0B, 0x0C, 0x10, 0x12, 0x14, 0x4F, 0xFF):
             _, left = self.whole(f' {BEFORE} MOV AX,{256 * function}\n INT 10h')
-            self.assertEqual((left.notes, left.note), (1, (0x10, 256 * function, 0x117, 0x100)))
+            self.assertEqual((left.notes, left.calls[0][:4]), (1, (0x10, 256 * function, 0x117, 0x100)))
 
     def test_registers_stay(self) -> None:
         for function in (1, 2, 5, 6, 9, 0x0A, 0x0E, 0x12):
@@ -309,7 +309,7 @@ class Board(ServiceCase):
             seen = self.after(f'{BEFORE} MOV AX,1234h\n INT 0{interrupt:02X}h')
             self.assertEqual({name: seen.registers[name] for name in STAY}, STAY)
             _, left = self.whole(f' MOV AX,1234h\n INT 0{interrupt:02X}h')
-            self.assertEqual((left.notes, left.note), (1, (interrupt, 0x1234, 0x105, 0x100)))
+            self.assertEqual((left.notes, left.calls[0][:4]), (1, (interrupt, 0x1234, 0x105, 0x100)))
 
     def test_one_that_is_raised_without_int_is_not_noted(self) -> None:
         _, left = self.whole(' MOV AX,7FFFh\n ADD AX,1\n INTO')
@@ -340,7 +340,7 @@ class Board(ServiceCase):
 
     def test_two_are_counted_and_the_first_kept(self) -> None:
         _, left = self.whole(' MOV AH,39h\n INT 21h\n MOV AH,3Ah\n INT 21h\n INT 33h')
-        self.assertEqual((left.notes, left.note), (3, (0x21, 0x3900, 0x104, 0x100)))
+        self.assertEqual((left.notes, left.calls[0][:4]), (3, (0x21, 0x3900, 0x104, 0x100)))
 
 
 class Keys(ServiceCase):
@@ -453,7 +453,7 @@ class Keys(ServiceCase):
 
     def test_other_functions_are_noted(self) -> None:
         _, left = self.whole(' MOV AX,1000h\n INT 16h')
-        self.assertEqual((left.notes, left.note[:2]), (1, (0x16, 0x1000)))
+        self.assertEqual((left.notes, left.calls[0][:2]), (1, (0x16, 0x1000)))
 
     def test_break(self) -> None:
         seen = self.after(' MOV AH,0\n INT 16h', '{ctrl+scrolllock}')
@@ -481,7 +481,7 @@ class Time(ServiceCase):
 
     def test_others(self) -> None:
         _, left = self.whole(' MOV AX,0200h\n INT 1Ah')
-        self.assertEqual((left.notes, left.note[:2]), (1, (0x1A, 0x200)))
+        self.assertEqual((left.notes, left.calls[0][:2]), (1, (0x1A, 0x200)))
         self.assertEqual(self.after(' CLC\n MOV AH,2\n INT 1Ah').flags & CARRY, CARRY)
 
     def test_1c(self) -> None:
@@ -621,7 +621,7 @@ class Dos(ServiceCase):
         seen = self.after(' MOV BX,3\n MOV AX,4400h\n INT 21h')
         self.assertEqual((seen.registers['AX'], seen.flags & CARRY), (6, CARRY))
         _, left = self.whole(' MOV BX,1\n MOV AX,4401h\n INT 21h')
-        self.assertEqual(left.note[:2], (0x21, 0x4401))
+        self.assertEqual(left.calls[0][:2], (0x21, 0x4401))
 
     def test_48_49_4a_memory(self) -> None:
         """The program owns all from its PSP at 100h to 9000h. A header of a paragraph stands before each block."""

@@ -10,6 +10,7 @@ from dataclasses import replace
 from typing import Callable
 
 from toolbox.command import Sorry, read_bytes, write_bytes
+from toolbox.listing import parts_of
 from toolbox.loading import BLOCK, ROM, SERVICES_OWN, Loaded, placed
 from toolbox.services import address_of
 
@@ -59,17 +60,9 @@ def laid_out(files: dict[str, bytes]) -> bytes:
     return (head.ljust(FIRST * CLUSTER, b'\0') + data).rstrip(b'\0')
 
 
-def uses_files(image: dict[int, int]) -> bool:
-    """Whether the number of a function on files is loaded somewhere."""
-    octets = bytearray(max(image, default=0) + 1)
-    for address, octet in image.items():
-        octets[address] = octet
-    return bool(CALLS.search(octets))
-
-
 def beside(found: Loaded, name: str, paths: tuple[str, ...] | None, ram: int) -> Loaded:
     """A program with these files on a disk. By None it gets an empty one if it may use it, and if there is room."""
-    if paths is None and not uses_files(found.image):
+    if paths is None and not any(map(CALLS.search, parts_of(found.image).values())):
         return found
     if 'dos' not in found.services:
         if paths is None:
@@ -92,12 +85,11 @@ def files_on(dump: Callable[[int, int], bytes], base: int) -> dict[str, bytes]:
     """The files on a disk that begins at an address. A program may have written over it, which is told."""
     head = dump(base, FIRST * CLUSTER)
     found = dict[str, bytes]()
-    for at in range(DIRECTORY, FIRST * CLUSTER, ENTRY.size):
-        if not head[at]:
+    for octets, _, _, _, first, size in ENTRY.iter_unpack(head[DIRECTORY:]):
+        if not octets[0]:
             continue
-        octets, _, _, _, first, size = ENTRY.unpack_from(head, at)
-        stem, ending = octets[:8].decode('latin-1').rstrip(), octets[8:].decode('latin-1').rstrip()
-        name = f'{stem}.{ending}' if ending else stem
+        stem, ending = (part.decode('latin-1').rstrip() for part in (octets[:8], octets[8:]))
+        name = f'{stem}.{ending}'.removesuffix('.')
         clusters = chain_of(head, first)
         if not NAME.fullmatch(name) or name in found or clusters is None or len(clusters) != (size + CLUSTER - 1) // CLUSTER:
             raise Sorry(f'the program has written over the disk of files, whose directory stands at {base + DIRECTORY:05X}h')

@@ -269,7 +269,7 @@ JUDGES: tuple[tuple[str, Callable[[Subject, str, str], 'str | None']], ...] = (
 FIELDS = {'keys': 'keys', 'plain keys': 'keys', 'ram': 'ram', 'sw1': 'sw1', 'sw2': 'sw2', 'budget': 'budget'}
 # A place that may be a label, or is a number: what else is told of a place is the page's mistake.
 PLACE = r'[A-Za-z_.?@][\w.$#@~?]*(\+[0-9A-Fa-f]+)?|:\d+|[0-9A-Fa-f]{1,4}:[0-9A-Fa-f]{1,4}|[0-9A-Fa-f]{1,5}h?'
-NOTHING = Served(1, 0, 0, None, 0, b'', 0, (0, 0, 0, 0), 0)
+NOTHING = Served(1, 0, 0, None, 0, b'', 0, 0)
 ANY = Report(LAST_CLOCK, dict.fromkeys(REGISTERS, 0), '', 0, [], [' ' * 80] * ROWS)
 
 

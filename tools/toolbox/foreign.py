@@ -3,65 +3,65 @@ line; and those of NASM and C, of which nasm and bcc make a .COM program. Each f
 of the user's own text by the rows that stand in the file of symbols."""
 from __future__ import annotations
 
-import contextlib
 import functools
 import os
 import re
 import sys
 import tempfile
 from dataclasses import dataclass
-from typing import Any, Iterator
+from typing import Iterator
 
 from toolbox import reading
-from toolbox.command import Sorry, read_bytes
+from toolbox.command import Sorry, read_bytes, write_bytes
 from toolbox.comments import text_of
-from toolbox.faults import Fault, fault_in
 from toolbox.listing import Listing, line_of, own_name, placed_labels
-from toolbox.program import TOP, Ran, given_text, run
+from toolbox.program import TOP, given_text, run
 from toolbox.shown import LONGEST_LINE, bounded, clipped
 
 MADE = re.compile(r'[.?]+\d+')  # a label that pcmasm makes, of @@, of LOCAL, or of $
 OWN = f'{TOP}/services/masm'  # what programs may include that their own folder hasn't
 MOST_INCLUDED = 64
-DIALECT = re.compile(rb'^[ \t]*(?:\w+[ \t]*:[ \t]*)?SEGMENT[ \t]+\w+[ \t]+AT\b', re.I | re.M)  # which no other assembler has
+DIALECT = re.compile(rb'^[ \t]*(?:\w+[ \t]*:[ \t]*)?SEGMENT[ \t]+\w+[ \t]+AT\b', re.I | re.M)  # no other assembler's
 OTHER = b'\n%\n'  # a line that shows NASM's source; it stands behind a text of which no line shows an assembler
 SHOWN = re.compile(r'[^:]*:(\d+): this is a line of (NASM|the dialect)')
-PLACE = re.compile(r'([^\n]*):(\d+):([ \t])(.*)')
+PLACE = re.compile(r'([^\n]*):(\d+):[ \t](.*)')
 WANTED = re.compile(r'includes (.*), which isn\'t given')
+AS_OWN = "taken as one of the board's own dialect"
 _told = set[str]()
-_last = list[tuple[tuple[str, bytes, str], list[tuple[int, int] | None], 'Translation']]()
-
-
-@dataclass(frozen=True)
-class Origin:
-    """Which assembler's a source is, `masm`, `nasm` or `dialect`, and the line that shows it, if one does."""
-
-    name: str
-    line: int | None = None
 
 
 @dataclass(frozen=True)
 class Remark:
-    """What pcmasm tells of a line: the path of its text, its number and the line itself, and words."""
+    """What is told of a line: the path of its text, its number and the line itself, and words."""
 
     path: str
     number: int
     line: str
     words: str
 
+    @property
+    def sentences(self) -> list[str]:
+        """What is told, and the line."""
+        shown = f'  {self.number:5} | {clipped(self.line, LONGEST_LINE)}'.rstrip()
+        return [f'{self.path}, line {self.number}: {clipped(self.words)}', shown]
+
+    def within(self, path: str) -> tuple[int | None, str]:
+        """Its line and words, if it is of this text; of another one all that is told, and no line."""
+        return (self.number, self.words) if self.path == path else (None, ' '.join(self.sentences))
+
 
 class Refused(Sorry):
     """A source of MASM that isn't translated, or whose translation pcboard refuses: what is told of its lines."""
 
     def __init__(self, remarks: list[Remark]) -> None:
-        super().__init__('\n'.join(bounded([line for one in remarks for line in sentences(one)])))
+        super().__init__('\n'.join(bounded([line for one in remarks for line in one.sentences])))
         self.remarks = remarks
 
 
 @dataclass(frozen=True)
 class Translation:
-    """A source of MASM in the dialect: its lines, and the path and the number of the user's line that each of them is made of. `texts` has
-    the lines of the user's texts by their paths, the source's first."""
+    """A source in the dialect: its lines, and the path and the number of the user's line that each of them is made of.
+    `texts` has the lines of the user's texts by their paths, the source's first."""
 
     lines: list[str]
     places: list[tuple[str, int]]
@@ -75,58 +75,64 @@ class Translation:
 
     def own(self, path: str, number: int) -> str:
         """A line of the user's."""
-        lines = self.texts[path]
+        lines = self.texts.get(path, [])
         return lines[number - 1] if 1 <= number <= len(lines) else ''
 
-    def remark(self, number: int, words: str) -> Remark:
-        """Words of a line of the translation, as of the user's line that it is made of."""
-        path, own = self.places[number - 1]
-        return Remark(path, own, self.own(path, own), words)
+    def refused(self) -> Iterator[Remark]:
+        """The lines that pcboard refuses, each once, as the user's that they are made of."""
+        from toolbox.every import Copy, refused_in  # of which most sources need nothing
+        from toolbox.messages import what_to_do
+
+        known = set[tuple[str, int]]()
+        for fault, _ in filter(None, refused_in(Copy(self.text))):
+            number = fault.line or 1
+            place, written = self.places[number - 1], self.lines[number - 1].strip()
+            why = f"(fault {fault.number}, {fault.kind.name}, of the dialect's line {written})"
+            if place not in known:
+                known.add(place)
+                yield Remark(*place, self.own(*place), f'{what_to_do(self.lines, fault)} {why}')
 
     def rows(self, rows: list[str]) -> list[str]:
-        """The rows of a file of symbols: each row of the listing behind its place, with the user's line; and the user's other lines."""
-        full = {path: os.path.abspath(path) for path in self.texts}
-        found = [f'{full[path]}:{number}:\t{row}\t{self.own(path, number)}' for (path, number), row in zip(self.places, rows)]
-        placed = set(self.places)
-        source = next(iter(self.texts))
-        others = ((source, number) for number in range(1, len(self.texts[source]) + 1))
-        return [f'{full[path]}:{number}:\t\t{self.own(path, number)}' for path, number in others if (path, number) not in placed] + found
+        """The rows of a file of symbols: the source's lines of which nothing comes, each row of a listing behind its
+        place, and the labels of the listing with the names that the user has."""
+        source, placed = next(iter(self.texts)), set(self.places)
+        blank = [(source, number) for number in range(1, len(self.texts[source]) + 1) if (source, number) not in placed]
+        pairs = [*((place, '') for place in blank), *zip(self.places, rows)]
+        labels = ((own_name(label), at) for label, at in placed_labels(line_of(0, row) for row in rows))
+        lines = [f'{os.path.abspath(place[0])}:{place[1]}:\t{row}\t{self.own(*place)}' for place, row in pairs]
+        return lines + [label_row(name, at) for name, at in labels if not MADE.fullmatch(name)]
 
 
-def sentences(one: Remark) -> list[str]:
-    """What is told of a line, and the line."""
-    return [f'{one.path}, line {one.number}: {clipped(one.words)}', f'  {one.number:5} | {clipped(one.line, LONGEST_LINE)}'.rstrip()]
-
-
-def origin_of(octets: bytes) -> Origin:
-    """Which assembler's a text is, as pcmasm tells; the dialect's, if no line shows another's. A line that only the dialect has spares
-    the question."""
+def origin_of(octets: bytes) -> tuple[str, int | None]:
+    """Which assembler's a text is, `masm`, `nasm` or `dialect`, as pcmasm tells, and the line that shows it, if one
+    does; the dialect's, if none shows another's. A line that only the dialect has spares the question."""
     found = DIALECT.search(octets)
     if found:
-        return Origin('dialect', octets.count(b'\n', 0, found.start()) + 1)
-    ran = asked(octets + OTHER, [])
+        return 'dialect', octets.count(b'\n', 0, found.start()) + 1
+    ran = run(['/dev/stdin'], octets + OTHER, 'pcmasm')
     shown = SHOWN.match(ran.err) if ran.status == 1 else None
     if not shown:
-        return Origin('masm')
+        return 'masm', None
     if int(shown[1]) == octets.count(b'\n') + 2:
-        return Origin('dialect')
-    return Origin('nasm' if shown[2] == 'NASM' else 'dialect', int(shown[1]))
+        return 'dialect', None
+    return 'nasm' if shown[2] == 'NASM' else 'dialect', int(shown[1])
 
 
-def seen(path: str) -> str | None:
-    """`masm`, if what stands in a file shows that it is such a source. What shows that it is NASM's is told once."""
+def is_masm(path: str) -> bool:
+    """Whether what stands in a file shows that it is a source of MASM. What shows that it is NASM's is told once, or
+    that nothing shows whose it is."""
     try:
-        origin = origin_of(reading.read_whole(path))
+        name, line = origin_of(reading.read_whole(path))
     except OSError:
-        return None  # which whoever reads the file tells
+        return False  # which whoever reads the file tells
     except Sorry as sorry:
         say_once(f"whether {path} is a source of MASM isn't known: {sorry}")
-        return None
-    if origin.name == 'nasm':
-        say_once(f"{path}, line {origin.line}, is NASM's, and the file is taken as one of the board's own dialect; --nasm or --masm says what it is")
-    elif origin.name == 'dialect' and origin.line is None:
-        say_once(f'no line of {path} shows whose source it is, so it is taken as one of the board\'s own dialect; --masm or --nasm says what it is')
-    return 'masm' if origin.name == 'masm' else None
+        return False
+    if name == 'nasm':
+        say_once(f"{path}, line {line}, is NASM's, and the file is {AS_OWN}; --nasm or --masm says what it is")
+    elif name == 'dialect' and line is None:
+        say_once(f'no line of {path} shows whose source it is, so it is {AS_OWN}; --masm or --nasm says what it is')
+    return name == 'masm'
 
 
 def tell(translation: Translation) -> None:
@@ -142,97 +148,76 @@ def say_once(sentence: str) -> None:
         print(f'{os.path.basename(sys.argv[0])}: {sentence}', file=sys.stderr)
 
 
-def asked(octets: bytes, words: list[str]) -> Ran:
-    """What pcmasm answers of a text; behind it may stand the files that it includes."""
-    return run([*[word for word in words if word.startswith('--')], '/dev/stdin', *[word for word in words if not word.startswith('--')]], octets, 'pcmasm')
-
-
 def included(source: str, name: str, home: str) -> tuple[str, bytes]:
-    """A file that a source includes, by its name alone: from a folder, or ours."""
+    """The path and the bytes of a file that a source includes, by its name alone in any cases: from a folder, or ours.
+    No link is followed, and no device read."""
     if os.path.basename(name) != name or '\\' in name or ':' in name or name in ('', '.', '..'):
         raise Sorry(f'{source} includes {name}; what it includes is named without folders, and stands beside it')
     for folder in (home, OWN):
-        there = named_in(folder, name)
-        if there and os.path.exists(source) and os.path.samefile(os.path.join(folder, there), source):
-            raise Sorry(f'{source} includes itself')
+        names = sorted(os.listdir(folder), key=lambda each: (each != name, each))
+        there = next((each for each in names if each.lower() == name.lower()), None)
         if there:
-            return os.path.join(folder, there), read_within(source, folder, there)
-    raise Sorry(f"{source} includes {name}, which isn't beside it; of our own there is {', '.join(sorted(os.listdir(OWN)))}")
+            return read_within(source, folder, there)
+    ours = ', '.join(sorted(os.listdir(OWN)))
+    raise Sorry(f"{source} includes {name}, which isn't beside it; of our own there is {ours}")
 
 
-def named_in(folder: str, name: str) -> str | None:
-    """The file of a folder that has this name, or has it in other cases."""
-    if os.path.lexists(os.path.join(folder, name)):
-        return name
-    return next((each for each in sorted(os.listdir(folder)) if each.lower() == name.lower()), None)
-
-
-def read_within(source: str, folder: str, name: str) -> bytes:
-    """A file's bytes; no link is followed, and no device read."""
-    handle = os.open(folder, os.O_RDONLY | os.O_DIRECTORY)
+def read_within(source: str, folder: str, name: str) -> tuple[str, bytes]:
+    """A file of a folder, which isn't the source itself."""
+    path, handle = os.path.join(folder, name), os.open(folder, os.O_RDONLY | os.O_DIRECTORY)
     try:
-        return reading.read_whole(name, within=handle)
+        if os.path.exists(source) and os.path.samefile(path, source):
+            raise Sorry(f'{source} includes itself')
+        return path, reading.read_whole(name, within=handle)
     except OSError as error:
         raise Sorry(f"{source} includes {name}, which can't be read: {error.strerror}") from None
     finally:
         os.close(handle)
 
 
-@contextlib.contextmanager
-def kept(texts: dict[str, bytes]) -> Iterator[list[str]]:
-    """Copies of what is included, by the names by which pcmasm knows them."""
-    if not texts:
-        yield []
-        return
-    with tempfile.TemporaryDirectory(prefix='zebludor-') as room:
-        paths = [os.path.join(room, os.path.basename(path)) for path in texts]
-        for path, octets in zip(paths, texts.values()):
-            with open(path, 'wb') as file:
-                file.write(octets)
-        yield paths
-
-
-def translation_of(path: str, octets: bytes, home: str = '') -> Translation:
-    """The translation of a text that stands at a path, or would. Refused tells why there is none. It includes what stands beside it, or in
-    another folder, and what is ours. The last one is known, as long as nothing that it includes changes."""
-    asked_for = path, octets, home
-    if _last and _last[0][0] == asked_for and _last[0][1] == stamps(_last[0][2]):
-        return _last[0][2]
-    translation = new_translation(path, octets, home or os.path.dirname(path) or '.')
-    _last[:] = [(asked_for, stamps(translation), translation)]
-    return translation
-
-
-def stamps(translation: Translation) -> list[tuple[int, int] | None]:
-    """When each text that a source includes was written, and its size; None of one that has gone."""
-    found = list[tuple[int, int] | None]()
-    for path in list(translation.texts)[1:]:
-        there = os.stat(path) if os.path.exists(path) else None
-        found.append((there.st_mtime_ns, there.st_size) if there else None)
+def translation_of(path: str, octets: bytes | None = None, home: str = '') -> Translation:
+    """The translation of a file, or of a text that would stand at its path. Refused tells why there is none. It
+    includes what stands beside it, or in another folder, and what is ours."""
+    octets = read_bytes(path) if octets is None else octets
+    texts = dict[str, bytes]()
+    while isinstance(found := made_of(path, octets, tuple(texts.items())), str):
+        if len(texts) == MOST_INCLUDED:
+            raise Sorry(f'{path} includes more than {MOST_INCLUDED} files')
+        there, text = included(path, found, home or os.path.dirname(path) or '.')
+        texts[there] = text
     return found
 
 
-def new_translation(path: str, octets: bytes, home: str) -> Translation:
-    """A translation with what stands in a folder."""
-    texts = dict[str, bytes]()
-    while True:
-        with kept(texts) as copies:
-            ran = asked(octets, ['--map', '--masm', *copies])
-        own = {path: lines_of(octets)} | {each: lines_of(text) for each, text in texts.items()}
-        remarks = [one for one in map(functools.partial(remark_in, own), ran.err.splitlines()) if one]
-        wanted = WANTED.fullmatch(remarks[0].words) if ran.status and remarks else None
-        if not wanted:
-            break
-        if len(texts) == MOST_INCLUDED:
-            raise Sorry(f'{path} includes more than {MOST_INCLUDED} files')
-        there, text = included(path, wanted[1], home)
-        texts[there] = text
+@functools.lru_cache(4)
+def made_of(path: str, octets: bytes, texts: tuple[tuple[str, bytes], ...]) -> Translation | str:
+    """The translation of a text that includes these by their names, or the name of one that it includes besides."""
+    names, own = {'stdin': path}, {path: lines_of(octets)}
+    with tempfile.TemporaryDirectory(prefix='zebludor-') as room:
+        for there, text in texts:
+            name = os.path.basename(there)
+            names[name], own[there] = there, lines_of(text)
+            write_bytes(os.path.join(room, name), text)
+        copies = [os.path.join(room, name) for name in list(names)[1:]]
+        ran = run(['--map', '--masm', '/dev/stdin', *copies], octets, 'pcmasm')
+    found = Translation([], [], own, [])
+    for where, number, words in places_in(ran.err, names):
+        found.notes.append(Remark(where, number, found.own(where, number), words))
+    wanted = WANTED.fullmatch(found.notes[0].words) if ran.status and found.notes else None
+    if wanted:
+        return wanted[1]
     if ran.status:
-        raise Refused(remarks) if remarks else Sorry(f'{path}: {ran.err.strip() or "pcmasm ends without a word"}')
-    rows = [PLACE.fullmatch(row) for row in ran.out.splitlines()]
-    paths = {os.path.basename(each) if number else 'stdin': each for number, each in enumerate(own)}
-    found = [(row[4], (paths[row[1]], int(row[2]))) for row in rows if row]
-    return Translation([line for line, _ in found], [place for _, place in found], own, remarks)
+        said = ran.err.strip() or 'pcmasm ends without a word'
+        raise Refused(found.notes) if found.notes else Sorry(f'{path}: {said}')
+    for where, number, line in places_in(ran.out, names):
+        found.lines.append(line)
+        found.places.append((where, number))
+    return found
+
+
+def places_in(answer: str, names: dict[str, str]) -> Iterator[tuple[str, int, str]]:
+    """What pcmasm answers of lines: the path, the number and the words, by the paths of the names that it knows."""
+    for row in filter(None, map(PLACE.fullmatch, answer.splitlines())):
+        yield names.get(row[1], row[1]), int(row[2]), row[3]
 
 
 def lines_of(octets: bytes) -> list[str]:
@@ -240,76 +225,34 @@ def lines_of(octets: bytes) -> list[str]:
     return [text_of(line.rstrip(b'\r')) for line in octets.split(b'\n')]
 
 
-def remark_in(texts: dict[str, list[str]], row: str) -> Remark | None:
-    """What a line of pcmasm's messages tells."""
-    found = PLACE.fullmatch(row)
-    if not found:
-        return None
-    source = next(iter(texts))
-    path = source if found[1] == 'stdin' else next((each for each in texts if os.path.basename(each) == found[1]), found[1])
-    number, lines = int(found[2]), texts.get(path, [])
-    return Remark(path, number, lines[number - 1] if number <= len(lines) else '', found[4])
-
-
-def of_fault(translation: Translation, fault: Fault) -> Remark:
-    """What pcboard refuses of a translation, as of the user's line."""
-    from toolbox.messages import what_to_do  # of which most sources need nothing
-
-    number = fault.line or 1
-    written = translation.lines[number - 1].strip()
-    return translation.remark(number, f'{what_to_do(translation.lines, fault)} (fault {fault.number}, {fault.kind.name}, of the dialect\'s line {written})')
-
-
-def listed(translation: Translation) -> list[str]:
-    """The rows of the translation's listing; Refused tells why there are none."""
-    ran = given_text(['asm', '--list'], translation.text)
-    fault = fault_in(ran.err)
-    if fault and fault.line:
-        raise Refused([of_fault(translation, fault)])
-    if ran.status:
-        raise Sorry(ran.err.strip())
-    return ran.out.split('\n')[:-1]
-
-
-def refused(path: str, octets: bytes | None = None) -> Iterator[Remark]:
-    """The refused lines of a source of MASM, which a file has, or are told: those that pcmasm refuses, else those that pcboard refuses of
-    the translation."""
+def refused(path: str, octets: bytes) -> Iterator[Remark]:
+    """The refused lines of a source of MASM: those that pcmasm refuses, else those that pcboard refuses of the
+    translation."""
     try:
-        translation = translated(path) if octets is None else translation_of(path, octets)
+        translation = translation_of(path, octets)
     except Refused as refusal:
         yield from refusal.remarks
-        return
-    from toolbox.every import Copy, refused_in
-
-    known = set[tuple[str, int]]()
-    for fault, _ in filter(None, refused_in(Copy(translation.text))):
-        remark = of_fault(translation, fault)
-        if (remark.path, remark.number) not in known:
-            known.add((remark.path, remark.number))
-            yield remark
+    else:
+        yield from translation.refused()
 
 
-def translated(path: str, home: str = '') -> Translation:
-    """The translation of a file, which may include what stands in another folder."""
-    return translation_of(path, read_bytes(path), home)
+def complaints(path: str, octets: bytes) -> Iterator[tuple[int | None, str]]:
+    """The lines of a text that are refused, and why; what has no line of it is without one."""
+    try:
+        yield from (one.within(path) for one in refused(path, octets))
+    except Sorry as sorry:
+        yield None, str(sorry)
 
 
 def rows_of(source: str, listing: Listing) -> list[str]:
-    """The rows of a file of symbols by a listing of another assembler's."""
-    placed, source = sorted(listing.at.values(), key=lambda line: (line.number, line.address)), os.path.abspath(source)
-    numbers = {line.number for line in placed}
-    rows = [f'{source}:{line.number}:\t{line.address[0]:04X}:{line.address[1]:04X} {line.shown.hex().upper()} \t{line.text}' for line in placed if line.address]
-    others = [f'{source}:{line.number}:\t\t{line.text}' for line in listing.lines if line.number not in numbers]
-    return [*others, *rows, *(f'{segment:04X}:{offset:04X} {name}' for name, (segment, offset) in listing.labels.items())]
-
-
-def complaints(path: str, octets: bytes) -> Iterator[tuple[int, str]]:
-    """The lines of a text that are refused, and why; what has no line of it stands at the first."""
-    try:
-        for one in refused(path, octets):
-            yield (one.number, one.words) if one.path == path else (1, ' '.join(sentences(one)))
-    except Sorry as sorry:
-        yield 1, str(sorry)
+    """The rows of a file of symbols by what another assembler tells of a source. A name of C has a `_` before it
+    there."""
+    own = [line for line in listing.modules.values() if os.path.basename(line.source) == os.path.basename(source)]
+    placed = sorted([*listing.at.values(), *own], key=lambda line: (line.number, line.address))
+    rows = [f'{label_row(line.shown.hex().upper(), line.address)} ' for line in placed if line.address]
+    made = Translation([], [(source, line.number) for line in placed], {source: lines_of(read_bytes(source))}, [])
+    names = {name.removeprefix('_') if listing.modules else name: place for name, place in listing.labels.items()}
+    return made.rows(rows) + [label_row(name, at) for name, at in names.items()]
 
 
 def rows_by_line(path: str, octets: bytes) -> dict[int, list[str]]:
@@ -317,22 +260,15 @@ def rows_by_line(path: str, octets: bytes) -> dict[int, list[str]]:
     found = dict[int, list[str]]()
     try:
         translation = translation_of(path, octets)
-        for (source, number), row in zip(translation.places, listed(translation)):
-            if source == path:
-                found.setdefault(number, []).append(row)
+        ran = given_text(['asm', '--list'], translation.text)
     except Sorry:
         return {}
+    for (source, number), row in zip(translation.places, ran.out.split('\n')[:-1]):
+        if source == path:
+            found.setdefault(number, []).append(row)
     return found
 
 
-def in_lines(refusal: Refused, path: str) -> list[dict[str, Any]]:
-    """What is refused of a text that stands at a path, by its lines; of what it includes without a line."""
-    return [
-        {'line': one.number, 'text': one.words} if one.path == path else {'line': None, 'text': ' '.join(sentences(one)), 'of': ''} for one in refusal.remarks
-    ]
-
-
-def label_rows(rows: list[str]) -> list[str]:
-    """The labels of a translation by its listing, in rows SEGMENT:OFFSET NAME, with the names that the user has."""
-    placed = ((own_name(label), place) for label, place in placed_labels(line_of(0, row) for row in rows))
-    return [f'{segment:04X}:{offset:04X} {name}' for name, (segment, offset) in placed if not MADE.fullmatch(name)]
+def label_row(name: str, place: tuple[int, int]) -> str:
+    """A label's row in a file of symbols."""
+    return f'{place[0]:04X}:{place[1]:04X} {name}'

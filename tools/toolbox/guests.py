@@ -4,7 +4,6 @@ from __future__ import annotations
 
 import argparse
 import contextlib
-import itertools
 import os
 import re
 import shutil
@@ -14,59 +13,54 @@ import tempfile
 from dataclasses import dataclass, replace
 from typing import Any, Iterator
 
-from toolbox import disk, foreign, loading, services
-from toolbox.command import Sorry, handed_on, read_bytes, read_text, write_bytes
+from toolbox import disk, foreign, loading
+from toolbox.command import SYMBOLS, Sorry, handed_on, read_bytes, write_bytes
 from toolbox.comments import handed
-from toolbox.listing import Listing, physical
 from toolbox.loading import Loaded, check_ram
 from toolbox.program import Files, Refusal, answer_of, is_hex_name, limited
 from toolbox.runfile import DEFAULTS, read_run_file, text_of, with_run_file
 from toolbox.services import MOST_RAM, is_served
 from toolbox.shown import bounded
-from toolbox.symbols import of_bcc, of_nasm
+from toolbox.symbols import symbols_of
 
 BINARIES = ('.com', '.exe', '.bin')
 COMPILERS = {'nasm': ('nasm', 'nasm'), 'bcc': ('bcc', 'bcc elks-libc')}  # the command, and Debian's packages
 LANGUAGES = {'masm': 'of MASM, TASM or emu8086', 'nasm': 'for NASM', 'bcc': 'in C, for bcc', 'dialect': "of the board's own dialect"}
-MAPPED = re.compile(r' *\S+ +(\S+) +[0-9a-f] +([0-9a-f]{8}) +[A-Za-z]')  # a row of ld86's map, which bcc prints last
+OWN = 'dialect'
+WORDS = '--services, --com, --args, --file, --files-out, --masm, --nasm, --bcc'
+MAPPED = r' *\S+ +\S+ +[0-9a-f] +[0-9a-f]{8} +[A-Za-z]'  # a row of ld86's map, which bcc prints last
 FIRST_OF_BCC = 'crt0.o'  # what stands before a program, of bcc's library
+Fields = dict[str, Any]
 LONGEST = 1 << 20  # bytes of a program, which is all that the processor reaches
 
 
 @dataclass(frozen=True)
 class Guest:
-    """A file as it was given, and how it is taken: the command's tail, as a source with services or by `--com`, and the compiler; whether
-    the look of a source has told its services or its compiler, and whether the program refuses it; whether it is of the dialect,
-    whatever its look; the folder of what it includes, if that isn't its own; whether nothing is told of it; and the files on its disk:
-    by None it gets one if it may use it."""
+    """A file as it was given, and how it is taken: the command's tail, as a source with services or by `--com`, the
+    language that is said or seen, or without services; whether the look of a source has told that, and whether the
+    program refuses it; the folder of what it includes, if that isn't its own; and the files on its disk: by None it
+    gets one if it may use it."""
 
     file: str
     args: str | None = None
     is_served: bool = False
     is_com: bool = False
-    compiler: str | None = None
+    language: str | None = None
     is_bare: bool = False
     is_seen: bool = False
     is_refused: bool = False
-    is_own: bool = False
     home: str = ''
-    is_quiet: bool = False
     files: tuple[str, ...] | None = None
 
     @property
     def is_one(self) -> bool:
         """Whether it needs the services."""
-        return not self.is_bare and (self.is_served or self.is_com or bool(self.compiler) or ending(self.file) in BINARIES)
+        return not self.is_bare and (self.is_served or not self.is_source)
 
     @property
     def is_source(self) -> bool:
         """Whether it is a source of the dialect."""
-        return not (self.is_com or self.compiler or ending(self.file) in BINARIES)
-
-    @property
-    def is_text(self) -> bool:
-        """Whether it is a source that is translated line by line, or needs no translation: its own lines are known."""
-        return self.is_source or self.compiler == 'masm'
+        return self.language in (None, OWN) and not (self.is_com or ending(self.file) in BINARIES)
 
 
 def ending(path: str) -> str:
@@ -74,82 +68,71 @@ def ending(path: str) -> str:
     return os.path.splitext(path)[1].lower()
 
 
-def add_words(reader: argparse.ArgumentParser) -> None:
-    """The words by which a tool's FILE may be such a program."""
-    reader.add_argument(
-        '--bare', action='store_true', help='no services: else a source that calls INT 10h, 16h, 20h or 21h and has nothing at FFFF:0000 has them'
-    )
+def add_files(reader: argparse.ArgumentParser) -> None:
+    """FILE and RUN, and the words by which a tool takes them."""
+    reader.add_argument('file', metavar='FILE', help='the source, or Intel HEX')
+    reader.add_argument('run_file', nargs='?', metavar='RUN', help='the run file')
+    add_words(reader)
+
+
+def add_words(reader: argparse.ArgumentParser, has_symbols: bool = True) -> None:
+    """The words by which a tool takes its FILE."""
+    reader.add_argument('--hex', action='store_true', help='FILE is Intel HEX, as one is whose name ends in .hex')
+    if has_symbols:
+        reader.add_argument('--symbols', metavar='FILE', help=SYMBOLS)
+    bare = 'no services: else a source that calls INT 10h, 16h, 20h or 21h and has nothing at FFFF:0000 has them'
+    reader.add_argument('--bare', action='store_true', help=bare)
     reader.add_argument('--services', action='store_true', help='FILE is a source with services, whatever it calls (docs/services.md)')
     reader.add_argument('--com', action='store_true', help='FILE is a .COM program, whatever its name')
     reader.add_argument('--args', metavar='TEXT', help="the command's tail of a program with services")
     reader.add_argument('--file', metavar='NAME', action='append', dest='files', help='put a file on the disk of a program with services; several')
+    languages = reader.add_mutually_exclusive_group()
     for name, what in LANGUAGES.items():
-        reader.add_argument(f'--{name}', action='store_true', help=f'FILE is a source {what}, whatever stands in it')
+        said = f'FILE is a source {what}, whatever stands in it'
+        languages.add_argument(f'--{name}', action='store_const', const=name, dest='language', help=said)
 
 
 def guest_of(given: argparse.Namespace, file: str | None = None) -> Guest:
     """What those words say, and else the look of the file."""
-    name, is_hex, language = file or given.file, getattr(given, 'hex', False), language_of(given)
-    compiler, is_own = (None, True) if language == 'dialect' else (language, False)
-    is_disk = given.files or getattr(given, 'files_out', None)
-    files = tuple(given.files or ()) if is_disk else None
-    found = Guest(name, given.args, given.services, given.com, compiler, given.bare, is_own=is_own, files=files)
-    if found.is_bare and (found.is_served or found.is_com or compiler or given.args is not None or is_disk):
-        raise Sorry('--bare goes without the words that a program with services has: --services, --com, --args, --file, --files-out, --masm, --nasm, --bcc')
-    if found.is_one and is_hex:
-        raise Sorry(f'--hex goes without --services and --com, and {found.file} is no Intel HEX')
-    if found.is_source and not (found.is_bare or is_hex or is_hex_name(found.file)):
-        found = looked_at(found)
-    if given.args is not None and not found.is_one and not found.is_refused:
-        raise Sorry('--args goes with a .COM or .EXE program, or a source that calls INT 10h, 16h, 20h or 21h')
-    if is_disk and not found.is_one and not found.is_refused:
-        raise Sorry('--file and --files-out go with a .COM or .EXE program, or a source that calls INT 10h, 16h, 20h or 21h')
+    name, is_hex, files = file or given.file, given.hex, tuple(given.files or ())
+    is_disk = bool(files or getattr(given, 'files_out', None))
+    said = Guest(name, given.args, given.services, given.com, given.language, files=files if is_disk else None)
+    is_wanting = given.args is not None or is_disk
+    if given.bare and (given.services or given.com or is_wanting or said.language not in (None, OWN)):
+        raise Sorry(f'--bare goes without the words that a program with services has: {WORDS}')
+    if said.is_one and is_hex and not given.bare:
+        raise Sorry(f'--hex goes without --services and --com, and {name} is no Intel HEX')
+    found = looked_at(replace(said, is_bare=given.bare or not said.is_one and (is_hex or is_hex_name(name))))
+    if is_wanting and not (found.is_one or found.is_refused):
+        goes = '--args goes' if given.args is not None else '--file and --files-out go'
+        raise Sorry(f'{goes} with a .COM or .EXE program, or a source that calls INT 10h, 16h, 20h or 21h')
     return found
 
 
 def words_of(given: argparse.Namespace) -> list[str]:
     """Those words, for another command."""
-    names = ('services', 'com', 'bare', *LANGUAGES)
-    return [f'--{name}' for name in names if getattr(given, name)] + ([f'--args={given.args}'] if given.args is not None else [])
+    names = [name for name in ('services', 'com', 'bare') if getattr(given, name)]
+    names += [given.language] if given.language else []
+    return [f'--{name}' for name in names] + ([f'--args={given.args}'] if given.args is not None else [])
 
 
 def looked_at(guest: Guest) -> Guest:
-    """A source as its look tells: one of MASM, or with services, or none of these."""
-    if not guest.is_own and foreign.seen(guest.file):
-        return replace(guest, compiler='masm', is_seen=True)
+    """A source as its look tells, if no word does: one of MASM, or with services, or none of these."""
+    if guest.is_bare or not guest.is_source:
+        return guest
+    if guest.language != OWN and foreign.is_masm(guest.file):
+        return replace(guest, language='masm', is_seen=True)
     if guest.is_served:
         return guest
     look = is_served(guest.file)
     return replace(guest, is_served=bool(look), is_seen=bool(look), is_refused=look is None)
 
 
-def guest_in(file: str) -> Guest | None:
-    """A source of MASM by its look, of which nothing is told; None of another one."""
-    found = looked_at(Guest(file))
-    return replace(found, is_seen=False, is_quiet=True) if found.compiler else None
-
-
-def say(guest: Guest) -> None:
-    """Tells once how a source is taken by its look, and what is noted of one of MASM."""
-    if guest.compiler == 'masm' and not guest.is_quiet:
-        foreign.tell(foreign.translated(guest.file, guest.home))
-    if guest.is_seen:
-        foreign.say_once(said_of(guest, guest.file))
-
-
 def said_of(guest: Guest, file: str, without: str = '--bare', otherwise: str = '--nasm or --dialect') -> str:
     """How a source is taken by its look, and what takes it otherwise, as a sentence."""
-    if guest.compiler:
+    if guest.language == 'masm':
         return f'{file} is a source of MASM, TASM or emu8086, and runs with the services (docs/masm.md); {otherwise} takes it otherwise'
     return f'{file} runs with the services (docs/services.md); {without} runs it without'
-
-
-def language_of(given: argparse.Namespace) -> str | None:
-    """Which language the words say that a source is in."""
-    named = [name for name in LANGUAGES if getattr(given, name, False)]
-    if len(named) > 1:
-        raise Sorry(f'a source is in one language, and here are --{" and --".join(named)}')
-    return named[0] if named else None
 
 
 def asked(given: argparse.Namespace) -> tuple[Guest, Files]:
@@ -158,36 +141,29 @@ def asked(given: argparse.Namespace) -> tuple[Guest, Files]:
 
 
 def loaded(guest: Guest, ram: int, room: str) -> Loaded:
-    """The program with the services in memory, and with its disk."""
-    return disk.beside(without_disk(guest, ram, room), guest.file, guest.files, ram)
-
-
-def without_disk(guest: Guest, ram: int, room: str) -> Loaded:
     """The program with the services in memory."""
-    args = guest.args or ''
-    if guest.compiler == 'masm':
+    if guest.language == 'masm':
         return translated(guest, ram, room)
-    if guest.compiler:
+    if guest.language in COMPILERS:
         made = compiled(guest, room)
-        return with_lines(guest, of_bytes(guest, read_bytes(made, LONGEST), ram, ''), f'{made}.lst')
+        return with_lines(guest, of_bytes(guest, read_bytes(f'{made}.com', LONGEST), ram, ''), made)
     if guest.is_com or ending(guest.file) in BINARIES:
         return of_bytes(guest, read_bytes(guest.file, LONGEST), ram, '.com' if guest.is_com else ending(guest.file))
-    return loading.source(guest.file, args, ram)
+    return loading.source(guest.file, guest.args or '', ram)
 
 
 def translated(guest: Guest, ram: int, room: str) -> Loaded:
     """A source of MASM, with the rows of its own lines and names."""
-    translation = foreign.translated(guest.file, guest.home)
+    translation = foreign.translation_of(guest.file, home=guest.home)
     path = os.path.join(tempfile.mkdtemp(dir=room), os.path.basename(guest.file))
     write_bytes(path, translation.text.encode('ascii', 'replace'))
     try:
         found = loading.source(path, guest.args or '', ram)
     except Sorry as sorry:
-        foreign.listed(translation)  # which tells what is refused, as of the user's line
-        raise Sorry(str(sorry).replace(path, guest.file)) from None
-    rows = found.rows[: len(translation.lines)]
-    labels = [label for name in found.services for label in services.labels_of(name)]
-    return replace(found, rows=[*translation.rows(rows), *foreign.label_rows(rows), *labels])
+        refused = next(translation.refused(), None)
+        raise (foreign.Refused([refused]) if refused else Sorry(str(sorry).replace(path, guest.file))) from None
+    count = len(translation.lines)
+    return replace(found, rows=translation.rows(found.rows[:count]) + found.rows[count:])
 
 
 def of_bytes(guest: Guest, octets: bytes, ram: int, kind: str) -> Loaded:
@@ -205,22 +181,23 @@ def of_bytes(guest: Guest, octets: bytes, ram: int, kind: str) -> Loaded:
 
 
 def compiled(guest: Guest, room: str) -> str:
-    """What NASM or bcc makes of a source. Their messages are shown."""
-    assert guest.compiler
-    command, package = COMPILERS[guest.compiler]
+    """What NASM or bcc makes of a source, as far as to its ending: .com, .lst and bcc's .map. Their messages are
+    shown."""
+    assert guest.language
+    command, package = COMPILERS[guest.language]
     stem, folder = os.path.splitext(os.path.basename(handed_on(guest.file)))[0], os.path.dirname(guest.file) or '.'
-    made = os.path.join(room, f'{stem}.com')
+    made = os.path.join(room, stem)
     words = {
-        'nasm': ['-f', 'bin', f'-I{folder}/', '-l', f'{made}.lst', '-o', made, guest.file],
-        'bcc': ['-Md', '-C-t', '-A-l', f'-A{made}.lst', '-M', f'-I{folder}', '-o', made, guest.file],
-    }[guest.compiler]
+        'nasm': ['-f', 'bin', f'-I{folder}/', '-l', f'{made}.lst', '-o', f'{made}.com', guest.file],
+        'bcc': ['-Md', '-C-t', '-A-l', f'-A{made}.lst', '-M', f'-I{folder}', '-o', f'{made}.com', guest.file],
+    }[guest.language]
     if not shutil.which(command):
         raise Sorry(f"{command} isn't there; install it (Debian: apt-get install {package})")
     ran = subprocess.run(limited([command, *words]), stdin=subprocess.DEVNULL, capture_output=True, text=True, errors='replace', check=False)
-    write_bytes(f'{made}.map', ran.stdout.encode())
-    rows = [*itertools.takewhile(lambda row: not MAPPED.match(row), ran.stdout.split('\n')), ran.stderr]
-    messages = '\n'.join(bounded('\n'.join(rows).strip().split('\n')))
-    if ran.returncode or not os.path.isfile(made):
+    printed, *mapped = re.split(f'^(?={MAPPED})', ran.stdout, maxsplit=1, flags=re.M)
+    write_bytes(f'{made}.map', '\n'.join(re.findall(rf'^ *{re.escape(stem)} .*', ''.join(mapped), re.M)).encode())
+    messages = '\n'.join(bounded(f'{printed}\n{ran.stderr}'.strip().split('\n')))
+    if ran.returncode or not os.path.isfile(f'{made}.com'):
         if FIRST_OF_BCC in messages:
             raise Sorry(f'{command} has no library to link programs with; install it (Debian: apt-get install {package})')
         raise Sorry(f'{command} refuses {guest.file}:\n{messages or f"status {ran.returncode}"}')
@@ -229,39 +206,31 @@ def compiled(guest: Guest, room: str) -> str:
     return made
 
 
-def with_lines(guest: Guest, found: Loaded, listing: str) -> Loaded:
-    """A program with the lines and labels of its assembler's listing, if there is one that fits: it counts from where the program begins,
-    but for an .EXE program, of which it doesn't tell where its parts stand."""
-    if not os.path.isfile(listing):
+def with_lines(guest: Guest, found: Loaded, made: str) -> Loaded:
+    """A program with the lines and labels that its assembler tells, if they fit: they are counted from where the
+    program begins, but for an .EXE program, of which they don't tell where its parts stand."""
+    place = found.rows[0].split()[0]
+    symbols = f'{made}.map@{place[:4]},ram={place[:4]}' if guest.language == 'bcc' else f'{made}.lst@{place}'
+    try:
+        lines = symbols_of(symbols, found.image)
+    except Sorry:
         return found
-    segment, offset = (int(part, 16) for part in found.rows[0].split()[0].split(':'))
-    rows = read_text(listing).removesuffix('\n').split('\n')
-    lines = of_c(guest, rows, listing, segment) if guest.compiler == 'bcc' else of_nasm(rows, (segment, offset), None)
-    is_right = all(
-        found.image.get(physical(*line.address) + place) == octet for line in lines.at.values() if line.address for place, octet in enumerate(line.shown)
-    )
-    return replace(found, rows=[*foreign.rows_of(guest.file, lines), *found.rows[1:]]) if is_right and lines.at else found
+    return replace(found, rows=[*foreign.rows_of(guest.file, lines), *found.rows[1:]])
 
 
-def of_c(guest: Guest, rows: list[str], listing: str, segment: int) -> Listing:
-    """The lines of a source in C, whose code begins where the map tells of its first label."""
-    lines = foreign.lines_of(read_bytes(guest.file, LONGEST))
-    found = of_bcc(rows, guest.file, lines, (segment, 0))
-    mapped = dict(row.group(1, 2) for row in map(MAPPED.match, read_text(f'{listing.removesuffix(".lst")}.map').split('\n')) if row)
-    first = next((int(mapped[f'_{label}'], 16) - at for label, (_, at) in found.labels.items() if f'_{label}' in mapped), None)
-    return Listing() if first is None else of_bcc(rows, guest.file, lines, (segment, first))
-
-
-def fields_for(guest: Guest, run_file: str | None, more: dict[str, Any] | None = None) -> dict[str, Any]:
-    """The run file's fields: RUN's, or the usual ones with all the RAM that there can be, and before these `more`."""
-    fields = DEFAULTS | {'ram': MOST_RAM} | (read_run_file(run_file) if run_file else {}) | (more or {})
-    check_ram(fields['ram'], run_file or guest.file)
+def fields_for(guest: Guest, run_file: str | None, more: Fields | None = None, usual: Fields | None = None) -> Fields:
+    """The run file's fields: RUN's, or the usual ones, and before these `more`. With services it has all the RAM that
+    there can be."""
+    fields = DEFAULTS | ({'ram': MOST_RAM} if guest.is_one else {}) | (usual or {})
+    fields |= (read_run_file(run_file) if run_file else {}) | (more or {})
+    if guest.is_one:
+        check_ram(fields['ram'], run_file or guest.file)
     return fields
 
 
-def written(guest: Guest, fields: dict[str, Any], room: str) -> Files:
+def written(guest: Guest, fields: Fields, room: str) -> Files:
     """The program as Intel HEX, its run file and its symbols, in a folder."""
-    found = loaded(guest, fields['ram'], room)
+    found = disk.beside(loaded(guest, fields['ram'], room), guest.file, guest.files, fields['ram'])
     stem = os.path.join(room, os.path.splitext(os.path.basename(guest.file))[0] or 'it')
     for path, text in ((f'{stem}.hex', found.hex), (f'{stem}.json', text_of(fields)), (f'{stem}.symbols', '\n'.join(found.rows) + '\n')):
         with open(path, 'w', encoding='utf-8', errors='surrogateescape') as file:
@@ -287,20 +256,31 @@ def kept(guest: Guest, run_file: str | None, symbols: str | None, name: str | No
 
 
 @contextlib.contextmanager
-def prepared(guest: Guest, files: Files, more: dict[str, Any] | None = None) -> Iterator[Files]:
+def with_own_lines(files: Files) -> Iterator[Files]:
+    """The files themselves, or what is made of a source of MASM by its look; nothing is told of that."""
+    guest = looked_at(Guest(files.file, is_bare=files.is_hex or bool(files.symbols)))
+    with tempfile.TemporaryDirectory(prefix='zebludor-') as room:
+        yield (made_with(guest, fields_for(guest, None), room) if guest.language else None) or files
+
+
+@contextlib.contextmanager
+def prepared(guest: Guest, files: Files, more: Fields | None = None) -> Iterator[Files]:
     """The files that a tool runs: `files` themselves, or what is made of them where they need the services; then `more` has fields
     that stand before RUN's. RUN may be missing (empty). A source that the program refuses stays what it is."""
     with tempfile.TemporaryDirectory(prefix='zebludor-') as room:
         made = made_with(guest, fields_for(guest, files.run_file or None, more), room) if guest.is_one else None
+        if made and guest.language == 'masm':
+            foreign.tell(foreign.translation_of(guest.file, home=guest.home))
+        if made and guest.is_seen:
+            foreign.say_once(said_of(guest, guest.file))
         if made:
-            say(guest)
             yield replace(made, symbols=files.symbols, source=None) if files.symbols else made
             return
         with with_run_file(files) as found:
             yield found
 
 
-def made_with(guest: Guest, fields: dict[str, Any], room: str) -> Files | None:
+def made_with(guest: Guest, fields: Fields, room: str) -> Files | None:
     """What is made in a folder of a program with services, or None of a source that the program refuses, as it then does by itself."""
     check_ram(fields['ram'], guest.file)
     try:

@@ -3,7 +3,7 @@ from __future__ import annotations
 
 import contextlib
 import hashlib
-from typing import Any, Iterator
+from typing import Iterator
 
 from toolbox import foreign, guests
 from toolbox.command import Sorry, read_bytes
@@ -11,47 +11,41 @@ from toolbox.comments import handed
 from toolbox.expectations import Outcome, Planned, Subject
 from toolbox.faults import fault_in
 from toolbox.feedback import Feedback
-from toolbox.guests import LONGEST, Guest, prepared
+from toolbox.guests import LONGEST, Fields, Guest, prepared
 from toolbox.listing import parts_of
 from toolbox.program import LAST_CLOCK, Files, given_text, refusal, run
 from toolbox.report import report_of
-from toolbox.runfile import DEFAULTS, read_run_file, with_fields
+from toolbox.runfile import with_fields
 from toolbox.scancodes import stamped
 from toolbox.services import TYPING
 from toolbox.symbols import image_of
 
 
-def fields_of(planned: Planned, run_file: str | None, usual: dict[str, Any] = DEFAULTS) -> dict[str, Any]:
-    """The run file's fields of a planned run: RUN's, or the usual ones, and before these the page's."""
-    fields = usual | (read_run_file(run_file) if run_file else {}) | planned.fields
+def fields_of(planned: Planned, guest: Guest, run_file: str | None, usual: Fields | None = None) -> Fields:
+    """The run file's fields of a planned run: RUN's, or the usual ones, and before these the page's. To a program with
+    services keys come later and more slowly."""
+    is_typed = guest.is_one and planned.strokes
+    more = planned.fields | ({'keys': stamped(planned.strokes, *TYPING)} if is_typed else {})
+    fields = guests.fields_for(guest, run_file, more, usual)
     return fields | room_for_keys(fields, planned, run_file)
 
 
-def room_for_keys(fields: dict[str, Any], planned: Planned, run_file: str | None) -> dict[str, Any]:
+def room_for_keys(fields: Fields, planned: Planned, run_file: str | None) -> Fields:
     """The budget that has room for the keys, where nothing says one."""
     if run_file or 'budget' in planned.fields or not fields['keys']:
         return {}
     return {'budget': min(max(fields['budget'], 2 * fields['keys'][-1][0]), LAST_CLOCK)}
 
 
-def served_fields_of(planned: Planned, guest: Guest, run_file: str | None, usual: dict[str, Any] | None = None) -> dict[str, Any]:
-    """Those of a program with services, to which keys come later and more slowly."""
-    more = planned.fields | ({'keys': stamped(planned.strokes, *TYPING)} if planned.strokes else {})
-    fields = guests.fields_for(guest, run_file, more if run_file else (usual or {}) | more)
-    return fields | room_for_keys(fields, planned, run_file)
-
-
 @contextlib.contextmanager
 def files_of(planned: Planned, guest: Guest, run_file: str | None, is_hex: bool, symbols: str | None = None) -> Iterator[Files]:
     """The files of a planned run: RUN itself, or a copy with the page's fields; or a program with services."""
-    if guest.is_one:
-        with prepared(guest, Files(guest.file, run_file or '', False, symbols), served_fields_of(planned, guest, run_file)) as files:
-            yield files
+    given = Files(guest.file, run_file or '', is_hex and not guest.is_one, symbols)
+    if run_file and not planned.fields and not guest.is_one:
+        yield given
         return
-    if run_file and not planned.fields:
-        yield Files(guest.file, run_file, is_hex, symbols)
-        return
-    with with_fields(Files(guest.file, '', is_hex, symbols), fields_of(planned, run_file)) as files:
+    fields = fields_of(planned, guest, run_file)
+    with prepared(guest, given, fields) if guest.is_one else with_fields(given, fields) as files:
         yield files
 
 
@@ -106,9 +100,9 @@ def sum_of(guest: Guest, is_hex: bool) -> str:
 
 def image_text(guest: Guest) -> str | None:
     """The Intel HEX of a source, empty if it is refused; None of what is no source, or another compiler's."""
-    if guest.compiler == 'masm':
+    if guest.language == 'masm':
         try:
-            return given_text(['asm'], foreign.translated(guest.file).text).out
+            return given_text(['asm'], foreign.translation_of(guest.file).text).out
         except foreign.Refused:
             return ''
     return run(['asm', '--', handed(guest.file)]).out if guest.is_source else None

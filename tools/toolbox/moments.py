@@ -25,7 +25,7 @@ from toolbox.command import PYTHON, Sorry, read_text, tool, write_text
 from toolbox.events import first_start
 from toolbox.expectations import Planned, page_of
 from toolbox.guests import Guest
-from toolbox.judging import fields_of, outcomes_of, served_fields_of, subject_of
+from toolbox.judging import fields_of, outcomes_of, subject_of
 from toolbox.listing import Listing, code_of, label_in, listing_of
 from toolbox.places import event_of, far_of, line_at
 from toolbox.poking import Count
@@ -80,8 +80,7 @@ class Plan:
 
     def _fields_of(self, planned: Planned) -> dict[str, Any]:
         """A run's run file: RUN's, or what is short, and before it the page's."""
-        run_file = self.given.run_file or None
-        return served_fields_of(planned, self.guest, run_file, SERVED) if self.guest.is_one else fields_of(planned, run_file, SHORT)
+        return fields_of(planned, self.guest, self.given.run_file or None, SERVED if self.guest.is_one else SHORT)
 
     def values(self, moment: int) -> tuple[int, ...]:
         """The count, if there is one to try, and the clocks of the moment of this number."""

@@ -23,7 +23,7 @@ from toolbox.program import LAST_CLOCK, Files, ProbeSession
 from toolbox.report import A_SECOND, COLUMNS, ROWS, Report, registers_of
 from toolbox.runfile import read_run_file
 from toolbox.scancodes import names
-from toolbox.services import at_place, left_at, mark_of
+from toolbox.services import left_at, mark_of
 from toolbox.text_memory import TEXT_MEMORY, shown
 from toolbox.walk import (
     COLOUR,
@@ -95,7 +95,7 @@ def told_of_run(report: Report, files: Files, listing: Listing | None = None, re
 def by_line(run: Run, place: tuple[int, int]) -> str:
     """By which line of the source, or at which place, a call was made. INT3 has one byte."""
     line = run.listing.at.get(physical(*place)) or run.listing.at.get(physical(place[0], place[1] + 1))
-    return f'by line {line.number} ({code_of(line.text).strip()})' if line else at_place(place)
+    return f'by line {line.number} ({code_of(line.text).strip()})' if line else 'at {:04X}:{:04X}'.format(*place)
 
 
 def of_calls(run: Run) -> list[Told]:

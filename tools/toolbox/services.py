@@ -7,7 +7,7 @@ import functools
 import re
 import struct
 from dataclasses import dataclass
-from typing import Callable, Iterator
+from typing import Callable, Iterator, NamedTuple
 
 from toolbox import reading
 from toolbox.command import Sorry
@@ -31,7 +31,7 @@ RESET = 0xFFFF0  # where the processor begins
 TYPING = 200_000, 20_000, 80_000
 LIST = 0x200, 24, struct.Struct('<BxHHHH')  # behind the state: how many calls, and each
 FCBS = (*range(0x0F, 0x18), *range(0x21, 0x25), *range(0x27, 0x2A))
-WITH_DISK = (*range(0x3C, 0x44), 0x4E, 0x4F, 0x56)
+WITH_DISK = (*range(0x3C, 0x40), *range(0x41, 0x44), 0x4E, 0x4F, 0x56)
 ENDS = {
     0x00: 'ended by a division without a quotient',
     0x03: 'ended by INT 3, to which no handler is set',
@@ -95,30 +95,14 @@ def waits_for_key(registers: dict[str, int]) -> bool:
     return registers['CS'] == segment and first <= registers['IP'] < end
 
 
-def at_place(place: tuple[int, int]) -> str:
-    """A place without a source."""
-    return 'at {:04X}:{:04X}'.format(*place)
-
-
-def times(place: str, count: int) -> str:
-    """A place, and how often."""
-    return f'{place} ({count:,} times)' if count > 1 else place
-
-
-@dataclass(frozen=True)
-class Call:
-    """A call that wasn't served: its interrupt, AX, where it was made, and how often from there."""
+class Call(NamedTuple):
+    """A call that wasn't served: its interrupt, AX, where its return leads, and how often it was made from there."""
 
     number: int
     ax: int
     offset: int
     segment: int
     times: int
-
-    @property
-    def at(self) -> tuple[int, int]:
-        """Where its INT stands, or INT3 of one byte."""
-        return self.segment, self.offset - 2 & 0xFFFF
 
     @property
     def name(self) -> str:
@@ -128,20 +112,25 @@ class Call:
     @property
     def why(self) -> str:
         """What there is in its place."""
-        if self.number == 3:
-            return 'has no handler, and ended the program'
-        if self.number == 0x21 and self.ax >> 8 in FCBS:
+        function = self.ax >> 8 if self.number == 0x21 else -1
+        if function in FCBS:
             return "is one of file control blocks (FCBs), which aren't among the services: handles are, by 3Ch to 42h (docs/services.md)"
-        if self.number == 0x21 and self.ax >> 8 in WITH_DISK and self.ax >> 8 != 0x40:
+        if function in WITH_DISK:
             return 'wants a disk, which --file or --files-out gives to the program (docs/services.md)'
-        return "isn't among the services (docs/services.md)"
+        no_handler = 'has no handler, and ended the program'
+        return no_handler if self.number == 3 else "isn't among the services (docs/services.md)"
+
+    def said(self, place_of: Callable[[tuple[int, int]], str]) -> str:
+        """The place where its INT stands, or INT3 of one byte, and how often it was called."""
+        place = place_of((self.segment, self.offset - 2 & 0xFFFF))
+        return f'{place} ({self.times:,} times)' if self.times > 1 else place
 
 
 @dataclass(frozen=True)
 class Served:
-    """What the services left at a clock: whether the program runs (phase 1) or has ended (2), how, with which exit code and when;
-    how many bytes it wrote, and those that were kept; how many calls weren't served, the first one's number, AX and CS:IP
-    behind it, and the first 24 of other places or functions; how many keys found the buffer full; the paragraph of the disk of files, or 0."""
+    """What the services left at a clock: whether the program runs (phase 1) or has ended (2), how, with which exit code
+    and when; how many bytes it wrote, and those that were kept; how many calls weren't served, and the first 24 of
+    other places or functions; how many keys found the buffer full; the paragraph of the disk of files, or 0."""
 
     phase: int
     how: int
@@ -150,7 +139,6 @@ class Served:
     written: int
     output: bytes
     notes: int
-    note: tuple[int, int, int, int]
     lost: int
     disk: int = 0
     calls: tuple[Call, ...] = ()
@@ -171,15 +159,17 @@ class Served:
             raise Sorry(f'the program wrote {self.written:,} bytes, and the services keep the first {KEPT:,}')
         return self.output
 
-    def remarks(self, place_of: Callable[[tuple[int, int]], str] = at_place) -> list[str]:
+    def remarks(self, place_of: Callable[[tuple[int, int]], str]) -> list[str]:
         """What a person has to know besides, as sentences: of each call that wasn't served all places."""
         them = dict[str, list[Call]]()
         for call in self.calls:
             them.setdefault(call.name, []).append(call)
-        found = [f'{name}, called {" and ".join(times(place_of(call.at), call.times) for call in calls)}, {calls[0].why}' for name, calls in them.items()]
+        places = {name: ' and '.join(call.said(place_of) for call in calls) for name, calls in them.items()}
+        found = [f'{name}, called {places[name]}, {calls[0].why}' for name, calls in them.items()]
         more = self.notes - sum(call.times for call in self.calls)
         if self.calls and more > 0:
-            found.append(f"{more:,} more calls that weren't served are of places for which the list of {len(self.calls)} has no room")
+            room = f'for which the list of {len(self.calls)} has no room'
+            found.append(f"{more:,} more calls that weren't served are of places {room}")
         if self.lost:
             found.append(f"{self.lost} keys were lost: the keyboard's buffer, which holds 15, was full")
         return found
@@ -215,16 +205,14 @@ def left_at(session: Talker, ram_end: int, ended: int | None = None) -> Served |
     if not 1024 * LEAST_RAM <= ram_end <= 1024 * MOST_RAM or session.dump(SIGNED, len(SIGNATURE)) != SIGNATURE:
         return None
     state = session.dump(base + KEPT, 0x30)
-    mark, phase, how, code, written, notes, number, *place, lost = struct.unpack_from('<HHBBIHHHHHH', state)
+    mark, phase, how, code, written, notes, *first, lost = struct.unpack_from('<HHBBIHHHHHH', state)
     (paragraph,) = struct.unpack_from('<H', state, 0x2E)
     if mark != MARK:
         return None
     output = session.dump(base, min(written, KEPT)) if written else b''
-    note = number, place[0], place[1], place[2]
-    calls = (calls_of(session.dump(base + KEPT + LIST[0], LIST[1] * LIST[2].size)) or (Call(*note, notes),)) if notes else ()
-    return Served(phase, how, code, ended if phase == 2 else None, written, output, notes, note, lost, paragraph, calls)
-
-
-def calls_of(octets: bytes) -> tuple[Call, ...]:
-    """The list of calls that weren't served. Images of earlier services have none."""
-    return tuple(call for call in (Call(*row) for row in LIST[2].iter_unpack(octets)) if call.times)
+    listed = session.dump(base + KEPT + LIST[0], LIST[1] * LIST[2].size) if notes else b''
+    calls = [call for call in map(Call._make, LIST[2].iter_unpack(listed)) if call.times]
+    if notes and not calls:  # an image of earlier services, which have no list
+        calls = [Call(*first, notes)]
+    clock = ended if phase == 2 else None
+    return Served(phase, how, code, clock, written, output, notes, lost, paragraph, tuple(calls))

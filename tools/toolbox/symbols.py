@@ -23,10 +23,6 @@ NASM_SECTION = re.compile(r'\s*\[?\s*(section|segment|absolute|struc|endstruc)\b
 NASM_TEXT = 40  # the column of a line's text
 NASM_SYMBOL = re.compile(r' *([0-9A-F]+) +([0-9A-F]+)  (\S+)$')
 NASM_LABEL = re.compile(r'([A-Za-z_.?@][\w.$#@~?]*)(?:\s*:|\s+(?:d[bwdq]|res[bwdq]|times)\b)', re.I)
-BCC_LINE = re.compile(r'\d{5} {43}! (\d+) (# (\d+)(?: "(.*)")?)?')
-BCC_ROW = re.compile(r'\d{5} ([0-9A-F]{4}) +((?:[0-9A-F]{2})+) ')
-BCC_LABEL = re.compile(r'\d{5} +([0-9A-F]{8})> +_(\w+):')
-BCC_SECTION = re.compile(r'\d{5} [0-9A-F]{4} +\.(text|data|bss)$')
 FAR_LABEL = re.compile(r'([0-9A-Fa-f]{1,4}):([0-9A-Fa-f]{1,4}) +(\S+)')
 FLAT_LABEL = re.compile(
     r'(?P<nm>[0-9A-Fa-f]+) (?P<type>[A-Za-z]) (?P<of_nm>\S+)|' r'\S+ +(?P<of_ld86>\S+) +(?P<part>[0-9A-Fa-f]) +(?P<ld86>[0-9A-Fa-f]{8})(?![^\n]* a\b)( .*)?'
@@ -155,25 +151,6 @@ def of_nasm(rows: list[str], far: tuple[int, int], ram: int | None) -> Listing:
         elif reserved:
             waiting.reserved(int(reserved[1], 16), len(reserved[2]) // 2 if reserved[2] else int(reserved[3], 16))
     waiting.begins('')
-    return found
-
-
-def of_bcc(rows: list[str], name: str, lines: list[str], far: tuple[int, int]) -> Listing:
-    """The listing that as86 writes of what bcc makes of a source in C, with the source's name and lines; it begins at `far`. An instruction
-    belongs to the line that bcc has read last."""
-    found, number, is_own, is_code = Listing(), 1, False, True
-    for row in rows:
-        read, placed, label, section = BCC_LINE.match(row), BCC_ROW.match(row), BCC_LABEL.match(row), BCC_SECTION.match(row)
-        if read:
-            number, is_own = int(read[3] or read[1]), is_own if read[4] is None else read[4] == name
-        is_code = section[1] == 'text' if section else is_code
-        if label and is_code:
-            found.labels[label[2]] = far[0], far[1] + int(label[1], 16)
-        if placed and is_code and is_own and number <= len(lines):
-            at = far[0], far[1] + int(placed[1], 16)
-            found.at[physical(*at)] = Line(number, lines[number - 1], at, bytes.fromhex(placed[2]))
-    named = {line.number for line in found.at.values()}
-    found.lines.extend(Line(number, text, None, b'') for number, text in enumerate(lines, 1) if number not in named)
     return found
 
 

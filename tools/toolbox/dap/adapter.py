@@ -25,7 +25,7 @@ from toolbox.keying import key_lines, type_words
 from toolbox.listing import Line, Listing, listing_of, physical
 from toolbox.places import far_of, far_of_address
 from toolbox.program import LAST_CLOCK, TOP, Files, copied, is_hex_name
-from toolbox.runfile import DEFAULTS, budget_of, text_of
+from toolbox.runfile import budget_of, text_of
 from toolbox.scancodes import stamped, strokes_of
 from toolbox.services import TYPING
 from toolbox.session_board import Gone, Left, Paused, SessionBoard, break_at, place_of
@@ -279,11 +279,8 @@ class Adapter:
         language = field(given, 'language', str, '')
         if language and language not in guests.LANGUAGES:
             raise Sorry(f'"language" is one of {", ".join(guests.LANGUAGES)}')
-        compiler, is_own = (None, True) if language == 'dialect' else (language or None, False)
-        guest = Guest(self.program, args or None, services is True, compiler=compiler, is_bare=services is False or is_hex, is_own=is_own)
-        if guest.is_bare or not guest.is_source:
-            return guest
-        guest = guests.looked_at(guest)
+        is_bare = services is False or is_hex
+        guest = guests.looked_at(Guest(self.program, args or None, services is True, False, language or None, is_bare))
         if guest.is_seen:
             self.output(guests.said_of(guest, os.path.basename(self.program), '"services": false', '"language": "nasm" or "dialect"') + '\n')
         return guest
@@ -292,7 +289,7 @@ class Adapter:
         """The run file that is named, or one of the keys and budget that are."""
         if given.get('run'):
             return os.path.realpath(field(given, 'run', str))
-        fields = DEFAULTS | ({'ram': guests.MOST_RAM} if guest.is_one else {})
+        fields = guests.fields_for(guest, None)
         if keys := field(given, 'keys', str, ''):
             fields['keys'] = stamped(strokes_of(keys), *(TYPING if guest.is_one else (2000, 500, 1500)))
             fields['budget'] = max(fields['budget'], 2 * fields['keys'][-1][0])

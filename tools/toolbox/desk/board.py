@@ -105,7 +105,7 @@ class Board:
     def _taken(self, guest: Guest) -> Guest:
         """How the source is taken, by its look if no word says it. If it has services and less RAM than they want, it gets all that there
         can be."""
-        taken = guest if guest.is_bare or not guest.is_source else guests.looked_at(guest)
+        taken = guests.looked_at(guest)
         ram = self._fields.get('ram')
         if taken.is_one and isinstance(ram, int) and ram < LEAST_RAM:
             self._fields['ram'] = MOST_RAM

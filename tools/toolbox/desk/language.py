@@ -13,7 +13,6 @@ from toolbox.lsp.asked import Unfit
 from toolbox.lsp.completing import completion
 from toolbox.lsp.diagnosing import of_a_fault, of_masm
 from toolbox.lsp.documents import OWN, Document, Settings
-from toolbox.lsp.foreign import is_masm
 from toolbox.lsp.hovering import hover
 
 
@@ -28,8 +27,9 @@ class Language:
     def _of(self, source: str) -> Document:
         """The document of a text."""
         if self._document is None or self._document.text.whole != source:
-            settings = Settings() if is_masm(source) else Settings(dialect=OWN)
-            self._document = Document(pathlib.Path(self._path).as_uri(), source, None, settings, lambda: None)
+            found = self._document = Document(pathlib.Path(self._path).as_uri(), source, None, Settings(), lambda: None)
+            if not found.is_masm:
+                found.set(Settings(dialect=OWN))
         return self._document
 
     def answer(self, what: str, source: str, line: int, column: int) -> Fields:

@@ -202,7 +202,8 @@ class Desk:
         except Gone as gone:
             return {'refused': refusals(Files(self._file(room, is_hex), '', is_hex), str(gone))}
         except foreign.Refused as refused:
-            return {'refused': foreign.in_lines(refused, self._file(room, is_hex))[:MOST_MESSAGES]}
+            them = [one.within(self._file(room, is_hex)) for one in refused.remarks[:MOST_MESSAGES]]
+            return {'refused': [{'line': line, 'text': text, 'of': ''} for line, text in them]}
         except Sorry as sorry:
             return {'refused': refusals(Files(self._file(room, is_hex), '', is_hex), str(sorry))}
         finally:

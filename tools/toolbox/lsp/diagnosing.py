@@ -8,8 +8,6 @@ from toolbox.faults import Fault
 from toolbox.lsp.asked import want
 from toolbox.lsp.documents import Document
 from toolbox.lsp.doubts import doubts_of
-from toolbox.lsp.foreign import MASM
-from toolbox.lsp.outline import path_of
 from toolbox.lsp.repairs import MOST, candidates
 from toolbox.lsp.text import Fields
 from toolbox.messages import judged, what_to_do
@@ -34,17 +32,14 @@ def of_a_fault(document: Document, fault: Fault, is_after: bool) -> Fields:
 
 def of_masm(document: Document) -> list[Fields]:
     """The refused lines of a source of MASM; what is refused of a file that it includes stands at the first line."""
-    path = path_of(document.uri) or document.uri
-    found = list[Fields]()
-    for line, text in foreign.complaints(path, document.text.whole.encode('utf-8', 'surrogatepass')):
-        at = code_range(document, document.text.line_of(line))
-        found.append({'range': at, 'severity': ERROR, 'source': 'pcmasm', 'message': text})
-    return found
+    found = foreign.complaints(*document.as_file)
+    places = ((code_range(document, document.text.line_of(line or 1)), text) for line, text in found)
+    return [{'range': place, 'severity': ERROR, 'source': 'pcmasm', 'message': text} for place, text in places]
 
 
 def diagnostics(document: Document) -> list[Fields]:
     """All that is known by now."""
-    if document.note and document.note.name == MASM:
+    if document.is_masm:
         return of_masm(document)
     if document.note:
         note = document.note

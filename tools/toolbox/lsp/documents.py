@@ -1,11 +1,12 @@
 """An open document, and the client's settings."""
 from __future__ import annotations
 
+import urllib.parse
 from dataclasses import dataclass
 from typing import Any, Callable
 
 from toolbox.lsp.answers import Answers
-from toolbox.lsp.foreign import Note, seems
+from toolbox.lsp.foreign import AS_BYTES, MASM, Note, seems
 from toolbox.lsp.source import Source
 from toolbox.lsp.text import Text
 
@@ -28,6 +29,12 @@ class Settings:
         off = found.get('off')
         names = [name for name in off if isinstance(name, str)] if isinstance(off, list) else []
         return Settings(found.get('hints') is True, OWN if found.get('dialect') == OWN else '', frozenset(names))
+
+
+def path_of(uri: str) -> str | None:
+    """The path of a file's name in the protocol."""
+    parts = urllib.parse.urlsplit(uri)
+    return urllib.parse.unquote(parts.path) if parts.scheme == 'file' else None
 
 
 class Document:
@@ -60,3 +67,13 @@ class Document:
     def text(self) -> Text:
         """Its text."""
         return self.source.text
+
+    @property
+    def is_masm(self) -> bool:
+        """Whether it is a source of MASM."""
+        return self.note is not None and self.note.name == MASM
+
+    @property
+    def as_file(self) -> tuple[str, bytes]:
+        """The path and the bytes of its file, if it were kept."""
+        return path_of(self.uri) or self.uri, self.text.whole.encode(*AS_BYTES)

@@ -1,6 +1,7 @@
 """Sources of other assemblers, by their names and by what stands at a line's head; and those of MASM, as pcmasm tells."""
 from __future__ import annotations
 
+import contextlib
 import re
 from dataclasses import dataclass
 
@@ -12,7 +13,7 @@ LOOKS = (
     ('NASM', r'\s*(%\w+|section\s+[.\w]+\s*$|bits\s+\d+\s*$|\[\s*(bits|org|section|cpu)\b|(global|extern)\s+\w)'),
     ('gas', r'\s*(\.(text|globl|global|section|intel_syntax|att_syntax|code16|align|ascii|asciz|byte|word)\b)'),
 )
-MASM = 'MASM'
+MASM, AS_BYTES = 'MASM', ('utf-8', 'surrogatepass')
 PATTERNS = [(name, re.compile(look, re.I)) for name, look in LOOKS]
 
 
@@ -38,17 +39,12 @@ def seems(uri: str, source: Source) -> Note | None:
     """What a file seems to be, if it is another assembler's."""
     if uri.lower().endswith('.nasm'):
         return Note('NASM', 0)
+    with contextlib.suppress(Sorry):
+        if foreign.origin_of(source.text.whole.encode(*AS_BYTES))[0] == 'masm':
+            return Note(MASM, 0)
     for number, line in enumerate(source.text.lines):
         if len(line) < 1000 and line.lstrip()[:1] not in ('', ';'):
             for name, pattern in PATTERNS:
                 if pattern.match(line.partition(';')[0]):
                     return Note(name, number)
-    return Note(MASM, 0) if is_masm(source.text.whole) else None
-
-
-def is_masm(text: str) -> bool:
-    """Whether a text is one of MASM."""
-    try:
-        return foreign.origin_of(text.encode('utf-8', 'surrogatepass')).name == 'masm'
-    except Sorry:
-        return False
+    return None

@@ -6,10 +6,8 @@ from toolbox import foreign
 from toolbox.lsp.asked import want
 from toolbox.lsp.clocks import cost_of
 from toolbox.lsp.documents import Document
-from toolbox.lsp.foreign import MASM
 from toolbox.lsp.instructions import forms_of, instruction_of
 from toolbox.lsp.lines import LABEL, Token
-from toolbox.lsp.outline import path_of
 from toolbox.lsp.ports import ports, written
 from toolbox.lsp.source import Definition, number_in
 from toolbox.lsp.straight import bytes_before, bytes_out, port_of
@@ -22,7 +20,7 @@ MOST_USES = 20
 def hover(document: Document, asked: Fields) -> Fields | None:
     """The text for the asked place."""
     line, column = document.text.place(want(asked, 'position', dict))
-    if document.note and document.note.name == MASM:
+    if document.is_masm:
         return of_masm(document, line)
     token = document.source.lines[line].at(column)
     paragraphs = told_of(document, line, token) if token and not document.note else []
@@ -33,7 +31,7 @@ def hover(document: Document, asked: Fields) -> Fields | None:
 
 def of_masm(document: Document, line: int) -> Fields | None:
     """What becomes of a line of MASM: rows of the dialect's listing."""
-    rows = foreign.rows_by_line(path_of(document.uri) or document.uri, document.text.whole.encode('utf-8', 'surrogatepass')).get(line + 1)
+    rows = foreign.rows_by_line(*document.as_file).get(line + 1)
     if not rows:
         return None
     listing = '\n'.join(['```', *rows, '```'])

@@ -3,7 +3,6 @@ from __future__ import annotations
 
 import os
 import re
-import urllib.parse
 from pathlib import Path
 from typing import Iterable, Iterator
 
@@ -58,12 +57,6 @@ def folds(document: Document, _: Fields) -> list[Fields]:
             found += [{'startLine': first, 'endLine': number - 1, 'kind': 'comment'}] if number - first > 1 else []
             first = None
     return found
-
-
-def path_of(uri: str) -> str | None:
-    """The path of a file's name in the protocol."""
-    parts = urllib.parse.urlsplit(uri)
-    return urllib.parse.unquote(parts.path) if parts.scheme == 'file' else None
 
 
 def sources_below(folders: Iterable[str]) -> Iterator[str]:

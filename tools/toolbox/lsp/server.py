@@ -12,7 +12,7 @@ from toolbox.framing import Broken, Read
 from toolbox.guests import Guest, said_of
 from toolbox.lsp import calls, colours, completing, diagnosing, hovering, layout, naming, outline
 from toolbox.lsp.asked import CANCELLED, FAILED, INTERNAL, INVALID, MOST, NO_METHOD, NOT_BEGUN, PARSE, Unfit, want
-from toolbox.lsp.documents import OWN, Document, Settings
+from toolbox.lsp.documents import OWN, Document, Settings, path_of
 from toolbox.lsp.text import Fields
 
 OF_A_DOCUMENT: dict[str, Callable[[Document, Fields], Any]] = {
@@ -205,7 +205,7 @@ class Server:
         self.client = client if isinstance(client, int) and 0 < client <= MOST else 0
         given = asked.get('workspaceFolders')
         roots = [folder.get('uri') for folder in given] if isinstance(given, list) else [asked.get('rootUri')]
-        self.folders = [path for root in roots if isinstance(root, str) and (path := outline.path_of(root))]
+        self.folders = [path for root in roots if isinstance(root, str) and (path := path_of(root))]
         self.settings = Settings.of(asked.get('initializationOptions'))
         return {'capabilities': CAPABILITIES, 'serverInfo': {'name': 'zebludor'}}
 
