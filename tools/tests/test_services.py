@@ -318,7 +318,7 @@ class Board(ServiceCase):
     def test_int_3_ends(self) -> None:
         for lines in (' INT3', ' INT 3'):
             report, left = self.whole(lines)
-            self.assertEqual((left.how, left.phase, report.state, left.calls[0].at[0]), (3, 2, 'halted', 0x100))
+            self.assertEqual((left.how, left.phase, report.state, left.calls[0].segment), (3, 2, 'halted', 0x100))
         own = ' MOV AX,2503h\n MOV DX,own\n INT 21h\n INT3\n INT 3\n JMP SHORT seen\nown: INC BYTE CS:[times]\n IRET\ntimes: DB 0\n'
         self.assertEqual(self.whole(own)[1].how, 0x20)
         steps = ' MOV AX,302h\n PUSH AX\n POPF\n MOV AL,0CCh\n NOP\n MOV AX,202h\n PUSH AX\n POPF'
@@ -329,12 +329,12 @@ class Board(ServiceCase):
         one = ' MOV AX,3900h\n INT 21h\n'
         left = self.whole(one * 2 + ' MOV CX,3\nmore: MOV AX,0F55h\n INT 21h\n LOOP more\n INT 33h')[1]
         wanted = [(0x21, 0x39, 0x103, 1), (0x21, 0x39, 0x108, 1), (0x21, 0x0F, 0x110, 3), (0x33, 0x0F, 0x114, 1)]
-        self.assertEqual([(call.number, call.ax >> 8, call.at[1], call.times) for call in left.calls], wanted)
+        self.assertEqual([(call.number, call.ax >> 8, call.offset - 2, call.times) for call in left.calls], wanted)
         left = self.whole(one * 30)[1]
         self.assertEqual((len(left.calls), left.notes), (24, 30))
-        self.assertIn('6 more calls', left.remarks()[-1])
+        self.assertIn('6 more calls', left.remarks('at {0[0]:04X}:{0[1]:04X}'.format)[-1])
         unlisted = self.whole(one + ' MOV AX,9000h\n MOV DS,AX\n MOV WORD [0FE08h],0')[1]
-        self.assertEqual([(call.number, call.ax >> 8, call.at[1], call.times) for call in unlisted.calls], [(0x21, 0x39, 0x103, 1)])
+        self.assertEqual([(call.number, call.ax >> 8, call.offset - 2, call.times) for call in unlisted.calls], [(0x21, 0x39, 0x103, 1)])
         left = self.whole(' MOV BX,2\nagain: MOV CX,40000\nmore: INT 33h\n LOOP more\n DEC BX\n JNZ again', budget=150_000_000)[1]
         self.assertEqual((left.calls[0].times, left.how), (0xFFFF, 0x20))
 
@@ -652,7 +652,7 @@ class Dos(ServiceCase):
             self.assertEqual({name: seen.registers[name] for name in STAY}, STAY)
             self.assertEqual(seen.screen, [''] * 25)
         _, left = self.whole(' MOV AX,4B02h\n INT 21h')
-        self.assertEqual(left.remarks(), ["INT 21h function 4Bh, called at 0100:0103, isn't among the services (docs/services.md)"])
+        self.assertEqual(left.remarks('at {0[0]:04X}:{0[1]:04X}'.format), ["INT 21h function 4Bh, called at 0100:0103, isn't among the services (docs/services.md)"])
 
     def test_interrupts_beside(self) -> None:
         """24h fails, 25h and 26h leave the flags on the stack, 28h returns, 29h shows AL."""
