@@ -50,7 +50,7 @@ class DiskCase(ServiceCase):
         """The state at a program's end, and the files on its disk."""
         with self.prepare(lines, **more) as files, at_the_end(files, more.get('budget', BUDGET)) as (session, served):
             assert served and served.phase == 2, session.many('screen')
-            return Seen(session, 0x1000), disk.files_on(session.dump, 16 * served.disk)
+            return Seen(session, 0x1000), disk.files_of(session.dump, served)
 
     def refused(self, lines: str, code: int, **more: Any) -> None:
         """The last call, whose registers are set, sets carry with this code."""

@@ -12,7 +12,7 @@ from typing import Callable
 from toolbox.command import Sorry, read_bytes, write_bytes
 from toolbox.listing import parts_of
 from toolbox.loading import BLOCK, ROM, SERVICES_OWN, Loaded, placed
-from toolbox.services import address_of
+from toolbox.services import Served, address_of
 
 KB = 192  # of all of it
 CLUSTER, CLUSTERS, FIRST, END = 1024, 192, 2, 0xFF
@@ -81,10 +81,10 @@ def beside(found: Loaded, name: str, paths: tuple[str, ...] | None, ram: int) ->
     return replace(found, image=found.image | placed(BLOCK, block) | placed(16 * base, laid_out(read_all(paths or ()))))
 
 
-def files_on(dump: Callable[[int, int], bytes], base: int) -> dict[str, bytes]:
-    """The files on a disk that begins at an address. A program may have written over it, which is told."""
-    head = dump(base, FIRST * CLUSTER)
-    found = dict[str, bytes]()
+def files_of(dump: Callable[[int, int], bytes], left: Served | None) -> dict[str, bytes]:
+    """The files on a program's disk, if it has one, by what its services left. It may have written over it, which is told."""
+    base, found = 16 * left.disk if left else 0, dict[str, bytes]()
+    head = dump(base, FIRST * CLUSTER) if base else b''
     for octets, _, _, _, first, size in ENTRY.iter_unpack(head[DIRECTORY:]):
         if not octets[0]:
             continue

@@ -110,10 +110,8 @@ def of_calls(run: Run) -> list[Told]:
 
 def is_on_disk(run: Run, path: str) -> bool:
     """Whether a program's disk has a file at the run's end. One that was written over has none."""
-    served = left_at(run.session, run.ram_end)
     with contextlib.suppress(Sorry):
-        if served and served.disk:
-            return re.sub(r'^(.:)?[\\/]?', '', path.upper()) in disk.files_on(run.session.dump, 16 * served.disk)
+        return re.sub(r'^(.:)?[\\/]?', '', path.upper()) in disk.files_of(run.session.dump, left_at(run.session, run.ram_end))
     return False
 
 
