@@ -255,18 +255,14 @@ def rows_of(source: str, listing: Listing) -> list[str]:
     return made.rows(rows) + [label_row(name, at) for name, at in names.items()]
 
 
-def rows_by_line(path: str, octets: bytes) -> dict[int, list[str]]:
-    """The rows of the dialect's listing that come of each line of a text; none, if a line is refused."""
-    found = dict[int, list[str]]()
+def rows_of_line(number: int, path: str, octets: bytes) -> list[str]:
+    """The rows of the dialect's listing that come of a line of a text; none, if a line is refused."""
     try:
         translation = translation_of(path, octets)
-        ran = given_text(['asm', '--list'], translation.text)
+        rows = given_text(['asm', '--list'], translation.text).out.split('\n')[:-1]
     except Sorry:
-        return {}
-    for (source, number), row in zip(translation.places, ran.out.split('\n')[:-1]):
-        if source == path:
-            found.setdefault(number, []).append(row)
-    return found
+        return []
+    return [row for place, row in zip(translation.places, rows) if place == (path, number)]
 
 
 def label_row(name: str, place: tuple[int, int]) -> str:

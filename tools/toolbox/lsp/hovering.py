@@ -31,7 +31,7 @@ def hover(document: Document, asked: Fields) -> Fields | None:
 
 def of_masm(document: Document, line: int) -> Fields | None:
     """What becomes of a line of MASM: rows of the dialect's listing."""
-    rows = foreign.rows_by_line(*document.as_file).get(line + 1)
+    rows = foreign.rows_of_line(line + 1, *document.as_file)
     if not rows:
         return None
     listing = '\n'.join(['```', *rows, '```'])
