@@ -373,7 +373,8 @@ def _made(source: Source, is_hex: bool, services: bool | None, given: dict[str, 
     """The words that name the program its files: the source and the run file, or what is made of a program with services."""
     words = _hex_words(source, is_hex)
     with _files(source, _fields(given)) as names:
-        made = _served(names[1], services, given, os.path.dirname(names[2])) if not words and services is not False else None
+        is_bare = bool(words) or services is False
+        made = None if is_bare else _served(names[1], services, given, os.path.dirname(names[2]))
         yield ['--hex', '--', *made] if made else [*words, *names]
 
 

@@ -28,7 +28,8 @@ def name_of(path: str) -> str:
     """The name that a file has on the disk: its own in capital letters, of eight and three characters."""
     name = os.path.basename(path).upper()
     if not NAME.fullmatch(name):
-        raise Sorry(f'--file {path}: a name under DOS has at most eight characters, a dot and three more, and no blank or other sign: copy it to such a name')
+        has = 'has at most eight characters, a dot and three more, and no blank or other sign'
+        raise Sorry(f'--file {path}: a name under DOS {has}: copy it to such a name')
     return name
 
 
@@ -42,7 +43,8 @@ def read_all(paths: tuple[str, ...]) -> dict[str, bytes]:
         found[name] = read_bytes(path, MOST)
     taken = sum((len(octets) + CLUSTER - 1) // CLUSTER for octets in found.values())
     if len(found) > ENTRIES or taken > CLUSTERS - FIRST:
-        raise Sorry(f'--file: the disk has room for {ENTRIES} files and {CLUSTERS - FIRST} KB, and here are {len(found)} and {taken}')
+        room = f'{ENTRIES} files and {CLUSTERS - FIRST} KB'
+        raise Sorry(f'--file: the disk has room for {room}, and here are {len(found)} and {taken}')
     return found
 
 
@@ -54,7 +56,8 @@ def laid_out(files: dict[str, bytes]) -> bytes:
         first, count = FIRST + len(data) // CLUSTER, (len(octets) + CLUSTER - 1) // CLUSTER
         chain[first : first + count] = [*range(first + 1, first + count), END] if count else []
         stem, _, ending = name.partition('.')
-        entries.append(ENTRY.pack(f'{stem:8}{ending:3}'.encode('ascii'), ARCHIVE, 0, DATE, first if count else END, len(octets)))
+        first = first if count else END
+        entries.append(ENTRY.pack(f'{stem:8}{ending:3}'.encode('ascii'), ARCHIVE, 0, DATE, first, len(octets)))
         data += octets.ljust(CLUSTER * count, b'\0')
     head = bytes(chain).ljust(DIRECTORY, b'\0') + b''.join(entries)
     return (head.ljust(FIRST * CLUSTER, b'\0') + data).rstrip(b'\0')
@@ -90,9 +93,10 @@ def files_of(dump: Callable[[int, int], bytes], left: Served | None) -> dict[str
             continue
         stem, ending = (part.decode('latin-1').rstrip() for part in (octets[:8], octets[8:]))
         name = f'{stem}.{ending}'.removesuffix('.')
-        clusters = chain_of(head, first)
-        if not NAME.fullmatch(name) or name in found or clusters is None or len(clusters) != (size + CLUSTER - 1) // CLUSTER:
-            raise Sorry(f'the program has written over the disk of files, whose directory stands at {base + DIRECTORY:05X}h')
+        clusters, where = chain_of(head, first), f'whose directory stands at {base + DIRECTORY:05X}h'
+        is_whole = clusters is not None and len(clusters) == (size + CLUSTER - 1) // CLUSTER
+        if not NAME.fullmatch(name) or name in found or clusters is None or not is_whole:
+            raise Sorry(f'the program has written over the disk of files, {where}')
         found[name] = b''.join(dump(base + CLUSTER * cluster, CLUSTER) for cluster in clusters)[:size]
     return found
 

@@ -14,7 +14,7 @@ from typing import Iterator
 from toolbox import reading
 from toolbox.command import Sorry, read_bytes, write_bytes
 from toolbox.comments import text_of
-from toolbox.listing import Listing, line_of, own_name, placed_labels
+from toolbox.listing import Listing, label_row, line_of, own_name, placed_labels
 from toolbox.program import TOP, given_text, run
 from toolbox.shown import LONGEST_LINE, bounded, clipped
 
@@ -137,7 +137,8 @@ def is_masm(path: str) -> bool:
 
 def tell(translation: Translation) -> None:
     """Tells once what pcmasm notes of a source."""
-    for line in bounded([f'{one.path}, line {one.number}{one.words.removeprefix("note")}' for one in translation.notes]):
+    said = [f'{one.path}, line {one.number}{one.words.removeprefix("note")}' for one in translation.notes]
+    for line in bounded(said):
         say_once(line)
 
 
@@ -263,8 +264,3 @@ def rows_of_line(number: int, path: str, octets: bytes) -> list[str]:
     except Sorry:
         return []
     return [row for place, row in zip(translation.places, rows) if place == (path, number)]
-
-
-def label_row(name: str, place: tuple[int, int]) -> str:
-    """A label's row in a file of symbols."""
-    return f'{place[0]:04X}:{place[1]:04X} {name}'

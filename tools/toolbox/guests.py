@@ -25,8 +25,8 @@ from toolbox.symbols import symbols_of
 
 BINARIES = ('.com', '.exe', '.bin')
 COMPILERS = {'nasm': ('nasm', 'nasm'), 'bcc': ('bcc', 'bcc elks-libc')}  # the command, and Debian's packages
-LANGUAGES = {'masm': 'of MASM, TASM or emu8086', 'nasm': 'for NASM', 'bcc': 'in C, for bcc', 'dialect': "of the board's own dialect"}
 OWN = 'dialect'
+LANGUAGES = {'masm': 'of MASM, TASM or emu8086', 'nasm': 'for NASM', 'bcc': 'in C', OWN: "of the board's dialect"}
 WORDS = '--services, --com, --args, --file, --files-out, --masm, --nasm, --bcc'
 MAPPED = r' *\S+ +\S+ +[0-9a-f] +[0-9a-f]{8} +[A-Za-z]'  # a row of ld86's map, which bcc prints last
 FIRST_OF_BCC = 'crt0.o'  # what stands before a program, of bcc's library
@@ -82,10 +82,10 @@ def add_words(reader: argparse.ArgumentParser, has_symbols: bool = True) -> None
         reader.add_argument('--symbols', metavar='FILE', help=SYMBOLS)
     bare = 'no services: else a source that calls INT 10h, 16h, 20h or 21h and has nothing at FFFF:0000 has them'
     reader.add_argument('--bare', action='store_true', help=bare)
-    reader.add_argument('--services', action='store_true', help='FILE is a source with services, whatever it calls (docs/services.md)')
+    reader.add_argument('--services', action='store_true', help='FILE is a source with services, whatever it calls')
     reader.add_argument('--com', action='store_true', help='FILE is a .COM program, whatever its name')
     reader.add_argument('--args', metavar='TEXT', help="the command's tail of a program with services")
-    reader.add_argument('--file', metavar='NAME', action='append', dest='files', help='put a file on the disk of a program with services; several')
+    reader.add_argument('--file', metavar='NAME', action='append', dest='files', help='put a file on its disk; several')
     languages = reader.add_mutually_exclusive_group()
     for name, what in LANGUAGES.items():
         said = f'FILE is a source {what}, whatever stands in it'
@@ -131,7 +131,8 @@ def looked_at(guest: Guest) -> Guest:
 def said_of(guest: Guest, file: str, without: str = '--bare', otherwise: str = '--nasm or --dialect') -> str:
     """How a source is taken by its look, and what takes it otherwise, as a sentence."""
     if guest.language == 'masm':
-        return f'{file} is a source of MASM, TASM or emu8086, and runs with the services (docs/masm.md); {otherwise} takes it otherwise'
+        what = 'is a source of MASM, TASM or emu8086, and runs with the services (docs/masm.md)'
+        return f'{file} {what}; {otherwise} takes it otherwise'
     return f'{file} runs with the services (docs/services.md); {without} runs it without'
 
 
@@ -191,15 +192,17 @@ def compiled(guest: Guest, room: str) -> str:
         'nasm': ['-f', 'bin', f'-I{folder}/', '-l', f'{made}.lst', '-o', f'{made}.com', guest.file],
         'bcc': ['-Md', '-C-t', '-A-l', f'-A{made}.lst', '-M', f'-I{folder}', '-o', f'{made}.com', guest.file],
     }[guest.language]
+    install = f'install it (Debian: apt-get install {package})'
     if not shutil.which(command):
-        raise Sorry(f"{command} isn't there; install it (Debian: apt-get install {package})")
-    ran = subprocess.run(limited([command, *words]), stdin=subprocess.DEVNULL, capture_output=True, text=True, errors='replace', check=False)
-    printed, *mapped = re.split(f'^(?={MAPPED})', ran.stdout, maxsplit=1, flags=re.M)
+        raise Sorry(f"{command} isn't there; {install}")
+    ran = subprocess.run(limited([command, *words]), stdin=subprocess.DEVNULL, capture_output=True, check=False)
+    out, err = (octets.decode('utf-8', 'replace') for octets in (ran.stdout, ran.stderr))
+    printed, *mapped = re.split(f'^(?={MAPPED})', out, maxsplit=1, flags=re.M)
     write_bytes(f'{made}.map', '\n'.join(re.findall(rf'^ *{re.escape(stem)} .*', ''.join(mapped), re.M)).encode())
-    messages = '\n'.join(bounded(f'{printed}\n{ran.stderr}'.strip().split('\n')))
+    messages = '\n'.join(bounded(f'{printed}\n{err}'.strip().split('\n')))
     if ran.returncode or not os.path.isfile(f'{made}.com'):
         if FIRST_OF_BCC in messages:
-            raise Sorry(f'{command} has no library to link programs with; install it (Debian: apt-get install {package})')
+            raise Sorry(f'{command} has no library to link programs with; {install}')
         raise Sorry(f'{command} refuses {guest.file}:\n{messages or f"status {ran.returncode}"}')
     if messages:
         print(messages, file=sys.stderr)
@@ -232,16 +235,19 @@ def written(guest: Guest, fields: Fields, room: str) -> Files:
     """The program as Intel HEX, its run file and its symbols, in a folder."""
     found = disk.beside(loaded(guest, fields['ram'], room), guest.file, guest.files, fields['ram'])
     stem = os.path.join(room, os.path.splitext(os.path.basename(guest.file))[0] or 'it')
-    for path, text in ((f'{stem}.hex', found.hex), (f'{stem}.json', text_of(fields)), (f'{stem}.symbols', '\n'.join(found.rows) + '\n')):
-        with open(path, 'w', encoding='utf-8', errors='surrogateescape') as file:
+    texts = {'hex': found.hex, 'json': text_of(fields), 'symbols': '\n'.join(found.rows) + '\n'}
+    for end, text in texts.items():
+        with open(f'{stem}.{end}', 'w', encoding='utf-8', errors='surrogateescape') as file:
             file.write(text)
-    return Files(f'{stem}.hex', f'{stem}.json', True, f'{stem}.symbols', os.path.abspath(guest.file) if guest.is_source else None)
+    source = os.path.abspath(guest.file) if guest.is_source else None
+    return Files(f'{stem}.hex', f'{stem}.json', True, f'{stem}.symbols', source)
 
 
 def kept(guest: Guest, run_file: str | None, symbols: str | None, name: str | None) -> tuple[str, str, str]:
     """The image, the run file and the symbols as files that stay, for a tool that writes to them. None is written over."""
     if not name:
-        raise Sorry(f'{guest.file} becomes an image and a run file, to which the page may write: --keep NAME says where they stay')
+        stay = '--keep NAME says where they stay'
+        raise Sorry(f'{guest.file} becomes an image and a run file, to which the page may write: {stay}')
     paths = f'{name}.hex', f'{name}.json', f'{name}.symbols'
     there = next((each for each in paths if os.path.lexists(each)), None)
     if there:

@@ -118,6 +118,11 @@ def line_of(number: int, row: str, own: str | None = None) -> Line:
     return Line(number, text, (int(found[1], 16), int(found[2], 16)), bytes.fromhex(found[3]))
 
 
+def label_row(name: str, place: tuple[int, int]) -> str:
+    """A label's row in a file of symbols."""
+    return f'{place[0]:04X}:{place[1]:04X} {name}'
+
+
 def placed_labels(lines: Iterable[Line]) -> Iterator[tuple[str, tuple[int, int]]]:
     """The labels that lines of the dialect define, each with the place of the next byte."""
     waiting = list[str]()

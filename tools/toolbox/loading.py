@@ -9,7 +9,7 @@ from dataclasses import dataclass
 from toolbox import services
 from toolbox.command import Sorry, tool
 from toolbox.comments import handed, own_lines
-from toolbox.listing import line_of, physical
+from toolbox.listing import label_row, line_of, physical
 from toolbox.program import TOP, answer_of
 from toolbox.services import LEAST_RAM, MOST_RAM, SPAN
 from toolbox.symbols import image_of
@@ -83,7 +83,10 @@ def served(image: dict[int, int], start: tuple[int, int], end: int = 0) -> Loade
     clash = min((address for name in names for address in image.keys() & services.bytes_of(name).keys()), default=None)
     if clash is not None:
         raise Sorry(f'the program has a byte at {clash:05X}h, where the services stand: from {SERVICES:05X}h on all is theirs')
-    return Loaded(image, names, [f'{start[0]:04X}:{start[1]:04X} start', *(label for name in names for label in services.labels_of(name))], end)
+    labels = {'start': start}
+    for name in names:
+        labels |= services.labels_of(name)
+    return Loaded(image, names, [label_row(label, place) for label, place in labels.items()], end)
 
 
 def check_com(name: str, octets: bytes) -> None:

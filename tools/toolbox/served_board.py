@@ -13,7 +13,7 @@ from toolbox.session_board import SessionBoard, break_at
 from toolbox.walk import SERVICES, Part
 
 TRAIL = 32  # events
-LOOKED_BACK = 100_000, 3_000_000, 30_000_000  # clocks in which the program's own instructions are looked for; a wait for a key has few
+LOOKED_BACK = 100_000, 3_000_000, 30_000_000  # clocks in which own instructions are sought; a wait for a key has few
 
 
 class ServedBoard(SessionBoard):

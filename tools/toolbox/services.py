@@ -24,8 +24,7 @@ OVER = 0xFE00, 6  # where every end of a program goes by, and how long its notes
 CLOCKS_OF_AN_END = 1000
 MARK, SIGNED, SIGNATURE = 0x5A53, 0xFE009, b'services of Zebludor'
 # The interrupts by whose calls a source is known as one with services, and a row of the listing that calls one.
-CALLED = (0x10, 0x16, 0x20, 0x21)
-CALL = re.compile(rf'^.{{10}}CD({"|".join(f"{number:02X}" for number in CALLED)}) .*?\s(?:\w+\s*:\s*)?INT\s', re.I | re.M)
+CALL = re.compile(r'^.{10}CD(10|16|20|21) .*?\s(?:\w+\s*:\s*)?INT\s', re.I | re.M)
 RESET = 0xFFFF0  # where the processor begins
 # The first key of typed text, how long a key is held, and from a key up to the next one down: the services begin first.
 TYPING = 200_000, 20_000, 80_000
@@ -77,16 +76,15 @@ def bytes_of(name: str) -> dict[int, int]:
 
 
 @functools.cache
-def labels_of(name: str) -> list[str]:
-    """Its labels, in lines SEGMENT:OFFSET NAME. They have its own name before them: a program may have the same ones."""
+def labels_of(name: str) -> dict[str, tuple[int, int]]:
+    """Where its labels stand. They have its own name before them: a program may have the same ones."""
     rows = answer_of(['asm', '--list', '--', f'{TOP}/services/{name}.asm']).split('\n')[:-1]
-    return [f'{segment:04X}:{offset:04X} {name}_{label}' for label, (segment, offset) in placed_labels(line_of(0, row) for row in rows)]
+    return {f'{name}_{label}': place for label, place in placed_labels(line_of(0, row) for row in rows)}
 
 
 def address_of(label: str) -> tuple[int, int]:
     """Where a label of the services stands, such as `dos_write_text`."""
-    row = next(row for row in labels_of(label.partition('_')[0]) if row.endswith(f' {label}'))
-    return int(row[:4], 16), int(row[5:9], 16)
+    return labels_of(label.partition('_')[0])[label]
 
 
 def waits_for_key(registers: dict[str, int]) -> bool:

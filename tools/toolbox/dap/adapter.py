@@ -257,9 +257,9 @@ class Adapter:
         self.is_entry = field(given, 'stopOnEntry', bool, False)
         guest = self.guest(given, is_hex)
         run_file = self.run_file(given, guest)
-        symbols = field(given, 'symbols', str, '')
+        symbols = os.path.realpath(path) if (path := field(given, 'symbols', str, '')) else None
         made = guests.made_with(guest, guests.fields_for(guest, run_file), self.room) if guest.is_one else None
-        files = made or copied(Files(self.program, run_file, is_hex, os.path.realpath(symbols) if symbols else None), self.room)
+        files = made or copied(Files(self.program, run_file, is_hex, symbols), self.room)
         try:
             budget, listing = budget_of(files), listing_of(files)
             places = [os.path.realpath(path_in(source)) for source in field(given, 'sources', list, []) if isinstance(source, str)]
@@ -282,7 +282,8 @@ class Adapter:
         is_bare = services is False or is_hex
         guest = guests.looked_at(Guest(self.program, args or None, services is True, False, language or None, is_bare))
         if guest.is_seen:
-            self.output(guests.said_of(guest, os.path.basename(self.program), '"services": false', '"language": "nasm" or "dialect"') + '\n')
+            otherwise = '"services": false', '"language": "nasm" or "dialect"'
+            self.output(guests.said_of(guest, os.path.basename(self.program), *otherwise) + '\n')
         return guest
 
     def run_file(self, given: Fields, guest: Guest) -> str:

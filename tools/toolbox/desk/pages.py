@@ -36,7 +36,8 @@ def examples() -> list[Example]:
     cells_by_name = {name.strip(): cells for cells in rows for name in cells[0].split(',')}
     order = [name for name in cells_by_name if name in there] + [name for name in there if name not in cells_by_name]
     books = sorted(f'{BOOKS}{file[:-4]}' for file in os.listdir(f'{TOP}/examples/{BOOKS}') if file.endswith('.asm'))
-    return [example_of(name, cells_by_name.get(name, ['', '', '']), page) for name in order] + [Example(name, shown(name), 'services.md', '') for name in books]
+    found = [example_of(name, cells_by_name.get(name, ['', '', '']), page) for name in order]
+    return found + [Example(name, shown(name), 'services.md', '') for name in books]
 
 
 def shown(name: str) -> str:
@@ -59,7 +60,8 @@ def files_of(name: str) -> tuple[str, dict[str, Any]]:
     if name not in {example.name for example in examples()}:
         raise Sorry(f'there is no example {name}')
     path = f'{TOP}/examples/{name}'
-    return read_text(f'{path}.asm'), DEFAULTS | {'ram': MOST_RAM} if name.startswith(BOOKS) else read_run_file(f'{path}.json')
+    is_served = name.startswith(BOOKS)
+    return read_text(f'{path}.asm'), DEFAULTS | {'ram': MOST_RAM} if is_served else read_run_file(f'{path}.json')
 
 
 def grammar() -> list[dict[str, str]]:

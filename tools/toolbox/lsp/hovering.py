@@ -34,8 +34,8 @@ def of_masm(document: Document, line: int) -> Fields | None:
     rows = foreign.rows_of_line(line + 1, *document.as_file)
     if not rows:
         return None
-    listing = '\n'.join(['```', *rows, '```'])
-    return {'contents': {'kind': 'markdown', 'value': listing}, 'range': document.text.range(line, 0, len(document.text.lines[line]))}
+    whole = document.text.range(line, 0, len(document.text.lines[line]))
+    return {'contents': {'kind': 'markdown', 'value': '\n'.join(['```', *rows, '```'])}, 'range': whole}
 
 
 def told_of(document: Document, line: int, token: Token) -> list[str]:
