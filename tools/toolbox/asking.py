@@ -7,13 +7,10 @@ import json
 import os
 import re
 import shlex
-import subprocess
 from typing import Any, NamedTuple
 
-import zebludor
-
 from toolbox.command import Sorry
-from toolbox.program import BEFORE_START, Files, path, refusal
+from toolbox.program import BEFORE_START, Files, refusal, run
 
 TABLE = os.path.join(os.path.dirname(__file__), 'sentences.json')
 MOST_SHOWN = 12  # lines of an answer
@@ -64,11 +61,10 @@ def pattern(text: str, values: dict[str, Any]) -> re.Pattern[str]:
 
 def answers_of(files: Files, commands: tuple[str, ...]) -> tuple[str, ...]:
     """The lines that a pcprobe of its own answers; a refusal, but that nothing is before the start, as a sentence."""
-    words = [path('pcprobe'), *files.words('')[1:]]
-    done = subprocess.run(zebludor.limited(words), input='\n'.join((*commands, '')).encode(), capture_output=True, check=False)
-    if done.returncode:
-        raise Sorry(refusal(done.returncode, done.stderr.decode('utf-8', 'replace')))
-    answers = tuple(done.stdout.decode('ascii').splitlines())
+    ran = run(files.words('')[1:], '\n'.join((*commands, '')).encode(), 'pcprobe')
+    if ran.status:
+        raise Sorry(refusal(ran.status, ran.err))
+    answers = tuple(ran.out.splitlines())
     if fault := next((line for line in answers if line.startswith('fault ') and line != BEFORE_START), ''):
         raise Sorry(f'pcprobe refuses: {fault}')
     return answers

@@ -97,18 +97,13 @@ class Chips:
         return self.value('processor', 'state') == 'halted'
 
 
-def levels(byte: int) -> list[int]:
-    """The levels whose bits are 1."""
-    return [it for it in range(8) if byte >> it & 1]
-
-
 Fact = tuple[str, dict[str, Any]]  # a row of sentences.json, and its values
 
 
 def of_requests(chips: Chips, ends: Callable[[int], dict[str, Any]]) -> list[Fact]:
     """Why the controller passes no request on, where levels ask."""
     controller = chips.controller
-    asking = levels(controller.requests)
+    asking = [level for level in range(8) if controller.requests >> level & 1]
     if controller.is_asking or not asking:
         return []
     values: dict[str, Any] = {'level': asking[0], 'requests': controller.requests, 'served': controller.served}

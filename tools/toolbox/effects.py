@@ -14,6 +14,7 @@ class Does(Enum):
     """What there is to follow in an event."""
 
     MOVES = auto()  # SP, by so many bytes
+    PUSHES = auto()  # so too, and writes there
     LOADS = auto()  # SP or SS, with values that its bytes don't tell
     SETS_SP = auto()  # to a number
     LOADS_FLAGS = auto()
@@ -35,9 +36,9 @@ class Effect(NamedTuple):
     type: int | None = None
 
 
-LOADS = Effect(Does.LOADS)
+LOADS, PUSHES = Effect(Does.LOADS), Effect(Does.PUSHES, -2)
 PLAIN = {
-    **{each: Effect(Does.MOVES, -2) for each in (0x06, 0x0E, 0x16, 0x1E, 0x9C, *range(0x50, 0x58))},
+    **{each: PUSHES for each in (0x06, 0x0E, 0x16, 0x1E, 0x9C, *range(0x50, 0x58))},
     **{each: Effect(Does.MOVES, 2) for each in (0x07, 0x1F, *range(0x58, 0x60))},
     0x44: Effect(Does.MOVES, 1),
     0x4C: Effect(Does.MOVES, -1),
@@ -69,8 +70,8 @@ def signed(value: int) -> int:
 
 def effect_of(octets: bytes) -> Effect | None:
     """What there is to follow in an instruction; None: nothing."""
-    code = octets.lstrip(PREFIXES)
-    first, form = code[0], code[1] if len(code) > 1 else 0
+    code = octets.lstrip(PREFIXES) + b'\x90\x90'
+    first, form = code[:2]
     if first in PLAIN:
         return PLAIN[first]
     if first == 0xBC:
@@ -85,7 +86,7 @@ def effect_of(octets: bytes) -> Effect | None:
     if first in (0xF6, 0xF7) and digit >= 6:
         return DIVIDE_ERROR
     if first == 0xFF and digit in (2, 3, 6):
-        return Effect(Does.MOVES if digit == 6 else Does.CALLS, -4 if digit == 3 else -2)
+        return PUSHES if digit == 6 else Effect(Does.CALLS, -4 if digit == 3 else -2)
     if first == 0xFF and digit == 4 and is_register:
         return Effect(Does.JUMPS)
     if first == 0x8E:
@@ -147,3 +148,8 @@ def ends_with_call(octets: bytes, is_far: bool = False) -> bool:
         if opcode == 0xFF and digit == (3 if is_far else 2) and length == wanted and not (is_far and mode == 3):
             return True
     return False
+
+
+def is_behind_a_call(octets: bytes) -> bool:
+    """Whether bytes end with a CALL or INT."""
+    return ends_with_call(octets) or ends_with_call(octets, is_far=True) or octets[-2:-1] == b'\xCD'

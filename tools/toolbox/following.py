@@ -83,7 +83,7 @@ class Port(NamedTuple):
 
 What = Start | Entry | Wire | Port
 T = TypeVar('T')
-FOR_STACK, RETURNING = (Does.LOADS, Does.MAY_TRAP), (Does.RETURNS, Does.RETURNS_WITH_FLAGS)
+MOVING, FOR_STACK, RETURNING = (Does.PUSHES, Does.MOVES, Does.LOADS_FLAGS), (Does.LOADS, Does.MAY_TRAP), (Does.RETURNS, Does.RETURNS_WITH_FLAGS)
 FOR_FLAGS, CALLING = (Does.LOADS_FLAGS, Does.RETURNS_WITH_FLAGS), (Does.CALLS, Does.TRAPS)
 
 
@@ -111,8 +111,6 @@ class Mark:
         """Whether the registers after it are wanted: SS, SP and the flags, or where a call leads if an interrupt is
         entered there first."""
         does = self.does
-        if does is Does.MOVES:
-            return False
         return does in FOR_STACK or does in FOR_FLAGS or does in CALLING and (self.next is None or self.next[1] is None)
 
     def target(self) -> Far | None:
@@ -286,7 +284,7 @@ class Follower:
     def _start(self, mark: Mark, what: Start, effect: Effect) -> None:
         """An instruction."""
         does, moves = effect.does, effect.moves
-        if does is Does.MOVES or does is Does.LOADS_FLAGS:
+        if does in MOVING:
             if moves == 2 and what.octets[0] in POPS and self.nest and self.nest[-1].level == self.stack.level:
                 self.nest[-1].is_lifted = self.nest[-1].pushed == 2
             self.stack.move(mark.clock, moves)

@@ -2,7 +2,8 @@
 Reference Manuals)."""
 from __future__ import annotations
 
-PREFIXES = b'\x26\x2E\x36\x3E\xF0\xF2\xF3'
+from toolbox.effects import PREFIXES
+
 CONDITIONS = 'O NO B NB Z NZ BE NBE S NS P NP L NL LE NLE'.split()
 BY_80186 = {0x60: 'PUSHA', 0x61: 'POPA', 0x62: 'BOUND', 0x68: 'PUSH of a number', 0x69: 'IMUL by a number', 0x6A: 'PUSH of a number'}
 BY_80186 |= {0x6B: 'IMUL by a number', 0x6C: 'INSB', 0x6D: 'INSW', 0x6E: 'OUTSB', 0x6F: 'OUTSW', 0xC0: 'a shift by a number'}

@@ -14,8 +14,8 @@ from toolbox.asking import Raw, Told
 from toolbox.chips import Chips, ends_before, of_chips
 from toolbox.command import Sorry, tool
 from toolbox.doubts import doubts
-from toolbox.effects import ends_with_call, target_of
-from toolbox.following import writer_in
+from toolbox.effects import Does, effect_of, is_behind_a_call, target_of
+from toolbox.following import CALLING, RETURNING, writer_in
 from toolbox.later import later
 from toolbox.listing import Line, Listing, code_of, listing_of, physical
 from toolbox.places import Event, event_of, line_at
@@ -29,21 +29,20 @@ from toolbox.walk import (
     COLOUR,
     COLOUR_END,
     DATA,
+    PUSHING,
     REACH,
-    RETURNS,
     SERVICES,
     TEXT,
     TEXT_END,
     Part,
     Run,
+    done_by,
     go_to_end,
+    has_pushed,
     is_for_good,
-    is_push,
     is_short,
     opcode,
-    registers_at,
     statement_of,
-    trail_at,
 )
 
 TRAIL, LONGEST_LOOP, ZEROS, NEAR, SOON, FEW = 32, 8, 4, 32, 40, 8
@@ -70,18 +69,17 @@ CALLED = re.compile(r'\bINT\s+(10|16|1A|20|21)h', re.I)
 
 def told_of_run(report: Report, files: Files, listing: Listing | None = None, reach: int = REACH) -> list[Told]:
     """What isn't as most programs want it. A run that is busy for more than `reach` clocks isn't made again, and this is told."""
-    with ProbeSession(files) as session:
-        if not is_short(session, report.clock, reach):
+    with ProbeSession(files) as session, ProbeSession(files) as free:
+        if not is_short(free, report.clock, reach):
             text = f'nothing was asked of this run: of {report.clock:,} clocks no more than {reach:,} busy ones are made again'
             return [Told(text)]
-    with ProbeSession(files) as session:
         was_at_zero = go_to_end(session, report)
         ram = read_run_file(files.run_file).get('ram')
         ram_end = 1024 * ram if isinstance(ram, int) else 0
         served = left_at(session, ram_end)
         trail = [event_of(line) for line in session.answers(['trail'])]
         is_ended = bool(served and served.phase == 2)
-        run = Run(report, files, session, listing or listing_of(files), trail, ram_end, mark_of(ram_end) if served else 0, is_ended)
+        run = Run(report, files, session, free, listing or listing_of(files), trail, ram_end, mark_of(ram_end) if served else 0, is_ended)
         remarks = served.remarks(partial(by_line, run)) if served else []
         found = [one for remark in remarks for one in run.tell('services', remark=remark, address=run.mark - 2)]
         if run.is_ended:
@@ -189,11 +187,11 @@ def of_a_blank(run: Run) -> list[Told]:
 
 def of_address_zero(run: Run, clock: int) -> list[Told]:
     """By what the run came to 0000:0000, where 00 00 stands."""
-    last = trail_at(run.files, clock)[-1]
+    last = run.trail_at(clock)[-1]
     kind = type_of(last)
     if kind is None:
         taken = 'a return takes the words pushed last, and zeros where nothing was pushed; HLT ends a program, IRET a handler'
-        return run.tell('to 0000:0000', last, after=clock, advice=taken if opcode(last) in RETURNS else GOES_ON)
+        return run.tell('to 0000:0000', last, after=clock, advice=taken if done_by(last) in RETURNING else GOES_ON)
     what = 'has no quotient (the divisor is 0, or the quotient too large), which enters' if opcode(last) in DIVISIONS else 'enters'
     place = f'{last.segment:04X}:{last.offset:04X}'
     does = f'at {place} interrupt {kind:02X} came' if last.entry is not None else f'{run.place(last)} {what} interrupt {kind:02X}'
@@ -203,10 +201,8 @@ def of_address_zero(run: Run, clock: int) -> list[Told]:
 
 def type_of(event: Event) -> int | None:
     """The type of the interrupt by which an event led to 0000:0000, if it was by one."""
-    code = opcode(event)
-    if event.entry is not None or (event.offset + len(event.octets)) % 0x10000 == 0 and event.segment == 0:
-        return event.entry
-    return {0xCC: 3, 0xCE: 4, 0xCD: event.octets[-1]}.get(code, 0 if code in DIVISIONS and event.octets[-1] >> 4 & 3 == 3 or code == 0xD4 else None)
+    effect, ends_at_zero = effect_of(event.octets), (event.offset + len(event.octets)) % 0x10000 == 0 and event.segment == 0
+    return event.entry if event.entry is not None or ends_at_zero else effect.type if effect else None
 
 
 def is_zeros(run: Run, event: Event) -> bool:
@@ -243,9 +239,9 @@ def by_halving(run: Run) -> tuple[Event, Event] | None:
     low, high = 0, run.end
     while high - low > 60:
         middle = (low + high) // 2
-        trail = trail_at(run.files, middle)
+        trail = run.trail_at(middle)
         low, high = (low, middle) if trail and is_outside(run, trail[-1]) else (middle, high)
-    trail = trail_at(run.files, high)
+    trail = run.trail_at(high)
     return next(((one, two) for one, two in zip(trail, trail[1:]) if not is_outside(run, one) and is_outside(run, two)), None)
 
 
@@ -261,7 +257,7 @@ def of_astray(run: Run) -> list[Told]:
     place = run.place(before)
     next_line = f'^{event.clock} start {to} ' if event.clock < run.report.clock else ' jammed$'
     span = min(event.clock, run.report.clock - 1) - before.clock + 1
-    advice = '' if opcode(before) in RETURNS or before.entry is not None else f'\nhint: {GOES_ON}'
+    advice = '' if before.entry is not None or done_by(before) in RETURNING else f'\nhint: {GOES_ON}'
     how = f'{place} led to {what}' if is_jump else f'behind {place} came {what}'
     return run.tell('astray', before, how=how, span=span, next=Raw(next_line), advice=advice)
 
@@ -278,17 +274,17 @@ def suspicious(run: Run) -> Iterator[tuple[Event, Event]]:
                     yield event, after
                     depth = 0
     for event, after in run.steps:
-        if opcode(event) not in RETURNS - {0xCF} or after.entry is not None or not line_at(run.listing, event) or not run.is_own(event):
+        if done_by(event) is not Does.RETURNS or after.entry is not None or not line_at(run.listing, event) or not run.is_own(event):
             continue
         octets = run.session.dump(physical(after.segment, (after.offset - 5) % 0x10000), 5)
-        if not (ends_with_call(octets[1:]) or ends_with_call(octets, is_far=True) or octets[-2:-1] == b'\xCD'):
+        if not is_behind_a_call(octets):
             yield event, after
 
 
 def of_a_return(run: Run, event: Event, after: Event, ends_badly: bool) -> list[Told]:
     """What a return took: what nothing had written, what an interrupt had pushed, or, if the run ends badly, what something else had."""
     code = opcode(event)
-    registers = registers_at(run.files, event.clock)
+    registers = run.registers(event.clock)
     address = physical(registers['SS'], registers['SP'])
     by = last_change(run, f'when writes={address:X}-{address:X}', event.clock)
     if by is None:
@@ -298,14 +294,7 @@ def of_a_return(run: Run, event: Event, after: Event, ends_badly: bool) -> list[
     if by.entry is not None and code in (0xC3, 0xCB):
         return run.tell('return of an interrupt', event, kind=by.entry, **values)
     to = f'{after.segment:04X}:{after.offset:04X}'
-    return run.tell('pushed by', event, to=to, **values) if ends_badly and code != 0xCF and not is_call(by) else []
-
-
-def is_call(event: Event) -> bool:
-    """Whether an instruction calls, or enters an interrupt."""
-    if event.entry is None and opcode(event) == 0xFF:
-        return is_push(event) and event.text.startswith('CALL')
-    return event.entry is not None or opcode(event) in (0xE8, 0x9A, 0xCC, 0xCD, 0xCE)
+    return run.tell('pushed by', event, to=to, **values) if ends_badly and code != 0xCF and done_by(by) not in (*CALLING, Does.MAY_TRAP) else []
 
 
 def of_a_division(run: Run) -> list[Told]:
@@ -366,7 +355,7 @@ def of_code_in_the_stack(run: Run) -> list[Told]:
         if run.session.dump(address, len(line.shown)) == line.shown:
             continue
         by = last_change(run, f'changes {address:05X} {len(line.shown)}')
-        if by and is_push(by):
+        if by and has_pushed(by):
             values = {'line': line.number, 'code': code_of(line.text).strip()} | most_pushed(run, by.clock)
             return run.tell('over code', by, address=address, size=len(line.shown), **values)
     return []
@@ -375,12 +364,11 @@ def of_code_in_the_stack(run: Run) -> list[Told]:
 def most_pushed(run: Run, clock: int) -> dict[str, object]:
     """Which line had pushed most often by a clock, how often, the row of `counts` that tells so, and what that may mean."""
     most, count, found = 'nothing', 0, ''
-    with ProbeSession(run.files) as session:
-        for row in session.happenings(f'counts {clock + 1}'):
-            place, times = row.split()[0], row.split()[-2]
-            line = run.listing.at.get(physical(*(int(word, 16) for word in place.split(':')))) if ':' in place else None
-            if line and line.address and int(times) >= count and is_push(Event(0, *line.address, line.shown, '', None)):
-                most, count, found = f'line {line.number} ({code_of(line.text).strip()})', int(times), row
+    for row in run.at(0).happenings(f'counts {clock + 1}'):
+        place, times = row.split()[0], row.split()[-2]
+        line = run.listing.at.get(physical(*(int(word, 16) for word in place.split(':')))) if ':' in place else None
+        if line and line.address and int(times) >= count and done_by(Event(0, *line.address, line.shown, '', None)) in PUSHING:
+            most, count, found = f'line {line.number} ({code_of(line.text).strip()})', int(times), row
     advice = f'{most} is never undone: each PUSH has its POP, each CALL its RET' if count > FEW else 'SP begins too low: it begins at the end of its room'
     return {'most': most, 'times': f'{count:,}', 'row': found, 'perhaps': advice}
 
@@ -392,13 +380,13 @@ def of_lost_writes(run: Run) -> list[Told]:
     for part in run.parts:
         for at, address, _ in part.writes:
             event, wrong = part.events[at] if at >= 0 else None, run.region(address)
-            if not event or not wrong or event[1:] in known or not (is_over or run.is_first(event)) or not run.is_own(event):
+            if not event or not wrong or event[1:] in known or not (is_over or run.all_firsts[event[1:]] is event) or not run.is_own(event):
                 continue
             if run.listing.lines and event.entry is None and not run.has(event.address):
                 continue
             known.add(event[1:])
             if len(found) < 3:
-                does, advice = ('pushes to', FOR_A_STACK) if is_push(event) else ('writes to', IN_RAM)
+                does, advice = ('pushes to', FOR_A_STACK) if has_pushed(event) else ('writes to', IN_RAM)
                 is_told = found or COLOUR <= address < COLOUR_END
                 found += run.tell('lost write', event, address=address, does=does, wrong=wrong, advice='' if is_told else advice)
                 found += of_direction(run, event) + of_a_count(run, event) if len(found) == 1 else []
@@ -407,7 +395,7 @@ def of_lost_writes(run: Run) -> list[Told]:
 
 def of_direction(run: Run, event: Event) -> list[Told]:
     """A string instruction that goes downward."""
-    flags = registers_at(run.files, event.clock)['FL'] if opcode(event) in STRINGS else 0
+    flags = run.registers(event.clock)['FL'] if opcode(event) in STRINGS else 0
     return run.tell('downward', event, flags=flags) if flags & DF else []
 
 
@@ -415,7 +403,7 @@ def of_a_count(run: Run, event: Event) -> list[Told]:
     """A loop round an instruction that began with CX 0."""
     for loop in run.firsts if event.entry is None else []:
         to = loop.address + 2 + int.from_bytes(loop.octets[-1:], 'little', signed=True)
-        if opcode(loop) == 0xE2 and to <= event.address < loop.address and registers_at(run.files, loop.clock)['CX'] == 0:
+        if opcode(loop) == 0xE2 and to <= event.address < loop.address and run.registers(loop.clock)['CX'] == 0:
             return run.tell('count of 0', loop)
     return []
 
@@ -436,9 +424,7 @@ def of_a_loop(run: Run) -> list[Told]:
         return []
     values = {'count': period, 'rows': '\n'.join(f'  {run.place(event)}' for event in turn)}
     first, last = run.trail[-period - 1].clock, run.trail[-1].clock
-    with ProbeSession(run.files) as session:
-        session.go_to(first)
-        done = [line.split()[1:3] for line in session.lines(last - first, 'writes ports')]
+    done = [line.split()[1:3] for line in run.at(first).lines(last - first, 'writes ports')]
     is_still, ports = all(what == b'in' for what, _ in done), {int(port, 16) for what, port in done if what == b'in'}
     if is_left(run, turn, is_still and bool(ports)):
         return []
@@ -482,13 +468,12 @@ def is_conditional(event: Event) -> bool:
 
 def of_a_round(run: Run, period: int) -> str | None:
     """The first line of registers at the run's end, if a round later all are what they are then."""
-    with ProbeSession(run.files) as session:
-        session.go_to(run.report.clock)
+    session = run.at(run.report.clock)
+    session.one('step')
+    first = session.answers(['regs'])
+    for _ in range(period):
         session.one('step')
-        first = session.answers(['regs'])
-        for _ in range(period):
-            session.one('step')
-        return first[0] if session.answers(['regs']) == first else None
+    return first[0] if session.answers(['regs']) == first else None
 
 
 def of_a_port(run: Run, ports: set[int]) -> list[Told]:
@@ -538,7 +523,7 @@ def of_the_prefix(run: Run) -> Iterator[Told]:
     data = [line for line, code in lines if line.address and physical(*line.address) >= VECTORS_END and re.search(r'\bD[BWD]\b', code, re.I)]
     if not data or not run.firsts or any(re.search(r'\b(MOV|POP)\s+DS\b|\bLDS\b|\b[CES]S\s*:', code, re.I) for _, code in lines):
         return
-    paragraph = registers_at(run.files, run.firsts[0].clock)['DS']
+    paragraph = run.registers(run.firsts[0].clock)['DS']
     if all(line.address and line.address[0] != paragraph for line in data):
         number, segment = data[0].number, data[0].address[0] if data[0].address else 0
         yield from run.tell('prefix', ds=paragraph, number=number, code=code_of(data[0].text).strip(), segment=segment)
@@ -605,7 +590,7 @@ def of_scan_codes(run: Run) -> Iterator[Told]:
 
 def is_digit(run: Run, event: Event, code: int) -> bool:
     """Whether an instruction takes '0' from a code in AL that is less."""
-    return event.octets == b'\x2C\x30' and code < 0x30 and registers_at(run.files, event.clock)['AX'] & 0xFF == code
+    return event.octets == b'\x2C\x30' and code < 0x30 and run.registers(event.clock)['AX'] & 0xFF == code
 
 
 def block_at(run: Run, address: int) -> tuple[Line, int] | None:

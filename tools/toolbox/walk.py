@@ -11,6 +11,7 @@ from zebludor import Happening, happening_of
 
 from toolbox.asking import Raw, Told, ask
 from toolbox.comments import handed
+from toolbox.effects import PREFIXES, Does, effect_of
 from toolbox.listing import Line, Listing, code_of, physical
 from toolbox.places import Event, event_of, line_at
 from toolbox.program import Files, ProbeSession, answer_of
@@ -26,10 +27,7 @@ WAKES = 0x300  # IF and TF
 ROM, TEXT, TEXT_END, SERVICES = 0xF0000, 0xB0000, 0xB0FFF, 0xF6000
 COLOUR, COLOUR_END = 0xB8000, 0xC0000
 DATA = ('DB', 'DW', 'DD')
-# What writes its first operand.
-WRITERS = set('MOV ADD ADC SUB SBB AND OR XOR INC DEC NEG NOT SHL SAL SHR SAR ROL ROR RCL RCR XCHG POP'.split())
-PREFIXES = b'\x26\x2E\x36\x3E\xF0\xF2\xF3'
-RETURNS, CALLS, PUSHES = {0xC2, 0xC3, 0xCA, 0xCB, 0xCF}, {0xE8, 0x9A}, {0x06, 0x0E, 0x16, 0x1E, 0x9C, *range(0x50, 0x58)}
+PUSHING = (Does.PUSHES, Does.CALLS, Does.TRAPS)
 
 
 class Talker(Protocol):
@@ -60,13 +58,15 @@ def opcode(event: Event) -> int:
     return next((octet for octet in event.octets if octet not in PREFIXES), -1) if event.entry is None else -1
 
 
-def is_push(event: Event) -> bool:
-    """Whether it pushes: by PUSH, CALL, INT, or as an entry."""
-    code, form = opcode(event), event.octets[-1:]
-    if code == 0xFF:
-        form = event.octets[event.octets.index(0xFF) + 1 :][:1]
-        return bool(form) and form[0] >> 3 & 7 in (2, 3, 6)
-    return event.entry is not None or code in CALLS | PUSHES or code in (0xCC, 0xCD, 0xCE)
+def done_by(event: Event) -> Does | None:
+    """What an instruction does to stack and flow; an entry is as INT."""
+    effect = effect_of(event.octets)
+    return Does.TRAPS if event.entry is not None else effect.does if effect else None
+
+
+def has_pushed(event: Event) -> bool:
+    """Whether what has written somewhere has pushed: by PUSH, CALL, INT, as an entry, or as one that INTO or a division entered."""
+    return done_by(event) in (*PUSHING, Does.MAY_TRAP)
 
 
 @dataclass
@@ -97,11 +97,13 @@ class Part:
 
 @dataclass
 class Run:
-    """A run at its end: report, trail, the source's lines, RAM's end. One with services is looked at from where its program begins."""
+    """A run at its end: report, trail, the source's lines, RAM's end. One with services is looked at from where its program begins. Of its
+    two sessions one stands at the end, and one goes about without stops."""
 
     report: Report
     files: Files
     session: Talker
+    free: ProbeSession
     listing: Listing
     trail: list[Event]
     ram_end: int = 0
@@ -128,13 +130,10 @@ class Run:
     def parts(self) -> list[Part]:
         """What happened in the first clocks and in the last ones, each without a gap."""
         kinds, found = f'starts entries ports writes={min(self.ram_end, TEXT):X}-FFFFF', list[Part]()
-        with ProbeSession(self.files) as probe:
-            probe.go_to(self.begun)
-            rest = self.end - probe.clock
-            found.append(Part.of(probe.lines(rest if rest <= FIRST + LAST else FIRST, kinds)))
-            if probe.clock < self.end:
-                probe.go_to(self.end - LAST)
-                found.append(Part.of(probe.lines(LAST, kinds)))
+        rest = self.end - self.begun
+        found.append(Part.of(self.at(self.begun).lines(rest if rest <= FIRST + LAST else FIRST, kinds)))
+        if self.free.clock < self.end:
+            found.append(Part.of(self.at(self.end - LAST).lines(LAST, kinds)))
         return found
 
     @cached_property
@@ -172,7 +171,8 @@ class Run:
         return min(self.report.clock, last.clock + (LONGEST if 'REP' in last.text else LONG) if last else 0)
 
     @cached_property
-    def _firsts(self) -> dict[tuple[object, ...], Event]:
+    def all_firsts(self) -> dict[tuple[object, ...], Event]:
+        """Whatever began as it began first, as far as the run is looked at."""
         found = dict[tuple[object, ...], Event]()
         for part in self.parts:
             for event in part.events:
@@ -182,19 +182,25 @@ class Run:
     @cached_property
     def firsts(self) -> list[Event]:
         """Each instruction of the source's lines as it began first."""
-        return [event for event in self._firsts.values() if event.entry is None and self.is_own(event) and line_at(self.listing, event)]
+        return [event for event in self.all_firsts.values() if event.entry is None and self.is_own(event) and line_at(self.listing, event)]
 
-    def is_first(self, event: Event) -> bool:
-        """Whether it had not been before, as far as the run is looked at."""
-        return self._firsts[event[1:]].clock == event.clock
+    def at(self, clock: int) -> ProbeSession:
+        """The session that has no stops, at a clock."""
+        self.free.go_to(clock)
+        return self.free
+
+    def registers(self, clock: int) -> dict[str, int]:
+        """The registers at a clock."""
+        return registers_of(self.at(clock).answers(['regs']))
+
+    def trail_at(self, clock: int) -> list[Event]:
+        """The trail at a clock."""
+        return [event_of(line) for line in self.at(clock).answers(['trail'])]
 
     def registers_often(self, event: Event) -> Iterator[dict[str, int]]:
         """The registers that an instruction found, its first times."""
-        clocks = [one.clock for part in self.parts for one in part.events if one[1:] == event[1:]][:OFTEN]
-        with ProbeSession(self.files) as session:
-            for clock in clocks:
-                session.go_to(clock)
-                yield registers_of(session.answers(['regs']))
+        clocks = [one.clock for part in self.parts for one in part.events if one[1:] == event[1:]]
+        return map(self.registers, clocks[:OFTEN])
 
     @cached_property
     def image(self) -> set[int]:
@@ -228,13 +234,8 @@ class Run:
             return f'interrupt {event.entry:02X}'
         if line and self.is_own(event):
             return f'line {line.number} ({code_of(line.text).strip()}), {name}'
-        text = event.text or self.text_at(event)
-        return f'{name} ({text})' if text else name
-
-    def text_at(self, event: Event) -> str:
-        """An instruction's text."""
-        row = trail_at(self.files, event.clock + 1)[-1:] if event.octets else []
-        return row[0].text if row and row[0].clock == event.clock else ''
+        row = [event] if event.text or not event.octets else self.trail_at(event.clock + 1)[-1:]
+        return f'{name} ({row[0].text})' if row and row[0].text and row[0].clock == event.clock else name
 
     def region(self, address: int) -> str:
         """What is wrong with writing at an address: nothing, or a clause."""
@@ -245,13 +246,6 @@ class Run:
         if self.ram_end <= address < TEXT:
             return f'and nothing answers there (RAM ends at {self.ram_end - 1:05X}h): what is written there is lost'
         return 'and nothing answers there: what is written there is lost' if address > TEXT_END else ''
-
-
-def trail_at(files: Files, clock: int) -> list[Event]:
-    """The trail at a clock."""
-    with ProbeSession(files) as session:
-        session.go_to(clock)
-        return [event_of(line) for line in session.answers(['trail'])]
 
 
 def is_for_good(report: Report) -> bool:
@@ -275,10 +269,3 @@ def go_to_end(session: ProbeSession, report: Report) -> int | None:
     was = session.clock if answer.startswith('stop') and session.dump(0, 2) == b'\0\0' else None
     session.go_to(report.clock)
     return was
-
-
-def registers_at(files: Files, clock: int) -> dict[str, int]:
-    """The registers at a clock."""
-    with ProbeSession(files) as session:
-        session.go_to(clock)
-        return registers_of(session.answers(['regs']))

@@ -6,6 +6,7 @@ import os
 import struct
 from dataclasses import dataclass, field
 
+from toolbox.effects import is_behind_a_call
 from toolbox.gdb.cfi import MEMORY, counted, frames_of, sleb, uleb
 from toolbox.listing import Line, Listing, physical
 
@@ -23,17 +24,14 @@ def runs_of(listing: Listing) -> list[list[tuple[int, Line]]]:
         if not line.shown:
             continue
         # The listing shows a long line's first bytes alone; it reaches to the next line of its segment.
-        is_next = bool(runs) and (address == end or len(runs[-1][-1][1].shown) >= 8 and is_same(runs[-1][-1][1], line))
+        before = runs[-1][-1][1] if runs else None
+        is_long = before is not None and len(before.shown) >= 8 and before.address and line.address and before.address[0] == line.address[0]
+        is_next = before is not None and address == end or is_long
         if not is_next:
             runs.append([])
         runs[-1].append((address, line))
         end = address + len(line.shown)
     return runs
-
-
-def is_same(one: Line, other: Line) -> bool:
-    """Whether two lines place bytes in the same segment."""
-    return bool(one.address and other.address and one.address[0] == other.address[0])
 
 
 def end_of(run: list[tuple[int, Line]]) -> int:
@@ -94,23 +92,14 @@ class Table:
         return self.places[name]
 
 
-def is_call(octets: bytes) -> bool:
-    """Whether bytes are a CALL or INT, behind prefixes of a segment."""
-    plain = octets.lstrip(b'\x26\x2E\x36\x3E')
-    lengths = {0xE8: 3, 0x9A: 5, 0xCC: 1, 0xCD: 2, 0xCE: 1}
-    if plain[:1] == b'\xFF' and len(plain) > 1:
-        return plain[1] >> 3 & 7 in (2, 3)
-    return bool(plain) and lengths.get(plain[0]) == len(plain)
-
-
 def places_behind_calls(listing: Listing) -> set[int]:
     """Where calls return to. Of Intel HEX, which doesn't tell where an instruction begins, these are the labels before which one
     may stand."""
-    found = {address + len(line.shown) for address, line in listing.at.items() if is_call(line.shown)}
+    found = {address + len(line.shown) for address, line in listing.at.items() if is_behind_a_call(line.shown) or line.shown in (b'\xCC', b'\xCE')}
     for first, octets in listing.parts.items():
         for label in listing.labels.values():
             at = physical(*label) - first
-            if any(is_call(octets[at - length : at]) for length in range(2, 6) if length <= at <= len(octets)):
+            if at <= len(octets) and is_behind_a_call(octets[: max(at, 0)]):
                 found.add(first + at)
     return found
 

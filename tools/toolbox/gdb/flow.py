@@ -4,11 +4,10 @@ from __future__ import annotations
 
 from bisect import bisect_right
 
-from toolbox.effects import PREFIXES, goes_on, target_of
+from toolbox.effects import Does, effect_of, goes_on, target_of
 from toolbox.listing import Line, Listing, physical
 
 RESET = 0xFFFF0
-CALLS = (b'\xE8', b'\x9A')
 
 
 def reached(lines: dict[int, Line], order: list[int], begun: set[int]) -> set[int]:
@@ -26,14 +25,9 @@ def reached(lines: dict[int, Line], order: list[int], begun: set[int]) -> set[in
     return found
 
 
-def placed(listing: Listing) -> dict[int, Line]:
-    """The lines that place bytes, by physical address."""
-    return {address: line for address, line in (*listing.modules.items(), *listing.at.items()) if line.shown}
-
-
 def outermost(listing: Listing) -> list[tuple[int, int]]:
     """The parts of memory, by first address and end, whose code no call leads to."""
-    lines = placed(listing)
+    lines = {address: line for address, line in (*listing.modules.items(), *listing.at.items()) if line.shown}
     order = sorted(lines)
     parts = [octets[RESET - first :] for first, octets in listing.parts.items() if first <= RESET < first + len(octets)]
     begin = target_of(parts[0], (0xFFFF, 0)) if parts else None
@@ -45,5 +39,6 @@ def outermost(listing: Listing) -> list[tuple[int, int]]:
 
 
 def is_call(line: Line) -> bool:
-    """Whether a line's instruction is a CALL that has its place in its bytes."""
-    return line.shown.lstrip(PREFIXES)[:1] in CALLS
+    """Whether a line's instruction is a CALL."""
+    effect = effect_of(line.shown)
+    return effect is not None and effect.does is Does.CALLS

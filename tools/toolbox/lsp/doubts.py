@@ -9,8 +9,9 @@ from toolbox.lsp.answers import Answers
 from toolbox.lsp.lines import LABEL, Token
 from toolbox.lsp.source import Source
 from toolbox.lsp.straight import held, register_in
-from toolbox.walk import WRITERS
 
+# What writes its first operand.
+WRITERS = set('MOV ADD ADC SUB SBB AND OR XOR INC DEC NEG NOT SHL SAL SHR SAR ROL ROR RCL RCR XCHG POP'.split())
 STORES = ('STOSB', 'STOSW', 'MOVSB', 'MOVSW')
 ROM, RESET, OF_THE_SERVICES = 0xF000, 0xFFFF0, range(0x10, 0x22)
 
