@@ -21,7 +21,7 @@ from toolbox.effects import Far
 from toolbox.guests import Guest
 from toolbox.listing import labels_alone, listing_of, physical
 from toolbox.asking import lines_of
-from toolbox.places import address_of, far_of, is_repeated, line_at, number_of
+from toolbox.places import address_of, far_of, line_at, number_of
 from toolbox.program import LAST_CLOCK, Files, path
 from toolbox.report import REGISTERS, Report, report_of
 from toolbox.runfile import DEFAULTS, text_of, with_budget
@@ -286,13 +286,8 @@ class Board:
         return self.view(why, seen) | self._seen_by(met if why == 'stop' else None)
 
     def back(self, seen: int) -> Fields:
-        """To where the last instruction or interrupt began; of a repeat, the last iteration. The trail tells the clock, to which
-        a session goes back sooner than it finds the last boundary."""
-        trail = self.machine.trail()
-        if self.machine.ram_end or not trail or trail[-1].entry is None and is_repeated(trail[-1].text):
-            self.machine.back()
-        else:
-            self.machine.go_to(trail[-1].clock)
+        """To where the last instruction or interrupt began; of a repeat, the last iteration."""
+        self.machine.back()
         return self.view('there', seen)
 
     def last(self, seen: int) -> Fields:
