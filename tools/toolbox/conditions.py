@@ -12,16 +12,17 @@ from typing import Callable
 from toolbox.command import Sorry
 from toolbox.session_board import SessionBoard
 
-COUNTS: dict[str, Callable[[int, int], bool]] = {
-    '': operator.eq,
+COMPARISONS: dict[str, Callable[[int, int], bool]] = {
     '=': operator.eq,
     '==': operator.eq,
-    '>': operator.gt,
-    '>=': operator.ge,
+    '!=': operator.ne,
+    '<>': operator.ne,
     '<': operator.lt,
     '<=': operator.le,
-    '%': lambda hits, every: hits % every == 0,
+    '>': operator.gt,
+    '>=': operator.ge,
 }
+COUNTS = COMPARISONS | {'': operator.eq, '%': lambda hits, every: hits % every == 0}
 
 
 def count_of(text: str) -> Callable[[int], bool]:

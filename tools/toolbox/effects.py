@@ -150,6 +150,6 @@ def ends_with_call(octets: bytes, is_far: bool = False) -> bool:
     return False
 
 
-def is_behind_a_call(octets: bytes) -> bool:
-    """Whether bytes end with a CALL or INT."""
+def is_call(octets: bytes) -> bool:
+    """Whether bytes are a CALL or INT, or end with one."""
     return ends_with_call(octets) or ends_with_call(octets, is_far=True) or octets[-2:-1] == b'\xCD'

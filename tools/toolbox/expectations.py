@@ -13,7 +13,7 @@ from toolbox.events import first_start
 from toolbox.listing import Listing, listing_of
 from toolbox.places import address_of, far_of, number_of
 from toolbox.program import LAST_CLOCK, Files, ProbeSession, Session
-from toolbox.report import REGISTERS, ROWS, Report
+from toolbox.report import HALVES, REGISTERS, ROWS, Report, value_in
 from toolbox.scancodes import BARE, Stroke, stamped, strokes_of
 from toolbox.services import Served, served_of
 from toolbox.shown import clipped
@@ -28,7 +28,6 @@ CHIPS = (
     'adapter (index|start|cursor|video|raster)',
     'processor (state|busy|IF|inhibits|step|repeat)',
 )
-HALVES = [letter + half for letter in 'ABCD' for half in 'LH']
 
 
 class NotThere(Exception):
@@ -107,23 +106,14 @@ def plain(text: str) -> str:
     return text[1:-1].rstrip() if len(text) > 1 and text[0] == text[-1] == "'" else text
 
 
-def number(report: Report, name: str) -> int:
-    """A register, a half of one, or a flag."""
-    if name in FLAGS:
-        return report.registers['FL'] >> FLAGS[name] & 1
-    if name in HALVES:
-        return report.registers[name[0] + 'X'] >> (8 if name[1] == 'H' else 0) & 0xFF
-    return report.registers[name]
-
-
 def shown_number(report: Report, name: str) -> str:
     """It as text, in as many digits as it has."""
-    return f'{number(report, name):0{1 if name in FLAGS else 2 if name in HALVES else 4}X}'
+    return f'{value_in(report.registers, name):0{1 if name in FLAGS else 2 if name in HALVES else 4}X}'
 
 
 def judge_number(subject: Subject, name: str, wanted: str) -> str | None:
     """A register or flag."""
-    return None if number(subject.report, name) == number_of(wanted, 0xFFFF) else shown_number(subject.report, name)
+    return None if value_in(subject.report.registers, name) == number_of(wanted, 0xFFFF) else shown_number(subject.report, name)
 
 
 def judge_line(subject: Subject, name: str, wanted: str) -> str | None:

@@ -14,7 +14,7 @@ from toolbox.asking import Raw, Told
 from toolbox.chips import Chips, ends_before, of_chips
 from toolbox.command import Sorry, tool
 from toolbox.doubts import doubts
-from toolbox.effects import Does, effect_of, is_behind_a_call, target_of
+from toolbox.effects import Does, effect_of, is_call, target_of
 from toolbox.following import CALLING, RETURNING, writer_in
 from toolbox.later import later
 from toolbox.listing import Line, Listing, code_of, listing_of, physical
@@ -277,7 +277,7 @@ def suspicious(run: Run) -> Iterator[tuple[Event, Event]]:
         if done_by(event) is not Does.RETURNS or after.entry is not None or not line_at(run.listing, event) or not run.is_own(event):
             continue
         octets = run.session.dump(physical(after.segment, (after.offset - 5) % 0x10000), 5)
-        if not is_behind_a_call(octets):
+        if not is_call(octets):
             yield event, after
 
 

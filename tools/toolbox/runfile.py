@@ -16,23 +16,6 @@ from toolbox.program import Files, answer_of
 from toolbox.report import Report, report_of
 
 
-__all__ = [
-    'CHOICES',
-    'DEFAULTS',
-    'FIRST_CHOICES',
-    'add_keys',
-    'budget_of',
-    'chosen',
-    'fields_in',
-    'read_run_file',
-    'report_at',
-    'text_of',
-    'with_budget',
-    'with_fields',
-    'with_run_file',
-]
-
-
 def read_run_file(path: str) -> dict[str, Any]:
     """A run file's fields. What the values may be is judged by the program."""
     return fields_in(path, read_text(path))

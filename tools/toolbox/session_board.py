@@ -16,6 +16,7 @@ from toolbox.faults import fault_in
 from toolbox.program import BEFORE_START, LAST_CLOCK, Files, ProbeSession
 from toolbox.report import registers_of
 from toolbox.runfile import add_keys
+from toolbox.watches import changed, watched_by
 from toolbox.way_back import last_stop, paced
 
 if TYPE_CHECKING:
@@ -210,11 +211,6 @@ class SessionBoard:
         is_likely = any(event.octets[-1:] == HLT for event in self.trail()[-1:])
         return is_likely and self.chips()[-1].startswith('processor halted busy 0 ')
 
-    @property
-    def is_within(self) -> bool:
-        """Whether an instruction or an entry is under way, as it is where a byte has just been written."""
-        return ' busy 0 ' not in self.chips()[-1]
-
     def log(self, end: int, kinds: str) -> Iterator[str]:
         """What happens up to a clock, to which the board goes past all stops, as lines of the probe's events."""
         while self.clock < end:
@@ -229,8 +225,8 @@ class SessionBoard:
         return self._talk(lambda: self._session.lines(clocks, kinds)) if clocks else []
 
     def end_instruction(self) -> None:
-        """Ends what is under way, so that a step makes the next instruction."""
-        if self.is_within:
+        """Ends what is under way, as where a byte has just been written, so that a step makes the next instruction."""
+        if ' busy 0 ' not in self.chips()[-1]:
             self.one('step')
 
     def happened(self, kinds: str) -> list[str]:
@@ -503,17 +499,9 @@ class SessionBoard:
 
     def _has_happened(self, stop: str) -> bool:
         """Whether a stop on what happens holds here."""
-        kind, _, rest = stop.partition(' ')
-        if kind != 'changes':
-            return kind == 'when' and bool(self.happened(rest))
-        if self.clock == self.changes.first:
+        if watched_by(stop) and self.clock == self.changes.first:
             return False
-        address, count = rest.split()
-        bytes_now = self.dump(int(address, 16), int(count))
-        self.one('back 1')
-        bytes_then = self.dump(int(address, 16), int(count))
-        self.one('go 1')
-        return bytes_now != bytes_then
+        return bool(changed(self, stop) if watched_by(stop) else stop.startswith('when ') and self.happened(stop.removeprefix('when ')))
 
     def _is_behind_a_halt(self) -> bool:
         """Whether HLT stands before CS:IP, as it does if the processor is halted there."""

@@ -4,14 +4,16 @@ from __future__ import annotations
 
 import re
 from dataclasses import dataclass
-from typing import Callable
+from typing import TYPE_CHECKING, Callable
 
 from toolbox.command import Sorry
 from toolbox.data_labels import SIZES, kind_in
 from toolbox.following import writer_in
 from toolbox.listing import Listing, physical
 from toolbox.places import number_of, told_of
-from toolbox.session_board import SessionBoard
+
+if TYPE_CHECKING:
+    from toolbox.session_board import SessionBoard
 
 MEMORY, MOST_WATCHED = 1 << 20, 1 << 16
 KINDS = ('starts', 'entries', 'writes', 'ports', 'states', 'keys', 'wires')
@@ -49,15 +51,10 @@ def kind_of(text: str, address: Callable[[str], int]) -> str:
     if not sign:
         return text
     first, _, last = places.partition('-')
-    begin, end = map(address if name == 'writes' else port_of, (first, last or first))
+    begin, end = (address(place) if name == 'writes' else number_of(place, 0xFFFF) for place in (first, last or first))
     if begin > end:
         raise Sorry(f'{text}: {begin:X} comes after {end:X}, and a range begins with its lowest')
     return f'{name}={begin:X}-{end:X}'
-
-
-def port_of(text: str) -> int:
-    """A port's number."""
-    return number_of(text, 0xFFFF)
 
 
 @dataclass(frozen=True)

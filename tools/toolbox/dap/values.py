@@ -1,18 +1,17 @@
 """What an editor asks about: expressions of registers, labels, numbers and memory, and disassembly from what ran."""
 from __future__ import annotations
 
-import operator
 import re
 from dataclasses import dataclass
-from typing import Callable
 
 from toolbox.command import Sorry
+from toolbox.conditions import COMPARISONS
 from toolbox.dap.board import FLAG_BITS, Machine
 from toolbox.listing import Line, Listing, code_of, label_in, physical
 from toolbox.places import far_of
+from toolbox.report import HALVES, value_in
 from toolbox.session_board import NONE, SessionBoard
 
-BYTE_REGISTERS = {'AL': ('AX', 0), 'AH': ('AX', 8), 'BL': ('BX', 0), 'BH': ('BX', 8), 'CL': ('CX', 0), 'CH': ('CX', 8), 'DL': ('DX', 0), 'DH': ('DX', 8)}
 TOKEN = re.compile(r"\s*(0x[0-9A-Fa-f]+|[0-9][0-9A-Fa-f]*[Hh]|[01]+[Bb]|\d+|[A-Za-z_]\w*|'[^']'|&&|\|\||[=!<>]=|<>|[-+*:\[\]()=<>!&])")
 DATA = re.compile(r'(\w+\s*:)?\s*D[BWD]\b', re.I)
 LONGEST_INSTRUCTION, LONGEST, LISTED_AT_ONCE = 8, 16, 64  # an instruction has at most seven prefixes and six bytes more
@@ -49,18 +48,6 @@ def number_in(word: str) -> int:
     if word[-1] in 'Hh':
         return int(word[:-1], 16)
     return int(word[:-1], 2) if word[-1] in 'Bb' else int(word)
-
-
-COMPARISONS: dict[str, Callable[[int, int], bool]] = {
-    '=': operator.eq,
-    '==': operator.eq,
-    '!=': operator.ne,
-    '<>': operator.ne,
-    '<': operator.lt,
-    '<=': operator.le,
-    '>': operator.gt,
-    '>=': operator.ge,
-}
 
 
 class Expression:
@@ -169,11 +156,8 @@ class Expression:
         upper = word.upper()
         if upper in self.registers:
             return Value(self.registers[upper])
-        if upper in BYTE_REGISTERS:
-            register, shift = BYTE_REGISTERS[upper]
-            return Value(self.registers[register] >> shift & 0xFF, 1)
-        if upper in FLAG_BITS:
-            return Value(self.registers['FL'] >> FLAG_BITS[upper] & 1, 1)
+        if upper in (*HALVES, *FLAG_BITS):
+            return Value(value_in(self.registers, upper), 1)
         if upper == 'SEG' and self.words:
             return Value(far_of(self.listing, self.words.pop(0))[0])
         if word[:1].isdigit():

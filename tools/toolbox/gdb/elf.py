@@ -6,7 +6,7 @@ import os
 import struct
 from dataclasses import dataclass, field
 
-from toolbox.effects import is_behind_a_call
+from toolbox.effects import is_call
 from toolbox.gdb.cfi import MEMORY, counted, frames_of, sleb, uleb
 from toolbox.listing import Line, Listing, physical
 
@@ -95,11 +95,11 @@ class Table:
 def places_behind_calls(listing: Listing) -> set[int]:
     """Where calls return to. Of Intel HEX, which doesn't tell where an instruction begins, these are the labels before which one
     may stand."""
-    found = {address + len(line.shown) for address, line in listing.at.items() if is_behind_a_call(line.shown) or line.shown in (b'\xCC', b'\xCE')}
+    found = {address + len(line.shown) for address, line in listing.at.items() if is_call(line.shown) or line.shown in (b'\xCC', b'\xCE')}
     for first, octets in listing.parts.items():
         for label in listing.labels.values():
             at = physical(*label) - first
-            if at <= len(octets) and is_behind_a_call(octets[: max(at, 0)]):
+            if at <= len(octets) and is_call(octets[: max(at, 0)]):
                 found.add(first + at)
     return found
 

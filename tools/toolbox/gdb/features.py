@@ -2,9 +2,10 @@
 behind it those of the 8086 that the core shows as addresses."""
 from __future__ import annotations
 
+from zebludor import FLAGS
+
 CORE = ('eax', 'ecx', 'edx', 'ebx', 'esp', 'ebp', 'esi', 'edi', 'eip', 'eflags', 'cs', 'ss', 'ds', 'es', 'fs', 'gs')
 FLOATS, CONTROLS = [f'st{number}' for number in range(8)], ('fctrl', 'fstat', 'ftag', 'fiseg', 'fioff', 'foseg', 'fooff', 'fop')
-FLAGS = {'CF': 0, 'PF': 2, 'AF': 4, 'ZF': 6, 'SF': 7, 'TF': 8, 'IF': 9, 'DF': 10, 'OF': 11}
 OWN = {'ip': 'IP', 'sp16': 'SP', 'bp16': 'BP'}  # their names in gdb
 TYPES = {'esp': 'data_ptr', 'ebp': 'data_ptr', 'eip': 'code_ptr', 'eflags': 'i386_eflags'}
 FIRST_FLOAT = len(CORE)
