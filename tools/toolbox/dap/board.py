@@ -41,6 +41,14 @@ class Machine(FollowedBoard):
         self.known.update((event.address, event) for event in found if event.entry is None)
         return found
 
+    def stack(self, count: int) -> list[tuple[int, int, str]]:
+        """So many words from SS:SP on: how far from there each stands, itself, and the label of one that leads to code of the program."""
+        registers, listing = self.registers(), self.listing
+        octets = self.dump(physical(registers['SS'], registers['SP']), min(2 * count, 0x10000 - registers['SP']))
+        words = [(at, int.from_bytes(octets[at : at + 2], 'little')) for at in range(0, len(octets) - 1, 2)]
+        places = [(registers['CS'], word) if word and listing.has(physical(registers['CS'], word)) else None for _, word in words]
+        return [(at, word, listing.label_before(*place) if place else '') for (at, word), place in zip(words, places)]
+
     def step(self) -> Event | None:
         """Makes one instruction, iteration or entry, and returns what began. A halted processor goes on to its
         interrupt."""

@@ -99,13 +99,8 @@ class Variables:
 
     def _stack(self) -> list[Fields]:
         """The words from SS:SP on."""
-        registers, listing = self._board.registers(), self._board.listing
-        segment, top = registers['SS'], registers['SP']
-        octets = self._board.dump(physical(segment, top), min(2 * STACK_WORDS, 0x10000 - top))
-        words = [int.from_bytes(octets[at : at + 2], 'little') for at in range(0, len(octets) - 1, 2)]
-        places = [(registers['CS'], one) if listing.has(physical(registers['CS'], one)) else None for one in words]
-        labels = [f' {listing.label_before(*one)}'.rstrip() if one else '' for one in places]
-        return [row(f'SP+{2 * at}', f'{word:04X}h{labels[at]}', evaluateName=f'WORD SS:[SP+{2 * at}]') for at, word in enumerate(words)]
+        words = self._board.stack(STACK_WORDS)
+        return [row(f'SP+{at}', f'{word:04X}h {label}'.rstrip(), evaluateName=f'WORD SS:[SP+{at}]') for at, word, label in words]
 
     def _screen(self) -> list[Fields]:
         return [row(str(number), line.rstrip()) for number, line in enumerate(self._board.many('screen'), 1)]

@@ -38,7 +38,7 @@ AHEAD, GAP = 1000, 1000
 FARTHEST = 50_000_000
 # So many clocks are run anew to tell why a run goes nowhere: a tenth of a second's work.
 REACH = 20_000_000
-STACK_BYTES, CLOCKS_OF_HLT, LOOKS_WITHOUT_ATTRIBUTES = 32, 2, 4
+STACK_WORDS, CLOCKS_OF_HLT, LOOKS_WITHOUT_ATTRIBUTES = 16, 2, 4
 # So many instructions of Intel HEX are shown, from so many bytes before the next one on.
 CODE_ROWS, CODE_BEFORE = 48, 40
 # So many clocks are looked at together for interrupts, and for so many seconds, or up to so many of them.
@@ -350,7 +350,8 @@ class Board:
             found['screen'] = self._rows
         if not is_light:
             found |= {'trail': [self._event(event) for event in trail], 'callers': self._callers()}
-            found |= {'stack': self._stack(registers), 'keys': self._keys()}
+            words = self.machine.stack(STACK_WORDS)
+            found |= {'stack': [[f'{registers["SP"] + at:04X}', f'{word:04X}', label] for at, word, label in words], 'keys': self._keys()}
         return found
 
     def _look_at_screen(self, is_light: bool) -> int:
@@ -386,17 +387,6 @@ class Board:
         """A place as the page has it: address, label and source line."""
         line = self.listing.at.get(physical(*place))
         return ['%04X:%04X' % place, self.listing.label_before(*place), line.number if line else None]
-
-    def _stack(self, registers: dict[str, int]) -> list[list[Any]]:
-        """The words from SS:SP on, with the label of one that leads to a line of the source, or to bytes of Intel HEX."""
-        segment, top = registers['SS'], registers['SP']
-        octets = self.machine.dump(physical(segment, top), STACK_BYTES)
-        words = [int.from_bytes(octets[at : at + 2], 'little') for at in range(0, len(octets) - 1, 2)]
-
-        def label(word: int) -> str:
-            return self.listing.label_before(registers['CS'], word) if word and self.listing.has(physical(registers['CS'], word)) else ''
-
-        return [[f'{top + 2 * at:04X}', f'{word:04X}', label(word)] for at, word in enumerate(words) if top + 2 * at < 0x10000]
 
     def _keys(self) -> list[list[Any]]:
         """The keys: stamp, name, whether it goes down, code."""
