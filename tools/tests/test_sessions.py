@@ -13,7 +13,7 @@ import traceback
 import unittest
 from dataclasses import dataclass
 
-from tests import test_gdb
+from tests import test_dap, test_gdb
 from tests.support import ToolCase
 from tests.test_calls import program
 from tests.test_dap import Client as Editor
@@ -370,8 +370,8 @@ class Sessions(ToolCase):
         self.assertGreater(min(self.asked.count(each) for each in ('came', 'taken', 'fell')), IN_THE_GATE // 10, self.asked)
 
     def many(self, count: int, first: int) -> int:
-        """So many of each kind, by hand; returns how many differ, each of which is told."""
-        differ = 0
+        """So many of each kind, by hand; returns how many differ, each of which is told. Beside other work an adapter may need an hour."""
+        differ, test_dap.SECONDS = 0, 3600
         for done, seed in enumerate(range(first, first + count), 1):
             for ask in (self.dbg, self.editor, self.debugger, self.python, self.measures):
                 try:
