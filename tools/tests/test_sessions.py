@@ -29,7 +29,7 @@ IN_THE_GATE = 20  # sessions of each kind
 SEEN = re.compile(r'^[0-9A-F]{5} .*: (clock \d+), .*')
 SHOWN = re.compile(rf'clock |AX=|CS=|\d+ keys|{SEEN.pattern}')
 PREFIXES, REPEATS, POPS = b'\x26\x2E\x36\x3E\xF0\xF2\xF3', b'\xF2\xF3', range(0x58, 0x60)
-STRINGS = (*range(0xA4, 0xA8), *range(0xAA, 0xB0))
+STRINGS, HLT = (*range(0xA4, 0xA8), *range(0xAA, 0xB0)), b'\xF4'
 
 
 @dataclass
@@ -108,6 +108,10 @@ class Truth:
                 if is_dropped or octets[0] in POPS and any(number < each.at < call.end for each in self.calls):
                     found.append(clock)
         return found
+
+    def near_halts(self) -> list[int]:
+        """Clocks soon before a halt, which is easily taken for a beginning."""
+        return [clock - 6 for clock, octets in zip(self.clocks, self.octets) if octets == HLT and 300 < clock < CLOCKS - 900]
 
     def after(self, call: Call) -> int | None:
         """The clock to which the end of a call leads, if it comes."""
@@ -332,7 +336,7 @@ class Sessions(ToolCase):
         """How long a key keeps a place away, by tools/moments, and how long the timer's requests wait, by tools/trace."""
         truth, dice = self.truth(seed)
         run = self.file('short.json', text_of(read_run_file(truth.files.run_file) | {'budget': CLOCKS}))
-        place, first = dice.choice([each for each in truth.places if each]), dice.randrange(300, CLOCKS - 900)
+        place, first = dice.choice([each for each in truth.places if each]), dice.choice(truth.near_halts() or range(300, CLOCKS - 900))
         out = self.called('moments', '--measure', place, truth.files.file, run, '--key', '1E', '--at', f'{first}..{first + 5}', '--jobs', '1')[0]
         came = [clocks for stamp in range(first, first + 5) if (clocks := truth.begun(place, stamp)) is not None]
         found = re.findall(r'(\d+) came to|^(?:least|most) (\d+) ', out, re.M)
