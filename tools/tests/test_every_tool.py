@@ -234,7 +234,7 @@ class EveryTool(ToolCase):
 
 class NoFile(ToolCase):
     """A FIFO, a link to a device, a file of 2 GB and brackets a million deep end at once and cost little in every tool that takes a
-    file, in Python's module, and where a source includes them or stands beside them."""
+    file, in Python's module, and where a source includes them or stands beside them. So does a source of as many lines as there may be."""
 
     PATHS = ('fifo', 'endless', 'long', 'deep')
     GIVEN = b'fault 3 BadLine line 1\n'  # which why explains, of a file
@@ -284,6 +284,15 @@ class NoFile(ToolCase):
                 allowed = (0, 1, 2) if line.startswith('tools/why fault') else (1, 2) if path == 'deep' or not line.startswith('tools/') else (2,)
                 self.assertIn(ended.status, allowed, ended.err)
                 self.assertNotEqual(ended.err + ended.out.decode(), '')
+
+    def test_a_source_of_a_million_lines(self) -> None:
+        """A source is read within as much, of however many lines its bytes are; also one that isn't UTF-8."""
+        for words, first in ((['why', 'run'], b''), (['try'], b';\xE9')):
+            with open(f'{self.room}/lines.asm', 'wb') as file:
+                file.write(first + b'\n' * 1_000_000)
+            with self.subTest(words=words):
+                ended = self.ended('lines.asm', trials.started(words[0], [*words[1:], '--seconds', str(SECONDS), 'lines.asm']))
+                self.assertIn('FFFF:0000', ended.err)
 
     def test_python(self) -> None:
         """It is Unfit, or what the program refuses."""

@@ -2,6 +2,7 @@
 tool, and status 2."""
 import argparse
 import contextlib
+import gc
 import io
 import os
 import re
@@ -18,6 +19,7 @@ HINT_STATUS = 2
 LONGEST = 1000  # characters of a sentence
 MOST = 100  # lines, or refused lines of a source
 MISTAKE = 'a mistake of this tool has ended it'
+COLLECTED = 50_000  # objects between two looks for what nobody needs: a look takes long where a source has a million lines
 STARTED = 'ZEBLUDOR_STARTED'  # in the environment: how the user has started the command zebludor, by which he then knows the tools
 PYTHON = sys.executable or 'python3'  # Python knows no path of its own where it was started without PATH
 SYMBOLS = (
@@ -98,6 +100,7 @@ def waiting(what: str, seconds: float = 2) -> Iterator[Callable[[str], None]]:
 
 def start(main: Callable[[list[str]], int]) -> None:
     """Runs a tool to its exit status; a reader that goes away, as `head` does, is no mistake."""
+    gc.set_threshold(COLLECTED)
     with_streams()
     try:
         status = status_of(main)

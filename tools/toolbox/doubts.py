@@ -40,10 +40,10 @@ class Doubt:
 
 def doubts(lines: Sequence[str]) -> Iterator[Doubt]:
     """Each line of a source that is hardly meant."""
-    labels = {label.upper() for label in map(label_in, lines) if label}
-    for number, line in enumerate(lines):
-        code = code_of(line)
-        for name, (look, text) in LOOKS.items() if code else ():
+    coded = [(number, code) for number, line in enumerate(lines) if line for code in [code_of(line)] if code]
+    labels = {label.upper() for label in (label_in(code) for _, code in coded) if label}
+    for number, code in coded:
+        for name, (look, text) in LOOKS.items():
             found = re.fullmatch(look, code, re.I)
             if found and (name != 'offset-in-byte' or found[1].upper() in labels):
                 value = int(found[1]) if found[1].isdecimal() else 0

@@ -43,8 +43,8 @@ def is_of(path: str, lines: list[Line]) -> bool:
 def with_source(found: Listing, path: str, source: str | None = None) -> Listing:
     """A listing with the file that its lines are of: the source that is told, else one beside it."""
     source = source or source_beside(path, found.lines)
-    lines = filled([replace(one, source=source) for one in found.lines])
-    return replace(found, lines=lines, at={where: replace(one, source=source) for where, one in found.at.items()}, files={source: lines})
+    lines = filled([one._replace(source=source) for one in found.lines])
+    return replace(found, lines=lines, at={where: one._replace(source=source) for where, one in found.at.items()}, files={source: lines})
 
 
 def of_places(rows: list[str], found: Listing) -> Listing:
@@ -53,7 +53,7 @@ def of_places(rows: list[str], found: Listing) -> Listing:
     lines, files = list[Line](), dict[str, dict[int, Line]]()
     for row in filter(None, map(PLACED.fullmatch, rows)):
         placed = line_of(int(row[2]), row[3], row[4])
-        line = replace(placed, source=row[1], dialect=row[3][ADDRESS_COLUMNS:])
+        line = placed._replace(source=row[1], dialect=row[3][ADDRESS_COLUMNS:])
         known = files.setdefault(row[1], {}).get(line.number)
         lines += [line] if row[3] else []
         if known is None or line.address and not known.address:
@@ -105,7 +105,7 @@ def of_module(path: str, labels: dict[str, int], segment: int) -> list[Line]:
             found.append(now)
         first = octets.split()[:1]
         if base is not None and is_code and offset.strip() and first and re.fullmatch('([0-9A-F]{2})+', first[0]):
-            found.append(replace(now, address=(segment, (base + int(offset, 16)) % 0x10000), shown=bytes.fromhex(first[0])))
+            found.append(now._replace(address=(segment, (base + int(offset, 16)) % 0x10000), shown=bytes.fromhex(first[0])))
     return found
 
 

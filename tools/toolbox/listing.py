@@ -4,7 +4,8 @@ from __future__ import annotations
 import os
 import re
 from dataclasses import dataclass, field, replace
-from typing import Iterable, Iterator
+from functools import cached_property
+from typing import Iterable, Iterator, NamedTuple
 
 from toolbox.command import Sorry, read_bytes, read_text
 from toolbox.comments import handed, own_lines
@@ -21,8 +22,7 @@ def physical(segment: int, offset: int) -> int:
     return (16 * segment + offset) % (1 << 20)
 
 
-@dataclass(frozen=True, slots=True)
-class Line:
+class Line(NamedTuple):
     """A line of a source that places bytes, or none (then its address is None). Of Intel HEX it names its file: by the full path, or
     by a bare name if no file has that text. Of a source of MASM it has what the line is in the dialect."""
 
@@ -52,6 +52,11 @@ class Listing:
     files: dict[str, list[Line]] = field(default_factory=dict)  # of Intel HEX the lines of each file, from its first on
     modules: dict[int, Line] = field(default_factory=dict)  # of several files those that place bytes, by physical address
     rows: list[Line] = field(default_factory=list)  # of a source of MASM what becomes of it, in the order of the dialect's lines
+
+    @cached_property
+    def coded(self) -> list[tuple[Line, str]]:
+        """The lines that say more than a comment, each with what stands before its comment."""
+        return [(line, code) for line in self.lines if line.text for code in [code_of(line.text)] if code]
 
     def of_file(self, source: str) -> list[Line]:
         """The lines of a file, or of the program's own source."""

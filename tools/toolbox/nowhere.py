@@ -131,7 +131,7 @@ def of_a_jam(run: Run, is_led: bool) -> list[Told]:
     octets = run.session.dump(address, 6)
     found = run.tell('jammed', address=address, place=f'{segment:04X}:{offset:04X}', octets=octets.hex(' ').upper())
     if not run.trail:
-        call = next(((line, code_of(line.text).strip()) for line in run.listing.lines if CALLED.search(code_of(line.text))), None)
+        call = next(((line, code.strip()) for line, code in run.listing.coded if CALLED.search(code)), None)
         if call:
             return found + run.tell('bare call', line=call[0].number, code=call[1], services=f'{tool("try")} --services')
         reset = "is a ROM's file loaded at its own address?" if run.files.is_hex else 'SEGMENT RESET AT 0FFFFh, JMP FAR start, ENDS'
@@ -491,7 +491,7 @@ def of_the_source(run: Run) -> list[Told]:
 def loads(listing: Listing, register: str) -> bool:
     """Whether a line of the source loads a segment register."""
     wanted = rf'\bMOV\s+{register}\s*,|\bPOP\s+{register}\b|\bL{register}\b'
-    return any(register in line.text.upper() and re.search(wanted, code_of(line.text), re.I) for line in listing.lines)
+    return any(register in code.upper() and re.search(wanted, code, re.I) for _, code in listing.coded)
 
 
 def of_segments(run: Run) -> Iterator[Told]:

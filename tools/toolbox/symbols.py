@@ -5,7 +5,6 @@ from __future__ import annotations
 
 import os
 import re
-from dataclasses import replace
 from itertools import takewhile
 
 from toolbox.command import Sorry, read_text
@@ -220,7 +219,7 @@ def finished(found: Listing, image: dict[int, int]) -> Listing:
         if line.address is None:
             return line
         first = physical(*line.address)
-        return replace(line, shown=bytes(image[address % MEMORY] for address in takewhile(lambda address: address % MEMORY in image, range(first, first + 8))))
+        return line._replace(shown=bytes(image[address % MEMORY] for address in takewhile(lambda address: address % MEMORY in image, range(first, first + 8))))
 
     files = {source: list(map(as_loaded, lines)) for source, lines in found.files.items()}
     lines = next(iter(files.values())) if found.lines else []
