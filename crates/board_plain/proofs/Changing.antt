@@ -6,7 +6,7 @@ use Rattle.std.proofs.lemmas.Grind.{common_steps}
 use Rattle.std.proofs.lemmas.List.{length-set, set-get_or}
 use Rattle.board_types.specs.LineLevel.{from_bool}
 use Rattle.board_types.specs.declared.regs.Regs.{Regs}
-use Rattle.memory.specs.Cells as map_cells
+use Rattle.memory.specs.MapCells as map_cells
 use Rattle.memory.specs.Map as map
 use Rattle.memory.specs.Map.{MemoryMap, byte_answered}
 use Rattle.memory.specs.Regions.{is_text_address, region_of}
@@ -22,7 +22,8 @@ use Rattle.wiring.proofs.Leap.{settled_memory, settled_text}
 use Rattle.board_plain.specs.BoardLaws.{WiresHold}
 use Rattle.board_plain.proofs.Wires.{one_holds}
 use Rattle.board_plain.proofs.Writable.{one_takes}
-use Rattle.board_plain.specs.ChangeLaws.{ByteIsShown, ChangesLeaveWired, ClocksLeaveWired, IsWhole, RegistersAreShown, RunningOnKeeps, SameByteStays, StaysWired}
+use Rattle.board_plain.specs.ChangeLaws.{ByteIsShown, ChangesLeaveWired, ClocksLeaveWired, IsWhole, RegistersAreShown}
+use Rattle.board_plain.specs.ChangeLaws.{RunningOnKeeps, SameByteStays, StaysWired}
 use Rattle.board_plain.specs.declared.change.Change.{Change}
 use Rattle.board_plain.specs.declared.change.Change.TheVariants as changes
 use Rattle.board_plain.specs.Changes.{changed, run_on, run_on_if, says_where, with_cell_byte, with_register, with_regs}
@@ -66,7 +67,8 @@ cpu_stays : (s : Plain) (address byte : ℕ) → (with_cell_byte s address byte)
 unfolding with_cell_byte
 cpu_stays s address byte = refl
 
-byte_there : (s : Plain) (address byte : ℕ) → IsWhole s → address < 2 ^ 20 → has_cell s.chips address ≡ true → byte_of (with_cell_byte s address byte) address ≡ byte
+byte_there : (s : Plain) (address byte : ℕ) → IsWhole s → address < 2 ^ 20 → has_cell s.chips address ≡ true
+    → byte_of (with_cell_byte s address byte) address ≡ byte
 unfolding byte_of with_cell_byte byte_at has_cell with_cell map_cells.with_cell map.byte_at mda.with_text_byte mda.text_byte
 byte_there s address byte whole within has =
     let cells = whole.cells in let text = whole.text in let ram = whole.ram in grind (arith, common_steps, nat_tests)
@@ -102,7 +104,10 @@ region_there : (ram_size address : ℕ) → (is_text_address address || (nat_lt 
 region_there ram_size address has is = grind (arith, nat_tests)
 
 same_by : (b : Bool) (s : ChipsState) (address : ℕ) → region_of s.memory.ram_size address ≢ Nothing
-    → (if b then record s { mda = mda.with_text_byte s.mda (address - 0xB0000) (if b then mda.text_byte s.mda (address - 0xB0000) else map.byte_at s.memory address) }
+    → (if b then record s {
+      mda = mda.with_text_byte s.mda (address - 0xB0000)
+          (if b then mda.text_byte s.mda (address - 0xB0000) else map.byte_at s.memory address)
+    }
     else record s { memory = map_cells.with_cell s.memory address (if b then mda.text_byte s.mda (address - 0xB0000) else map.byte_at s.memory address) })
     ≡ s
 unfolding map_cells.with_cell map.byte_at
@@ -156,17 +161,20 @@ clock_of_changed (changes.Register register word) s = run_on_clock (says_where r
 clock_of_changed (changes.Byte address byte) s = clock_is s address byte
 
 -- the same addresses take bytes
-text_takes : (s : ChipsState) (offset byte other : ℕ) → is_writable (record s { mda = mda.with_text_byte s.mda offset byte }) other ≡ is_writable s other
+text_takes : (s : ChipsState) (offset byte other : ℕ)
+    → is_writable (record s { mda = mda.with_text_byte s.mda offset byte }) other ≡ is_writable s other
 unfolding is_writable mda.with_text_byte
 text_takes s offset byte other =
     ap (λ n. if is_text_address other then nat_lt (other - 0xB0000) n else map.is_writable s.memory other) (length-set s.mda.bytes offset byte)
 
-map_takes : (memory : MemoryMap) (address byte other : ℕ) → map.is_writable (map_cells.with_cell memory address byte) other ≡ map.is_writable memory other
+map_takes : (memory : MemoryMap) (address byte other : ℕ)
+    → map.is_writable (map_cells.with_cell memory address byte) other ≡ map.is_writable memory other
 unfolding map.is_writable map_cells.with_cell
 map_takes memory address byte other =
     ap (λ n. map.is_ram (region_of memory.ram_size other) && nat_lt other n) (length-set memory.cells address byte)
 
-memory_takes : (s : ChipsState) (address byte other : ℕ) → is_writable (record s { memory = map_cells.with_cell s.memory address byte }) other ≡ is_writable s other
+memory_takes : (s : ChipsState) (address byte other : ℕ)
+    → is_writable (record s { memory = map_cells.with_cell s.memory address byte }) other ≡ is_writable s other
 unfolding is_writable
 memory_takes s address byte other =
     ap (λ b. if is_text_address other then nat_lt (other - 0xB0000) (length s.mda.bytes) else b) (map_takes s.memory address byte other)

@@ -1,4 +1,4 @@
 pub mod Regions
 pub mod Map
-pub mod Cells
+pub mod MapCells
 pub mod MemoryLaws

@@ -6,7 +6,7 @@ ghost use Rattle.std.specs.Result.{IsErrOf};
 ghost use Rattle.board_types.specs.Image.{image_byte, IsImage};
 ghost use Rattle.memory.specs.Regions.{IsTextAddress, region_of};
 ghost use Rattle.memory.specs.declared.map.MemoryFault.TheVariants.{OutOfMemory};
-ghost use Rattle.memory.specs.Cells.{with_cell};
+ghost use Rattle.memory.specs.MapCells.{with_cell};
 ghost use Rattle.memory.specs.Map.{address_count, byte_at, byte_of_region, with_byte, power_on, power_on_byte, memory_fault_number, IsRamSize, FitsRam, IsMap};
 
 use crate::region::{Region, region_of};
@@ -180,7 +180,7 @@ impl Memory {
 
     /// Puts `byte` into the cell of `addr`, below 100000h, in the ROM as well: for a session that changes memory, not for
     /// the processor.
-    #[tactic(auto, unfolding(crate::specs::Cells::with_cell))]
+    #[tactic(auto, unfolding(crate::specs::MapCells::with_cell))]
     pub fn put(&mut self, addr: u32, byte: u8)
         requires { addr < 2 ^ 20 }
         ensures { self.new ≡ with_cell self.old addr byte }

@@ -1,5 +1,6 @@
 -- Changes of a board, and the sessions before them.
-use Rattle.std.proofs.Common.{◌≡◌, ℕ, Option, None, Some, Result, Ok, Err, ◌+◌, ◌-◌, ◌≤◌, Bool, true, false, List, [], ◌∷◌, ◌++◌, length, take, drop, refl, sym, ap, ◌∙◌, subst, arith}
+use Rattle.std.proofs.Common.{Option, None, Some, Result, Ok, Err}
+use Rattle.std.proofs.Common.{◌≡◌, ℕ, ◌+◌, ◌-◌, ◌≤◌, Bool, true, false, List, [], ◌∷◌, ◌++◌, length, take, drop, refl, sym, ap, ◌∙◌, subst, arith}
 use Rattle.std.proofs.lemmas.Bool.Decides.{nat_tests}
 use Rattle.std.proofs.lemmas.List.{append_cancel_left, length-append}
 use Rattle.std.specs.Prelude.{get_or, All}
@@ -24,7 +25,8 @@ use Rattle.probe.specs.declared.wishes.Wish.TheVariants.{Set, Undo}
 use Rattle.probe.specs.Requests.{request_of}
 use Rattle.probe.specs.Wishes.{wish_of}
 use Rattle.probe.proofs.Walking.{answered}
-use Rattle.probe.specs.Lab.{AnswersUnlessWished, AnswersWish, belongs, earlier_with, edited, lab_about, RefusesSet, LabState, left_by, Sets, shown_edited, takes_edit, Undoes, with_bytes}
+use Rattle.probe.specs.Lab.{AnswersUnlessWished, AnswersWish, belongs, earlier_with, edited, lab_about, LabState}
+use Rattle.probe.specs.Lab.{left_by, RefusesSet, Sets, shown_edited, takes_edit, Undoes, with_bytes}
 use Rattle.probe.specs.Probe.{ProbeState}
 
 -- of seventeen the oldest goes

@@ -2,7 +2,7 @@
 -- To be believed by callers of this crate: the headline does not rest on it.
 use Rattle.std.specs.Prelude.{ℕ, ◌-◌, ◌||◌, Bool, if◌then◌else◌, nat_le, nat_lt}
 use Rattle.mda_text.specs.Mda as mda
-use Rattle.memory.specs.Cells as map
+use Rattle.memory.specs.MapCells as map
 use Rattle.memory.specs.Regions.{is_text_address}
 use Rattle.wiring.specs.Chips.{ChipsState}
 
