@@ -6,26 +6,29 @@ import unittest
 
 from tests.support import TOP, ToolCase, not_run
 
-NOTING = """//! Notes what no read gave and no write took.
+NOTING = """//! Notes what no read gave and no write took, and failures that didn't come.
 #![tactic(auto)]
 
-use std::io;
-use std::io::Write;
+use streams::byte_input::Failed;
+use streams::byte_output::{ByteOutput, write_all};
 use streams::heard::Heard;
 use streams::kept::Kept;
 
 /// Prints a byte.
-fn main(rt: HostRuntime) -> io::Result<()> {
+fn main(rt: HostRuntime) -> Result<(), Failed> {
     let mut out = Kept::new(rt.stdout());
     let mut input = Heard::new(rt.stdin());
-    out.write_all(b"x")?;
+    write_all(&mut out, b"x")?;
     out.log.note(b"x");
+    out.failed = true;
     input.log.note(b"x");
     input.ended = true;
+    input.failed = true;
     out.flush()
 }
 """
-REFUSED = ('field `log` of struct `Kept` is private', 'field `log` of struct `Heard` is private', 'field `ended` of struct `Heard` is private')
+REFUSED = [f'field `{field}` of struct `{name}` is private' for name, fields in (('Kept', ('log', 'failed')), ('Heard', ('log', 'ended', 'failed')))
+           for field in fields]
 
 
 class Lists(ToolCase):

@@ -1,5 +1,5 @@
 //! Bytes that come from outside, from an input that may fail.
-ghost use Rattle.std.specs.Prelude.{◌≡◌, ◌≤◌, ◌<◌, ◌++◌, ℕ, take, length, IfOk, List, [], MatchResult, Option, None};
+ghost use Rattle.std.specs.Prelude.{◌≡◌, ◌≤◌, ◌<◌, ◌++◌, ℕ, take, length, IfOk, OnErr, List, [], MatchResult, Option, None, ⊤};
 ghost use Rattle.std.specs.Io.{ReadsAtMost};
 ghost use Rattle.std.specs.Io.KnownBytes.{Consumes, IsAtEnd};
 ghost use Rattle.std.specs.Result.{IsErrOf};
@@ -14,9 +14,9 @@ use thiserror::Error;
 /// How many bytes are asked for at once at most.
 const PIECE: usize = 4096;
 
-/// An input failed.
+/// An input or an output failed.
 #[derive(Clone, Copy, Debug, PartialEq, Eq, Drop, Error)]
-#[error("the input failed")]
+#[error("the stream failed")]
 pub struct Failed;
 
 /// An input of bytes from outside, one after another.
@@ -30,6 +30,9 @@ pub trait ByteInput {
     // How often it has failed, if that is counted.
     ghost failures: { Self → Option ℕ } = { λ _. None };
 
+    // A read has failed, as far as it tells.
+    ghost lost: { Self → Type 0 } = { λ _. ⊤ };
+
     /// Puts the next bytes into the front of `buf`, and answers how many they are: none only at the end, or if `buf`
     /// has no room. Refused if the input failed, which then gives none of its bytes.
     fn read(&mut self, buf: &mut [u8]) -> Result<usize, Failed>
@@ -37,7 +40,8 @@ pub trait ByteInput {
         ensures bytes { MatchResult result (λ n. gave self.old self.new (take n buf.new))
             (λ _. gave self.old self.new []) }
         ensures end { IfOk result (λ n. n ≡ 0 → 0 < length buf.new → ended self.new) }
-        ensures failures { CountsRefusal (failures self.old) (failures self.new) result };
+        ensures failures { CountsRefusal (failures self.old) (failures self.new) result }
+        ensures lost { OnErr result (lost self.new) };
 
     // Where nothing is read, nothing is given; and what is given by several reads is given in their order.
     ghost gave_none: { (s : Self) → gave s s [] };
@@ -111,6 +115,7 @@ pub fn read_all<I: ByteInput>(
     ensures limit { IfOk result (λ bytes. length bytes.items ≤ limit) }
     ensures failed { IsErrOf result ReadFault.Failed → CountsOne (I.failures input.old) (I.failures input.new) }
     ensures unfailed { ¬ (IsErrOf result ReadFault.Failed) → CountsNone (I.failures input.old) (I.failures input.new) }
+    ensures lost { IsErrOf result ReadFault.Failed → I.lost input.new }
 {
     let mut bytes = Vec::new(alloc);
     'pieces: while (bytes.len() as u64) < limit {

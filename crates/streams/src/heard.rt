@@ -7,11 +7,12 @@ ghost use Rattle.streams.specs.InTurn.{grows_none, grows_on};
 use crate::byte_input::{ByteInput, Failed};
 use crate::log::Log;
 
-/// An input, all bytes that it has given since it was made, and whether its last read met its end.
+/// An input, all bytes that it has given since it was made, whether its last read met its end, and whether one has failed.
 #[derive(Drop)]
 pub struct Heard<I> {
     inner: I,
     ended: bool,
+    failed: bool,
     log: Log,
 }
 
@@ -20,11 +21,13 @@ impl<I: ByteInput> Heard<I> {
     pub fn new(inner: I) -> Heard<I>
         ensures none { result.log.bytes ≡ [] }
         ensures open { result.ended ≡ false }
+        ensures sound { result.failed ≡ false }
         ensures inner { result.inner ≡ inner }
     {
         Heard {
             inner,
             ended: false,
+            failed: false,
             log: Log::new(),
         }
     }
@@ -45,7 +48,9 @@ impl<I: ByteInput> ByteInput for Heard<I> {
 
     ghost failures = { λ s. I.failures s.inner };
 
-    /// Reads from the input, and notes what it gave.
+    ghost lost = { λ s. s.failed ≡ true };
+
+    /// Reads from the input, and notes what it gave, or that it failed.
     fn read(&mut self, buf: &mut [u8]) -> Result<usize, Failed>
         ensures bound { ReadsAtMost result buf.new }
         ensures bytes { MatchResult result (λ n. (self.new.log.bytes ≡ self.old.log.bytes ++ take n buf.new)
@@ -55,14 +60,24 @@ impl<I: ByteInput> ByteInput for Heard<I> {
             → (self.new.ended ≡ true) × I.ended self.new.inner) }
         ensures failures { CountsRefusal (I.failures self.old.inner) (I.failures self.new.inner) result }
 
+        // It has failed if it had, or if this read fails.
+        ensures lost { MatchResult result (λ _. self.new.failed ≡ self.old.failed) (λ _. self.new.failed ≡ true) }
+
         // No end is met that the input didn't meet.
         ensures met { IfOk result (λ n. self.new.ended ≡ true → I.ended self.new.inner) }
     {
         let has_room = !buf.is_empty();
-        let count = self.inner.read(buf)?;
-        self.log.note(&buf[..count]);
-        self.ended = count == 0 && has_room;
-        Ok(count)
+        match self.inner.read(buf) {
+            Ok(count) => {
+                self.log.note(&buf[..count]);
+                self.ended = count == 0 && has_room;
+                Ok(count)
+            }
+            Err(failed) => {
+                self.failed = true;
+                Err(failed)
+            }
+        }
     }
 
     ghost gave_none = { λ s. (grows_none s.log.bytes, I.gave_none s.inner) };

@@ -1,5 +1,5 @@
 //! Where a program finds its files.
-ghost use Rattle.std.specs.Prelude.{ℕ, List, Option, None, IfOk, IfSome, IsErr};
+ghost use Rattle.std.specs.Prelude.{ℕ, List, Option, None, IfOk, IfSome, IsErr, IsOk};
 ghost use Rattle.streams.specs.ByteInput.{ReadsAs};
 
 use crate::byte_input::ByteInput;
@@ -15,9 +15,13 @@ pub trait Opener {
     // no file with this name can be opened
     ghost lacks: { Self → List ℕ → Type 0 } = { λ _ _. ⊥ };
 
+    // the file with this name can be opened
+    ghost opens: { Self → List ℕ → Type 0 } = { λ _ _. ⊥ };
+
     /// Opens the file at `path`.
     fn open(&self, path: &str) -> io::Result<Self::Input>
         ensures bytes { IfSome (file_bytes self.now path.now)
             (λ bytes. IfOk result (λ file. ReadsAs Self.Input.gave Self.Input.ended file bytes)) }
-        ensures lacking { lacks self.now path.now → IsErr result };
+        ensures lacking { lacks self.now path.now → IsErr result }
+        ensures opened { opens self.now path.now → IsOk result };
 }

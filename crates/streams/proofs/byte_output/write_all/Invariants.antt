@@ -1,0 +1,11 @@
+-- What is gone from the rest was taken.
+use Rattle.std.proofs.Common.{◌≡◌, ℕ, List, ◌++◌, length}
+use Rattle.std.specs.Io.KnownBytes.{Appends}
+use Rattle.streams.proofs.byte_output.write_all.Given as goal
+
+abbrev pub invariant-rest : goal.invariant-rest
+invariant-rest g l =
+    (done : List ℕ) × (l.initial.rest ≡ done ++ l.rest) × Appends (g.O.ByteOutput.contents l.initial.to) (g.O.ByteOutput.contents l.to) done
+
+abbrev pub decreases-rest : goal.decreases-rest
+decreases-rest g l = length l.rest
