@@ -20,6 +20,11 @@ abbrev pub IsUnjudged : (Fault → Type 0) → Unanswered → Type 0
 IsUnjudged Wants Failed = Unit {0}
 IsUnjudged Wants (Refused fault) = Wants fault
 
+-- this holds if the program ends for a failure
+abbrev pub WhereFailed : Type 0 → Unanswered → Type 0
+WhereFailed Is Failed = Is
+WhereFailed Is (Refused fault) = Unit {0}
+
 -- this holds unless the program ends for a failure
 abbrev pub UnlessFailed : {A : Type 0} → Type 0 → Result A Unanswered → Type 0
 UnlessFailed Is (Ok value) = Is

@@ -1,19 +1,19 @@
 //! Why a run is refused.
-ghost use Rattle.std.specs.Prelude.{◌≡◌, ◌++◌, codes, OnOk};
-ghost use Rattle.std.specs.Fmt.{decimal};
+ghost use Rattle.std.specs.Prelude.{◌≡◌, OnErr, OnOk};
 ghost use Rattle.std.specs.Io.KnownBytes.{Appends};
 ghost use Rattle.board_plain.specs.declared.fault.BoardFault.TheVariants.{Memory};
 ghost use Rattle.pcboard_texts.specs.declared.fault.Fault.TheVariants.{Board, Hex, Run, Source};
 ghost use Rattle.pcboard_texts.specs.RunFaults.{fault_text, line_of, name_of, number_of};
 
+use crate::telling::{print_number, print_part};
 use assembler::fault::AsmFault;
 use board_plain::fault::BoardFault;
 use debugger_meaning::fault::DebugFault;
 use loader::hex_fault::HexFault;
 use loader::run_fault::RunFault;
 use std::alloc::AllocError;
-use std::io;
-use std::io::Write;
+use streams::byte_input::Failed;
+use streams::byte_output::ByteOutput;
 
 /// A refusal, by the part that refuses.
 #[derive(Clone, Copy, Debug, PartialEq, Eq)]
@@ -116,22 +116,16 @@ impl Fault {
 /// Writes why the program refuses its task, as a line on standard error, and flushes it: the fault's number and name,
 /// and the number of the faulty line if there is one.
 #[tactic(auto, unfolding(crate::specs::RunFaults::fault_text))]
-pub fn write_fault<W: Write>(fault: &Fault, to: &mut W) -> io::Result<()>
-    ensures { OnOk result (Appends (W.contents to.old) (W.contents to.new) (fault_text fault.now)) }
+pub fn write_fault<W: ByteOutput>(fault: &Fault, to: &mut W) -> Result<(), Failed>
+    ensures written { OnOk result (Appends (W.contents to.old) (W.contents to.new) (fault_text fault.now)) }
+    ensures lost { OnErr result (W.lost to.new) }
 {
-    let number = fault.number();
-    let name = fault.name();
-    write!(to, "fault {number} {name}")?;
+    print_number(to, "fault ", u64::from(fault.number()))?;
+    print_part(to, " ")?;
+    print_part(to, fault.name())?;
     if let Some(line) = fault.line() {
-        write_line_number(line, to)?;
+        print_number(to, " line ", line)?;
     }
-    to.write_all(b"\n")?;
+    print_part(to, "\n")?;
     to.flush()
-}
-
-/// Writes the number of the faulty line, for the end of a refusal.
-fn write_line_number<W: Write>(line: u64, to: &mut W) -> io::Result<()>
-    ensures { OnOk result (Appends (W.contents to.old) (W.contents to.new) (codes " line " ++ decimal line)) }
-{
-    write!(to, " line {line}")
 }

@@ -1,8 +1,8 @@
 //! What the program reads.
-ghost use Rattle.std.specs.Prelude.{◌≡◌, ◌⊎◌, true, ℕ, List, IfErr, IfOk, OnOk, IsErrAnd, IsErrOf};
+ghost use Rattle.std.specs.Prelude.{◌≡◌, ◌⊎◌, true, ℕ, List, IfErr, IfOk, OnErr, OnOk, IsErrAnd, IsErrOf};
 ghost use Rattle.streams.specs.ByteInput.{CountsNone, IsAllWanted};
 ghost use Rattle.pcboard_texts.specs.Refusal.{want_of_file, want_of_run_file};
-ghost use Rattle.pcboard_texts.specs.Unanswered.{IsUnjudged, UnlessFailed};
+ghost use Rattle.pcboard_texts.specs.Unanswered.{IsUnjudged, UnlessFailed, WhereFailed};
 ghost use Rattle.pcboard_texts.specs.Given.{GaveTwo, limit_of};
 ghost use Rattle.pcboard_texts.specs.Taking.{GivesByte};
 
@@ -29,6 +29,7 @@ pub(crate) fn read_program<F: Files>(
     ensures end { IfErr result (IsUnjudged (λ fault. fault ≡ want_of_file hex)) }
     ensures lacking { F.lacks files.old path.now → IsErrOf result Unanswered.Failed }
     ensures lacks_on { (name : List ℕ) → F.lacks files.old name → F.lacks files.new name }
+    ensures lost { IfErr result (WhereFailed (F.lost files.new)) }
 {
     if hex {
         read_file(alloc, files, path, u64::MAX, Fault::Hex(HexFault::Memory))
@@ -50,6 +51,7 @@ fn read_file<F: Files>(
     ensures end { IfErr result (IsUnjudged (λ fault. fault ≡ want)) }
     ensures lacking { F.lacks files.old path.now → IsErrOf result Unanswered.Failed }
     ensures lacks_on { (name : List ℕ) → F.lacks files.old name → F.lacks files.new name }
+    ensures lost { IfErr result (WhereFailed (F.lost files.new)) }
 {
     match files.read(alloc, path, limit) {
         Ok(bytes) => Ok(bytes),
@@ -72,6 +74,7 @@ pub fn read_files<F: Files>(
     ensures end { IfErr result (IsUnjudged (λ fault. fault ≡ want_of_file hex ⊎ fault ≡ want_of_run_file)) }
     ensures lacking { F.lacks files.old file.now ⊎ F.lacks files.old run.now
         → IsErrAnd result (IsUnjudged (λ fault. fault ≡ want_of_file hex)) }
+    ensures lost { IfErr result (WhereFailed (F.lost files.new)) }
 {
     let bytes = read_program(alloc, files, file, hex)?;
     let said = read_file(alloc, files, run, u64::MAX, Fault::Run(RunFault::Memory))?;
@@ -89,6 +92,7 @@ pub fn read_whole<I: ByteInput>(
     ensures all { OnOk result (I.ended input.new) }
     ensures end { IfErr result (IsUnjudged (λ fault. fault ≡ want)) }
     ensures unfailed { UnlessFailed (CountsNone (I.failures input.old) (I.failures input.new)) result }
+    ensures lost { IfErr result (WhereFailed (I.lost input.new)) }
 {
     // Memory can hold no more bytes than this.
     let bytes = read_front(alloc, input, u64::MAX, want)?;
@@ -107,6 +111,7 @@ fn read_front<I: ByteInput>(
     ensures all { IfOk result (λ bytes. IsAllWanted limit (I.ended input.new) bytes.items) }
     ensures end { IfErr result (IsUnjudged (λ fault. fault ≡ want)) }
     ensures unfailed { UnlessFailed (CountsNone (I.failures input.old) (I.failures input.new)) result }
+    ensures lost { IfErr result (WhereFailed (I.lost input.new)) }
 {
     match read_all(alloc, input, limit) {
         Ok(bytes) => Ok(bytes),
@@ -120,6 +125,7 @@ pub(crate) fn next_byte<I: ByteInput>(input: &mut I) -> Result<Option<u8>, Unans
     ensures byte { IfOk result (GivesByte (I.gave input.old input.new) (I.ended input.new)) }
     ensures end { IfErr result (λ end. end ≡ Unanswered.Failed) }
     ensures unfailed { UnlessFailed (CountsNone (I.failures input.old) (I.failures input.new)) result }
+    ensures lost { OnErr result (I.lost input.new) }
 {
     let mut byte = [0];
     match input.read(&mut byte)? {

@@ -1,9 +1,10 @@
 //! The words of the command line and the files of the system, for a program's `main`.
 use crate::telling::{with_unreadable_words, without_words};
 use std::fs::File;
-use std::io::{ErrorKind, Write};
+use std::io::ErrorKind;
 use std::process::ExitCode;
 use std::{env, fs, io};
+use streams::byte_output::ByteOutput;
 use streams::opener::Opener;
 
 /// The files of the system.
@@ -53,7 +54,7 @@ where
 }
 
 /// Says on `err` why the command line's words can't be had, and answers the exit status for that.
-fn status_without_words<E: Write>(error: &io::Error, err: &mut E) -> u8 {
+fn status_without_words<E: ByteOutput>(error: &io::Error, err: &mut E) -> u8 {
     match error.kind() {
         ErrorKind::OutOfMemory => without_words(err),
         ErrorKind::InvalidData => with_unreadable_words(err),

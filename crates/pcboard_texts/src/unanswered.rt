@@ -9,7 +9,6 @@ use assembler::fault::AsmFault;
 use board_plain::fault::BoardFault;
 use debugger_meaning::fault::DebugFault;
 use std::alloc::AllocFailed;
-use std::io;
 use streams::byte_input;
 
 /// Why the program ends without an answer to its task.
@@ -48,20 +47,10 @@ impl From<DebugFault> for Unanswered {
     }
 }
 
-impl From<io::Error> for Unanswered {
-    ghost from_gives = { λ _ end. end ≡ Failed };
-
-    /// Makes a failed opening, read or write the reason why the program gives no answer, so that `?` hands it on; which
-    /// one it was isn't told.
-    fn from(_error: io::Error) -> Self {
-        Unanswered::Failed
-    }
-}
-
 impl From<byte_input::Failed> for Unanswered {
     ghost from_gives = { λ _ end. end ≡ Failed };
 
-    /// Makes a failed read of the input the reason why the program gives no answer, so that `?` hands it on.
+    /// Makes a failed read or write the reason why the program gives no answer, so that `?` hands it on.
     fn from(_failed: byte_input::Failed) -> Self {
         Unanswered::Failed
     }
