@@ -6,21 +6,23 @@ ghost use Rattle.pcboard_texts.specs.Answer.{AppendsA};
 ghost use Rattle.pcboard_texts.specs.Printing.{PrintsSession};
 ghost use Rattle.pcboard_texts.specs.Refusal.{BeginsTranscript, want_of_board, want_of_session};
 ghost use Rattle.pcboard_texts.specs.Transcript.{AnswersTyped, input_lines};
-ghost use Rattle.pcboard_texts.specs.Unanswered.{IsUnjudged, UnlessFailed, WhereRefused};
+ghost use Rattle.pcboard_texts.specs.Unanswered.{IsUnjudged, UnlessFailed, WhereFailed, WhereRefused};
 
 use crate::tool::Tool;
 use board::board::Board;
+use board_plain::fault::BoardFault;
 use debugger_meaning::answer::Answer;
 use debugger_meaning::fault::DebugFault;
 use pcboard_texts::debugging::{ends_session, next_line, print_reply};
+use pcboard_texts::fault::Fault;
 use pcboard_texts::unanswered::Unanswered;
 use std::alloc::Global;
-use std::io::Write;
 use streams::byte_input::ByteInput;
+use streams::byte_output::ByteOutput;
 
 /// Holds a debugger's session about a board: answers the lines of `input` and prints the replies on `out` until a line
 /// is `quit` or the input ends.
-pub(crate) fn print_session<T: Tool, I: ByteInput, O: Write>(
+pub(crate) fn print_session<T: Tool, I: ByteInput, O: ByteOutput>(
     alloc: Global,
     board: Board,
     input: &mut I,
@@ -33,6 +35,7 @@ pub(crate) fn print_session<T: Tool, I: ByteInput, O: Write>(
         (O.contents out.old) (O.contents out.new)))) }
     ensures end { IfErr result (IsUnjudged (λ fault. fault ≡ want_of_board ⊎ fault ≡ want_of_session)) }
     ensures unfailed { UnlessFailed (CountsNone (I.failures input.old) (I.failures input.new)) result }
+    ensures lost { IfErr result (WhereFailed (I.lost input.new ⊎ O.lost out.new)) }
 {
     let mut session = T::begin(alloc, board)?;
     let answered = answer_lines::<T, I, O>(alloc, &mut session, input, out);
@@ -41,9 +44,9 @@ pub(crate) fn print_session<T: Tool, I: ByteInput, O: Write>(
     answered
 }
 
-/// Answers a session's typed lines as they come, and prints each reply, until one is `quit` or the input ends. An input
-/// of more than `u64::MAX` lines fails.
-fn answer_lines<T: Tool, I: ByteInput, O: Write>(
+/// Answers a session's typed lines as they come, and prints each reply, until one is `quit` or the input ends. Refused
+/// for want of memory after `u64::MAX` lines, to count more.
+fn answer_lines<T: Tool, I: ByteInput, O: ByteOutput>(
     alloc: Global,
     session: &mut T::Session,
     input: &mut I,
@@ -56,6 +59,7 @@ fn answer_lines<T: Tool, I: ByteInput, O: Write>(
         (O.contents out.new)))) }
     ensures end { IfErr result (IsUnjudged (λ fault. fault ≡ want_of_board)) }
     ensures unfailed { UnlessFailed (CountsNone (I.failures input.old) (I.failures input.new)) result }
+    ensures lost { IfErr result (WhereFailed (I.lost input.new ⊎ O.lost out.new)) }
 {
     'lines: for _ in 0..u64::MAX {
         let (line, is_last) = next_line(alloc, input)?;
@@ -71,7 +75,7 @@ fn answer_lines<T: Tool, I: ByteInput, O: Write>(
             return Ok(());
         }
     }
-    Err(Unanswered::Failed)
+    Err(Unanswered::Refused(Fault::Board(BoardFault::Memory)))
 }
 
 /// What the session answers to a typed line, to be printed, or why it refuses the line. One that isn't UTF-8 is

@@ -1,5 +1,5 @@
 //! The program, over any files, standard input and writers.
-ghost use Rattle.std.specs.Prelude.{◌≡◌, ◌≢◌, ◌≤◌, map, ◌⊎◌, IfErr, IsErrAnd, Ok, OnOk, Some, string_bytes};
+ghost use Rattle.std.specs.Prelude.{◌≡◌, ◌≢◌, ◌≤◌, map, ◌⊎◌, IfErr, IsErrAnd, Ok, OnErr, OnOk, Some, string_bytes, true};
 ghost use Rattle.std.specs.Io.KnownBytes.{Appends};
 ghost use Rattle.streams.specs.ByteInput.{CountsNone};
 ghost use Rattle.pcboard_words.specs.CommandLine.{Answers as AnswersWords};
@@ -8,7 +8,7 @@ ghost use Rattle.pcboard_words.specs.declared.task.Task.{Task};
 ghost use Rattle.pcboard_texts.specs.Given.{given_by, noted};
 ghost use Rattle.pcboard_texts.specs.Answer.{Prints, PrintsFor, PrintsTask};
 ghost use Rattle.pcboard_texts.specs.Refusal.{EndsUnjudged, IsTrueOfWordsFor, IsTrueOfTask, IsTrueOfWords, IsWantOfTask, PrintsNoAnswer, PrintsNoAnswerFor, PrintsReplies, RefusesWordsFor, RefusesWords, TellsA, want_of_file};
-ghost use Rattle.pcboard_texts.specs.Unanswered.{EndsFor, IsUnjudged, UnlessFailed, WhereRefused};
+ghost use Rattle.pcboard_texts.specs.Unanswered.{EndsFor, IsUnjudged, UnlessFailed, WhereFailed, WhereRefused};
 
 use crate::debugging::print_session;
 use crate::ready::{read_board, read_report, stored_report};
@@ -19,8 +19,8 @@ use pcboard_texts::telling::{print, refused, told, without_words};
 use pcboard_texts::unanswered::Unanswered;
 use pcboard_words::task::{LineFault, Task};
 use std::alloc::Global;
-use std::io::Write;
 use streams::byte_input::ByteInput;
+use streams::byte_output::ByteOutput;
 use streams::files::{Files, ReadFiles};
 use streams::heard::Heard;
 use streams::kept::Kept;
@@ -30,7 +30,7 @@ use streams::opener::Opener;
 /// line on `err`; 2 for words that name no task, with the usage on `err`; 3, with no text, if an opening, a read or a
 /// write failed. What it promises is told of the bytes that the reads gave and the writes took, whatever the files, the
 /// input and the writers are.
-pub fn program<F: Opener, I: ByteInput, O: Write, E: Write>(
+pub fn program<F: Opener, I: ByteInput, O: ByteOutput, E: ByteOutput>(
     alloc: Global,
     words: &[&str],
     files: &mut ReadFiles<F>,
@@ -74,6 +74,10 @@ pub fn program<F: Opener, I: ByteInput, O: Write, E: Write>(
 
     // At any status but 3 no read of the input has failed.
     ensures unfailed { result ≢ 3 → CountsNone (I.failures input.old.inner) (I.failures input.new.inner) }
+
+    // At status 3 an opening, a read or a write has failed.
+    ensures lost { result ≡ 3 → (files.new.failed ≡ true) ⊎ (input.new.failed ≡ true)
+        ⊎ (out.new.failed ≡ true) ⊎ (err.new.failed ≡ true) }
 {
     program_of::<Pcboard, ReadFiles<F>, Heard<I>, Kept<O>, Kept<E>>(
         alloc, words, files, input, out, err,
@@ -82,7 +86,7 @@ pub fn program<F: Opener, I: ByteInput, O: Write, E: Write>(
 
 /// Runs a program that shares all with `pcboard` but its words and its answers to typed lines, which are the tool's,
 /// and answers the exit status, as `program` does; `pcprobe` is one.
-pub fn program_of<T: Tool, F: Files, I: ByteInput, O: Write, E: Write>(
+pub fn program_of<T: Tool, F: Files, I: ByteInput, O: ByteOutput, E: ByteOutput>(
     alloc: Global,
     words: &[&str],
     files: &mut F,
@@ -104,6 +108,7 @@ pub fn program_of<T: Tool, F: Files, I: ByteInput, O: Write, E: Write>(
     ensures lacking { (task : Task) → T.reads (map (λ word. word.now) words.entry.now) (Ok task)
         → LacksFile task (F.lacks files.old) → EndsUnjudged task result (E.contents err.old) (E.contents err.new) }
     ensures unfailed { result ≢ 3 → CountsNone (I.failures input.old) (I.failures input.new) }
+    ensures lost { result ≡ 3 → F.lost files.new ⊎ I.lost input.new ⊎ O.lost out.new ⊎ E.lost err.new }
 {
     let task = match T::read(alloc, words) {
         Ok(task) => task,
@@ -118,7 +123,7 @@ pub fn program_of<T: Tool, F: Files, I: ByteInput, O: Write, E: Write>(
 }
 
 /// Prints the answer to the task that the command line names: a report, a HEX text, a listing, or a session's replies.
-fn print_task<T: Tool, F: Files, I: ByteInput, O: Write>(
+fn print_task<T: Tool, F: Files, I: ByteInput, O: ByteOutput>(
     alloc: Global,
     task: Task<'_>,
     files: &mut F,
@@ -135,6 +140,7 @@ fn print_task<T: Tool, F: Files, I: ByteInput, O: Write>(
     ensures lacking { LacksFile task.entry (F.lacks files.old)
         → IsErrAnd result (IsUnjudged (λ fault. fault ≡ want_of_file (hex_of task.entry))) }
     ensures unfailed { UnlessFailed (CountsNone (I.failures input.old) (I.failures input.new)) result }
+    ensures lost { IfErr result (WhereFailed (F.lost files.new ⊎ I.lost input.new ⊎ O.lost out.new)) }
 {
     match task {
         Task::Stored => {
@@ -154,11 +160,12 @@ fn print_task<T: Tool, F: Files, I: ByteInput, O: Write>(
 }
 
 /// Prints the report of a run, and drops the report with its board.
-fn print_report<O: Write>(report: Report, out: &mut O) -> Result<(), Unanswered>
+fn print_report<O: ByteOutput>(report: Report, out: &mut O) -> Result<(), Unanswered>
     ensures printed { OnOk result (Appends (O.contents out.old) (O.contents out.new)
         (string_bytes report.text)) }
     ensures kept { IfErr result (WhereRefused (O.contents out.new ≡ O.contents out.old)) }
     ensures end { IfErr result (λ end. end ≡ Unanswered.Failed) }
+    ensures lost { OnErr result (O.lost out.new) }
 {
     let printed = print(out, report.text.as_str());
     drop(report);

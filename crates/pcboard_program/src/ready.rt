@@ -4,7 +4,7 @@ ghost use Rattle.streams.specs.ByteInput.{CountsNone};
 ghost use Rattle.pcboard_texts.specs.Given.{GaveTwo, Of, OfTwo};
 ghost use Rattle.pcboard_texts.specs.Answer.{IsBoardOf, IsReport, IsTrueRefusal, run_text_of, source_of};
 ghost use Rattle.pcboard_texts.specs.Refusal.{IsWantOfRun, want_of_file};
-ghost use Rattle.pcboard_texts.specs.Unanswered.{EndsFor, IsUnjudged, UnlessFailed};
+ghost use Rattle.pcboard_texts.specs.Unanswered.{EndsFor, IsUnjudged, UnlessFailed, WhereFailed};
 
 use crate::report::Report;
 use crate::run::{new_board, run_texts};
@@ -29,6 +29,7 @@ pub(crate) fn stored_report<I: ByteInput>(
     ensures end { IfErr result (EndsFor (IsWantOfRun false) (λ fault. I.ended input.new
         × Of (I.gave input.old input.new) (λ text. IsTrueRefusal false (source_of text) (run_text_of text) fault))) }
     ensures unfailed { UnlessFailed (CountsNone (I.failures input.old) (I.failures input.new)) result }
+    ensures lost { IfErr result (WhereFailed (I.lost input.new)) }
 {
     let text = read_whole(alloc, input, Fault::Source(AsmFault::Memory))?;
     let (run, source) = parted(text.as_slice());
@@ -50,6 +51,7 @@ pub(crate) fn read_report<F: Files>(
         hex run.now (λ bytes said. IsTrueRefusal hex bytes said fault))) }
     ensures lacking { F.lacks files.old file.now ⊎ F.lacks files.old run.now
         → IsErrAnd result (IsUnjudged (λ fault. fault ≡ want_of_file hex)) }
+    ensures lost { IfErr result (WhereFailed (F.lost files.new)) }
 {
     let (bytes, said) = read_files(alloc, files, file, run, hex)?;
     Ok(run_texts(alloc, hex, bytes.as_slice(), said.as_slice())?)
@@ -71,6 +73,7 @@ pub fn read_board<F: Files>(
         hex run.now (λ bytes said. IsTrueRefusal hex bytes said fault))) }
     ensures lacking { F.lacks files.old file.now ⊎ F.lacks files.old run.now
         → IsErrAnd result (IsUnjudged (λ fault. fault ≡ want_of_file hex)) }
+    ensures lost { IfErr result (WhereFailed (F.lost files.new)) }
 {
     let (bytes, said) = read_files(alloc, files, file, run, hex)?;
     Ok(board_of(alloc, hex, bytes.as_slice(), said.as_slice())?)

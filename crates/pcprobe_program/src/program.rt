@@ -1,5 +1,5 @@
 //! The program, over any files, standard input and writers.
-ghost use Rattle.std.specs.Prelude.{◌≡◌, ◌≢◌, ◌≤◌, map, Ok, Some};
+ghost use Rattle.std.specs.Prelude.{◌≡◌, ◌≢◌, ◌≤◌, ◌⊎◌, map, Ok, Some, true};
 ghost use Rattle.streams.specs.ByteInput.{CountsNone};
 ghost use Rattle.pcboard_words.specs.Files.{LacksFile};
 ghost use Rattle.pcboard_words.specs.ProbeLine.{AnswersProbe as AnswersWords};
@@ -11,8 +11,8 @@ ghost use Rattle.pcprobe_program.specs.Probing.{IsTrueOfProbeWords, PrintsNoProb
 use crate::tool::Pcprobe;
 use pcboard_program::program::program_of;
 use std::alloc::Global;
-use std::io::Write;
 use streams::byte_input::ByteInput;
+use streams::byte_output::ByteOutput;
 use streams::files::ReadFiles;
 use streams::heard::Heard;
 use streams::kept::Kept;
@@ -22,7 +22,7 @@ use streams::opener::Opener;
 /// line on `err`; 2 for words that name no task, with the usage on `err`; 3, with no text, if an opening, a read or a
 /// write failed. What it promises is told of the bytes that the reads gave and the writes took, whatever the files, the
 /// input and the writers are.
-pub fn program<F: Opener, I: ByteInput, O: Write, E: Write>(
+pub fn program<F: Opener, I: ByteInput, O: ByteOutput, E: ByteOutput>(
     alloc: Global,
     words: &[&str],
     files: &mut ReadFiles<F>,
@@ -66,6 +66,10 @@ pub fn program<F: Opener, I: ByteInput, O: Write, E: Write>(
 
     // At any status but 3 no read of the input has failed.
     ensures unfailed { result ≢ 3 → CountsNone (I.failures input.old.inner) (I.failures input.new.inner) }
+
+    // At status 3 an opening, a read or a write has failed.
+    ensures lost { result ≡ 3 → (files.new.failed ≡ true) ⊎ (input.new.failed ≡ true)
+        ⊎ (out.new.failed ≡ true) ⊎ (err.new.failed ≡ true) }
 {
     program_of::<Pcprobe, ReadFiles<F>, Heard<I>, Kept<O>, Kept<E>>(
         alloc, words, files, input, out, err,

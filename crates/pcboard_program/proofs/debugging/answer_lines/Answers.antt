@@ -21,7 +21,7 @@ cut_from (Err (Refused fault)) end P Q same more is = more (subst (WhereRefused 
 
 pub lines-init : goal.lines-init
 lines-init g c = (
-  printed_none g.T.Tool.answers c.args.session.now (g.I.ByteInput.gave c.args.input.now c.args.input.now) (g.O.Write.contents c.args.out.now)
+  printed_none g.T.Tool.answers c.args.session.now (g.I.ByteInput.gave c.args.input.now c.args.input.now) (g.O.ByteOutput.contents c.args.out.now)
       (g.met.I.ByteInput.gave_none c.args.input.now),
   counts_first (g.I.ByteInput.failures c.args.input.now),
 )
@@ -30,7 +30,7 @@ pub returns-in_err-line-clause-cut : goal.returns-in_err-line-clause-cut
 returns-in_err-line-clause-cut g c =
     cut_from c.from_residual.result c.in_err-line.field-0.0 _ _ c.from_residual.ensures.1
     (printed_cut g.T.Tool.answers c.args.session.now c.lines.session g.I.ByteInput.gave g.met.I.ByteInput.gave_on c.args.input.now c.lines.input
-    c.next_line.new.input (g.O.Write.contents c.args.out.now) (g.O.Write.contents c.lines.out) c.lines.invariant.0)
+    c.next_line.new.input (g.O.ByteOutput.contents c.args.out.now) (g.O.ByteOutput.contents c.lines.out) c.lines.invariant.0)
     c.in_err-line.ensures.begun
 
 pub returns-then-is_empty-clause-transcript : goal.returns-then-is_empty-clause-transcript
@@ -39,7 +39,7 @@ returns-then-is_empty-clause-transcript g c =
     (is_empty_line c.in_ok-line.line.len (length c.in_ok-line.line.items) c.in_ok-line.line.ok.0 (sym c.is_empty.ensures ∙ c.if-is_empty.true)) in
     printed_all g.T.Tool.answers c.args.session.now c.lines.session g.I.ByteInput.gave g.met.I.ByteInput.gave_on
     (g.I.ByteInput.ended c.next_line.new.input) c.args.input.now c.lines.input c.next_line.new.input
-    (g.O.Write.contents c.args.out.now) (g.O.Write.contents c.lines.out) c.in_ok-line.line.items c.in_ok-line.is_last c.lines.invariant.0
+    (g.O.ByteOutput.contents c.args.out.now) (g.O.ByteOutput.contents c.lines.out) c.in_ok-line.line.items c.in_ok-line.is_last c.lines.invariant.0
     c.in_ok-line.ensures.line c.if-is_last.true empty
 
 pub returns-then-ends_session-clause-transcript : goal.returns-then-ends_session-clause-transcript
@@ -53,7 +53,7 @@ returns-then-ends_session-clause-transcript g c =
     let quits : ends_session c.in_ok-line.line.items ≡ true = sym (c.if-ends_session.ensures ∙ ap ends_session c.as_slice.ensures.value) in
     printed_quit g.T.Tool.answers c.args.session.now c.lines.session g.I.ByteInput.gave g.met.I.ByteInput.gave_on
     (g.I.ByteInput.ended c.next_line.new.input) c.args.input.now c.lines.input c.next_line.new.input
-    (g.O.Write.contents c.args.out.now) (g.O.Write.contents c.lines.out) c.in_ok-line.line.items c.in_ok-line.is_last c.lines.invariant.0
+    (g.O.ByteOutput.contents c.args.out.now) (g.O.ByteOutput.contents c.lines.out) c.in_ok-line.line.items c.in_ok-line.is_last c.lines.invariant.0
     c.in_ok-line.ensures.line some quits
 
 pub returns-then-is_last-2-clause-transcript : goal.returns-then-is_last-2-clause-transcript
@@ -69,9 +69,9 @@ returns-then-is_last-2-clause-transcript g c =
     c.as_slice-in-lines.ensures.value c.reply_to-reply.ensures in
     printed_last g.T.Tool.answers c.args.session.now c.lines.session c.reply_to-reply.new.session g.I.ByteInput.gave g.met.I.ByteInput.gave_on
     (g.I.ByteInput.ended c.next_line.new.input) c.args.input.now c.lines.input c.next_line.new.input
-    (g.O.Write.contents c.args.out.now) (g.O.Write.contents c.lines.out) (g.O.Write.contents c.print_reply.new.out)
+    (g.O.ByteOutput.contents c.args.out.now) (g.O.ByteOutput.contents c.lines.out) (g.O.ByteOutput.contents c.print_reply.new.out)
     c.in_ok-line.line.items c.in_ok-line.is_last c.reply_to-reply.result c.lines.invariant.0
-    c.in_ok-line.ensures.line c.if-is_last-2.true (some c.if-is_last-2.true) goes answers c.in_ok-print_reply.ensures
+    c.in_ok-line.ensures.line c.if-is_last-2.true (some c.if-is_last-2.true) goes answers c.in_ok-print_reply.ensures.printed
 
 pub lines-preserved : goal.lines-preserved
 lines-preserved g c =
@@ -80,9 +80,14 @@ lines-preserved g c =
     c.as_slice-in-lines.ensures.value c.reply_to-reply.ensures in
     let printed = printed_more g.T.Tool.answers c.args.session.now c.lines.session c.reply_to-reply.new.session g.I.ByteInput.gave g.met.I.ByteInput.gave_on
     (g.I.ByteInput.ended c.next_line.new.input) c.args.input.now c.lines.input c.next_line.new.input
-    (g.O.Write.contents c.args.out.now) (g.O.Write.contents c.lines.out) (g.O.Write.contents c.print_reply.new.out)
+    (g.O.ByteOutput.contents c.args.out.now) (g.O.ByteOutput.contents c.lines.out) (g.O.ByteOutput.contents c.print_reply.new.out)
     c.in_ok-line.line.items c.in_ok-line.is_last c.reply_to-reply.result c.lines.invariant.0
-    c.in_ok-line.ensures.line c.if-is_last-2.false goes answers c.in_ok-print_reply.ensures in
+    c.in_ok-line.ensures.line c.if-is_last-2.false goes answers c.in_ok-print_reply.ensures.printed in
     let counts = counts_on (g.I.ByteInput.failures c.args.input.now) (g.I.ByteInput.failures c.lines.input) (g.I.ByteInput.failures c.next_line.new.input)
     c.lines.invariant.1 c.in_ok-line.ensures.unfailed in
     (printed, counts)
+
+pub returns-clause-cut : goal.returns-clause-cut
+returns-clause-cut g c =
+    printed_cut g.T.Tool.answers c.args.session.now c.lines.session g.I.ByteInput.gave g.met.I.ByteInput.gave_on c.args.input.now c.lines.input
+    c.lines.input (g.O.ByteOutput.contents c.args.out.now) (g.O.ByteOutput.contents c.lines.out) c.lines.invariant.0 ([], g.met.I.ByteInput.gave_none c.lines.input)

@@ -20,16 +20,16 @@ returns-clause-transcript g c =
     subst
     (λ (session : _). OnOk c.answer_lines-answered.result (PrintsSession g.T.Tool.answers session
     (g.I.ByteInput.gave c.args.input.now c.answer_lines-answered.new.input) (g.I.ByteInput.ended c.answer_lines-answered.new.input)
-    (g.O.Write.contents c.args.out.now) (g.O.Write.contents c.answer_lines-answered.new.out)))
+    (g.O.ByteOutput.contents c.args.out.now) (g.O.ByteOutput.contents c.answer_lines-answered.new.out)))
     c.in_ok-session.ensures.session c.answer_lines-answered.ensures.transcript
 
 pub returns-clause-cut : goal.returns-clause-cut
 returns-clause-cut g c =
-    or_nothing (g.O.Write.contents c.answer_lines-answered.new.out ≡ g.O.Write.contents c.args.out.now) _ c.answer_lines-answered.result
+    or_nothing (g.O.ByteOutput.contents c.answer_lines-answered.new.out ≡ g.O.ByteOutput.contents c.args.out.now) _ c.answer_lines-answered.result
     (subst
     (λ (session : _). IfErr c.answer_lines-answered.result (WhereRefused (Of (g.I.ByteInput.gave c.args.input.now c.answer_lines-answered.new.input)
     (λ typed. AppendsA (BeginsTranscript g.T.Tool.answers session (input_lines typed))
-    (g.O.Write.contents c.args.out.now) (g.O.Write.contents c.answer_lines-answered.new.out)))))
+    (g.O.ByteOutput.contents c.args.out.now) (g.O.ByteOutput.contents c.answer_lines-answered.new.out)))))
     c.in_ok-session.ensures.session c.answer_lines-answered.ensures.cut)
 
 pub returns-clause-end : goal.returns-clause-end

@@ -10,8 +10,8 @@ use Rattle.pcboard_program.proofs.program.print_task.Goals as goal
 
 pub returns-in_ok-board-in-Debug-clause-printed : goal.returns-in_ok-board-in-Debug-clause-printed
 returns-in_ok-board-in-Debug-clause-printed g c =
-    let old = g.O.Write.contents c.args.out.now in
-    let new = g.O.Write.contents c.print_session.new.out in
+    let old = g.O.ByteOutput.contents c.args.out.now in
+    let new = g.O.ByteOutput.contents c.print_session.new.out in
     subst (λ task. OnOk c.print_session.result (PrintsTask g.T.Tool.answers task
     (given_by g.F.Files.gave c.args.files.now c.read_board.new.files g.I.ByteInput.gave g.I.ByteInput.ended c.args.input.now
     c.print_session.new.input) old new))
@@ -25,8 +25,8 @@ returns-in_ok-board-in-Debug-clause-printed g c =
 
 pub returns-in_ok-board-in-Debug-clause-withheld : goal.returns-in_ok-board-in-Debug-clause-withheld
 returns-in_ok-board-in-Debug-clause-withheld g c =
-    let old = g.O.Write.contents c.args.out.now in
-    let new = g.O.Write.contents c.print_session.new.out in
+    let old = g.O.ByteOutput.contents c.args.out.now in
+    let new = g.O.ByteOutput.contents c.print_session.new.out in
     subst (λ task. IfErr c.print_session.result (WhereRefused (new ≡ old ⊎ PrintsReplies g.T.Tool.answers task
     (given_by g.F.Files.gave c.args.files.now c.read_board.new.files g.I.ByteInput.gave g.I.ByteInput.ended c.args.input.now
     c.print_session.new.input) old new)))

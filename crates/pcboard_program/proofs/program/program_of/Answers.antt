@@ -24,5 +24,5 @@ returns-in-Err-Refused-clause-lacking g c = λ task names lacks.
     let wants : c.in-Err-Refused.fault ≡ want_of_file (hex_of c.in-Ok.task) =
     subst (IsUnjudged (λ fault. fault ≡ want_of_file (hex_of c.in-Ok.task))) c.in-Err-Refused.field-0-is
     (c.in-Err-Refused.ensures.lacking (lacks_alike (g.F.Files.lacks c.args.files.now) task c.in-Ok.task one.0 lacks)) in
-    told_unjudged task c.refused.result (g.E.Write.contents c.args.err.now) (g.E.Write.contents c.refused.new.err) c.in-Err-Refused.fault
+    told_unjudged task c.refused.result (g.E.ByteOutput.contents c.args.err.now) (g.E.ByteOutput.contents c.refused.new.err) c.in-Err-Refused.fault
     c.refused.ensures.above c.refused.ensures.within c.refused.ensures.status c.refused.ensures.told (inr (wants ∙ ap want_of_file (sym one.1)))
