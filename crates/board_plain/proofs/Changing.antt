@@ -1,5 +1,5 @@
 -- What a change of a register or of a byte leaves.
-use Rattle.std.proofs.Common.{◌≡◌, ◌≢◌, ℕ, ◌-◌, ◌<◌, ◌≤◌, ◌^◌, Bool, true, false, if◌then◌else◌, length, refl, sym, ap, ◌∙◌, subst, arith}
+use Rattle.std.proofs.Common.{◌≡◌, ◌≢◌, ℕ, ◌-◌, ◌<◌, ◌^◌, Bool, true, false, if◌then◌else◌, length, refl, sym, ap, ◌∙◌, subst, arith}
 use Rattle.std.specs.Prelude.{slice_index, slice_set, nat_lt, nat_le, ◌||◌, ◌&&◌}
 use Rattle.std.proofs.lemmas.Bool.Decides.{nat_tests}
 use Rattle.std.proofs.lemmas.Grind.{common_steps}
@@ -26,7 +26,7 @@ use Rattle.board_plain.specs.ChangeLaws.{ByteIsShown, ChangesLeaveWired, ClocksL
 use Rattle.board_plain.specs.ChangeLaws.{RunningOnKeeps, SameByteStays, StaysWired}
 use Rattle.board_plain.specs.declared.change.Change.{Change}
 use Rattle.board_plain.specs.declared.change.Change.TheVariants as changes
-use Rattle.board_plain.specs.Changes.{changed, run_on, run_on_if, says_where, with_cell_byte, with_register, with_regs}
+use Rattle.board_plain.specs.Changes.{changed, run_on, run_on_if, says_where, with_cell_byte, with_regs}
 use Rattle.board_plain.specs.Plain.{Plain, byte_of, clock_of, lost_codes, registers_of, speaker_level, state_of}
 
 pub registers_shown : RegistersAreShown
@@ -106,7 +106,7 @@ region_there ram_size address has is = grind (arith, nat_tests)
 same_by : (b : Bool) (s : ChipsState) (address : ℕ) → region_of s.memory.ram_size address ≢ Nothing
     → (if b then record s {
       mda = mda.with_text_byte s.mda (address - 0xB0000)
-          (if b then mda.text_byte s.mda (address - 0xB0000) else map.byte_at s.memory address)
+          (if b then mda.text_byte s.mda (address - 0xB0000) else map.byte_at s.memory address);
     }
     else record s { memory = map_cells.with_cell s.memory address (if b then mda.text_byte s.mda (address - 0xB0000) else map.byte_at s.memory address) })
     ≡ s

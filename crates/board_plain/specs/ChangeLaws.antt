@@ -6,9 +6,8 @@ use Rattle.wiring.specs.Cells.{has_cell}
 use Rattle.wiring.specs.Ports.{is_writable}
 use Rattle.board_plain.specs.BoardLaws.{WiresHold}
 use Rattle.board_plain.specs.declared.change.Change.{Change}
-use Rattle.board_plain.specs.declared.change.Register.{Register}
-use Rattle.board_plain.specs.Changes.{changed, run_on, with_cell_byte, with_register, with_regs}
-use Rattle.board_plain.specs.Plain.{Plain, after_clock, byte_of, clock_of, is_free, lost_codes, registers_of, screen_of}
+use Rattle.board_plain.specs.Changes.{changed, run_on, with_cell_byte, with_regs}
+use Rattle.board_plain.specs.Plain.{Plain, after_clock, byte_of, clock_of, lost_codes, registers_of}
 use Rattle.board_plain.specs.Plain.{speaker_level, state_of}
 
 -- a board with other registers shows these, and else what it showed; bytes, screen and chips are the same

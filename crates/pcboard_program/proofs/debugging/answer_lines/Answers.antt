@@ -90,4 +90,5 @@ lines-preserved g c =
 pub returns-clause-cut : goal.returns-clause-cut
 returns-clause-cut g c =
     printed_cut g.T.Tool.answers c.args.session.now c.lines.session g.I.ByteInput.gave g.met.I.ByteInput.gave_on c.args.input.now c.lines.input
-    c.lines.input (g.O.ByteOutput.contents c.args.out.now) (g.O.ByteOutput.contents c.lines.out) c.lines.invariant.0 ([], g.met.I.ByteInput.gave_none c.lines.input)
+    c.lines.input (g.O.ByteOutput.contents c.args.out.now) (g.O.ByteOutput.contents c.lines.out) c.lines.invariant.0
+    ([], g.met.I.ByteInput.gave_none c.lines.input)
