@@ -32,7 +32,9 @@ class Failing:
     """The functions, over files in a folder. It counts the calls of each kind; `at` the nth one of `kind` something comes to pass: an
     error by its name, the process's end, half of what was asked for, or `meanwhile`, after which the call goes on."""
 
-    def __init__(self, folder: str, kind: str = '', at: int = 0, how: str = '', meanwhile: Callable[[], None] = lambda: None, has_exchange: bool = True) -> None:
+    def __init__(
+        self, folder: str, kind: str = '', at: int = 0, how: str = '', meanwhile: Callable[[], None] = lambda: None, has_exchange: bool = True
+    ) -> None:
         self.folder, self.kind, self.at, self.how, self.meanwhile = os.path.realpath(folder), kind, at, how, meanwhile
         self.has_exchange = has_exchange  # of names, as most file systems have it
         self.names: dict[str, list[str]] = {each: [] for each in KINDS}

@@ -134,6 +134,7 @@ class Changed(ToolCase):
 
     def test_paused_on_a_way_back(self) -> None:
         """The session that takes its place is changed, too."""
+
         def poll() -> None:
             raise Paused('paused')
 
@@ -214,7 +215,20 @@ class Said(ToolCase):
         ):
             self.assertEqual(edits.assign(board, listing, text), wanted)
         self.assertEqual((board.registers()['AX'], board.registers()['FL'] & 1, board.dump(0xF0001, 6).hex()), (0xFF05, 1, '340701000200'))
-        for text in ('AX =', '= 5', 'AX = 1, 2', 'AX = 70000', 'AL = 256', 'CF = 2', 'QX = 1', '[nope] = 1', '[bytes] = 256', 'count = 1', '[A0000] = 1', '5 = 5'):
+        for text in (
+            'AX =',
+            '= 5',
+            'AX = 1, 2',
+            'AX = 70000',
+            'AL = 256',
+            'CF = 2',
+            'QX = 1',
+            '[nope] = 1',
+            '[bytes] = 256',
+            'count = 1',
+            '[A0000] = 1',
+            '5 = 5',
+        ):
             with self.subTest(text):
                 self.assertRaises(Sorry, edits.assign, board, listing, text)
 

@@ -21,7 +21,14 @@ class Fuzz(Planted):
     def test_what_was_found_before(self) -> None:
         """A byte that isn't UTF-8 for a debugger, a long word again and again, a listing's line of thirty digits, one too many, and half a
         byte."""
-        for name in ('commands/no-utf-8', 'commands/long-word-often', 'map/line-of-thirty-digits', 'map/line-too-many', 'map/half-a-byte', 'map/half-a-byte-of-ours'):
+        for name in (
+            'commands/no-utf-8',
+            'commands/long-word-often',
+            'map/line-of-thirty-digits',
+            'map/line-too-many',
+            'map/half-a-byte',
+            'map/half-a-byte-of-ours',
+        ):
             out, _ = self.tool('dev/fuzz', '--again', f'{TOP}/dev/corpus/{name}')
             self.assertEqual({line.rpartition(': ')[2] for line in out.splitlines()}, {'nothing'}, out)
 

@@ -460,7 +460,21 @@ class Served(ToolCase):
             self.assertEqual((client.ask(request), client.ask(f'm{address:x},{len(octets) // 2}')), ('OK', octets))
         self.assertEqual(client.ask('cf6055')[:3], 'T18')
         self.assertEqual(client.monitor('to 999'), 'clock 1000: undone: 400 41 42, F6058 23, IP 55\nclock 999\n')
-        for request in ('P0=00000100', 'P0=00', 'P4=00000f00', 'Pe=00000000', 'P7f=00000000', 'G00', 'M500,1:', 'M500,1:zz', 'M500,2:00', 'Ma0000,1:00', 'Mfffff,2:0000', 'X', 'M'):
+        for request in (
+            'P0=00000100',
+            'P0=00',
+            'P4=00000f00',
+            'Pe=00000000',
+            'P7f=00000000',
+            'G00',
+            'M500,1:',
+            'M500,1:zz',
+            'M500,2:00',
+            'Ma0000,1:00',
+            'Mfffff,2:0000',
+            'X',
+            'M',
+        ):
             self.assertEqual(client.ask(request)[:1], 'E', request)
         self.assertEqual(client.registers()[8], 0xF6058)
         self.leaves(client)

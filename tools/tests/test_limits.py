@@ -209,7 +209,11 @@ class ByThemselves(ToolCase):
         """Each file may be one, as the shell's <(..) is."""
         files = example('hello')
         ran = subprocess.run(
-            ['bash', '-c', '"$0" run <(cat "$1") <(cat "$2")', program.path('pcboard'), *files], stdin=subprocess.DEVNULL, capture_output=True, text=True, check=False
+            ['bash', '-c', '"$0" run <(cat "$1") <(cat "$2")', program.path('pcboard'), *files],
+            stdin=subprocess.DEVNULL,
+            capture_output=True,
+            text=True,
+            check=False,
         )
         self.assertEqual((ran.returncode, ran.stdout, ran.stderr), (0, self.pcboard('run', *files).stdout, ''))
 

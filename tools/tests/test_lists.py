@@ -27,8 +27,11 @@ fn main(rt: HostRuntime) -> Result<(), Failed> {
     out.flush()
 }
 """
-REFUSED = [f'field `{field}` of struct `{name}` is private' for name, fields in (('Kept', ('log', 'failed')), ('Heard', ('log', 'ended', 'failed')))
-           for field in fields]
+REFUSED = [
+    f'field `{field}` of struct `{name}` is private'
+    for name, fields in (('Kept', ('log', 'failed')), ('Heard', ('log', 'ended', 'failed')))
+    for field in fields
+]
 
 
 class Lists(ToolCase):

@@ -652,7 +652,9 @@ class Dos(ServiceCase):
             self.assertEqual({name: seen.registers[name] for name in STAY}, STAY)
             self.assertEqual(seen.screen, [''] * 25)
         _, left = self.whole(' MOV AX,4B02h\n INT 21h')
-        self.assertEqual(left.remarks('at {0[0]:04X}:{0[1]:04X}'.format), ["INT 21h function 4Bh, called at 0100:0103, isn't among the services (docs/services.md)"])
+        self.assertEqual(
+            left.remarks('at {0[0]:04X}:{0[1]:04X}'.format), ["INT 21h function 4Bh, called at 0100:0103, isn't among the services (docs/services.md)"]
+        )
 
     def test_interrupts_beside(self) -> None:
         """24h fails, 25h and 26h leave the flags on the stack, 28h returns, 29h shows AL."""

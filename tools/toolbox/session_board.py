@@ -379,9 +379,7 @@ class SessionBoard:
 
     # Stops
 
-    def begin_anew(
-        self, stops: Iterable[str] = (), clock: int | None = None, files: Files | None = None, deeds: list[Deed] | None = None
-    ) -> None:
+    def begin_anew(self, stops: Iterable[str] = (), clock: int | None = None, files: Files | None = None, deeds: list[Deed] | None = None) -> None:
         """A session at this clock, else at the present one, with these stops alone, and with the board's changes up to there, or these
         ones; of other files, if they are given, which have all keys. The stops are set there, so that none is met on the way. Until it
         stands there, the old one stays; if the way is ended beyond that one's clock, it is the new one's."""

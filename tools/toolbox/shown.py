@@ -17,5 +17,5 @@ def report_of(text: str) -> str:
     left_out = len(lines) - first - MOST_CHANGES
     if left_out <= 0:
         return text
-    told = f'.. and {left_out:,} changes more, which {named("./pcboard run")} prints'
-    return '\n'.join([*lines[: first + MOST_CHANGES], told, 'screen', screen])
+    more = f'.. and {left_out:,} changes more, which {named("./pcboard run")} prints'
+    return '\n'.join([*lines[: first + MOST_CHANGES], more, 'screen', screen])

@@ -303,19 +303,19 @@ class Adapter:
     def explained(self, run_file: str, is_hex: bool, sorry: Sorry) -> Sorry:
         """Tells by tools/why what is refused, each line of a source at its place, and gives the first of it."""
 
-        def told(*words: str) -> subprocess.CompletedProcess[str]:
+        def listed(*words: str) -> subprocess.CompletedProcess[str]:
             whole = [PYTHON, '-S', f'{TOP}/tools/why', *words]
             return subprocess.run(whole, stdin=subprocess.DEVNULL, capture_output=True, text=True, errors='replace', check=False)
 
         first = ''
         if not is_hex:
-            for line in told('--lines', '--', self.program).stdout.splitlines():
+            for line in listed('--lines', '--', self.program).stdout.splitlines():
                 number, kind, text = line.removeprefix(f'{self.program}:').split(': ', 2)
                 at = {'source': Sources(self.program, Listing(), [], self.has_uris).described(''), 'line': int(number) - 1 + self.line_base}
                 self.output(f'{line}\n', 'stderr', at)
                 first = first or (f'{os.path.basename(self.program)}, line {number}: {text}' if kind == 'error' else '')
         if not first:
-            reasons = told('run', *(['--hex'] if is_hex else []), '--', self.program, run_file).stderr.splitlines()
+            reasons = listed('run', *(['--hex'] if is_hex else []), '--', self.program, run_file).stderr.splitlines()
             lines = [reason.removeprefix('why: ') for reason in reasons if reason.startswith('why: ')]
             self.output(''.join(f'{reason}\n' for reason in lines) or f'{sorry}\n', 'stderr')
             first = lines[0] if lines else str(sorry)

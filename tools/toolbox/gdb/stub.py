@@ -355,7 +355,11 @@ class Stub:
             return 'E.no command of the debugger'
         words = command.split() or ['']
         if words[0] in ('', 'help') or not command.isprintable():
-            self.tell('commands: ' + ', '.join((*STOPS, *MOVES, 'clock', 'set', 'undo', 'key', 'keys', 'regs', 'screen', 'dump', 'trail', 'chips')) + ' (docs/debugger.md)')
+            self.tell(
+                'commands: '
+                + ', '.join((*STOPS, *MOVES, 'clock', 'set', 'undo', 'key', 'keys', 'regs', 'screen', 'dump', 'trail', 'chips'))
+                + ' (docs/debugger.md)'
+            )
         elif words[0] == 'quit':
             self.tell("gdb's own quit ends the session")
         elif words == ['exit']:
