@@ -81,6 +81,39 @@ WORDS = (
     'tools/try served.asm --file {}',
     'tools/why run served.asm --file {}',
     'tools/zebludor try {}',
+    'tools/dbg {} hello.json',
+    'tools/gdb --serve -- {} hello.json',
+    'tools/judge page {}',
+    'tools/judge page {} hello.json',
+    'tools/judge --hex page {} hello.json',
+    'tools/judge --class page {}',
+    'tools/judge --same all hello.report {}',
+    'tools/judge --include {} --class page hello.asm',
+    'tools/moments page {} hello.json --key 1E --at 1..9',
+    'tools/moments page hello.asm {} --key 1E --at 1..9',
+    'tools/moments --measure start {} hello.json',
+    'tools/moments --measure start hello.asm {}',
+    'tools/picture it.svg --of hello.asm {}',
+    'tools/picture it.svg --hex --of {} hello.json',
+    'tools/table hello.report {}',
+    'tools/term {} hello.json',
+    'tools/term hello.hex hello.json --symbols {}',
+    'tools/term served.asm hello.json --file {}',
+    'tools/dbg served.asm hello.json --file {}',
+    'tools/trace served.asm hello.json --file {}',
+    'tools/trace {} hello.json --vcd it.vcd',
+    'tools/try {}',
+    'tools/try --hex {}',
+    'tools/try --masm {}',
+    'tools/try --services {}',
+    'tools/why run {}',
+    'tools/why asm hello.asm --hex {}',
+    # Names by which it is a program for DOS, a sector or Intel HEX.
+    'tools/try {}.com',
+    'tools/try {}.exe',
+    'tools/judge page {}.bin',
+    'tools/dbg {}.hex',
+    'tools/place rom {}.bin',
     # Sources that include it.
     'tools/dbg includes_{}',
     'tools/judge page includes_{} hello.json',
@@ -112,6 +145,7 @@ class EveryTool(ToolCase):
         self.file('page', 'shows = HI\n')
         self.file('places', 'runs = start\n')
         self.file('hello.hex', self.pcboard('asm', f'{EXAMPLES}/hello.asm').stdout)
+        self.file('hello.report', self.pcboard('run', f'{EXAMPLES}/hello.asm', f'{EXAMPLES}/hello.json').stdout)
         self.environment = {'PATH': '/usr/bin:/bin', 'HOME': self.room} | {name.upper(): program.path(name) for name in PROGRAMS}
 
     def begin(self, tool: str, *words: str, out: int = subprocess.PIPE, given: int = subprocess.DEVNULL) -> subprocess.Popen[str]:
@@ -246,6 +280,7 @@ class NoFile(ToolCase):
         self.file('page', 'shows = HI\n')
         self.file('places', 'runs = start\n')
         self.file('hello.hex', self.pcboard('asm', f'{EXAMPLES}/hello.asm').stdout)
+        self.file('hello.report', self.pcboard('run', f'{EXAMPLES}/hello.asm', f'{EXAMPLES}/hello.json').stdout)
         self.file('served.asm', 'SEGMENT M AT 100h\nstart: MOV AX,4C00h\n INT 21h\nENDS\n')
         os.mkfifo(f'{self.room}/fifo')
         os.symlink('/dev/zero', f'{self.room}/endless')
@@ -255,6 +290,8 @@ class NoFile(ToolCase):
         os.mkdir(f'{self.room}/sources')
         for path in self.PATHS:
             os.symlink(f'{self.room}/{path}', f'{self.room}/sources/{path}.asm')
+            for ending in ('com', 'exe', 'bin', 'hex'):
+                os.symlink(path, f'{self.room}/{path}.{ending}')
             self.file(f'includes_{path}', f'.model small\n.code\ninclude {path}\nmain proc\n mov ax,4C00h\n int 21h\nmain endp\nend main\n')
         self.environment = {'PATH': '/usr/bin:/bin', 'HOME': self.room} | {name.upper(): program.path(name) for name in PROGRAMS}
 
@@ -281,8 +318,7 @@ class NoFile(ToolCase):
             name, *words = line.replace('{}', path).split()
             with self.subTest(line=line, path=path):
                 ended = self.ended(line, trials.started(name.removeprefix('tools/'), words))
-                allowed = (0, 1, 2) if line.startswith('tools/why fault') else (1, 2) if path == 'deep' or not line.startswith('tools/') else (2,)
-                self.assertIn(ended.status, allowed, ended.err)
+                self.assertIn(ended.status, allowed(line, path), ended.err)
                 self.assertNotEqual(ended.err + ended.out.decode(), '')
 
     def test_a_source_of_a_million_lines(self) -> None:
@@ -345,6 +381,15 @@ class NoFile(ToolCase):
         lines = self.ended('the language server', work).out.decode().splitlines()
         self.assertEqual((lines[0], len(lines)), ('[]', 1 + len(self.PATHS)), lines)
         self.assertEqual([path in line and ("can't be read: " in line or path == 'deep') for path, line in zip(self.PATHS, lines[1:])], [True] * 4, lines)
+
+
+def allowed(line: str, path: str) -> tuple[int, ...]:
+    """With which statuses a tool may end that meets one of these: a submission among others fails, and other brackets may be a page's."""
+    if line.startswith('tools/why fault'):
+        return 0, 1, 2
+    if path == 'deep' or not line.startswith('tools/'):
+        return 1, 2
+    return (1,) if line == 'tools/judge --class page {}' else (2,)
 
 
 def framed(messages: Iterator[dict[str, object]]) -> bytes:

@@ -7,7 +7,7 @@ import sys
 import unittest
 from unittest import mock
 
-from tests.support import SECONDS, TOOLS, ToolCase, but_progress, example, is_at_work, until
+from tests.support import SECONDS, TOOLS, ToolCase, but_progress, example, is_at_work
 
 from toolbox import events  # where zebludor is found
 from toolbox.program import Files
@@ -102,7 +102,7 @@ class Runs(ToolCase):
 
     def test_an_interrupt_keeps_what_was_written(self) -> None:
         files = self.program('over:   INC AX\n        JMP SHORT over', 1 << 38)
-        path = f'{self.room}/it.vcd'
+        path = self.file('it.vcd', 'old')
         for words, keeps in ((['--vcd', path], f'{path} has the waveform'), (['--profile'], 'the table is of the run'), ([], 'is printed')):
             with subprocess.Popen(
                 [sys.executable, '-S', f'{TOOLS}/trace', *words, *files], stdout=subprocess.PIPE, stderr=subprocess.PIPE, text=True, start_new_session=True
@@ -110,10 +110,10 @@ class Runs(ToolCase):
                 assert process.stdout
                 if not words:
                     process.stdout.readline()
-                elif words == ['--profile']:
-                    self.assertTrue(is_at_work(process.pid, 1))  # some tables of 20 million clocks
                 else:
-                    self.assertTrue(until(lambda: os.path.exists(path) and os.path.getsize(path) > 1 << 16))
+                    self.assertTrue(is_at_work(process.pid, 1))  # some tables of 20 million clocks
+                if '--vcd' in words:
+                    self.assertEqual(os.path.getsize(path), 3)  # the old one, until the new one is whole
                 os.killpg(process.pid, signal.SIGINT)
                 out, err = process.communicate(timeout=SECONDS)
             self.assertEqual(process.returncode, 130, err)
@@ -122,8 +122,23 @@ class Runs(ToolCase):
             self.assertEqual(err.count('\n'), 1)
             if words == ['--profile']:
                 self.assertIn('INC AX', out)
+        self.assertGreater(os.path.getsize(path), 1 << 16)
         with open(path, encoding='utf-8') as file:
             self.assertRegex(file.read().splitlines()[-1], r'^#\d+$')
+        self.assertEqual(sorted(os.listdir(self.room)), ['it.asm', 'it.json', 'it.vcd'])
+
+    def test_a_waveform_that_cant_be_written(self) -> None:
+        """It is told before the run, and of a FIFO that nobody reads at once."""
+        path, pipe = self.file('it.vcd', 'old'), f'{self.room}/pipe'
+        os.chmod(path, 0o400)
+        os.mkfifo(pipe)
+        for to, why in (
+            (path, 'it is read-only'),
+            (f'{self.room}/none/it.vcd', 'No such file or directory'),
+            (pipe, 'nobody reads it'),
+            (self.room, 'Is a directory'),
+        ):
+            self.assertEqual(self.called('trace', '--vcd', to, *example('ticks'), status=2), ('', f"trace: {to} can't be written: {why}\n"))
 
     def test_keeps_the_clock_table(self) -> None:
         out, _ = self.tool('trace', *self.hello_by_c2())

@@ -8,7 +8,6 @@ import os
 import stat
 import struct
 import subprocess
-import threading
 import unittest
 from typing import Any, Callable, Iterator
 from unittest import mock
@@ -122,13 +121,15 @@ class Whole(ToolCase):
         self.assertTrue(os.path.islink(f'{self.room}/link.asm'))
 
     def test_streams_are_written_as_they_are(self) -> None:
-        path, seen = f'{self.room}/fifo', list[bytes]()
+        """A FIFO that nobody reads is told at once."""
+        path = f'{self.room}/fifo'
         os.mkfifo(path)
-        reader = threading.Thread(target=lambda: seen.append(self.content(path)))
-        reader.start()
+        with self.assertRaisesRegex(Sorry, "fifo can't be written: nobody reads it"):
+            write_text(path, 'into the void')
+        reader = os.open(path, os.O_RDONLY | os.O_NONBLOCK)
         write_text(path, 'through')
-        reader.join(20)
-        self.assertEqual(seen, [b'through'])
+        self.assertEqual(os.read(reader, 100), b'through')
+        os.close(reader)
         self.assertTrue(stat.S_ISFIFO(os.stat(path).st_mode))
         write_text('/dev/null', 'gone')
         self.assertTrue(stat.S_ISCHR(os.stat('/dev/null').st_mode))

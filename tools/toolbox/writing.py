@@ -7,6 +7,7 @@ import errno
 import fcntl
 import hashlib
 import json
+import mmap
 import os
 import secrets
 import stat
@@ -19,6 +20,8 @@ NAMED_ONLY = (errno.EOPNOTSUPP, errno.EISDIR, errno.EINVAL)
 NO_EXCHANGE = (errno.EINVAL, errno.ENOSYS, errno.EOPNOTSUPP, errno.EPERM)  # said of an exchange of two names where there is none
 IN_THE_PRESENT_FOLDER, EXCHANGE = -100, 2  # for Linux's renameat2
 MOST_SECONDS = 60  # a file that was touched so long after its copy was kept is another hand's
+NO_READER = 'nobody reads it'
+Octets = bytes | mmap.mmap
 Look, Taken = Callable[[], None], Callable[[str], None]
 
 
@@ -26,7 +29,7 @@ class InPlace(Exception):
     """A new file can't take the old one's place with all that the old one has."""
 
 
-def write_whole(path: str, octets: bytes, look: Look = lambda: None, mode: int = 0o666, taken: Taken | None = None) -> None:
+def write_whole(path: str, octets: Octets, look: Look = lambda: None, mode: int = 0o666, taken: Taken | None = None) -> None:
     """Writes a new file, flushes it to the disk and renames it over the old one; mode, owner and attributes stay, and a link leads
     where it led. A file with other names, or with what a new one can't have, is written in place. A stream, as a FIFO or a device, is
     written as it is. `look` is called last before anything changes, and may raise; `taken` is told where that lies for a moment whose place
@@ -36,13 +39,13 @@ def write_whole(path: str, octets: bytes, look: Look = lambda: None, mode: int =
         old = os.stat(path)
     except FileNotFoundError:
         old = None
-    if path.startswith(STREAMS) or old and not stat.S_ISREG(old.st_mode):
+    if is_stream(path):
         look()
-        with open(path, 'wb') as stream:
+        with open(open_stream(path), 'wb') as stream:
             stream.write(octets)
         return
-    if old and (not old.st_mode & 0o222 or not os.access(path, os.W_OK)):
-        raise PermissionError(errno.EACCES, 'it is read-only', path)
+    if old:
+        check_writable(path)
     target = os.path.realpath(path)
     try:
         if old and old.st_nlink > 1:
@@ -52,7 +55,28 @@ def write_whole(path: str, octets: bytes, look: Look = lambda: None, mode: int =
         _write_over(target, octets, look)
 
 
-def write_all(handle: int, octets: bytes) -> None:
+def check_writable(path: str) -> None:
+    """Raises PermissionError of a file that is read-only, be it for root, too."""
+    if not os.stat(path).st_mode & 0o222 or not os.access(path, os.W_OK):
+        raise PermissionError(errno.EACCES, 'it is read-only', path)
+
+
+def is_stream(path: str) -> bool:
+    """Whether what stands at a path is no file that another one could take the place of."""
+    return path.startswith(STREAMS) or os.path.exists(path) and not os.path.isfile(path)
+
+
+def open_stream(path: str) -> int:
+    """Opens a stream to write to it. A FIFO that nobody reads doesn't wait for one who does."""
+    try:
+        handle = os.open(path, os.O_WRONLY | os.O_CREAT | os.O_TRUNC | os.O_NONBLOCK | os.O_NOCTTY | os.O_CLOEXEC, 0o666)
+    except OSError as error:
+        raise OSError(error.errno, NO_READER, path) if error.errno == errno.ENXIO else error from None
+    os.set_blocking(handle, True)
+    return handle
+
+
+def write_all(handle: int, octets: Octets) -> None:
     """Writes to an open file, however little of it is taken at a time."""
     left = memoryview(octets)
     while left:
@@ -69,7 +93,7 @@ def own_folder(path: str) -> None:
         os.chmod(path, 0o700)
 
 
-def _replace(target: str, octets: bytes, old: os.stat_result | None, look: Look, mode: int, taken: Taken | None) -> None:
+def _replace(target: str, octets: Octets, old: os.stat_result | None, look: Look, mode: int, taken: Taken | None) -> None:
     """Writes a new file down to the disk, and renames it over the old one."""
     handle, beside = _new(target, 0o600 if old else mode)
     try:
@@ -246,13 +270,13 @@ def _octets_in(path: str) -> bytes:
         return file.read()
 
 
-def _write_over(target: str, octets: bytes, look: Look) -> None:
+def _write_over(target: str, octets: Octets, look: Look) -> None:
     """Writes into the old file itself. A copy of both contents is kept until that is done; a failure brings the old one back."""
     finish(target)
     old, kept = _octets_in(target), _kept_for(target)
     try:
         own_folder(os.path.dirname(kept))
-        text = json.dumps({'old': old.decode('latin-1'), 'new': octets.decode('latin-1')})
+        text = json.dumps({'old': old.decode('latin-1'), 'new': bytes(octets).decode('latin-1')})
         write_whole(kept, text.encode('ascii'))
     except OSError as error:
         raise OSError(error.errno, f'it has to be written in place, and no copy can be kept in {os.path.dirname(kept)} ({error.strerror})') from None
@@ -276,7 +300,7 @@ def _forget(kept: str) -> None:
         os.remove(kept)
 
 
-def _put(target: str, octets: bytes) -> None:
+def _put(target: str, octets: Octets) -> None:
     """Writes into a file, down to the disk."""
     handle = os.open(target, os.O_WRONLY | os.O_CLOEXEC)
     try:
