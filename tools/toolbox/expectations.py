@@ -180,10 +180,10 @@ def is_same(came: list[str], wanted: list[str]) -> bool:
     return len(came) == len(wanted) and all(a.lower() == b.lower() or hexadecimal(a) == hexadecimal(b) is not None for a, b in zip(came, wanted))
 
 
-def hexadecimal(text: str) -> int | None:
-    """The number that a text is."""
+def hexadecimal(text: str, most: int = 0xFFFF) -> int | None:
+    """The number that a text is, if it is one up to the most."""
     try:
-        return number_of(text, 0xFFFF)
+        return number_of(text, most)
     except Sorry:
         return None
 
@@ -317,7 +317,8 @@ def expectation_of(name: str, wanted: str, where: str, line: str, weight: int = 
     if place and not re.fullmatch(PLACE, place):
         raise Sorry(f'{where}: {place} is no label, no hexadecimal address, no SEGMENT:OFFSET and no :LINE')
     if judge is judge_memory and not wanted.startswith("'"):
-        _ = [checked(where, word) for word in wanted.split()]
+        if bad := [word for word in wanted.split() if hexadecimal(word, 0xFF) is None]:
+            raise Sorry(f'{where}: {bad[0]} is no hexadecimal byte')
     elif judge is judge_halt:
         try:
             span(wanted)
@@ -328,14 +329,6 @@ def expectation_of(name: str, wanted: str, where: str, line: str, weight: int = 
     elif judge not in (judge_memory, judge_runs, judge_chip, judge_output):
         found.outcome(Subject(ANY))
     return found
-
-
-def checked(where: str, text: str) -> int:
-    """A byte."""
-    try:
-        return number_of(text, 0xFF)
-    except Sorry:
-        raise Sorry(f'{where}: {text} is no hexadecimal byte') from None
 
 
 def field_of(name: str, text: str, where: str) -> Any:
