@@ -12,10 +12,10 @@ from dataclasses import dataclass
 from typing import Iterator
 
 from toolbox import reading
-from toolbox.command import Sorry, read_bytes, write_bytes
+from toolbox.command import Sorry, read_bytes
 from toolbox.comments import text_of
 from toolbox.listing import Listing, label_row, line_of, own_name, placed_labels
-from toolbox.program import TOP, given_text, run
+from toolbox.program import TOP, Ran, given_text, run
 from toolbox.shown import LONGEST_LINE, bounded, clipped
 
 MADE = re.compile(r'[.?]+\d+')  # a label that pcmasm makes, of @@, of LOCAL, or of $
@@ -192,27 +192,33 @@ def translation_of(path: str, octets: bytes | None = None, home: str = '') -> Tr
 @functools.lru_cache(4)
 def made_of(path: str, octets: bytes, texts: tuple[tuple[str, bytes], ...]) -> Translation | str:
     """The translation of a text that includes these by their names, or the name of one that it includes besides."""
-    names, own = {'stdin': path}, {path: lines_of(octets)}
-    with tempfile.TemporaryDirectory(prefix='zebludor-') as room:
-        for there, text in texts:
-            name = os.path.basename(there)
-            names[name], own[there] = there, lines_of(text)
-            write_bytes(os.path.join(room, name), text)
-        copies = [os.path.join(room, name) for name in list(names)[1:]]
-        ran = run(['--map', '--masm', '/dev/stdin', *copies], octets, 'pcmasm')
-    found = Translation([], [], own, [])
-    for where, number, words in places_in(ran.err, names):
-        found.notes.append(Remark(where, number, found.own(where, number), words))
+    names = {'stdin': path} | {os.path.basename(there): there for there, _ in texts}
+    ran = with_texts(octets, texts)
+    found = Translation([], [], {there: lines_of(text) for there, text in ((path, octets), *texts)}, [])
+    said = places_in(ran.err, names)
+    found.notes.extend(Remark(where, number, found.own(where, number), words) for where, number, words in said)
     wanted = WANTED.fullmatch(found.notes[0].words) if ran.status and found.notes else None
     if wanted:
         return wanted[1]
+    if found.notes and ran.status:
+        raise Refused(found.notes)
     if ran.status:
-        said = ran.err.strip() or 'pcmasm ends without a word'
-        raise Refused(found.notes) if found.notes else Sorry(f'{path}: {said}')
+        raise Sorry(f'{path}: {ran.err.strip() or "pcmasm ends without a word"}')
     for where, number, line in places_in(ran.out, names):
         found.lines.append(line)
         found.places.append((where, number))
     return found
+
+
+def with_texts(octets: bytes, texts: tuple[tuple[str, bytes], ...]) -> Ran:
+    """What pcmasm answers of a text, to which these are given by their names."""
+    words = ['--map', '--masm', '/dev/stdin']
+    with tempfile.TemporaryDirectory(prefix='zebludor-') as room:
+        for there, text in texts:
+            words.append(os.path.join(room, os.path.basename(there)))
+            with open(words[-1], 'wb') as file:
+                file.write(text)
+        return run(words, octets, 'pcmasm')
 
 
 def places_in(answer: str, names: dict[str, str]) -> Iterator[tuple[str, int, str]]:
