@@ -203,8 +203,7 @@ def left_at(session: Talker, ram_end: int, ended: int | None = None) -> Served |
     if not 1024 * LEAST_RAM <= ram_end <= 1024 * MOST_RAM or session.dump(SIGNED, len(SIGNATURE)) != SIGNATURE:
         return None
     state = session.dump(base + KEPT, 0x30)
-    mark, phase, how, code, written, notes, *first, lost = struct.unpack_from('<HHBBIHHHHHH', state)
-    (paragraph,) = struct.unpack_from('<H', state, 0x2E)
+    mark, phase, how, code, written, notes, *first, lost, paragraph = struct.unpack('<HHBBI6H24xH', state)
     if mark != MARK:
         return None
     output = session.dump(base, min(written, KEPT)) if written else b''
