@@ -29,6 +29,7 @@ import threading
 import time
 import weakref
 from dataclasses import dataclass
+from types import SimpleNamespace
 from typing import IO, TYPE_CHECKING, Any, Callable, Iterable, Iterator, Mapping, NamedTuple, NoReturn, Sequence, TypeVar
 
 if TYPE_CHECKING:
@@ -324,12 +325,14 @@ def _hex_words(source: Source, is_hex: bool) -> list[str]:
 def _there(source: os.PathLike) -> str:
     """A source's path. Unfit tells why nothing is read there: it is no file, or a very long one, in which a program would find no end."""
     path = os.fspath(source)
-    with contextlib.suppress(ImportError):  # where the tools aren't
-        (reading,) = _toolbox('reading')
-        try:
-            reading.check(path)
-        except OSError as error:
-            raise Unfit(f"{path} can't be read: {error.strerror}") from None
+    try:
+        reading = _toolbox('limits of files').reading
+    except Unfit:  # where the tools aren't
+        return path
+    try:
+        reading.check(path)
+    except OSError as error:
+        raise Unfit(f"{path} can't be read: {error.strerror}") from None
     return path
 
 
@@ -359,13 +362,17 @@ def run(source: Source, *, is_hex: bool = False, services: bool | None = None, *
         return read_report(_answer(['run', *words]))
 
 
-def _toolbox(*names: str) -> list[Any]:
-    """Modules of the tools, which stand in the folder beside this file's. ImportError if it isn't there."""
+def _toolbox(what: str) -> Any:
+    """Modules of the tools, which stand in the folder beside this file's. Unfit tells what wants them, if it isn't there."""
     import importlib
 
     if f'{TOP}/tools' not in sys.path:
         sys.path.append(f'{TOP}/tools')
-    return [importlib.import_module(f'toolbox.{name}') for name in names]
+    names = 'command', 'guests', 'listing', 'places', 'program', 'reading'
+    try:
+        return SimpleNamespace(**{name: importlib.import_module(f'toolbox.{name}') for name in names})
+    except ImportError as error:
+        raise Unfit(f"{what} want the tools, and {TOP}/tools hasn't them: {error}") from None
 
 
 @contextlib.contextmanager
@@ -381,16 +388,16 @@ def _made(source: Source, is_hex: bool, services: bool | None, given: dict[str, 
 def _served(path: str, services: bool | None, given: dict[str, Any], room: str) -> list[str] | None:
     """The image and the run file of a program with services; None of what is none, or is refused. Where the tools aren't, none is."""
     try:
-        guests, command = _toolbox('guests', 'command')
-    except ImportError as error:
+        tools = _toolbox('services')
+    except Unfit:
         if services:
-            raise Unfit(f"services want the tools, and {TOP}/tools hasn't them: {error}") from None
+            raise
         return None
     try:
-        guest = guests.looked_at(guests.Guest(path, is_served=bool(services)))
-        fields = _fields({'ram': guests.MOST_RAM} | given)
-        made = guests.made_with(guest, fields, room) if guest.is_one else None
-    except command.Sorry as sorry:
+        guest = tools.guests.looked_at(tools.guests.Guest(path, is_served=bool(services)))
+        fields = _fields({'ram': tools.guests.MOST_RAM} | given)
+        made = tools.guests.made_with(guest, fields, room) if guest.is_one else None
+    except tools.command.Sorry as sorry:
         raise Unfit(str(sorry).replace(f'{room}/source', 'the source')) from None
     return made and [made.file, made.run_file]
 
@@ -795,29 +802,21 @@ class Places:
         return dict(self._listing.labels)
 
     @functools.cached_property
-    def _tools(self) -> Any:
-        """The tools' modules, which stand in the folder beside this file's."""
-        try:
-            return _toolbox('command', 'listing', 'places', 'program')
-        except ImportError as error:
-            raise Unfit(f"labels and lines want the tools, and {TOP}/tools hasn't them: {error}") from None
-
-    @functools.cached_property
     def _listing(self) -> Any:
-        command, listings, _, programs = self._tools
+        tools = _toolbox('labels and lines')
         with _files(self._source) as names:
+            files = tools.program.Files(names[-1], '', self._is_hex, self._symbols)
             try:
-                files = programs.Files(names[-1], '', self._is_hex, self._symbols)
-                with _toolbox('guests')[0].with_own_lines(files) as them:
-                    return listings.listing_of(them)
-            except command.Sorry as sorry:
+                with tools.guests.with_own_lines(files) as them:
+                    return tools.listing.listing_of(them)
+            except tools.command.Sorry as sorry:
                 raise Unfit(str(sorry)) from None
 
     def _told(self, of: str, text: str) -> Any:
-        command, _, places, _ = self._tools
+        tools = _toolbox('labels and lines')
         try:
-            return getattr(places, of)(self._listing, text)
-        except command.Sorry as sorry:
+            return getattr(tools.places, of)(self._listing, text)
+        except tools.command.Sorry as sorry:
             raise Unfit(str(sorry)) from None
 
 
