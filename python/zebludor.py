@@ -267,7 +267,8 @@ def limited(words: list[str]) -> list[str]:
 def ran(words: list[str], given: bytes = b'', most: int = sys.maxsize, name: str = 'pcboard') -> Ran:
     """Runs a program to its end. An answer of more than `most` bytes isn't read, which is told as Unfit."""
     with tempfile.TemporaryFile() as err:
-        process = subprocess.Popen(limited([program(name), *words]), stdin=subprocess.PIPE, stdout=subprocess.PIPE, stderr=err)
+        words, pipe = limited([program(name), *words]), subprocess.PIPE
+        process = subprocess.Popen(words, stdin=pipe, stdout=pipe, stderr=err)
         assert process.stdin and process.stdout
         try:
             with contextlib.suppress(BrokenPipeError), process.stdin as to:

@@ -11,7 +11,8 @@ from toolbox.listing import ADDRESS_COLUMNS, Line, Listing, line_of, physical
 
 MOST_LINES = 1 << 20  # of a source that a listing tells
 SOURCES = ('.asm', '.nasm', '.s', '.inc')
-PLACED = re.compile(r'([^\n]*?):(\d+):\t([^\t\n]*)\t(.*)')  # of a source of MASM: file, line, row of the dialect's listing, the file's own line
+# Of a source of MASM: file, line, row of the dialect's listing, the file's own line.
+PLACED = re.compile(r'([^\n]*?):(\d+):\t([^\t\n]*)\t(.*)')
 ROW = re.compile(r'\d{5} ([0-9A-F]{4}|    ) (.{36}) ?(.*)')  # of as86: offset, bytes, text
 OF_MODULE = re.compile(r' *(\S+) +(\S+) +0 +([0-9A-Fa-f]{8})')  # of ld86: a name of code
 OF_C, FILE_OF_C, SECTION = re.compile(r'! (\d+) ?(.*)'), re.compile(r'# (\d+) "([^"]*)"'), re.compile(r'\.(text|data|bss)\b', re.I)
@@ -64,7 +65,8 @@ def of_places(rows: list[str], found: Listing) -> Listing:
     for line in lines:
         if line.address:
             (at if line.source == first else modules).setdefault(physical(*line.address), line)
-    return Listing(whole.get(first, []), at, found.labels, files=whole, modules=modules, rows=[line for line in lines if line.dialect])
+    made = [line for line in lines if line.dialect]
+    return Listing(whole.get(first, []), at, found.labels, files=whole, modules=modules, rows=made)
 
 
 def with_modules(found: Listing, path: str, rows: list[str]) -> Listing:

@@ -544,7 +544,8 @@ class Adapter:
 
         def step() -> None:
             board.why = 'returned'
-            board.step() if given.get('granularity') == 'instruction' else board.step_own()  # pylint: disable=expression-not-assigned
+            move = board.step if given.get('granularity') == 'instruction' else board.step_own
+            move()
 
         return {}, lambda: self.told_of_a_way(self.way(lambda: self.by_lines(given, step)), 'step')
 

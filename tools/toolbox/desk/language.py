@@ -45,7 +45,9 @@ class Language:
                     return {'items': sorted(completion(document, place)['items'], key=lambda item: str(item['sortText']))}
             except Unfit as unfit:
                 raise Sorry(str(unfit)) from None
-            if not document.note:
+            if document.note:
+                them = of_masm(document)
+            else:
                 document.answers.finish()
-            them = of_masm(document) if document.note else [of_a_fault(document, *refusal) for refusal in document.answers.refused]
+                them = [of_a_fault(document, *refusal) for refusal in document.answers.refused]
             return {'refused': [{'line': diagnostic['range']['start']['line'] + 1, 'text': diagnostic['message']} for diagnostic in them]}

@@ -28,7 +28,8 @@ class Note:
     def text(self) -> str:
         """A sentence for the user."""
         if self.name == MASM:
-            return 'this is a source of MASM, TASM or emu8086 (docs/masm.md): what is refused of it is underlined, and a line shows what it becomes'
+            shows = 'what is refused of it is underlined, and a line shows what it becomes'
+            return f'this is a source of MASM, TASM or emu8086 (docs/masm.md): {shows}'
         return (
             f"this file seems to be {self.name}'s; the language server knows Zebludor's dialect alone (docs/dialect.md). "
             'The setting "dialect": "zebludor" says that it is of that'
