@@ -1,9 +1,9 @@
 """A board on which a program with services may run: where that begins, how it has ended, and which instructions are its own."""
 from __future__ import annotations
 
+import struct
 from functools import cached_property
 
-from toolbox.effects import Far
 from toolbox.listing import physical
 from toolbox.loading import BLOCK, SECTOR
 from toolbox.places import Event, event_of
@@ -47,10 +47,8 @@ class ServedBoard(SessionBoard):
 
     def first_stop(self) -> str:
         """The stop at which the program begins."""
-        octets = self.dump(BLOCK + 2, 4)
-        offset, segment = int.from_bytes(octets[:2], 'little'), int.from_bytes(octets[2:], 'little')
-        first: Far = (0, SECTOR) if octets == b'\xFF' * 4 else (segment, offset)
-        return break_at(first)
+        offset, segment = struct.unpack('<HH', self.dump(BLOCK + 2, 4))
+        return break_at((0, SECTOR) if offset == segment == 0xFFFF else (segment, offset))
 
     def own_trail(self) -> list[Event]:
         """The last instruction starts without those of the services, as far as the last clocks tell them, and such entries as `trail`
