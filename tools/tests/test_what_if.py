@@ -47,7 +47,7 @@ class Model(ToolCase):
     def test_sessions(self) -> None:
         """They differ in nothing."""
         files = self.file('it.asm', what_if.SOURCE), self.file('run', '{"version":1,"ram":64,"sw1":0,"sw2":0,"budget":100000,"keys":[]}')
-        told = set[str]()
+        kinds = set[str]()
         for seed in range(SESSIONS):
             wanted = what_if.session_of(random.Random(seed), LINES)
             lines = [line for line, _ in wanted]
@@ -58,10 +58,10 @@ class Model(ToolCase):
                 count = answer.count('\n') + 1
                 found, left = '\n'.join(left[:count]), left[count:]
                 self.assertEqual(found, answer, (seed, at, line, lines[:at]))
-                told.add(f'{line.split()[0]} {answer.split()[0]} {answer.split()[1] if answer.startswith("fault") else ""}'.strip())
+                kinds.add(f'{line.split()[0]} {answer.split()[0]} {answer.split()[1] if answer.startswith("fault") else ""}'.strip())
             self.assertEqual(left, [])
         for each in ('set clock', 'set fault 51', 'set fault 55', 'undo clock', 'undo fault 54', 'undo fault 51', 'go stop', 'back fault 54', 'key fault 34'):
-            self.assertIn(each, told)
+            self.assertIn(each, kinds)
 
 
 if __name__ == '__main__':

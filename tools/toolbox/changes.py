@@ -3,7 +3,7 @@ from __future__ import annotations
 
 from typing import Callable
 
-MOST_KEPT, MOST_TOLD = 16, 8  # changes that pcprobe itself undoes; commands of one that are told
+MOST_KEPT, SHOWN = 16, 8  # changes that pcprobe itself undoes; commands of one that are shown
 Deed = tuple[int, str]
 
 
@@ -39,7 +39,7 @@ class Changes:
     def last(self) -> str:
         """What the last change set, in words."""
         words = [command.removeprefix('set ') for _, command in self.deeds[self._begin() :] if command.startswith('set')]
-        return ', '.join(words[:MOST_TOLD]) + (f' and {len(words) - MOST_TOLD} more' if len(words) > MOST_TOLD else '')
+        return ', '.join(words[:SHOWN]) + (f' and {len(words) - SHOWN} more' if len(words) > SHOWN else '')
 
     def undo(self) -> None:
         """The last change is undone, with the keys that were typed since."""
