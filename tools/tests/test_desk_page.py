@@ -590,6 +590,40 @@ class OnePage(ToolCase):
         self.assertEqual(browser.run("$('source').value.split('\\n')[view.line-1].trim()"), 'RET')
         self.fine(page)
 
+    def test_changes(self) -> None:
+        """A register and a byte are changed in place, by Enter; Escape leaves them. Undo takes them back, and goes when nothing is left."""
+        page = self.opened()
+        if page is None:
+            return
+        browser = page.browser
+
+        def typed(text: str, key: str) -> None:
+            browser.call('Input.insertText', text=text)
+            browser.run(f"document.activeElement.dispatchEvent(new KeyboardEvent('keydown',{{key:'{key}',bubbles:true}}))")
+            page.settled()
+
+        page.example('ticks')
+        page.click('#start', 'view.clock===0')
+        page.click('#step', 'view.clock===15')
+        self.assertTrue(browser.run("$('undo').hidden"))
+        browser.run("document.querySelector('#registers>span:nth-child(2)>span').click()")
+        typed('1234', 'Escape')
+        self.assertEqual(browser.run('view.registers.BX'), 0)
+        browser.run("document.querySelector('#registers>span:nth-child(2)>span').click()")
+        typed('1234', 'Enter')
+        self.assertEqual(browser.run("[view.registers.BX,view.clock,$('undo').hidden]"), [0x1234, 15, False])
+        page.click('#tab-memory')
+        browser.run("$('place').value='00400';$('place').dispatchEvent(new Event('change'));queue")
+        browser.until("$('bytes').textContent.startsWith('00400: 00')")
+        browser.run("document.querySelector('#bytes .byte').click()")
+        browser.run("$('byte-set').click()")
+        typed('41', 'Enter')
+        browser.until("$('bytes').textContent.startsWith('00400: 41')")
+        page.click('#undo', 'view.registers.BX===0')
+        browser.until("$('bytes').textContent.startsWith('00400: 00')")
+        self.assertEqual(browser.run("[view.clock,$('undo').hidden]"), [15, True])
+        self.fine(page)
+
     def test_chips(self) -> None:
         """Their tab shows what the probe tells, and what keeps an interrupt away."""
         page = self.opened()

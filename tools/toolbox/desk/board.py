@@ -17,6 +17,7 @@ from toolbox.dap.board import ENDS, MOST_BREAKPOINTS, Machine
 from toolbox.data_labels import Datum, labels_of_data, values_of
 from toolbox.desk.sound import MOST_SAMPLES, Speaker
 from toolbox.desk.work import Fields, Helpers, Job
+from toolbox.edits import assign
 from toolbox.effects import Far
 from toolbox.guests import Guest
 from toolbox.listing import labels_alone, listing_of, physical
@@ -24,7 +25,7 @@ from toolbox.asking import lines_of
 from toolbox.places import address_of, far_of, line_at, number_of
 from toolbox.program import LAST_CLOCK, Files, path
 from toolbox.report import REGISTERS, Report, report_of
-from toolbox.runfile import DEFAULTS, text_of, with_budget
+from toolbox.runfile import DEFAULTS, read_run_file, text_of, with_budget
 from toolbox.scancodes import names
 from toolbox.services import LEAST_RAM, MOST_RAM
 from toolbox.session_board import Paused, break_at, place_of
@@ -294,10 +295,10 @@ class Board:
         """To the last earlier clock at which a stop held."""
         if not self.stops:
             raise Sorry('there is no stop; click beside a line, or type a place under Stops')
-        here = self.clock
+        here = self.machine.mark()
         try:
             if (met := self.machine.back_to(self.stops)) is None:
-                self.machine.go_to(here)
+                self.machine.return_to(here)
                 raise Sorry('no stop held at any earlier clock')
         except Paused:
             return self.view('paused', seen)
@@ -305,10 +306,10 @@ class Board:
 
     def who(self, address: int, count: int, seen: int) -> Fields:
         """To where one of some bytes was changed last, in the clock that led to here or before, and what did it."""
-        here, stop = self.clock, watch_of(address, count)
+        here, stop = self.machine.mark(), watch_of(address, count)
         try:
             if not changed(self.machine, stop) and self.machine.back_to([stop]) is None:
-                self.machine.go_to(here)
+                self.machine.return_to(here)
                 raise Sorry(f'nothing has changed {address:05X} up to here: it is as it was at clock 0')
         except Paused:
             return self.view('paused', seen)
@@ -321,11 +322,33 @@ class Board:
         self.machine.go_to(clock)
         return self.view('there', seen)
 
+    # Changes
+
+    def set(self, text: str, seen: int) -> Fields:
+        """A register or bytes get values, as tools/dbg takes them."""
+        what = assign(self.machine, self.listing, text)
+        self._are(self.keys)
+        return self.view('there', seen) | {'told': what}
+
+    def undo(self, seen: int) -> Fields:
+        """Back to before the last change."""
+        self.machine.undone.append(self.machine.undo())
+        return self.view('there', seen)
+
+    def _undone(self) -> Fields:
+        """What a way back has undone, in words. Keys that were typed since are gone."""
+        what, self.machine.undone = '; '.join(self.machine.undone), []
+        if what:
+            left = {*map(tuple, read_run_file(self.files.run_file)['keys']), *self.machine.changes.keys()}
+            self._are([key for key in self.keys if (key.stamp, key.code) in left])
+        return {'told': what} if what else {}
+
     # What is seen
 
     def view(self, why: str, seen: int, is_light: bool = False) -> Fields:
         """What the page shows. The screen comes where it isn't the one that the page has; a light view leaves out what is
         looked at while nothing runs."""
+        undone = self._undone()
         self._turn += self.clock < self._was_at
         self._was_at, self.furthest = self.clock, max(self.furthest, self.clock)
         registers, trail = self.machine.registers(), self.machine.trail() if is_light else self.machine.own_trail()
@@ -345,7 +368,8 @@ class Board:
             'line': line.number if line else None,
             'label': self.listing.label_before(*place),
             'screen number': self._look_at_screen(is_light),
-        }
+            'changed': bool(self.machine.changes.deeds),
+        } | undone
         if seen != self._screen_number:
             found['screen'] = self._rows
         if not is_light:
@@ -444,6 +468,8 @@ class Board:
         from toolbox.nowhere import told_of_run  # when it is first asked: the desk begins without it
 
         clock, registers = self.clock, self.machine.registers()
+        if self.machine.changes.deeds:  # what is told is of a run from its start
+            return {'clock': clock, 'told': []}
         report = Report(clock, registers, self._chips().value('processor', 'state'), 0, [], self.machine.many('screen'))
         lines = lines_of(told_of_run(report, self.files, self.listing, REACH))
         return {'clock': clock, 'told': lines}
@@ -530,7 +556,9 @@ class Board:
     # Of the whole run
 
     def report(self, clock: int) -> Report | None:
-        """The report at a clock, or None where it takes too long."""
+        """The report at a clock, or None where it takes too long, or the board was changed: a report is of a run from its start."""
+        if self.machine.changes.deeds:
+            return None
         with with_budget(self.files, clock) as files:
             text = self._helpers.answer([path(), *files.words('run')])
         return report_of(text, 'the answer') if text is not None else None
@@ -555,7 +583,7 @@ class Board:
                 }
         finally:
             self._marking.release()
-        return {'clock': clock, 'until': until} | self._of_the_run[1]
+        return {'clock': clock, 'until': until, 'changed': bool(self.machine.changes.deeds)} | self._of_the_run[1]
 
     def speaker(self, low: int, high: int) -> Fields:
         """The stretches in which the speaker was high, of a run whose marks were told, joined to what a line can show."""

@@ -37,7 +37,7 @@ LEAST_IDLE = 2.0
 LONGEST_SOURCE, MOST_MESSAGES, MESSAGES_SECONDS, LAST_NUMBER = 1 << 20, 20, 2.0, 1 << 53
 # So long an answer is waited for; what takes longer is told of, and asked for again.
 PATIENCE = 0.25
-HOLD, PAUSE, MOST_TYPED = 500, 1500, 1000
+HOLD, PAUSE, MOST_TYPED, MOST_SET = 500, 1500, 1000, 1000
 
 
 def want(fields: Fields, name: str, kind: type, default: Any = None) -> Any:
@@ -283,7 +283,7 @@ class Desk:
         seen, move = want(fields, 'seen', int, 0), want(fields, 'do', str)
         return self._do(board, lambda: getattr(board, move)(seen))
 
-    of_over = of_out = of_back = of_last = of_step
+    of_over = of_out = of_back = of_last = of_undo = of_step
 
     def of_who(self, board: Board, fields: Fields) -> Fields:
         """To where some bytes were changed last, and what did it."""
@@ -291,6 +291,13 @@ class Desk:
         if address < 0:
             raise Sorry('an address is 0 or more')
         return self._do(board, lambda: board.who(address, count, seen))
+
+    def of_set(self, board: Board, fields: Fields) -> Fields:
+        """A register or bytes get values."""
+        text, seen = want(fields, 'text', str), want(fields, 'seen', int, 0)
+        if len(text) > MOST_SET:
+            raise Sorry(f'{MOST_SET} characters are the most that say a change')
+        return self._do(board, lambda: board.set(text, seen))
 
     def of_go_to(self, board: Board, fields: Fields) -> Fields:
         """To any clock."""

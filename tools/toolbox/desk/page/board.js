@@ -120,6 +120,7 @@ export function show(answer, isLight = false) {
   const kept = view, isOn = isLight && kept !== null;
   view = {...(isOn ? kept : {}), ...answer};
   if (answer.keys) { view.raw = answer.keys.map(it => [it[0], it[3]]); touched(); }
+  $('undo').hidden = !answer.changed;
   forget_why();
   if (answer.why === 'stop' && !met.includes(answer.clock)) met.push(answer.clock);
   if (!isLight) { draw_registers(looked && looked.registers, answer.registers); looked = answer; draw_trail(); draw_callers(); draw_stack(); draw_keys(); later(look_on); }

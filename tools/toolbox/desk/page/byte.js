@@ -1,6 +1,7 @@
 /* A byte's menu: stop where it changes, and who wrote it. Bytes are one stop of Tab; arrow keys go along them, and Enter opens the menu. */
 import {$, hex, say} from './asking.js';
 import {acts, move, put_stops, stops} from './board.js';
+import {edit_in_place} from './edit.js';
 let chosen = null, opener = null;
 /* An element of bytes of memory, so many from an address on. */
 export function opens_menu(element, address, count) {
@@ -40,19 +41,24 @@ $('byte-who').onclick = () => {
   close();
   acts(() => move('who', {address, count}));
 };
+$('byte-set').onclick = () => {
+  const one = opener, [address, count] = chosen, shown = one.textContent, kept = [...one.childNodes];
+  close();
+  edit_in_place(one, `${count === 2 ? 'WORD' : 'BYTE'} [${hex(address, 5)}]`, /^[0-9A-F]{2}$/.test(shown) ? shown : '', true, () => one.replaceChildren(...kept));
+};
 $('byte-menu').addEventListener('keydown', event => {
-  const all = [$('byte-stop'), $('byte-who')];
+  const all = [$('byte-stop'), $('byte-who'), $('byte-set')];
   if (event.key === 'Escape' || event.key === 'Tab') { event.preventDefault(); close(); }
-  if (event.key === 'ArrowDown' || event.key === 'ArrowUp') { event.preventDefault(); all[1 - all.indexOf(document.activeElement)].focus(); }
+  if (event.key === 'ArrowDown' || event.key === 'ArrowUp') { event.preventDefault(); all[(all.indexOf(document.activeElement) + (event.key === 'ArrowDown' ? 1 : all.length - 1)) % all.length].focus(); }
 });
 document.addEventListener('pointerdown', event => { if (!$('byte-menu').contains(event.target)) close(false); });
 /* In a list of bytes, so many in a row. */
 export function with_menus(list, wide) {
-  list.addEventListener('click', event => { const one = event.target.closest('.byte'); if (one) open(one); });
+  list.addEventListener('click', event => { const one = event.target.closest('.byte'); if (one && event.target.tagName !== 'INPUT') open(one); });
   list.addEventListener('focus', () => { const one = list.querySelector('.byte'); if (one) one.focus(); });
   list.addEventListener('keydown', event => {
     const all = [...list.querySelectorAll('.byte')], at = all.indexOf(document.activeElement);
-    if (at < 0) return;
+    if (at < 0 || event.target.tagName === 'INPUT') return;
     const to = {ArrowRight: at + 1, ArrowLeft: at - 1, ArrowDown: at + wide, ArrowUp: at - wide, Home: 0, End: all.length - 1}[event.key];
     if (event.key === 'Enter' || event.key === ' ') { event.preventDefault(); open(all[at]); }
     if (to === undefined) return;

@@ -2,7 +2,8 @@
 import {$, ask, hex} from './asking.js';
 import {act, acts, board, followed, go_to, running, view, working} from './board.js';
 import {opens_menu, with_menus} from './byte.js';
-import {forget_data, in_base} from './data.js';
+import {base, forget_data, in_base} from './data.js';
+import {edit_in_place, edited} from './edit.js';
 import {assembled, to_line} from './editor.js';
 import {fit} from './screen.js';
 const FLAGS = [['OF', 11], ['DF', 10], ['IF', 9], ['TF', 8], ['SF', 7], ['ZF', 6], ['AF', 4], ['PF', 2], ['CF', 0]];
@@ -19,6 +20,7 @@ export function draw_registers(before, now) {
     one.innerHTML = `<b>${name}</b> <span></span>`;
     one.lastChild.textContent = in_base(value);
     if (before && before[name] !== value) one.lastChild.className = 'changed';
+    edited(one.lastChild, () => edit_in_place(one.lastChild, name, in_base(value), base === 0, () => redraw_registers()));
     made.append(one);
   }
   $('registers').replaceChildren(made);

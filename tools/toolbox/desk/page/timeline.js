@@ -23,7 +23,7 @@ export function look_on() {
     if (answer.sorry || answer.gone) return;
     marks = answer; draw_marks(); draw_sound(); ask_speaker();
     if (view.clock !== clock || answer.clock !== clock) return;
-    if (!answer.told) { $('told').textContent = 'the run is too long to show its speaker and interrupts'; return; }
+    if (!answer.told) { $('told').textContent = `the run is ${answer.changed ? 'changed, and so isn’t shown with' : 'too long to show'} its speaker and interrupts`; return; }
     const lost = view.lost ? `${counted(view.lost, 'key')} lost, ` : '';
     $('told').textContent = `${lost}${counted(answer['all changes'], 'change')} of the speaker, ${counted(answer.interrupts.length, 'interrupt')}${answer['interrupts up to'] < answer.until ? ` up to clock ${number(answer['interrupts up to'])}` : ''}`;
   }, () => {});

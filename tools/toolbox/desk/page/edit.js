@@ -1,0 +1,32 @@
+/* A register or a byte changed in place, and the last change undone. */
+import {$} from './asking.js';
+import {acts, move, running, working} from './board.js';
+/* An element that is edited by a click. */
+export function edited(element, begin) {
+  element.title = 'click to change it';
+  element.classList.add('edited');
+  element.onclick = event => { if (event.target === element) begin(); };
+}
+/* A field stands in an element's place until Enter, which changes what it names, or Escape. */
+export function edit_in_place(element, place, shown, isHex, end) {
+  if (running || working) return;
+  const field = document.createElement('input');
+  field.value = shown;
+  field.className = 'mono';
+  field.size = Math.max(shown.length, 4);
+  field.setAttribute('aria-label', `new value of ${place}`);
+  field.onkeydown = event => {
+    event.stopPropagation();
+    if (event.key === 'Escape') end();
+    if (event.key !== 'Enter' || !field.value.trim()) return;
+    const value = field.value.trim(), isPlain = isHex && /^[0-9A-Fa-f]+$/.test(value);
+    field.onblur = null;
+    end();
+    acts(() => move('set', {text: `${place} = ${isPlain ? `0${value}h` : value}`}));
+  };
+  field.onblur = end;
+  element.replaceChildren(field);
+  field.focus();
+  field.select();
+}
+$('undo').onclick = () => acts(() => move('undo'));
