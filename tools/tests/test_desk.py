@@ -239,30 +239,6 @@ class Hostile(Served):
         self.assertEqual((answer.getheader('Cache-Control'), answer.getheader('Referrer-Policy')), ('no-store', 'same-origin'))
         self.assertIn('examples', self.client.ask('hello'))
 
-    def test_changes(self) -> None:
-        """A register, a byte, a key behind them: undone, also by a way back; nothing is told then that is of a run from its start."""
-        answer = self.client.open('ticks')
-        board = answer['board']
-
-        def ask(word: str, **fields: Any) -> Fields:
-            return self.client.ask(word, board=board, **fields)
-
-        self.assertFalse(ask('go_to', clock=1000)['changed'])
-        found = ask('set', text='BX = 5')
-        self.assertEqual((found['registers']['BX'], found['clock'], found['told'], found['changed']), (5, 1000, 'BX = 00005h (5)', True))
-        self.assertEqual(ask('set', text='[tick] = 90h')['told'], 'F6058: 90')
-        self.assertEqual(ask('memory', place='tick', count=16)['bytes'][:4], '90fe')
-        self.assertEqual([key[0] for key in ask('type', codes=[30])['keys']], [2000])
-        self.assertEqual((ask('marks')['told'], ask('marks')['changed'], ask('why')['told']), (False, True, []))
-        for text, why in (('BX = 70000', 'no number of 16 bits'), ('[A0000] = 1', 'no byte can be set there'), ('x' * 2000, '1000 characters')):
-            self.assertIn(why, ask('set', text=text)['sorry'])
-        self.assertEqual(ask('go_to', clock=1500)['registers']['BX'], 5)
-        found = ask('go_to', clock=999)
-        self.assertEqual((found['clock'], found['told'], found['keys'], found['changed']), (999, 'clock 1000: undone: BX 5, F6058 90', [], False))
-        ask('set', text='BX = 5')
-        self.assertEqual((ask('undo')['told'], ask('undo')['sorry']), ('clock 999: undone: BX 5', 'nothing was set that could be undone'))
-        self.assertTrue(ask('marks')['told'])
-
     def test_another_host(self) -> None:
         page, port = f'/{self.client.token}/', self.client.port
         for host in ('evil.example', f'evil.example:{port}', f'localhost:{port}', '127.0.0.1', f'127.0.0.1:{port + 1}', '', None):
@@ -514,6 +490,30 @@ class Hostile(Served):
 
 class Boards(Served):
     """What the page is told."""
+
+    def test_changes(self) -> None:
+        """A register, a byte, a key behind them: undone, also by a way back; nothing is told then that is of a run from its start."""
+        answer = self.client.open('ticks')
+        board = answer['board']
+
+        def ask(word: str, **fields: Any) -> Fields:
+            return self.client.ask(word, board=board, **fields)
+
+        self.assertFalse(ask('go_to', clock=1000)['changed'])
+        found = ask('set', text='BX = 5')
+        self.assertEqual((found['registers']['BX'], found['clock'], found['told'], found['changed']), (5, 1000, 'BX = 00005h (5)', True))
+        self.assertEqual(ask('set', text='[tick] = 90h')['told'], 'F6058: 90')
+        self.assertEqual(ask('memory', place='tick', count=16)['bytes'][:4], '90fe')
+        self.assertEqual([key[0] for key in ask('type', codes=[30])['keys']], [2000])
+        self.assertEqual((ask('marks')['told'], ask('marks')['changed'], ask('why')['told']), (False, True, []))
+        for text, why in (('BX = 70000', 'no number of 16 bits'), ('[A0000] = 1', 'no byte can be set there'), ('x' * 2000, '1000 characters')):
+            self.assertIn(why, ask('set', text=text)['sorry'])
+        self.assertEqual(ask('go_to', clock=1500)['registers']['BX'], 5)
+        found = ask('go_to', clock=999)
+        self.assertEqual((found['clock'], found['told'], found['keys'], found['changed']), (999, 'clock 1000: undone: BX 5, F6058 90', [], False))
+        ask('set', text='BX = 5')
+        self.assertEqual((ask('undo')['told'], ask('undo')['sorry']), ('clock 999: undone: BX 5', 'nothing was set that could be undone'))
+        self.assertTrue(ask('marks')['told'])
 
     def test_every_example(self) -> None:
         """Its screen at its end is the report's, and so are the registers; what is saved repeats it."""
