@@ -8,9 +8,10 @@ from typing import Callable
 
 from toolbox.command import Sorry
 from toolbox.dap.board import FLAG_BITS
-from toolbox.dap.values import BYTE_REGISTERS, Expression, Value
+from toolbox.dap.values import Expression, Value
 from toolbox.listing import Listing
 from toolbox.places import address_of
+from toolbox.report import HALVES
 from toolbox.session_board import SessionBoard
 from toolbox.watches import watch_size
 
@@ -38,8 +39,8 @@ def bytes_of(number: int, size: int) -> bytes:
 def set_register(board: SessionBoard, name: str, number: int) -> None:
     """A register, a half of one or a flag gets a number."""
     registers, upper = board.registers(), name.upper()
-    if upper in BYTE_REGISTERS:
-        whole, shift = BYTE_REGISTERS[upper]
+    if upper in HALVES:
+        whole, shift = f'{upper[0]}X', 8 * (upper[1] == 'H')
         number = registers[whole] & ~(0xFF << shift) | bytes_of(number, 1)[0] << shift
     elif upper in FLAG_BITS:
         if number not in (0, 1):
@@ -92,7 +93,7 @@ def assign(board: SessionBoard, listing: Listing, text: str, said: Callable[[str
 
 def target_of(board: SessionBoard, listing: Listing, text: str) -> Target:
     """What an expression names that can be set: a register, a half of one, a flag, or memory."""
-    if text.upper() in (*board.registers(), *BYTE_REGISTERS, *FLAG_BITS):
+    if text.upper() in (*board.registers(), *HALVES, *FLAG_BITS):
         return Target(register=text.upper())
     value = Expression(board, listing, text).value()
     if value.address is None or '[' not in text:
