@@ -208,6 +208,15 @@ class Whole(ToolCase):
         self.assertEqual(self.content(outside), b'new')
         self.assertEqual(sorted(os.listdir(self.room)), ['it.asm', 'outside.asm', 'state'])
 
+    def test_a_long_file_is_not_written_in_place(self) -> None:
+        """A copy of all its bytes would be kept."""
+        path = self.file('it.asm', 'old')
+        os.link(path, f'{self.room}/other.asm')
+        os.truncate(path, 1 << 31)
+        with self.assertRaisesRegex(Sorry, "it.asm can't be written: it has to be written in place, and has more than 67,108,864 bytes"):
+            write_text(path, 'new')
+        self.assertEqual(os.path.getsize(path), 1 << 31)
+
     def test_in_place_is_finished_or_undone(self) -> None:
         """A writer that is killed within it: the next one to look finishes it, but writes over nothing that came since. One that fails
         brings the old text back."""

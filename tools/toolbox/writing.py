@@ -19,6 +19,7 @@ OPEN_FILES = '/proc/self/fd'
 NAMED_ONLY = (errno.EOPNOTSUPP, errno.EISDIR, errno.EINVAL)
 NO_EXCHANGE = (errno.EINVAL, errno.ENOSYS, errno.EOPNOTSUPP, errno.EPERM)  # said of an exchange of two names where there is none
 IN_THE_PRESENT_FOLDER, EXCHANGE = -100, 2  # for Linux's renameat2
+MOST_IN_PLACE = 1 << 26  # bytes of a file that is written in place, since a copy of both contents is kept
 MOST_SECONDS = 60  # a file that was touched so long after its copy was kept is another hand's
 NO_READER = 'nobody reads it'
 Octets = bytes | mmap.mmap
@@ -273,6 +274,8 @@ def _octets_in(path: str) -> bytes:
 def _write_over(target: str, octets: Octets, look: Look) -> None:
     """Writes into the old file itself. A copy of both contents is kept until that is done; a failure brings the old one back."""
     finish(target)
+    if max(os.stat(target).st_size, len(octets)) > MOST_IN_PLACE:
+        raise OSError(errno.EFBIG, f'it has to be written in place, and has more than {MOST_IN_PLACE:,} bytes', target)
     old, kept = _octets_in(target), _kept_for(target)
     try:
         own_folder(os.path.dirname(kept))
