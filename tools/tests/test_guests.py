@@ -480,9 +480,10 @@ class Compiled(ToolCase):
             return
         out, _ = self.called('try', '--bcc', path, '--args', 'one two')
         self.assertRegex(out, r'^one 3\n\(ended with exit code 5, at clock [\d,]+\)\n\Z')
-        path = self.file('two.c', '#include <stdio.h>\nint twice(n) int n;\n{\n  return n + n;\n}\nmain()\n{\n  return twice(4);\n}\n')
-        out, err = self.called('dbg', path, '--bcc', given='break twice\ngo\nfinish\nquit\n')
+        path = self.file('two.c', '#include <stdio.h>\nint twice(n) int n;\n{\n  return n + n;\n}\nmain()\n{\n  return twice(4);\n}\nint four = 4;\n')
+        out, err = self.called('dbg', path, '--bcc', given='break twice\ngo\nfinish\nlabels\nquit\n')
         self.assertRegex(out, r'twice \| 4: return n \+ n\n(?s:.*)main\+\w+ \| 8: return twice\(4\)\n')
+        self.assertEqual(sorted(line.split()[-1] for line in out.splitlines()[3:]), ['main', 'twice'])
         self.assertEqual(err, '')
         self.assertIn('bcc refuses', self.called('try', '--bcc', self.file('bad.c', 'main( {\n'), status=2)[1])
 

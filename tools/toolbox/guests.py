@@ -213,7 +213,7 @@ def with_lines(guest: Guest, found: Loaded, made: str) -> Loaded:
     """A program with the lines and labels that its assembler tells, if they fit: they are counted from where the
     program begins, but for an .EXE program, of which they don't tell where its parts stand."""
     place = found.rows[0].split()[0]
-    symbols = f'{made}.map@{place[:4]},ram={place[:4]}' if guest.language == 'bcc' else f'{made}.lst@{place}'
+    symbols = f'{made}.map@{place[:4]}' if guest.language == 'bcc' else f'{made}.lst@{place}'
     try:
         lines = symbols_of(symbols, found.image)
     except Sorry:
