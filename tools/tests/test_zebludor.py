@@ -128,18 +128,18 @@ class Runs(ToolCase):
     def test_the_page(self) -> None:
         """The recipes of docs/python.md print what they should; those of the chips are c/benches/chips.py's."""
         blocks = re.findall(r'^```python\n(.*?)^```', read(f'{TOP}/docs/python.md'), re.M | re.S)
-        self.assertEqual(len(blocks), 4)
+        self.assertEqual(len(blocks), 5)
         tests = 'class mark:\n    def parametrize(names, rows):\n        return lambda it: [it(*row) for row in rows]\n'
         self.file('pytest.py', tests)
         os.symlink(f'{TOP}/examples', f'{self.room}/examples')
-        self.file('it.py', '\n'.join(blocks[:3]))
+        self.file('it.py', '\n'.join(blocks[:4]))
         from toolbox import program
 
         environment = os.environ | {'PYTHONPATH': f'{self.room}:{TOP}/python', 'PCBOARD': program.path(), 'PYTHONDONTWRITEBYTECODE': '1'}
         done = subprocess.run([sys.executable, 'it.py'], env=environment, capture_output=True, text=True, cwd=self.room, check=False)
         lines = done.stdout.splitlines()
-        self.assertEqual((done.stderr, lines[:3], len(lines)), ('', ['H halted 63040', '1 2138', 'MOV AH,007h'], 14))
-        self.assertEqual((lines[3], lines[13]), ('1800 tkttKtttttt', '2800 ttkttKttttt'))
+        self.assertEqual((done.stderr, lines[:4], len(lines)), ('', ['H halted 63040', '1 2138', 'MOV AH,007h', '7'], 15))
+        self.assertEqual((lines[4], lines[14]), ('1800 tkttKtttttt', '2800 ttkttKttttt'))
 
     def test_services(self) -> None:
         """By the look of a text, or of a file; labels are the source's, and a refusal is that of the source."""
