@@ -533,7 +533,7 @@ class Served(ToolCase):
         self.assertEqual(client.byte(), b'-')
         client.socket.sendall(b'$' + b'a' * 10_000_000 + b'#00')
         self.assertEqual(client.byte(), b'-')
-        for request in ('', 'vMustReplyEmpty', 'nope', 'qNope', 'Z5,0,1', 'vCont?', 'X0,0:'):
+        for request in ('', 'vMustReplyEmpty', 'nope', 'qNope', 'Z5,0,1', 'vCont?'):
             self.assertEqual(client.ask(request), '', request)
         for request in ('m', 'mx,y', 'm100000,1', 'pff', 'p', 'Z0,', 'zz', 'Z0,zz,1'):
             self.assertRegex(client.ask(request), '^(E|$)', request)
