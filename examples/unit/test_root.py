@@ -21,9 +21,9 @@ def session() -> zebludor.Session:
     return found
 
 
-def test_each_number() -> None:
+def test_each_number(step: int = 1) -> None:
     with session() as board, board.routine('root') as root:
-        for number in range(1 << 16):
+        for number in range(0, 1 << 16, step):
             assert root(ax=number).registers['AX'] == math.isqrt(number), f'AX = {number}'
 
 
