@@ -540,8 +540,8 @@ class Served(ToolCase):
         self.assertEqual(client.ask('m0,ffffffff'), client.ask('m0,4000'))
         for text in ('zz', '676f0a', 'ff'):
             client.ask(f'qRcmd,{text}')
-        for request in ('c100', 's100', 'cc', 'C05;1'):
-            client.ask(request)
+        for request in ('cz', 's-1', 'C05;z', 'S05;'):
+            self.assertEqual(client.ask(request), 'E01', request)
         self.assertEqual(client.registers(), wanted)
         other = Client(self.port)  # which is sent away
         self.addCleanup(other.close)

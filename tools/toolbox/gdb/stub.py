@@ -273,6 +273,8 @@ class Stub:
         """A run, forth or back, from an address on if one is told."""
         if found := re.fullmatch('[cs]([0-9a-f]{1,16})|[CS]..;([0-9a-f]{1,16})', request):
             self._write_register(NAMES.index('IP'), int(found[1] or found[2], 16))
+        elif not re.fullmatch('[cs]|[CS].{0,2}|b[cs]', request):
+            return 'E01'
         if request == 'bs':
             self._state, before = 'running', self._watched()
             return self._stopped(TRAP, self._changed_since(before)) if self._board.step_back() else self._stopped(TRAP, 'replaylog:begin;')
