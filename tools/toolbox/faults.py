@@ -49,7 +49,7 @@ KINDS: dict[int, Kind] = {
     52: Kind('TooManyStops', 'debugger', 'there are sixteen stops already'),
     53: Kind('Memory', 'debugger', MEMORY),
     54: Kind('BeforeStart', 'debugger', "no such clock since the session's first"),
-    55: Kind('NoCell', 'debugger', 'no byte of RAM, text memory or ROM is there to be set'),
+    55: Kind('NoCell', 'debugger', 'no memory is at this address'),
 }
 
 

@@ -2,10 +2,10 @@
 import {$} from './asking.js';
 import {acts, move, running, working} from './board.js';
 /* An element that is edited by a click. */
-export function edited(element, begin) {
+export function edited(element, opened) {
   element.title = 'click to change it';
   element.classList.add('edited');
-  element.onclick = event => { if (event.target === element) begin(); };
+  element.onclick = event => { if (event.target === element) opened(); };
 }
 /* A field stands in an element's place until Enter, which changes what it names, or Escape. */
 export function edit_in_place(element, place, shown, isHex, end) {
