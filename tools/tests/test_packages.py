@@ -331,13 +331,14 @@ class Package(Installed):
         self.assertEqual(ran.stdout.rstrip(), printed_by_readme(self.content()).rstrip())
 
     def test_dpkg_and_lintian(self) -> None:
+        looks: dict[str, Any] = {'capture_output': True, 'text': True, 'env': os.environ | {'TMPDIR': self.room}}  # not everyone may write to /tmp
         if is_there('dpkg-deb', "dpkg's look at the Debian package", 'dpkg'):
-            said = subprocess.run(['dpkg-deb', '--info', self.path], capture_output=True, text=True, check=True)
-            self.assertIn(' Package: zebludor\n', said.stdout)
-            listed = subprocess.run(['dpkg-deb', '--contents', self.path], capture_output=True, text=True, check=True).stdout
+            said = subprocess.run(['dpkg-deb', '--info', self.path], check=True, **looks).stdout
+            self.assertIn(' Package: zebludor\n', said)
+            listed = subprocess.run(['dpkg-deb', '--contents', self.path], check=True, **looks).stdout
             self.assertIn(' ./usr/bin/zebludor -> ../lib/zebludor/tools/zebludor\n', listed)
         if is_there('lintian', 'lintian over the Debian package', 'lintian'):
-            ran = subprocess.run(['lintian', '--fail-on', 'none', '--tag-display-limit', '0', self.path], capture_output=True, text=True, check=False)
+            ran = subprocess.run(['lintian', '--fail-on', 'none', '--tag-display-limit', '0', self.path], check=False, **looks)
             errors = [line for line in ran.stdout.splitlines() if line.startswith('E:')]
             self.assertEqual((errors, ran.returncode), ([], 0), ran.stderr)
 
