@@ -198,6 +198,16 @@ main PROC
 main ENDP
 END main
 """
+# What begins a source of a million lines more, these lines with their numbers, and the only refusal.
+MILLION = 1_000_000
+PARAMETERS = ','.join(f'a{number}' for number in range(1000))
+LARGE = (
+    ('', 'n{} DB 1', '200000: more than 200,000 names'),
+    ('', 'n{} EQU $', '200001: more than 200,000 names'),
+    ('', 'IF 1', '1000000: ENDM, ENDIF, ENDS or the end of COMMENT is missing'),
+    ('', ' DB 13000 DUP(1,2 DUP(3))', '235: too much comes of this line'),
+    (f'm MACRO {PARAMETERS}\nENDM\n', 'm', '1003: more than 1,000,000 lines come of macros'),
+)
 
 
 class Translated(ToolCase):
@@ -227,6 +237,15 @@ class Translated(ToolCase):
         self.assertRegex(lines[9], r'^  AX=FFFF  BX=[0-9A-F]{4}  CX=0008  DX=[0-9A-F]{4}$')
         self.assertRegex(lines[11], r'^  IP=[0-9A-F]{4}  FL=F[0-9A-F]{3}  CF=0  SF=[01]  ZF=[01]  OF=0$')
         self.assertRegex('\n'.join(lines[12:]), r'^Dump of offset [0-9A-F]{4}\n0001 ABCD\n {20}\*\n\(ended with exit code 0, at clock ')
+
+    def test_a_million_lines_end_soon(self) -> None:
+        # within five seconds of processor time and 300 MB
+        for front, line, refusal in LARGE:
+            with self.subTest(line=line):
+                path = self.file('it.asm', front + '\n'.join(line.format(number) for number in range(MILLION)))
+                shell = ['sh', '-c', 'ulimit -v 300000; ulimit -t 5; exec "$0" --masm "$1"', program_path('pcmasm'), path]
+                done = subprocess.run(shell, capture_output=True, text=True, check=False)
+                self.assertEqual((done.returncode, done.stdout, done.stderr), (1, '', f'it.asm:{refusal}\n'))
 
     def test_random_instructions_have_nasms_bytes(self) -> None:
         if not is_there('nasm', 'pcmasm beside nasm', 'nasm'):

@@ -8,7 +8,7 @@ use masm_text::name::Name;
 use masm_text::number::Spelling;
 use masm_text::place::{Line, Place, Text};
 use masm_text::refusal::{Failure, Reason, Refusal, Stop, refused};
-use masm_value::symbol::Symbols;
+use masm_value::segment::Segments;
 use std::alloc::Global;
 
 /// A line of the translation, and the number of its segment.
@@ -19,34 +19,38 @@ pub struct Placed {
 }
 
 /// What the segments are laid out by.
-#[derive(Clone, Copy)]
-pub struct Plan<'s> {
+#[derive(Drop)]
+pub struct Plan {
     pub alloc: Global,
-    pub symbols: &'s Symbols,
+    pub segments: Segments,
+    /// The number of the segment of code.
+    pub code: usize,
     pub entry: Option<Name>,
     pub has_origin: bool,
 }
 
-impl<'s> Plan<'s> {
-    /// The number of the segment of code.
-    fn code(&self) -> usize {
-        self.symbols.named_segment(b"_TEXT").unwrap_or(0)
-    }
+/// Segments that are laid out together.
+#[derive(Clone, Copy, PartialEq, Eq)]
+enum Part {
+    /// The code of a program that is one segment.
+    Code,
+    /// What follows it there.
+    Rest,
+    /// A group, by the number of its first segment.
+    Group(usize),
+}
 
-    /// Whether a segment is of a group, or, without one, neither the code's nor one to which AT gives a paragraph.
-    fn has(&self, group: Option<usize>, number: usize) -> bool {
-        match group {
-            Some(leader) => self.symbols.leader(number) == leader,
-            None => number != self.code() && !self.symbols.is_elsewhere(number),
-        }
-    }
-
-    /// Whether a segment begins a group that is laid out by itself.
-    fn is_group(&self, number: usize) -> bool {
-        if self.symbols.is_tiny {
-            self.symbols.is_elsewhere(number)
+impl Plan {
+    /// The part of a program in which a segment is laid out.
+    fn part(&self, number: usize) -> Part {
+        if !self.segments.is_tiny {
+            Part::Group(self.segments.leader(number))
+        } else if self.segments.is_elsewhere(number) {
+            Part::Group(number)
+        } else if number == self.code {
+            Part::Code
         } else {
-            self.symbols.leader(number) == number
+            Part::Rest
         }
     }
 }
@@ -54,7 +58,7 @@ impl<'s> Plan<'s> {
 /// Lines that are laid out.
 #[derive(Drop)]
 pub struct Layout<'s> {
-    plan: Plan<'s>,
+    plan: &'s Plan,
     /// All lines, in the order in which they were made.
     placed: &'s [Placed],
     /// The lines that are laid out so far.
@@ -62,17 +66,12 @@ pub struct Layout<'s> {
 }
 
 /// The text of a program.
-pub fn lay<'s>(
-    alloc: Global,
-    texts: &[Text],
-    plan: Plan<'s>,
-    placed: &'s [Placed],
-) -> Result<Vec<Line>, Failure>
+pub fn lay<'s>(texts: &[Text], plan: &'s Plan, placed: &'s [Placed]) -> Result<Vec<Line>, Failure>
     requires { ArePlaced texts.now placed.now }
     ensures ok { IfOk result (λ lines. AreTranslated texts.now lines.items) }
     ensures err { IfErr result (IsFailure texts.now) }
 {
-    let lines = Vec::new(alloc);
+    let lines = Vec::new(plan.alloc);
     let Some(first) = placed.first() else {
         return Ok(lines);
     };
@@ -87,7 +86,7 @@ pub fn lay<'s>(
         Err(Stop::Memory) => Err(Failure::Memory),
         Err(Stop::Refused(reason)) => {
             let refusal = Refusal { place, reason };
-            Err(refused(texts, Vec::new(alloc), refusal)?)
+            Err(refused(texts, Vec::new(plan.alloc), refusal)?)
         }
     }
 }
@@ -99,7 +98,7 @@ impl<'s> Layout<'s> {
         requires place { IsLine texts.now place }
         ensures { IsLaid texts.now self.new }
     {
-        if self.plan.symbols.is_tiny {
+        if self.plan.segments.is_tiny {
             self.only_segment(texts, place)?;
             self.groups(texts)
         } else {
@@ -133,14 +132,13 @@ impl<'s> Layout<'s> {
         Ok(())
     }
 
-    /// Puts the lines of several segments after the others: those of a group, or, without one, those but the code's for
-    /// which AT gives no paragraph.
-    fn segments(&mut self, texts: &[Text], group: Option<usize>) -> Result<(), Stop>
+    /// Puts the lines of all segments of a part after the others.
+    fn segments(&mut self, texts: &[Text], part: Part) -> Result<(), Stop>
         requires { IsLaid texts.now self.old }
         ensures { IsLaid texts.now self.new }
     {
-        for number in 0..self.plan.symbols.segments.len() {
-            if self.plan.has(group, number) {
+        for number in 0..self.plan.segments.len() {
+            if self.plan.part(number) == part {
                 self.segment(texts, number)?;
             }
         }
@@ -152,8 +150,8 @@ impl<'s> Layout<'s> {
         requires { IsLaid texts.now self.old }
         ensures { IsLaid texts.now self.new }
     {
-        for number in 0..self.plan.symbols.segments.len() {
-            if self.plan.is_group(number) {
+        for number in 0..self.plan.segments.len() {
+            if self.plan.part(number) == Part::Group(number) {
                 self.group(texts, number)?;
             }
         }
@@ -165,16 +163,16 @@ impl<'s> Layout<'s> {
         requires { IsLaid texts.now self.old }
         ensures { IsLaid texts.now self.new }
     {
-        let symbols = self.plan.symbols;
-        let Some(segment) = symbols.segments.get(leader) else {
+        let segments = &self.plan.segments;
+        let Some(name) = segments.name(leader) else {
             return Ok(());
         };
         let Some(first) = first_place(self.plan, texts, self.placed, leader) else {
             return Ok(());
         };
-        let text = opening(self.plan, segment.name, symbols.paragraph(leader))?;
+        let text = opening(self.plan, name, segments.paragraph(leader))?;
         self.push(texts, first, text.as_slice())?;
-        self.segments(texts, Some(leader))?;
+        self.segments(texts, Part::Group(leader))?;
         self.push(texts, first, b"ENDS")
     }
 
@@ -190,9 +188,11 @@ impl<'s> Layout<'s> {
         if !self.plan.has_origin {
             self.push(texts, place, b"ORG 100h")?;
         }
-        let code = self.plan.code();
-        self.segment(texts, code)?;
-        self.segments(texts, None)?;
+        let code = self.plan.code;
+        if self.plan.part(code) == Part::Code {
+            self.segment(texts, code)?;
+        }
+        self.segments(texts, Part::Rest)?;
         self.push(texts, place, b"ENDS")
     }
 
@@ -214,7 +214,7 @@ impl<'s> Layout<'s> {
 }
 
 /// The line that opens a segment.
-fn opening(plan: Plan, name: Name, paragraph: i64) -> Result<Vec<u8>, Stop> {
+fn opening(plan: &Plan, name: Name, paragraph: i64) -> Result<Vec<u8>, Stop> {
     let mut text = Vec::from_slice(plan.alloc, b"SEGMENT ")?;
     write_name(&mut text, name)?;
     text.extend_from_slice(b" AT ")?;
@@ -223,12 +223,12 @@ fn opening(plan: Plan, name: Name, paragraph: i64) -> Result<Vec<u8>, Stop> {
 }
 
 /// The user's line from which the first line of a group of segments comes.
-fn first_place(plan: Plan, texts: &[Text], placed: &[Placed], leader: usize) -> Option<Place>
+fn first_place(plan: &Plan, texts: &[Text], placed: &[Placed], leader: usize) -> Option<Place>
     requires { ArePlaced texts.now placed.now }
     ensures { IfSome result (IsLine texts.now) }
 {
     for one in placed {
-        if plan.symbols.leader(one.segment) == leader {
+        if plan.part(one.segment) == Part::Group(leader) {
             return Some(one.line.place);
         }
     }

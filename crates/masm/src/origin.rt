@@ -15,6 +15,17 @@ pub enum Origin {
     Dialect,
 }
 
+impl Origin {
+    /// Its name, as pcmasm tells it.
+    pub fn name(self) -> &'static str {
+        match self {
+            Origin::Masm => "masm",
+            Origin::Nasm => "nasm",
+            Origin::Dialect => "dialect",
+        }
+    }
+}
+
 /// Which assembler a source is written for, as its first line tells that only one of them takes, and the number of that
 /// line; `None` if no line tells.
 pub fn origin_of(text: &[u8]) -> Option<(Origin, u32)> {

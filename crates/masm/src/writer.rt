@@ -4,7 +4,7 @@ use masm_line::data::{count_of_items, data_text, instance_count};
 use masm_line::instruction::{Around, Assumed, instruction_lines};
 use masm_line::output::{write_name, write_number, write_spelled};
 use masm_line::statement::{Statement, split_item, split_label, statement_of};
-use masm_reading::names::{Names, constant_here, here, segment_name};
+use masm_reading::names::{Names, segment_name};
 use masm_text::name::Name;
 use masm_text::number::Spelling;
 use masm_text::refusal::{Reason, Remark, Stop};
@@ -61,6 +61,8 @@ impl Writer {
             constants,
             ..
         } = names;
+        // lines before any segment is opened are code
+        let segment = symbols.named_segment(b"_TEXT").unwrap_or(0);
         Writer {
             alloc,
             symbols,
@@ -68,7 +70,7 @@ impl Writer {
             has_startup,
             constants,
             constant: 0,
-            segment: 0,
+            segment,
             location: 0,
             procedures: Vec::new(alloc),
             assumed: Assumed {
@@ -83,13 +85,22 @@ impl Writer {
         }
     }
 
-    /// What the segments are laid out by.
-    pub fn plan(&self) -> Plan<'_> {
+    /// What the segments are laid out by, without the names, which take most of the memory.
+    pub fn finish(self) -> Plan {
+        let code = self.symbols.named_segment(b"_TEXT").unwrap_or(0);
+        let Writer {
+            alloc,
+            symbols,
+            entry,
+            has_origin,
+            ..
+        } = self;
         Plan {
-            alloc: self.alloc,
-            symbols: &self.symbols,
-            entry: self.entry,
-            has_origin: self.has_origin,
+            alloc,
+            segments: symbols.into_segments(),
+            code,
+            entry,
+            has_origin,
         }
     }
 
@@ -127,21 +138,22 @@ impl Writer {
             self.anonymous = self.anonymous.saturating_add(1);
             anonymous_name(self.alloc, self.anonymous)?
         } else {
-            self.light()?.known_as(name)?
+            self.light().known_as(name)?
         };
         let text = label_text(self.alloc, written)?;
         self.push(text)
     }
 
     /// What the line of the dialect is written in the light of.
-    fn light(&self) -> Result<Light<'_>, Stop> {
-        Ok(Light {
+    fn light(&self) -> Light<'_> {
+        Light {
             alloc: self.alloc,
             symbols: &self.symbols,
-            here: here(b"$", None)?,
+            at: None,
+            constant: None,
             anonymous: self.anonymous,
             procedure: self.procedures.last().map(|procedure| procedure.name),
-        })
+        }
     }
 
     /// Writes what a line says after its label.
@@ -183,7 +195,7 @@ impl Writer {
     fn open(&mut self, name: Name) -> Result<(), Stop> {
         self.segment = self.symbols.open(segment_name(name)?)?;
         self.location = 0;
-        let has_entry = self.entry.is_some() || self.has_startup || self.symbols.is_tiny;
+        let has_entry = self.entry.is_some() || self.has_startup || self.symbols.segments.is_tiny;
         if has_entry || !name.is(b".CODE") {
             return Ok(());
         }
@@ -215,7 +227,7 @@ impl Writer {
     /// Takes in which segment a segment register is assumed to hold; none if the name is no segment's, as NOTHING.
     fn assume_one(&mut self, register: Name, segment: Name) {
         let number = match self.symbols.get(segment) {
-            Some(Symbol::Segment(number)) => Some(self.symbols.leader(number)),
+            Some(Symbol::Segment(number)) => Some(self.symbols.segments.leader(number)),
             _ if segment.is(b"@DATA") || segment.is(b"DGROUP") => {
                 self.symbols.named_segment(b"_DATA")
             }
@@ -261,7 +273,7 @@ impl Writer {
             segment: self.segment,
             assumed: self.assumed,
         };
-        let lines = instruction_lines(self.light()?, around, first, rest)?;
+        let lines = instruction_lines(self.light(), around, first, rest)?;
         if lines.len() > 1 {
             self.remark = Some(Remark::Repeated);
         }
@@ -286,8 +298,12 @@ impl Writer {
     fn constant(&mut self, name: Name, tokens: &[Token], is_again: bool) -> Result<(), Stop> {
         let number = self.constant;
         self.constant = number.saturating_add(1);
-        let here = constant_here(self.alloc, number, None)?;
-        let value = self.constant_value(number, here, tokens)?;
+        let light = Light {
+            constant: Some(number),
+            ..self.light()
+        };
+        let here = light.here()?;
+        let value = self.constant_value(number, light, tokens)?;
         if let Some(label) = here.plus
             && (names(value.plus, label) || names(value.minus, label))
         {
@@ -298,11 +314,7 @@ impl Writer {
 
     /// The value of a constant: the number that the first pass knew, since distances are known to it alone, or else what
     /// its expression is here.
-    fn constant_value(&self, number: usize, here: Value, tokens: &[Token]) -> Result<Value, Stop> {
-        let light = Light {
-            here,
-            ..self.light()?
-        };
+    fn constant_value(&self, number: usize, light: Light, tokens: &[Token]) -> Result<Value, Stop> {
         let value = value_of(light, tokens);
         let Some(Some(known)) = self.constants.get(number) else {
             return value;
@@ -319,11 +331,11 @@ impl Writer {
         if let Some(name) = name {
             self.label(name)?;
         }
-        let text = data_text(self.light()?, width, tokens)?;
-        if !self.symbols.is_elsewhere(self.segment) {
+        if !self.symbols.segments.is_elsewhere(self.segment) {
+            let text = data_text(self.light(), width, tokens)?;
             return self.push(text);
         }
-        let count = count_of_items(self.light()?, width, tokens)?.all;
+        let count = count_of_items(self.light(), width, tokens)?.all;
         let size = count.checked_mul(width.bytes()).ok_or(Reason::Overflow)?;
         self.location = self.location.checked_add(size).ok_or(Reason::Overflow)?;
         self.numbered(b"ORG ", Value::number(self.location as i64))
@@ -342,7 +354,7 @@ impl Writer {
             self.label(name)?;
         }
         let number = self.symbols.structure(structure)?;
-        let light = self.light()?;
+        let light = self.light();
         let Some(structure) = light.symbols.structures.get(number) else {
             return Ok(());
         };
@@ -362,7 +374,7 @@ impl Writer {
 
     /// Writes an ORG.
     fn origin(&mut self, tokens: &[Token]) -> Result<(), Stop> {
-        let value = value_of(self.light()?, tokens)?;
+        let value = value_of(self.light(), tokens)?;
         let location = value.constant().ok_or(Reason::NotConstant)?;
         match location {
             0..=0xFFFF => self.location = location as u32,
@@ -375,7 +387,7 @@ impl Writer {
     /// Writes what .STARTUP stands for.
     fn startup(&mut self) -> Result<(), Stop> {
         self.enter(b".0")?;
-        if self.symbols.is_tiny {
+        if self.symbols.segments.is_tiny {
             return Ok(());
         }
         let data = self.symbols.named_paragraph(b"_DATA");
@@ -388,7 +400,7 @@ impl Writer {
     fn exit(&mut self, tokens: &[Token]) -> Result<(), Stop> {
         let code = match tokens {
             [] => 0,
-            _ => match value_of(self.light()?, tokens)?.constant() {
+            _ => match value_of(self.light(), tokens)?.constant() {
                 Some(code @ 0..=255) => code,
                 _ => return Err(Stop::Refused(Reason::NotConstant)),
             },

@@ -1,5 +1,5 @@
 //! The second pass: each line becomes lines of the dialect, in the light of all names.
-ghost use Rattle.std.specs.Prelude.{IfOk, IfErr};
+ghost use Rattle.std.specs.Prelude.{◌≡◌, ◌+◌, vec_len, IfOk, IfErr};
 ghost use Rattle.masm_text.specs.UserLines.{IsFailure, IsLine};
 ghost use Rattle.masm_reading.specs.Frames.{IsReading};
 ghost use Rattle.masm.specs.Layouts.{ArePlaced, AreMade, AreTranslation};
@@ -14,7 +14,7 @@ use masm_text::refusal::{Failure, Note, Reason, Refusal, Remark, Stop, refused};
 use std::alloc::{AllocError, Global};
 
 /// How many characters a translation may have.
-const LENGTH_LIMIT: usize = 0x800_0000;
+const LENGTH_LIMIT: usize = 0x200_0000;
 
 /// How many lines a translation may have.
 const LINE_LIMIT: usize = 1_500_000;
@@ -63,7 +63,8 @@ pub fn write(alloc: Global, texts: &[Text], reading: Reading) -> Result<Translat
     if !refusals.is_empty() {
         return Err(Failure::Refused(refusals));
     }
-    let lines = lay(alloc, texts, writer.plan(), placed.as_slice())?;
+    let plan = writer.finish();
+    let lines = lay(texts, &plan, placed.as_slice())?;
     Ok(Translation { lines, notes })
 }
 
@@ -86,6 +87,11 @@ fn write_line(
             push_note(texts, made, place, writer.remark())?;
             Ok(())
         }
+        Err(Stop::Refused(Reason::TooLong)) => {
+            // nothing is made after it
+            made.length = usize::MAX;
+            Ok(())
+        }
         Err(Stop::Refused(reason)) => {
             made.refusals.push(Refusal { place, reason })?;
             Ok(())
@@ -104,7 +110,8 @@ fn push_all(
 ) -> Result<(), AllocError>
     requires line { IsLine texts.now place }
     requires made { AreMade texts.now made.old }
-    ensures { AreMade texts.now made.new }
+    ensures made { AreMade texts.now made.new }
+    ensures all { IfOk result (λ done. vec_len made.new.placed ≡ vec_len made.old.placed + vec_len lines) }
 {
     for text in lines {
         made.length = made.length.saturating_add(text.len());

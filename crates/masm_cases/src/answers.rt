@@ -1,7 +1,7 @@
 //! What becomes of a source, as a case has it.
 use crate::sources::texts_of;
 use anyhow::{Result, bail};
-use masm::origin::{Origin, origin_of};
+use masm::origin::origin_of;
 use masm::translate::translate;
 use masm::translation::Translation;
 use masm_text::place::Place;
@@ -108,10 +108,5 @@ pub fn origin_answer(alloc: Global, text: &str) -> Result<String> {
     let Some((origin, line)) = origin_of(source.as_bytes()) else {
         return Ok(String::from_str(alloc, "-")?);
     };
-    let name = match origin {
-        Origin::Masm => "masm",
-        Origin::Nasm => "nasm",
-        Origin::Dialect => "dialect",
-    };
-    Ok(format!(in alloc; "{name} {line}")?)
+    Ok(format!(in alloc; "{} {line}", origin.name())?)
 }

@@ -20,6 +20,8 @@ struct Form {
     width: Width,
     /// How many words each item is written as; 0 for one item of its width.
     words: u8,
+    /// Whether a DUP in a DUP is written as often as it says. Its items are counted without that.
+    is_whole: bool,
 }
 
 /// The items of a line of data in the dialect.
@@ -34,7 +36,11 @@ struct Items {
 
 /// How many items of this width a line places.
 pub fn count_of_items(light: Light, width: Width, tokens: &[Token]) -> Result<Count, Stop> {
-    let items = items_of(light, form_of(light, width, tokens), tokens, DUP_LIMIT)?;
+    let form = Form {
+        is_whole: false,
+        ..form_of(light, width, tokens)
+    };
+    let items = items_of(light, form, tokens, DUP_LIMIT)?;
     let (first, _) = split_item(tokens);
     let first = match around_dup(first) {
         Some((count, _)) => dup_count(light, count)?,
@@ -69,7 +75,11 @@ fn form_of(light: Light, width: Width, tokens: &[Token]) -> Form {
         Width::Quad => 4,
         Width::Ten => 5,
     };
-    Form { width, words }
+    Form {
+        width,
+        words,
+        is_whole: true,
+    }
 }
 
 /// Whether the token is a label or the name of data.
@@ -104,7 +114,7 @@ fn items_of(light: Light, form: Form, tokens: &[Token], depth: u8) -> Result<Ite
                 let inner = inside(repeated).ok_or(Reason::BadData)?;
                 let once = items_of(light, form, inner, depth - 1)?;
                 let times = dup_count(light, count)?;
-                repeat(&mut items, &once, times)?;
+                repeat(&mut items, form, &once, times)?;
             }
             None => write_item(light, &mut items, form, item)?,
         }
@@ -131,11 +141,11 @@ pub fn instance_count(light: Light, tokens: &[Token]) -> Result<u32, Stop> {
 }
 
 /// Adds items so many times.
-fn repeat(items: &mut Items, once: &Items, times: u32) -> Result<(), Stop> {
+fn repeat(items: &mut Items, form: Form, once: &Items, times: u32) -> Result<(), Stop> {
     let count = once.count.checked_mul(times).ok_or(Reason::Overflow)?;
     items.count = items.count.checked_add(count).ok_or(Reason::Overflow)?;
     items.has_dup = true;
-    if !once.has_dup {
+    if !once.has_dup || !form.is_whole {
         write_number(&mut items.text, times as i64)?;
         items.text.extend_from_slice(b" DUP(")?;
         items.text.extend_from_slice(once.text.as_slice())?;

@@ -74,11 +74,12 @@ impl<'s> Setting<'s> {
     }
 }
 
-/// The prefixes before a mnemonic, the mnemonic and what follows it.
+/// The prefixes before a mnemonic, the mnemonic, what it means to the dialect, and what follows it.
 #[derive(Drop)]
 struct Split<'t, 'a> {
     front: Vec<u8>,
     word: Name,
+    meaning: Option<Meaning>,
     rest: &'t [Token<'a>],
 }
 
@@ -92,9 +93,10 @@ pub fn instruction_lines(
     let Split {
         mut front,
         word,
+        meaning,
         rest,
     } = after_prefixes(light, first, rest)?;
-    let Some(Meaning::Mnemonic(mnemonic)) = meaning_of(word.text()) else {
+    let Some(Meaning::Mnemonic(mnemonic)) = meaning else {
         return other_lines(light, front, word, rest);
     };
     let setting = Setting {
@@ -127,9 +129,10 @@ fn after_prefixes<'t, 'a>(
 ) -> Result<Split<'t, 'a>, Stop> {
     let mut front = Vec::new(light.alloc);
     let mut word = first;
+    let mut meaning = meaning_of(word.text());
     let mut rest = rest;
     while let [second, after @ ..] = rest {
-        if is_prefix(word) {
+        if matches!(meaning, Some(Meaning::Prefix(_))) {
             let Some(next) = second.word() else {
                 break;
             };
@@ -148,8 +151,14 @@ fn after_prefixes<'t, 'a>(
         } else {
             break;
         }
+        meaning = meaning_of(word.text());
     }
-    Ok(Split { front, word, rest })
+    Ok(Split {
+        front,
+        word,
+        meaning,
+        rest,
+    })
 }
 
 /// Whether the instruction has a form that later processors added.
@@ -192,11 +201,6 @@ fn without_colon<'t, 'a>(tokens: &'t [Token<'a>]) -> &'t [Token<'a>] {
         [front @ .., last] if last.is_mark(Mark::Colon) => front,
         _ => tokens,
     }
-}
-
-/// Whether the word is a prefix.
-fn is_prefix(word: Name) -> bool {
-    matches!(meaning_of(word.text()), Some(Meaning::Prefix(_)))
 }
 
 /// The values of at most two operands.
@@ -389,7 +393,7 @@ fn size_of(setting: Setting, value: &Value, other: Option<Value>) -> Result<Opti
 /// the segment of the variable, if it isn't the one that the processor takes.
 fn write_segment(out: &mut Vec<u8>, setting: Setting, value: &Value) -> Result<(), Stop> {
     let needed = match value.segment {
-        Some(segment) if !setting.light.symbols.is_tiny => {
+        Some(segment) if !setting.light.symbols.segments.is_tiny => {
             register_of(setting, segment, value.base)
         }
         _ => None,
@@ -408,8 +412,8 @@ fn register_of(
     segment: usize,
     base: Option<WordRegister>,
 ) -> Option<SegmentRegister> {
-    let symbols = setting.light.symbols;
-    let wanted = Some(symbols.leader(segment));
+    let segments = &setting.light.symbols.segments;
+    let wanted = Some(segments.leader(segment));
     let Assumed { data, extra, stack } = setting.around.assumed;
     let by_stack = matches!(base, Some(WordRegister::Bp));
     if (if by_stack { stack } else { data }) == wanted {
@@ -419,7 +423,7 @@ fn register_of(
         (data, SegmentRegister::Ds),
         (extra, SegmentRegister::Es),
         (
-            Some(symbols.leader(setting.around.segment)),
+            Some(segments.leader(setting.around.segment)),
             SegmentRegister::Cs,
         ),
         (stack, SegmentRegister::Ss),

@@ -207,26 +207,29 @@ const SILENT_DOTS: &str =
     ".STACK .8086 .8088 .LIST .NOLIST .LISTALL .XLIST .SALL .XALL .LALL .CREF .XCREF .NOCREF .LFCOND .SFCOND .TFCOND \
     .LISTIF .NOLISTIF .LISTMACRO .LISTMACROALL .NOLISTMACRO .SEQ .ALPHA .DOSSEG";
 
-/// Directives without one that place nothing, and change nothing here.
-const SILENT: &str = "PUBLIC DOSSEG EXTRN LOCALS NOLOCALS JUMPS NOJUMPS OPTION";
-
-/// Directives that name a later processor.
-const PROCESSORS: &str = ".186 .286 .286C .386 .386P .486 .586 .686 .287 .387 P186 P286 P386";
-
-/// Directives that aren't taken; nor is any other that begins with a dot.
-const OTHERS: &str = "INVOKE LOCAL RECORD UNION IDEAL COMM WHILE";
+/// Directives with a dot that name a later processor.
+const PROCESSORS: &str = ".186 .286 .286C .386 .386P .486 .586 .686 .287 .387";
 
 /// What a directive says that places nothing; `None` if the word is no directive.
 fn without_effect<'t, 'a>(word: Name) -> Option<Statement<'t, 'a>> {
-    let is_dotted = word.text().starts_with(b".");
-    if is_among(word, if is_dotted { SILENT_DOTS } else { SILENT }) {
-        Some(Statement::Nothing)
-    } else if is_among(word, PROCESSORS) {
-        Some(Statement::Remarked(Remark::LaterProcessor))
-    } else if is_dotted || is_among(word, OTHERS) {
-        Some(Statement::Refused(Reason::NotTaken))
-    } else {
-        None
+    match word.text() {
+        [b'.', ..] if is_among(word, SILENT_DOTS) => Some(Statement::Nothing),
+        [b'.', ..] if !is_among(word, PROCESSORS) => Some(Statement::Refused(Reason::NotTaken)),
+        [b'.', ..] | b"P186" | b"P286" | b"P386" => {
+            Some(Statement::Remarked(Remark::LaterProcessor))
+        }
+        b"PUBLIC"
+        | b"DOSSEG"
+        | b"EXTRN"
+        | b"LOCALS"
+        | b"NOLOCALS"
+        | b"JUMPS"
+        | b"NOJUMPS"
+        | b"OPTION" => { Some(Statement::Nothing) }
+        b"INVOKE" | b"LOCAL" | b"RECORD" | b"UNION" | b"IDEAL" | b"COMM" | b"WHILE" => {
+            Some(Statement::Refused(Reason::NotTaken))
+        }
+        _ => None,
     }
 }
 

@@ -1,6 +1,7 @@
 -- Lines that are still to be read.
 -- To be believed by callers of this crate: the headline does not rest on it.
-use Rattle.std.specs.Prelude.{ℕ, ◌≡◌, ◌-◌, List, [], length, take, drop, slice_index_or, Result, IfErr, IfSome}
+use Rattle.std.specs.Prelude.{ℕ, ◌≡◌, ◌≤◌, ◌+◌, ◌-◌, List, [], length, take, drop, slice_index_or}
+use Rattle.std.specs.Prelude.{Result, IfErr, IfSome, IsSomeAnd}
 use Rattle.std.specs.List.{All}
 use Rattle.board_types.specs.TextLines.{text_lines}
 use Rattle.masm_text.specs.UserLines.{IsFailure, IsLine, lines_of, AreRefusals}
@@ -10,6 +11,7 @@ use Rattle.masm_text.specs.declared.refusal.Failure.{Failure}
 use Rattle.masm_text.specs.declared.refusal.Refusal.{Refusal}
 use Rattle.masm_reading.specs.declared.frames.Frame.{Frame}
 use Rattle.masm_reading.specs.declared.frames.Frame.TheVariants.{Given, Made}
+use Rattle.masm_reading.specs.declared.frames.GivenLines.{GivenLines}
 use Rattle.masm_reading.specs.declared.frames.Next.{Next}
 use Rattle.masm_reading.specs.declared.frames.SourceLine.{SourceLine}
 use Rattle.masm_reading.specs.declared.reading.Progress.{Progress}
@@ -34,6 +36,15 @@ IsFrame texts (Made made) = IsLine texts made.place
 abbrev pub IsNext : List Text → Next → Type 0
 IsNext texts step =
     IfSome step.line (λ (line : SourceLine). IsLine texts line.place) × IfSome step.left (IsFrame texts)
+
+-- what is left of a text begins after the line that was read
+abbrev pub Follows : GivenLines → Frame → Type 0
+Follows given (Given rest) = (rest.text ≡ given.text) × (rest.line ≡ given.line + 1)
+Follows given (Made made) = 1 ≤ 0
+
+-- a step that reads a line of a text leaves what follows that line
+abbrev pub LeavesRest : GivenLines → Next → Type 0
+LeavesRest given step = IfSome step.line (λ (line : SourceLine). IsSomeAnd step.left (Follows given))
 
 -- each line is one of the user's, or made of one
 abbrev pub AreLines : List Text → List SourceLine → Type 0

@@ -93,15 +93,13 @@ impl Conditions {
 
     /// Whether the lines here are left out.
     pub fn is_skipped(&self) -> bool {
-        self.open.iter().any(|condition| !condition.is_read)
+        // what stands in lines that are left out isn't read either
+        self.open.last().is_some_and(|last| !last.is_read)
     }
 
     /// Whether an ELSEIF here asks anything: the lines around its IF are read, and no part of it was.
     pub fn is_asked(&self) -> bool {
-        match self.open.as_slice() {
-            [outer @ .., last] => !last.was_read && outer.iter().all(|condition| condition.is_read),
-            [] => false,
-        }
+        self.open.last().is_some_and(|last| !last.was_read)
     }
 
     /// Takes in an IF, whose answer is `holds`; no part of it is read if the lines here are left out.

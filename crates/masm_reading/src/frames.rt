@@ -1,7 +1,7 @@
 //! Lines that are still to be read: of the texts, of macros and of repetitions.
 ghost use Rattle.std.specs.Prelude.{IfOk, IfSome};
 ghost use Rattle.masm_text.specs.UserLines.{IsLine};
-ghost use Rattle.masm_reading.specs.Frames.{IsFrame, IsNext, IsRest, IsWritten};
+ghost use Rattle.masm_reading.specs.Frames.{IsFrame, IsNext, IsRest, IsWritten, LeavesRest};
 
 use board_types::text::next_line;
 use masm_text::place::{Place, Text, bytes_at};
@@ -18,7 +18,7 @@ pub struct SourceLine {
 /// What is left of a text, and how many of its lines are read.
 #[derive(Clone, Copy)]
 pub struct GivenLines<'a> {
-    text: usize,
+    text: u32,
     line: u32,
     rest: &'a [u8],
 }
@@ -42,7 +42,7 @@ pub enum Frame<'a> {
 }
 
 /// All lines of a text.
-pub fn whole<'a>(texts: &'a [Text<'a>], number: usize) -> Frame<'a>
+pub fn whole<'a>(texts: &'a [Text<'a>], number: u32) -> Frame<'a>
     ensures { IsFrame texts.now result }
 {
     Frame::Given(GivenLines {
@@ -107,6 +107,7 @@ fn given_step<'a>(
 ) -> Result<Next<'a>, AllocError>
     requires { IsRest texts.now given.text given.line given.rest.now }
     ensures said { IfOk result (λ step. IfSome step.line (IsWritten texts.now)) }
+    ensures rest { IfOk result (LeavesRest given.entry) }
     ensures sound { IfOk result (IsNext texts.now) }
 {
     let end = Next {

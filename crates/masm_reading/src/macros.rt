@@ -1,12 +1,12 @@
 //! Macros, and lines that are gathered for them and for repetitions.
 use crate::action::Action;
 use masm_text::name::{Key, Name};
-use masm_text::raw::{Binding, bare, split_argument, split_word, with_arguments};
+use masm_text::raw::{Bindings, bare, split_argument, split_word, with_arguments};
 use masm_text::refusal::{Reason, Stop};
 use std::alloc::{AllocError, Global};
 use std::collections::BTreeMap;
 
-/// How many lines may come of macros and of the arguments of repetitions.
+/// How many lines may come of macros and of the arguments of repetitions, and how many names of LOCAL.
 const LINE_LIMIT: u32 = 1_000_000;
 
 /// A macro.
@@ -125,8 +125,9 @@ impl Macros {
                 let mut lines = Vec::new(self.alloc);
                 for text in arguments {
                     self.count(body.len())?;
-                    let binding = vec![in self.alloc; Binding { name, text }]?;
-                    push_bound(self.alloc, &mut lines, body.as_slice(), binding.as_slice())?;
+                    let mut binding = Bindings::new(self.alloc);
+                    binding.bind(name, text)?;
+                    push_bound(self.alloc, &mut lines, body.as_slice(), &binding)?;
                 }
                 Ok(Action::Repeat(lines, 1))
             }
@@ -148,7 +149,7 @@ impl Macros {
         let count = self
             .macros
             .get(&name.key())
-            .map_or(0, |found| found.body.len());
+            .map_or(0, |found| found.body.len().max(found.parameters.len()));
         self.count(count)?;
         let mut lines = Vec::new(self.alloc);
         let Some(found) = self.macros.get(&name.key()) else {
@@ -159,11 +160,7 @@ impl Macros {
         for line in found.body.as_slice() {
             match locals_in(line.as_slice()) {
                 Some(names) => locals = bind_locals(self.alloc, &mut bindings, names, locals)?,
-                None => lines.push(with_arguments(
-                    self.alloc,
-                    line.as_slice(),
-                    bindings.as_slice(),
-                )?)?,
+                None => lines.push(with_arguments(self.alloc, line.as_slice(), &bindings)?)?,
             }
         }
         self.locals = locals;
@@ -191,7 +188,7 @@ fn push_bound(
     alloc: Global,
     lines: &mut Vec<Vec<u8>>,
     body: &[Vec<u8>],
-    bindings: &[Binding],
+    bindings: &Bindings,
 ) -> Result<(), Stop> {
     for line in body {
         lines.push(with_arguments(alloc, line.as_slice(), bindings)?)?;
@@ -239,14 +236,14 @@ fn bindings_of(
     alloc: Global,
     parameters: &[Name],
     arguments: Vec<Vec<u8>>,
-) -> Result<Vec<Binding>, AllocError> {
-    let mut bindings = Vec::new(alloc);
+) -> Result<Bindings, AllocError> {
+    let mut bindings = Bindings::new(alloc);
     for (place, name) in parameters.iter().enumerate() {
         let text = match arguments.get(place) {
             Some(argument) => Vec::from_slice(alloc, argument.as_slice())?,
             None => Vec::new(alloc),
         };
-        bindings.push(Binding { name: *name, text })?;
+        bindings.bind(*name, text)?;
     }
     Ok(bindings)
 }
@@ -262,18 +259,18 @@ fn locals_in(line: &[u8]) -> Option<&[u8]> {
 /// Binds each of the names to a name of its own, and gives how many such names there are then.
 fn bind_locals(
     alloc: Global,
-    bindings: &mut Vec<Binding>,
+    bindings: &mut Bindings,
     list: &[u8],
     count: u32,
 ) -> Result<u32, Stop> {
     let mut count = count;
     for name in names_of(alloc, list)?.as_slice() {
-        count = count.checked_add(1).ok_or(Reason::TooManyLines)?;
+        if count >= LINE_LIMIT {
+            return Err(Stop::Refused(Reason::TooManyLines));
+        }
+        count += 1;
         let text = format!(in alloc; "??{count}")?;
-        bindings.push(Binding {
-            name: *name,
-            text: Vec::from_slice(alloc, text.as_bytes())?,
-        })?;
+        bindings.bind(*name, Vec::from_slice(alloc, text.as_bytes())?)?;
     }
     Ok(count)
 }

@@ -64,14 +64,15 @@ impl Names {
     }
 
     /// What the expressions of a line are read in the light of.
-    pub fn light(&self) -> Result<Light<'_>, Stop> {
-        Ok(Light {
+    pub fn light(&self) -> Light<'_> {
+        Light {
             alloc: self.alloc,
             symbols: &self.symbols,
-            here: here(b"$", Some(self.at))?,
+            at: Some(self.at),
+            constant: None,
             anonymous: self.anonymous,
             procedure: self.procedure.map(|procedure| procedure.name),
-        })
+        }
     }
 
     /// Takes in a line; says whether the second pass is to have it.
@@ -169,7 +170,7 @@ impl Names {
     fn define_model(&mut self, model: Option<Name>) {
         self.symbols.is_loose = false;
         if let Some(model) = model {
-            self.symbols.is_tiny = model.is(b"TINY");
+            self.symbols.segments.is_tiny = model.is(b"TINY");
             self.is_far = model.is(b"MEDIUM") || model.is(b"LARGE") || model.is(b"HUGE");
         }
     }
@@ -193,9 +194,9 @@ impl Names {
         if let [Token::Word(word), paragraph @ ..] = rest
             && word.is(b"AT")
         {
-            let value = value_of(self.light()?, paragraph)?;
+            let value = value_of(self.light(), paragraph)?;
             match value.constant().ok_or(Reason::NotConstant)? {
-                paragraph @ 0..=0xFFFF => self.symbols.place(number, paragraph as u16),
+                paragraph @ 0..=0xFFFF => self.symbols.segments.place(number, paragraph as u16),
                 _ => return Err(Stop::Refused(Reason::Overflow)),
             }
         }
@@ -205,13 +206,16 @@ impl Names {
     /// Has the segments of a list stand after one another, so that one paragraph serves all of them.
     fn define_group(&mut self, name: Name, list: &[Token]) -> Result<(), Stop> {
         let first = first_word(list).ok_or(Reason::UnknownStatement)?;
-        let leader = self.symbols.open(first)?;
+        let leader = match self.symbols.group(name)? {
+            Some(leader) => leader,
+            None => self.symbols.open(first)?,
+        };
         let mut left = Some(list);
         while let Some(list) = left {
             let (item, after) = split_item(list);
             let member = first_word(item).ok_or(Reason::UnknownStatement)?;
             let number = self.symbols.open(member)?;
-            self.symbols.join(number, leader);
+            self.symbols.segments.join(number, leader);
             left = after;
         }
         self.symbols.set(name, Symbol::Segment(leader))
@@ -220,9 +224,9 @@ impl Names {
     /// Takes in an ORG: at 100h, before a second segment is opened, it makes the program one of a single segment.
     fn define_origin(&mut self, tokens: &[Token]) -> Result<(), Stop> {
         self.current_segment()?;
-        let value = value_of(self.light()?, tokens)?;
+        let value = value_of(self.light(), tokens)?;
         if value.constant() == Some(0x100) && self.symbols.segments.len() == 1 {
-            self.symbols.is_tiny = true;
+            self.symbols.segments.is_tiny = true;
         }
         self.begin_run();
         Ok(())
@@ -248,6 +252,7 @@ impl Names {
 
     /// Gives a name before LABEL its meaning.
     fn define_labelled(&mut self, name: Name, class: Option<Type>) -> Result<(), Stop> {
+        self.current_segment()?;
         let symbol = match class {
             Some(Type::Data(width)) => {
                 return self.define_variable(name, Some(width), 0, Some(Count::ONE));
@@ -283,10 +288,9 @@ impl Names {
         tokens: &[Token],
         is_again: bool,
     ) -> Result<(), Stop> {
-        let number = self.constants.len();
         let light = Light {
-            here: constant_here(self.alloc, number, Some(self.at))?,
-            ..self.light()?
+            constant: Some(self.constants.len()),
+            ..self.light()
         };
         let value = known(value_of(light, tokens))?;
         self.constants
@@ -305,7 +309,7 @@ impl Names {
         tokens: &[Token],
     ) -> Result<(), Stop> {
         self.current_segment()?;
-        let count = known(count_of_items(self.light()?, width, tokens))?;
+        let count = known(count_of_items(self.light(), width, tokens))?;
         if let Some(name) = name {
             self.define_variable(name, Some(width), 0, count)?;
         }
@@ -323,7 +327,7 @@ impl Names {
         self.current_segment()?;
         let number = self.symbols.structure(structure)?;
         let size = self.symbols.size_of(number);
-        let times = known(instance_count(self.light()?, times))?;
+        let times = known(instance_count(self.light(), times))?;
         if let Some(name) = name {
             let count = times.map(|times| Count {
                 all: times,
@@ -349,7 +353,7 @@ impl Names {
             }
             Statement::Nothing => Ok(()),
             Statement::Data(name, width, tokens) => {
-                let count = count_of_items(self.light()?, width, tokens)?.all;
+                let count = count_of_items(self.light(), width, tokens)?.all;
                 let items = Vec::from_slice(self.alloc, after_words(line, name.is_some()))?;
                 let field = Field {
                     width,
@@ -378,17 +382,6 @@ fn known<T: Copy>(found: Result<T, Stop>) -> Result<Option<T>, Stop> {
         Err(Stop::Memory) => Err(Stop::Memory),
         Err(Stop::Refused(_)) => Ok(None),
     }
-}
-
-/// The place of a line whose first byte the name stands for.
-pub fn here(name: &[u8], at: Option<Location>) -> Result<Value, Stop> {
-    Ok(Value::label(Name::of(name).ok_or(Reason::LongName)?, at))
-}
-
-/// The place that `$` stands for in the constant of this number. The label that names it is one that no user can write.
-pub fn constant_here(alloc: Global, number: usize, at: Option<Location>) -> Result<Value, Stop> {
-    let text = format!(in alloc; "..{number}")?;
-    here(text.as_bytes(), at)
 }
 
 /// What follows the first word of a line, or its first two.

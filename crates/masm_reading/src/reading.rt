@@ -15,7 +15,7 @@ use std::alloc::{AllocError, Global};
 const STEP_LIMIT: u32 = 2_000_000;
 
 /// How many characters the lines may have that are left to the second pass.
-const LENGTH_LIMIT: usize = 0x800_0000;
+const LENGTH_LIMIT: usize = 0x200_0000;
 
 /// How deep macros and included texts may stand in one another.
 const DEPTH_LIMIT: usize = 64;
@@ -126,6 +126,10 @@ impl<'a> Progress<'a> {
         self.last = Some(place);
         match state.take(line.text.as_slice()) {
             Ok(action) => self.act(texts, state, line, action),
+            Err(Stop::Refused(reason)) if reason.ends_reading() => {
+                self.end(texts, place, reason);
+                Ok(())
+            }
             Err(Stop::Refused(reason)) => {
                 self.refusals.push(Refusal { place, reason })?;
                 Ok(())
@@ -220,10 +224,10 @@ impl<'a> Progress<'a> {
 }
 
 /// The number of the first text of this name, however its letters are written.
-fn number_of(texts: &[Text], name: &[u8]) -> Option<usize>
+fn number_of(texts: &[Text], name: &[u8]) -> Option<u32>
     ensures { IfNone result (IsNotGiven texts.now name.now) }
 {
-    let mut number = 0usize;
+    let mut number = 0u32;
     for text in texts {
         if text.name.eq_ignore_ascii_case(name) {
             return Some(number);

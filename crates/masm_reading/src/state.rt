@@ -3,9 +3,8 @@ use crate::action::Action;
 use crate::condition::{ConditionLine, Conditions, Question, condition_line};
 use crate::macros::{Macros, Purpose, arguments_of, characters_of, names_of};
 use crate::names::Names;
-use masm_line::statement::is_among;
 use masm_text::name::Name;
-use masm_text::raw::{Binding, bare, split_argument, split_word, with_arguments};
+use masm_text::raw::{Bindings, bare, split_argument, split_word, with_arguments};
 use masm_text::refusal::{Reason, Stop};
 use masm_text::token::{after_blanks, tokens_of};
 use masm_value::expression::value_of;
@@ -19,7 +18,7 @@ pub struct State {
     conditions: Conditions,
     names: Names,
     /// The names that stand for texts.
-    texts: Vec<Binding>,
+    texts: Bindings,
     /// The character that ends a COMMENT.
     comment: Option<u8>,
     /// Whether END has come.
@@ -34,7 +33,7 @@ impl State {
             macros: Macros::new(alloc),
             conditions: Conditions::new(alloc),
             names: Names::new(alloc),
-            texts: Vec::new(alloc),
+            texts: Bindings::new(alloc),
             comment: None,
             is_ended: false,
         }
@@ -66,7 +65,7 @@ impl State {
     pub fn finish(self) -> Names {
         let State { mut names, .. } = self;
         if names.symbols.segments.len() <= 1 && names.entry.is_none() {
-            names.symbols.is_tiny = true;
+            names.symbols.segments.is_tiny = true;
         }
         names
     }
@@ -147,10 +146,8 @@ impl State {
             && (second.is(b"EQU") || second.is(b"TEXTEQU"))
             && is_text(text)
         {
-            self.texts.push(Binding {
-                name: first,
-                text: Vec::from_slice(self.alloc, bare(text))?,
-            })?;
+            self.texts
+                .bind(first, Vec::from_slice(self.alloc, bare(text))?)?;
             return Ok(Action::Leave);
         }
         if let [b':', later @ ..] = after_blanks(after)
@@ -163,7 +160,7 @@ impl State {
             return Ok(Action::Call(vec![in self.alloc; label, call]?));
         }
         if !self.texts.is_empty() {
-            let replaced = with_arguments(self.alloc, line, self.texts.as_slice())?;
+            let replaced = with_arguments(self.alloc, line, &self.texts)?;
             if replaced.as_slice() != line {
                 self.macros.count(1)?;
                 return Ok(Action::Call(vec![in self.alloc; replaced]?));
@@ -217,7 +214,7 @@ impl State {
     /// The number that an expression is here.
     fn number_of(&self, text: &[u8]) -> Result<i64, Stop> {
         let tokens = tokens_of(self.alloc, text)?;
-        let value = value_of(self.names.light()?, tokens.as_slice())?;
+        let value = value_of(self.names.light(), tokens.as_slice())?;
         Ok(value.constant().ok_or(Reason::NotConstant)?)
     }
 
@@ -225,8 +222,7 @@ impl State {
     fn is_defined(&self, text: &[u8]) -> bool {
         match split_word(text) {
             Some((name, _)) => {
-                self.names.symbols.get(name).is_some()
-                    || self.texts.iter().any(|text| text.name.is(name.text()))
+                self.names.symbols.get(name).is_some() || self.texts.get(name).is_some()
             }
             None => false,
         }
@@ -276,7 +272,12 @@ impl State {
 /// Whether what follows the first word makes it a name, whatever word it is.
 fn is_name(after: &[u8]) -> bool {
     match split_word(after) {
-        Some((second, _)) => is_among(second, "DB DW DD DQ DT EQU"),
+        Some((second, _)) => {
+            matches!(
+                second.text(),
+                b"DB" | b"DW" | b"DD" | b"DQ" | b"DT" | b"EQU"
+            )
+        }
         None => matches!(after_blanks(after), [b'=', ..]),
     }
 }

@@ -14,6 +14,8 @@ pub struct Name {
     letters: [u8; 31],
     /// As the user has spelled them.
     spelled: [u8; 31],
+    /// How many characters it has.
+    length: u8,
 }
 
 impl Name {
@@ -26,17 +28,26 @@ impl Name {
         spelled[..word.len()].copy_from_slice(word);
         let mut letters = spelled;
         letters[..word.len()].make_ascii_uppercase();
-        Some(Name { letters, spelled })
+        Some(Name {
+            letters,
+            spelled,
+            length: word.len() as u8,
+        })
     }
 
     /// The characters, in upper case.
     pub fn text(&self) -> &[u8] {
-        before_zeros(&self.letters)
+        self.front(&self.letters)
     }
 
     /// The characters as the user has spelled them.
     pub fn spelling(&self) -> &[u8] {
-        before_zeros(&self.spelled)
+        self.front(&self.spelled)
+    }
+
+    /// As many characters as the word has.
+    fn front<'a>(&self, letters: &'a [u8; 31]) -> &'a [u8] {
+        &letters[..(self.length as usize).min(31)]
     }
 
     /// The key by which tables have it, however it is spelled.
@@ -75,16 +86,7 @@ impl Name {
                 length += 3;
             }
         }
-        Name::of(before_zeros(&letters))
-    }
-}
-
-/// The characters of a word that is filled up with zeros.
-fn before_zeros(letters: &[u8; 31]) -> &[u8] {
-    let length = letters.iter().position(|byte| *byte == 0);
-    match length {
-        Some(length) => &letters[..length],
-        None => letters,
+        Name::of(letters.get(..length)?)
     }
 }
 

@@ -13,7 +13,7 @@ pub struct Text<'a> {
 #[derive(Clone, Copy, PartialEq, Eq, PartialOrd, Ord)]
 pub struct Place {
     /// 0 for the source, 1 for the first included text, and so on.
-    pub text: usize,
+    pub text: u32,
     /// From 1.
     pub line: u32,
 }
@@ -26,10 +26,10 @@ pub struct Line {
 }
 
 /// The bytes of the text of this number; none if there is no such text.
-pub fn bytes_at<'a>(texts: &'a [Text<'a>], number: usize) -> &'a [u8]
+pub fn bytes_at<'a>(texts: &'a [Text<'a>], number: u32) -> &'a [u8]
     ensures { result.now ≡ bytes_of (slice_get texts.now number) }
 {
-    match texts.get(number) {
+    match texts.get(number as usize) {
         Some(text) => text.bytes,
         None => &[],
     }

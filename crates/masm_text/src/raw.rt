@@ -1,10 +1,11 @@
 //! Lines as they stand, before they are read as tokens: comments, words, arguments and parameters.
 ghost use Rattle.std.specs.Prelude.{◌≡◌, ◌≤◌, ◌<◌, length, take, IfSome};
 
-use crate::name::Name;
+use crate::name::{Key, Name};
 use crate::refusal::{Reason, Stop};
 use crate::token::{after_blanks, begins_word, continues_word, text_length, word_length};
-use std::alloc::Global;
+use std::alloc::{AllocError, Global};
+use std::collections::BTreeMap;
 
 /// The line without its comment, which begins with a semicolon outside quotes.
 pub fn without_comment(line: &[u8]) -> &[u8]
@@ -78,18 +79,45 @@ pub fn bare(argument: &[u8]) -> &[u8] {
     }
 }
 
-/// A parameter of a macro, or a name that is local to it, and the text that stands for it.
+/// Names, as the parameters of a macro, and the texts that stand for them.
 #[derive(Drop)]
-pub struct Binding {
-    pub name: Name,
-    pub text: Vec<u8>,
+pub struct Bindings {
+    texts: BTreeMap<Key, Vec<u8>>,
+}
+
+impl Bindings {
+    /// No names.
+    pub fn new(alloc: Global) -> Bindings {
+        Bindings {
+            texts: BTreeMap::new(alloc),
+        }
+    }
+
+    /// Whether there are no names.
+    pub fn is_empty(&self) -> bool {
+        self.texts.len() == 0
+    }
+
+    /// The text that stands for a name; `None` if none does.
+    pub fn get(&self, name: Name) -> Option<&[u8]> {
+        let text = self.texts.get(&name.key())?;
+        Some(text.as_slice())
+    }
+
+    /// Has a text stand for a name, unless one does already.
+    pub fn bind(&mut self, name: Name, text: Vec<u8>) -> Result<(), AllocError> {
+        if self.get(name).is_none() {
+            let _ = self.texts.insert(name.key(), text)?;
+        }
+        Ok(())
+    }
 }
 
 /// How many characters may come of a line when its parameters are replaced, but for the last of them.
 const LENGTH_LIMIT: usize = 4096;
 
 /// A line of a macro's body with its parameters replaced; between quotes only those beside which `&` stands.
-pub fn with_arguments(alloc: Global, line: &[u8], bindings: &[Binding]) -> Result<Vec<u8>, Stop> {
+pub fn with_arguments(alloc: Global, line: &[u8], bindings: &Bindings) -> Result<Vec<u8>, Stop> {
     let mut made = Vec::new(alloc);
     let mut quote = None;
     let mut rest = line;
@@ -126,7 +154,7 @@ fn quote_after(quote: Option<u8>, byte: u8) -> Option<u8> {
 /// parameter has `&` beside it.
 fn bound<'a, 'b>(
     line: &'a [u8],
-    bindings: &'b [Binding],
+    bindings: &'b Bindings,
     is_within: bool,
 ) -> Option<(&'b [u8], &'a [u8])>
     ensures { IfSome result (λ p. length p.1.now < length line.now) }
@@ -142,13 +170,10 @@ fn bound<'a, 'b>(
         return None;
     }
     let (word, after) = word.split_at(word_length(word));
-    let name = Name::of(word)?;
-    let binding = bindings
-        .iter()
-        .find(|binding| binding.name.is(name.text()))?;
+    let text = bindings.get(Name::of(word)?)?;
     match after {
-        [b'&', after @ ..] => Some((binding.text.as_slice(), after)),
+        [b'&', after @ ..] => Some((text, after)),
         _ if is_within && !has_mark => None,
-        _ => Some((binding.text.as_slice(), after)),
+        _ => Some((text, after)),
     }
 }

@@ -49,18 +49,28 @@ pub enum Reason {
     /// A directive of a later assembler, or one that has no meaning here.
     #[error("this directive isn't taken")]
     NotTaken,
-    /// Nothing is read after it.
     #[error("macros and included texts may stand 64 deep")]
     TooDeep,
-    /// Nothing is read after it.
     #[error("more than 1,000,000 lines come of macros")]
     TooManyLines,
+    #[error("more than 200,000 names")]
+    TooManyNames,
     #[error("too much comes of this line")]
     TooLong,
     #[error("ENDM, ENDIF, ENDS or the end of COMMENT is missing")]
     NoEnd,
     #[error("there is nothing here that it ends")]
     NothingToEnd,
+}
+
+impl Reason {
+    /// Whether nothing is read after a line that is refused so: the next ones might cost as much, and be refused as well.
+    pub fn ends_reading(self) -> bool {
+        matches!(
+            self,
+            Reason::TooDeep | Reason::TooManyLines | Reason::TooManyNames | Reason::TooLong
+        )
+    }
 }
 
 /// What a line is taken for that has another effect with MASM.

@@ -65,9 +65,12 @@ impl<'a> Token<'a> {
     }
 }
 
+/// How many tokens a line has room for at first.
+const USUAL_LENGTH: usize = 12;
+
 /// The tokens of a line, which has no comment.
 pub fn tokens_of<'a>(alloc: Global, line: &'a [u8]) -> Result<Vec<Token<'a>>, Stop> {
-    let mut tokens = Vec::new(alloc);
+    let mut tokens = Vec::with_capacity(alloc, USUAL_LENGTH)?;
     let mut rest = after_blanks(line);
     // a directive as .DATA; elsewhere a dot stands before a field
     if let [b'.', ..] = rest {

@@ -1,7 +1,7 @@
 //! Expressions.
-use crate::operator::{Infix, Prefix};
+use crate::operator::{Infix, Prefix, typed};
 use crate::symbol::Symbols;
-use crate::value::{Kind, Type, Value, Width};
+use crate::value::{Kind, Location, Type, Value, Width};
 use masm_text::name::Name;
 use masm_text::number::Spelling;
 use masm_text::refusal::{Reason, Stop};
@@ -42,8 +42,10 @@ struct Reader {
 pub struct Light<'s> {
     pub alloc: Global,
     pub symbols: &'s Symbols,
-    /// The place of the line's first byte.
-    pub here: Value,
+    /// Where the line's first byte stands, if that is known.
+    pub at: Option<Location>,
+    /// The number of the constant that the line defines, if it defines one.
+    pub constant: Option<usize>,
     /// How many labels `@@` came before the line.
     pub anonymous: u32,
     /// The procedure around the line.
@@ -51,6 +53,15 @@ pub struct Light<'s> {
 }
 
 impl<'s> Light<'s> {
+    /// The place of the line's first byte. In a constant's line its label is one that no user can write.
+    pub fn here(&self) -> Result<Value, Stop> {
+        let name = match self.constant {
+            None => Name::of(b"$"),
+            Some(number) => Name::of(format!(in self.alloc; "..{number}")?.as_bytes()),
+        };
+        Ok(Value::label(name.ok_or(Reason::LongName)?, self.at))
+    }
+
     /// The name by which a label is known here: one of the procedure's own, if it has one.
     pub fn known_as(&self, name: Name) -> Result<Name, AllocError> {
         if !self.symbols.has_locals {
@@ -82,8 +93,8 @@ pub fn value_of(light: Light, tokens: &[Token]) -> Result<Value, Stop> {
 
 /// Whether a token is `b` or `w` before a dot, which is emu8086's BYTE PTR or WORD PTR.
 fn is_shorthand(light: Light, token: Token, next: Option<&Token>) -> bool {
-    let is_letter = token.is_word(b"B") || token.is_word(b"W");
-    is_letter && !is_defined(light, token) && next.is_some_and(|next| next.is_mark(Mark::Dot))
+    let is_before_dot = next.is_some_and(|next| next.is_mark(Mark::Dot));
+    is_before_dot && (token.is_word(b"B") || token.is_word(b"W")) && !is_defined(light, token)
 }
 
 /// Whether the token is a name that the source defines, though it is an operator elsewhere.
@@ -189,7 +200,7 @@ impl Reader {
                 self.waiting.push(waiting)?;
                 break;
             }
-            apply(&mut self.values, light.here, waiting)?;
+            apply(&mut self.values, light, waiting)?;
         }
         Ok(())
     }
@@ -207,11 +218,12 @@ impl Reader {
     }
 }
 
-/// Applies an operator to the last values, in a line that stands at `here`.
-fn apply(values: &mut Vec<Value>, here: Value, waiting: Waiting) -> Result<(), Stop> {
+/// Applies an operator to the last values.
+fn apply(values: &mut Vec<Value>, light: Light, waiting: Waiting) -> Result<(), Stop> {
     let right = values.pop().ok_or(Reason::BadExpression)?;
     let value = match waiting {
-        Waiting::Prefix(prefix) => prefix.apply(here, right)?,
+        Waiting::Prefix(Prefix::This) => typed(right, light.here()?)?,
+        Waiting::Prefix(prefix) => prefix.apply(right)?,
         Waiting::Infix(infix) => {
             let left = values.pop().ok_or(Reason::BadExpression)?;
             infix.apply(left, right)?
@@ -249,7 +261,7 @@ fn operand(light: Light, token: Token) -> Result<Value, Stop> {
             _ => Ok(light.symbols.value(light.known_as(name)?)?),
         },
         Token::Mark(Mark::Unknown) => Ok(Value::number(0)),
-        Token::Mark(Mark::Here) => Ok(light.here),
+        Token::Mark(Mark::Here) => light.here(),
         Token::Text(..) | Token::Mark(_) => Err(Stop::Refused(Reason::BadExpression)),
     }
 }

@@ -3,5 +3,6 @@
 
 pub mod expression;
 pub mod operator;
+pub mod segment;
 pub mod symbol;
 pub mod value;

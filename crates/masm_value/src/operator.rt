@@ -90,10 +90,10 @@ impl Prefix {
         }
     }
 
-    /// What it makes of its operand in a line that stands at `here`.
-    pub fn apply(self, here: Value, value: Value) -> Result<Value, Reason> {
+    /// What it makes of its operand; THIS makes nothing without the place of its line.
+    pub fn apply(self, value: Value) -> Result<Value, Reason> {
         match self {
-            Prefix::This => typed(value, here),
+            Prefix::This => Err(Reason::BadExpression),
             Prefix::Plus => Ok(value),
             Prefix::Minus => Value::number(0).minus(value),
             Prefix::Not => Ok(Value::number(!number_of(&value)?)),
@@ -293,7 +293,7 @@ fn size_of(value: &Value, count: u32) -> Result<Value, Reason> {
 }
 
 /// The value with a type.
-fn typed(left: Value, right: Value) -> Result<Value, Reason> {
+pub fn typed(left: Value, right: Value) -> Result<Value, Reason> {
     match (left.kind, right.kind) {
         (Kind::Type(Type::Near), _) => Ok(right.with_kind(Kind::Near)),
         (Kind::Type(Type::Far), _) => Ok(right.with_kind(Kind::Far)),

@@ -1,4 +1,5 @@
 //! The names of a source.
+use crate::segment::Segments;
 use crate::value::{Count, Kind, Location, Type, Value, Width};
 use dialect::meaning::{Meaning, meaning_of};
 use dialect::register::Register;
@@ -50,34 +51,24 @@ pub struct Structure {
     pub size: u32,
 }
 
-/// A segment.
-#[derive(Clone, Copy)]
-pub struct Segment {
-    pub name: Name,
-    /// The paragraph that AT gives.
-    pub paragraph: Option<u16>,
-    /// The number of the first segment of its group, or its own.
-    pub leader: usize,
-}
-
 /// The names of a source.
 #[derive(Drop)]
 pub struct Symbols {
     entries: BTreeMap<Key, Symbol>,
     values: Vec<Value>,
-    /// The segments in the order in which they are opened first.
-    pub segments: Vec<Segment>,
+    pub segments: Segments,
     pub structures: Vec<Structure>,
-    /// Whether the whole program is one segment that begins at 100h.
-    pub is_tiny: bool,
     /// Whether emu8086's rules hold, and not MASM's: the source names no segment.
     pub is_loose: bool,
     /// Whether a procedure has a label of its own that has another one's name.
     pub has_locals: bool,
 }
 
-/// How many segments a program may have; each begins 4096 paragraphs after the one before it.
-const SEGMENT_LIMIT: usize = 14;
+/// How many names a source may define.
+const NAME_LIMIT: usize = 200_000;
+
+/// How many bytes a structure may have.
+const STRUCTURE_LIMIT: u32 = 0x1_0000;
 
 impl Symbols {
     /// No names.
@@ -85,9 +76,8 @@ impl Symbols {
         Symbols {
             entries: BTreeMap::new(alloc),
             values: Vec::new(alloc),
-            segments: Vec::new(alloc),
+            segments: Segments::new(alloc),
             structures: Vec::new(alloc),
-            is_tiny: false,
             is_loose: true,
             has_locals: false,
         }
@@ -100,6 +90,9 @@ impl Symbols {
 
     /// Gives a name its meaning, whatever it had.
     pub fn set(&mut self, name: Name, symbol: Symbol) -> Result<(), Stop> {
+        if self.entries.len() >= NAME_LIMIT && self.get(name).is_none() {
+            return Err(Stop::Refused(Reason::TooManyNames));
+        }
         self.entries.insert(name.key(), symbol)?;
         Ok(())
     }
@@ -155,45 +148,28 @@ impl Symbols {
         if let Some(Symbol::Segment(number)) = self.get(name) {
             return Ok(number);
         }
-        let number = self.segments.len();
-        if number >= SEGMENT_LIMIT {
-            return Err(Stop::Refused(Reason::TooManySegments));
-        }
+        let number = self.segments.next()?;
         self.define(name, Symbol::Segment(number))?;
-        self.segments.push(Segment {
-            name,
-            paragraph: None,
-            leader: number,
-        })?;
+        self.segments.push(name)?;
         Ok(number)
     }
 
-    /// Has a segment stand at the paragraph that AT gives.
-    pub fn place(&mut self, number: usize, paragraph: u16) {
-        if let Some(segment) = self.segments.get_mut(number) {
-            segment.paragraph = Some(paragraph);
+    /// The number of the first segment of the group of this name; `None` if nothing has the name, and refused if
+    /// something else has it.
+    pub fn group(&self, name: Name) -> Result<Option<usize>, Reason> {
+        match self.get(name) {
+            None => Ok(None),
+            Some(Symbol::Segment(number)) if !self.segments.is_named(number, name) => {
+                Ok(Some(number))
+            }
+            _ => Err(Reason::DefinedTwice),
         }
     }
 
-    /// Has a segment stand after those of a group that `leader` begins.
-    pub fn join(&mut self, number: usize, leader: usize) {
-        if let Some(segment) = self.segments.get_mut(number) {
-            segment.leader = leader;
-        }
-    }
-
-    /// The number of the first segment of the group in which this one stands.
-    pub fn leader(&self, number: usize) -> usize {
-        self.segments
-            .get(number)
-            .map_or(number, |segment| segment.leader)
-    }
-
-    /// Whether AT gives the segment a paragraph, so that nothing is placed there.
-    pub fn is_elsewhere(&self, number: usize) -> bool {
-        self.segments
-            .get(number)
-            .is_some_and(|segment| segment.paragraph.is_some())
+    /// The segments alone.
+    pub fn into_segments(self) -> Segments {
+        let Symbols { segments, .. } = self;
+        segments
     }
 
     /// How many bytes a structure has.
@@ -225,7 +201,10 @@ impl Symbols {
             .bytes()
             .checked_mul(field.count)
             .ok_or(Reason::Overflow)?;
-        structure.size = offset.checked_add(size).ok_or(Reason::Overflow)?;
+        structure.size = offset
+            .checked_add(size)
+            .filter(|size| *size <= STRUCTURE_LIMIT)
+            .ok_or(Reason::Overflow)?;
         structure.fields.push(field)?;
         Ok(offset)
     }
@@ -235,20 +214,6 @@ impl Symbols {
         match self.get(name) {
             Some(Symbol::Structure(number)) => Ok(number),
             _ => Err(Reason::UnknownStatement),
-        }
-    }
-
-    /// The paragraph of a segment.
-    pub fn paragraph(&self, number: usize) -> i64 {
-        let Some(segment) = self.segments.get(self.leader(number)) else {
-            return 0x100;
-        };
-        match segment.paragraph {
-            Some(paragraph) => paragraph as i64,
-            None if !self.is_tiny && segment.leader < SEGMENT_LIMIT => {
-                0x1000 * (segment.leader as i64 + 1)
-            }
-            None => 0x100,
         }
     }
 
@@ -262,7 +227,8 @@ impl Symbols {
 
     /// The paragraph of the segment of this name, or else of the first one.
     pub fn named_paragraph(&self, word: &[u8]) -> i64 {
-        self.paragraph(self.named_segment(word).unwrap_or(0))
+        self.segments
+            .paragraph(self.named_segment(word).unwrap_or(0))
     }
 
     /// The value of a word in an expression.
@@ -298,7 +264,7 @@ impl Symbols {
                 segment: Some(variable.segment),
                 ..Value::label(name, variable.at)
             },
-            Symbol::Segment(number) => paragraph_value(self.paragraph(number)),
+            Symbol::Segment(number) => paragraph_value(self.segments.paragraph(number)),
             Symbol::Structure(number) => Value {
                 number: self.size_of(number) as i64,
                 ..Value::of(Kind::Structure)
