@@ -1,6 +1,6 @@
 -- What a step writes to memory, counted on any bus, and the words of data, on which its clocks depend: they are those
 -- that it reads and those that it writes (8086 Family User's Manual, "Instruction Set").
--- Laws: claims above the definitions, each proved as the contract of a function.
+-- To be believed by callers of this crate: the headline does not rest on it.
 use Rattle.std.specs.Prelude.{ℕ, ◌≡◌, ◌+◌, ◌*◌, ◌==◌, Bool, true, false, cond, ◌&&◌, if◌then◌else◌, Some}
 use Rattle.board_types.specs.declared.choice.ClockTable.{ClockTable}
 use Rattle.bus.specs.Bus.{BusMeaning}

@@ -1,0 +1,9 @@
+pub mod Flow
+pub mod StackMove
+pub mod Changed
+pub mod Reached
+pub mod StepClocks
+pub mod FormLaws
+pub mod AccessLaws
+pub mod Starts
+pub mod NoMore
