@@ -7,6 +7,9 @@ use Rattle.board_plain.specs.declared.stop.Stop.{Stop as End}
 use Rattle.board_plain.specs.Plain.{Plain, after_clock, after_clocks, clock_of}
 use Rattle.events_laws.proofs.KeyToCome.{key_waits}
 use Rattle.events_laws.specs.WithKey.{with_key}
+use Rattle.probe.specs.declared.moments.Second.{Second}
+use Rattle.probe.specs.declared.moments.Trial.{Trial}
+use Rattle.probe.specs.Moments.{key_tried, second_tried, with_second, with_tried}
 use Rattle.probe.specs.declared.stops.Stop.{Stop}
 use Rattle.probe.specs.ProbeStops.{EndsAt, IsEndOf, meeting, meeting_at, NoneMet}
 use Rattle.probe.proofs.Waiting.{clock_same, meeting_waits, none_waited, none_waits}
@@ -95,13 +98,95 @@ pub past_end_back : (stops : List Stop) (n : ℕ) (s : Plain) (key : StampedKey)
 past_end_back stops n s key None before none = none_waited stops n s key before none
 past_end_back stops n s key (Some end) before is = end_waited stops n s key end is before
 
--- a board that runs without the key up to before its stamp, gets it there and goes on, ends as one that had it from the
--- start
-pub ends_with_key : (stops : List Stop) (m n : ℕ) (s p : Plain) (key : StampedKey) (end : Option End) → p ≡ after_clocks s m → clock_of p ≡ clock_of s + m
-    → clock_of s + m < key.stamp → NoneMet stops m s → IsEndOf stops n (with_key p key) end → IsEndOf stops (m + n) (with_key s key) end
-ends_with_key stops m n s p key end is clock before none ends =
-    ends_on stops m n (with_key s key) (with_key p key) end
-    (ap (λ (q : Plain). with_key q key) is ∙ sym (key_waits m s key before))
-    (clock_same p key ∙ clock ∙ ap (λ c. c + m) (sym (clock_same s key)))
-    (none_waits stops m s key before none)
+-- the keys of a trial, of which a second one comes no sooner than the first
+
+second_clock : (second : Option Second) (s : Plain) (stamp : ℕ) → clock_of (with_second second s stamp) ≡ clock_of s
+second_clock None s stamp = refl
+second_clock (Some second) s stamp = clock_same s (second_tried second stamp)
+
+pub tried_clock : (s : Plain) (trial : Trial) (stamp : ℕ) → clock_of (with_tried s trial stamp) ≡ clock_of s
+tried_clock s trial stamp =
+    second_clock trial.second (with_key s (key_tried trial stamp)) stamp ∙ clock_same s (key_tried trial stamp)
+
+-- a bound holds of the board with the first key as of the one without
+still_before : (s : Plain) (key : StampedKey) (n stamp : ℕ) → clock_of s + n < stamp → clock_of (with_key s key) + n < stamp
+still_before s key n stamp before = subst (λ c. c + n < stamp) (sym (clock_same s key)) before
+
+second_waits : (second : Option Second) (m : ℕ) (s : Plain) (stamp : ℕ) → clock_of s + m < stamp
+    → after_clocks (with_second second s stamp) m ≡ with_second second (after_clocks s m) stamp
+second_waits None m s stamp before = refl
+second_waits (Some second) m s stamp before = key_waits m s (second_tried second stamp) (omega (arith, before))
+
+tried_waits : (m : ℕ) (s : Plain) (trial : Trial) (stamp : ℕ) → clock_of s + m < stamp
+    → after_clocks (with_tried s trial stamp) m ≡ with_tried (after_clocks s m) trial stamp
+tried_waits m s trial stamp before =
+    second_waits trial.second m (with_key s (key_tried trial stamp)) stamp (still_before s (key_tried trial stamp) m stamp before)
+    ∙ ap (λ (p : Plain). with_second trial.second p stamp) (key_waits m s (key_tried trial stamp) before)
+
+none_second : (second : Option Second) (stops : List Stop) (n : ℕ) (s : Plain) (stamp : ℕ) → clock_of s + n < stamp
+    → NoneMet stops n s → NoneMet stops n (with_second second s stamp)
+none_second None stops n s stamp before none = none
+none_second (Some second) stops n s stamp before none = none_waits stops n s (second_tried second stamp) (omega (arith, before)) none
+
+none_tried : (stops : List Stop) (n : ℕ) (s : Plain) (trial : Trial) (stamp : ℕ) → clock_of s + n < stamp
+    → NoneMet stops n s → NoneMet stops n (with_tried s trial stamp)
+none_tried stops n s trial stamp before none =
+    none_second trial.second stops n (with_key s (key_tried trial stamp)) stamp (still_before s (key_tried trial stamp) n stamp before)
+    (none_waits stops n s (key_tried trial stamp) before none)
+
+second_end : (second : Option Second) (stops : List Stop) (m : ℕ) (s : Plain) (stamp : ℕ) (end : End)
+    → EndsAt stops m s end → clock_of s + m < stamp → EndsAt stops m (with_second second s stamp) end
+second_end None stops m s stamp end is before = is
+second_end (Some second) stops m s stamp end is before =
+    end_waits stops m m s (second_tried second stamp) end is (omega arith) (omega (arith, before))
+
+longer_end : (stops : List Stop) (m n : ℕ) (s : Plain) (end : End) → m ≤ n → EndsAt stops m s end → EndsAt stops n s end
+longer_end stops m n s end longer is = record {
+  passed = is.passed;
+  after_start = is.after_start;
+  within = let within = is.within in omega (arith, within, longer);
+  none_before = is.none_before;
+  met_there = is.met_there;
+  clock = is.clock;
+}
+
+pub end_tried : (stops : List Stop) (m n : ℕ) (s : Plain) (trial : Trial) (stamp : ℕ) (end : End)
+    → EndsAt stops m s end → m ≤ n → clock_of s + m < stamp → EndsAt stops n (with_tried s trial stamp) end
+end_tried stops m n s trial stamp end is longer before =
+    longer_end stops m n (with_tried s trial stamp) end longer
+    (second_end trial.second stops m (with_key s (key_tried trial stamp)) stamp end
+    (end_waits stops m m s (key_tried trial stamp) end is (omega arith) before) (still_before s (key_tried trial stamp) m stamp before))
+
+past_second : (second : Option Second) (stops : List Stop) (n : ℕ) (s : Plain) (stamp : ℕ) (end : Option End) → clock_of s + n < stamp
+    → IsEndOf stops n s end → IsEndOf stops n (with_second second s stamp) end
+past_second None stops n s stamp end before is = is
+past_second (Some second) stops n s stamp end before is = past_end stops n s (second_tried second stamp) end (omega (arith, before)) is
+
+pub past_tried : (stops : List Stop) (n : ℕ) (s : Plain) (trial : Trial) (stamp : ℕ) (end : Option End) → clock_of s + n < stamp
+    → IsEndOf stops n s end → IsEndOf stops n (with_tried s trial stamp) end
+past_tried stops n s trial stamp end before is =
+    past_second trial.second stops n (with_key s (key_tried trial stamp)) stamp end (still_before s (key_tried trial stamp) n stamp before)
+    (past_end stops n s (key_tried trial stamp) end before is)
+
+past_second_back : (second : Option Second) (stops : List Stop) (n : ℕ) (s : Plain) (stamp : ℕ) (end : Option End) → clock_of s + n < stamp
+    → IsEndOf stops n (with_second second s stamp) end → IsEndOf stops n s end
+past_second_back None stops n s stamp end before is = is
+past_second_back (Some second) stops n s stamp end before is = past_end_back stops n s (second_tried second stamp) end (omega (arith, before)) is
+
+pub past_tried_back : (stops : List Stop) (n : ℕ) (s : Plain) (trial : Trial) (stamp : ℕ) (end : Option End) → clock_of s + n < stamp
+    → IsEndOf stops n (with_tried s trial stamp) end → IsEndOf stops n s end
+past_tried_back stops n s trial stamp end before is =
+    past_end_back stops n s (key_tried trial stamp) end before
+    (past_second_back trial.second stops n (with_key s (key_tried trial stamp)) stamp end (still_before s (key_tried trial stamp) n stamp before) is)
+
+-- a board that runs without the keys up to before their stamps, gets them there and goes on, ends as one that had them
+-- from the start
+pub ends_tried : (stops : List Stop) (m n : ℕ) (s p : Plain) (trial : Trial) (stamp : ℕ) (end : Option End)
+    → p ≡ after_clocks s m → clock_of p ≡ clock_of s + m → clock_of s + m < stamp
+    → NoneMet stops m s → IsEndOf stops n (with_tried p trial stamp) end → IsEndOf stops (m + n) (with_tried s trial stamp) end
+ends_tried stops m n s p trial stamp end is clock before none ends =
+    ends_on stops m n (with_tried s trial stamp) (with_tried p trial stamp) end
+    (ap (λ (q : Plain). with_tried q trial stamp) is ∙ sym (tried_waits m s trial stamp before))
+    (tried_clock p trial stamp ∙ clock ∙ ap (λ c. c + m) (sym (tried_clock s trial stamp)))
+    (none_tried stops m s trial stamp before none)
     ends

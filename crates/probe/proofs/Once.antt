@@ -8,14 +8,13 @@ use Rattle.std.proofs.lemmas.Bool.Decides.{nat_tests}
 use Rattle.std.proofs.lemmas.List.Sums.{sum_by-cons}
 use Rattle.board_plain.specs.declared.stop.Stop.{Stop as End}
 use Rattle.board_plain.specs.Plain.{Plain}
-use Rattle.events_laws.specs.WithKey.{with_key}
 use Rattle.probe.specs.declared.moments.Ends.{Ends}
 use Rattle.probe.specs.declared.moments.Moments.{Moments}
 use Rattle.probe.specs.declared.moments.Trial.{Trial}
 use Rattle.probe.specs.declared.stops.Stop.{Stop}
-use Rattle.probe.specs.Moments.{AreAlike, AreRanges, DiffersNext, EndsWith, IsAmong, IsReached, key_tried, stop_number}
+use Rattle.probe.specs.Moments.{AreAlike, AreRanges, DiffersNext, EndsWith, IsAmong, IsReached, stop_number, with_tried}
 use Rattle.probe.specs.MomentLaws.{EachMomentOnce, OneListOfRanges, PastTheEndAlike, stands_in}
-use Rattle.probe.proofs.Ending.{one_end, past_end, past_end_back}
+use Rattle.probe.proofs.Ending.{one_end, past_tried, past_tried_back}
 
 -- a clock is in one range
 
@@ -79,7 +78,7 @@ same_number stops s trial m n stamp first second mf ml nf nl =
     let one = first.each stamp mf ml in
     let other = second.each stamp nf nl in
     among_number m.ends one.0 one.1.1
-    ∙ ap (option_map (λ (e : End). e.number)) (one_end stops trial.count (with_key s (key_tried trial stamp)) one.0 other.0 one.1.0 other.1.0)
+    ∙ ap (option_map (λ (e : End). e.number)) (one_end stops trial.count (with_tried s trial stamp) one.0 other.0 one.1.0 other.1.0)
     ∙ sym (among_number n.ends other.0 other.1.1)
 
 -- of two ranges that begin at one clock, neither goes on after the other
@@ -110,7 +109,7 @@ reached_within stops s trial m n number clock f first last is alike reached =
     let to = reached.to in
     let one = alike.each reached.stamp (omega (arith, first, from)) (omega (arith, last, to)) in
     let same =
-    one_end stops trial.count (with_key s (key_tried trial reached.stamp)) one.0 (Some (record { number = number; clock = clock })) one.1.0 reached.ends in
+    one_end stops trial.count (with_tried s trial reached.stamp) one.0 (Some (record { number = number; clock = clock })) one.1.0 reached.ends in
     let among : IsAmong (Some f) (Some (record { number = number; clock = clock })) =
     subst (IsAmong (Some f)) same (subst (λ (o : Option Ends). IsAmong o one.0) is one.1.1) in
     among.1
@@ -166,6 +165,6 @@ one_list stops s trial first last (m ∷ ms) (n ∷ ns) are others =
 
 pub past_alike : PastTheEndAlike
 past_alike stops s trial stamp end past = (
-  past_end_back stops trial.count s (key_tried trial stamp) end past,
-  past_end stops trial.count s (key_tried trial stamp) end past,
+  past_tried_back stops trial.count s trial stamp end past,
+  past_tried stops trial.count s trial stamp end past,
 )

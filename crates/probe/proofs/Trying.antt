@@ -9,18 +9,18 @@ use Rattle.board_plain.specs.declared.stop.Condition.{Condition}
 use Rattle.board_plain.specs.Stops.{HasAddress, IsStopOf, run_length}
 use Rattle.board_plain.specs.Trail.{trail_in}
 use Rattle.board_plain.specs.declared.trail.TrailEntry.{TrailEntry}
-use Rattle.board_types.specs.declared.keys.StampedKey.{StampedKey}
-use Rattle.probe.proofs.Waiting.{clock_same}
 use Rattle.board_plain.specs.declared.stop.Stop.{Stop as End}
 use Rattle.debugger_meaning.specs.declared.answer.Answer.{Answer}
 use Rattle.debugger_meaning.specs.Session.{told_of}
+use Rattle.debugger_meaning.specs.Stands.{SessionState}
 use Rattle.events_laws.specs.WithKey.{with_key}
 use Rattle.probe.specs.declared.moments.Ends.{Ends}
 use Rattle.probe.specs.declared.moments.Moments.{Moments}
+use Rattle.probe.specs.declared.moments.Second.{Second}
 use Rattle.probe.specs.declared.moments.Trial.{Trial}
-use Rattle.probe.specs.MomentLaws.{IsAnswerOf, MomentsAreRuns}
-use Rattle.probe.specs.Moments.{AreAlike, AreRanges, IsAmong, key_tried}
-use Rattle.probe.specs.Probe.{conditions_of}
+use Rattle.probe.specs.MomentLaws.{IsAnswerOf, MomentsAreRuns, TakesSecond}
+use Rattle.probe.specs.Moments.{AreAlike, AreRanges, IsAmong, key_tried, second_tried, with_second, with_tried}
+use Rattle.probe.specs.Probe.{conditions_of, session_of}
 use Rattle.probe.specs.ProbeStops.{HasBytes, IsEndOf, NoneMet}
 use Rattle.board_plain.specs.Plain.{Plain, after_clock, after_clocks, clock_of}
 use Rattle.probe.specs.declared.stops.Stop.{Stop}
@@ -32,7 +32,7 @@ use Rattle.probe.specs.Watched.{all_standing, IsWatched, KeepsStops, stops_of}
 use Rattle.probe.proofs.Copies.{standing_is}
 use Rattle.probe.proofs.Probes.{ends_of}
 use Rattle.probe.proofs.Probes.{all_standing as standing_conditions}
-use Rattle.probe.proofs.Ending.{end_waits, ends_on, ends_with_key, one_end, past_end}
+use Rattle.probe.proofs.Ending.{end_tried, ends_on, ends_tried, one_end, past_tried, tried_clock}
 use Rattle.probe.proofs.Meeting.{none_on}
 use Rattle.probe.proofs.Ranges.{AllEnd, ranges_added}
 
@@ -113,7 +113,7 @@ all_stopped : (stops : List Stop) (s bare next : Plain) (trial : Trial) (end bef
 all_stopped stops s bare next trial end before stamp ranges old stop so_far from early within is run at low high =
     let clock = so_far.clock in
     let there = ends_on stops so_far.passed (before - clock_of bare) s bare (Some stop) so_far.plain so_far.clock so_far.none run.ends in
-    end_waits stops (so_far.passed + (before - clock_of bare)) trial.count s (key_tried trial at) stop there
+    end_tried stops (so_far.passed + (before - clock_of bare)) trial.count s trial at stop there
     (omega (arith, clock, from, within, is)) (omega (arith, clock, from, early, low))
 
 -- no stop is met either with a key at any later clock, if the run ends before
@@ -124,27 +124,27 @@ all_unstopped stops s bare next trial end before stamp ranges old so_far from ea
     let clock = so_far.clock in
     let all : so_far.passed + (before - clock_of bare) ≡ trial.count = omega (arith, clock, from, whole, is) in
     let there = ends_on stops so_far.passed (before - clock_of bare) s bare None so_far.plain so_far.clock so_far.none run.ends in
-    past_end stops trial.count s (key_tried trial at) None (omega (arith, clock, from, early, low, whole, is)) (subst (λ n. IsEndOf stops n s None) all there)
+    past_tried stops trial.count s trial at None (omega (arith, clock, from, early, low, whole, is)) (subst (λ n. IsEndOf stops n s None) all there)
 
 -- the key is tried at one clock
 one_tried : (stops : List Stop) (s bare : Plain) (trial : Trial) (end stamp : ℕ) (ranges : List Moments) (watches : List Watched) (stopped : Option End)
     → (so_far : Tried stops s bare trial end stamp ranges watches) → end ≡ clock_of s + trial.count
-    → IsEndOf stops (end - clock_of bare) (with_key bare (key_tried trial stamp)) stopped → AllEnd stops s trial stamp stamp stopped
+    → IsEndOf stops (end - clock_of bare) (with_tried bare trial stamp) stopped → AllEnd stops s trial stamp stamp stopped
 one_tried stops s bare trial end stamp ranges watches stopped so_far is ends at low high =
     let clock = so_far.clock in
     let before = so_far.before in
     let within = so_far.within in
     let this : at ≡ stamp = omega (arith, low, high) in
     let all : so_far.passed + (end - clock_of bare) ≡ trial.count = omega (arith, clock, within, is) in
-    let there = ends_with_key stops so_far.passed (end - clock_of bare) s bare
-    (key_tried trial stamp) stopped so_far.plain so_far.clock (omega (arith, clock, before)) so_far.none ends in
-    subst (λ k. IsEndOf stops trial.count (with_key s (key_tried trial k)) stopped) (sym this)
-    (subst (λ n. IsEndOf stops n (with_key s (key_tried trial stamp)) stopped) all there)
+    let there = ends_tried stops so_far.passed (end - clock_of bare) s bare trial
+    stamp stopped so_far.plain so_far.clock (omega (arith, clock, before)) so_far.none ends in
+    subst (λ k. IsEndOf stops trial.count (with_tried s trial k) stopped) (sym this)
+    (subst (λ n. IsEndOf stops n (with_tried s trial stamp) stopped) all there)
 
 pub tried_more : (stops : List Stop) (s bare : Plain) (trial : Trial) (end stamp : ℕ)
     (ranges : List Moments) (old new : List Watched) (stopped : Option End)
     → (so_far : Tried stops s bare trial end stamp ranges old) → trial.first ≤ stamp → end ≡ clock_of s + trial.count
-    → IsEndOf stops (end - clock_of bare) (with_key bare (key_tried trial stamp)) stopped → KeepsStops old new
+    → IsEndOf stops (end - clock_of bare) (with_tried bare trial stamp) stopped → KeepsStops old new
     → Tried stops s bare trial end (stamp + 1) (added ranges stamp stamp stopped) new
 tried_more stops s bare trial end stamp ranges old new stopped so_far from is ends keeps =
     let before = so_far.before in
@@ -201,11 +201,11 @@ pub undecided : (stops : List Stop) (end before : ℕ) (bare next : Plain) (stop
 undecided stops end before bare next (Some stop) goes run = absurd (cc)
 undecided stops end before bare next None goes run = run
 
--- a copy with the key runs as the board with the key would
-pub copy_ends : (stops : List Stop) (bare copy after : Plain) (key : StampedKey) (end : ℕ) (stopped : Option End)
-    → copy ≡ with_key bare key → RunsTo stops end copy after stopped → IsEndOf stops (end - clock_of bare) (with_key bare key) stopped
-copy_ends stops bare copy after key end stopped is run =
-    subst (λ c. IsEndOf stops (end - c) (with_key bare key) stopped) (clock_same bare key)
+-- a copy with the keys runs as the board with the keys would
+pub copy_ends : (stops : List Stop) (bare copy after : Plain) (trial : Trial) (stamp end : ℕ) (stopped : Option End) → copy ≡ with_tried bare trial stamp
+    → RunsTo stops end copy after stopped → IsEndOf stops (end - clock_of bare) (with_tried bare trial stamp) stopped
+copy_ends stops bare copy after trial stamp end stopped is run =
+    subst (λ c. IsEndOf stops (end - c) (with_tried bare trial stamp) stopped) (tried_clock bare trial stamp)
     (subst (λ (p : Plain). IsEndOf stops (end - clock_of p) p stopped) is run.ends)
 
 -- one more clock is tried, or all ranges are known
@@ -232,14 +232,23 @@ among_answer None (Some end) clock is = absurd is
 among_answer (Some ends) None clock is = absurd is
 among_answer (Some ends) (Some end) clock is = is
 
+-- the boards of the sessions in which the keys were typed
+second_typed : (second : Option Second) (stamp : ℕ) (s t : SessionState) (told : Answer) (p : Plain)
+    → s.board.plain ≡ p → TakesSecond second stamp s t told → t.board.plain ≡ with_second second p stamp
+second_typed None stamp s t told p is takes = ap (λ (x : SessionState). x.board.plain) takes ∙ is
+second_typed (Some second) stamp s t told p is takes =
+    ap (λ (b : BoardState). b.plain) takes.board ∙ ap (λ (q : Plain). with_key q (second_tried second stamp)) is
+
 pub are_runs : MomentsAreRuns
-are_runs old keyed new trial ranges m stamp told answer are there from to takes stops goes =
+are_runs old keyed new typed trial ranges m stamp told second_told answer are there from to takes second stops goes =
     let alike =
     All-contains (AreAlike old.stops old.board.plain trial) ranges m (all_alike old.stops old.board.plain trial trial.first trial.last ranges are) there in
     let one = alike.each stamp from to in
-    let keyed_plain : keyed.board.plain ≡ with_key old.board.plain (key_tried trial stamp) = ap (λ (b : BoardState). b.plain) takes.board in
-    let same : IsEndOf old.stops trial.count (with_key old.board.plain (key_tried trial stamp)) goes.stopped =
+    let keyed_plain : keyed.board.plain ≡ with_tried old.board.plain trial stamp =
+    second_typed trial.second stamp typed (session_of keyed) second_told (with_key old.board.plain (key_tried trial stamp))
+    (ap (λ (b : BoardState). b.plain) takes.board) second in
+    let same : IsEndOf old.stops trial.count (with_tried old.board.plain trial stamp) goes.stopped =
     subst (λ (s : Plain). IsEndOf old.stops trial.count s goes.stopped) keyed_plain
     (subst (λ (xs : List Stop). IsEndOf xs trial.count keyed.board.plain goes.stopped) stops goes.ends) in
-    let end = one_end old.stops trial.count (with_key old.board.plain (key_tried trial stamp)) one.0 goes.stopped one.1.0 same in
+    let end = one_end old.stops trial.count (with_tried old.board.plain trial stamp) one.0 goes.stopped one.1.0 same in
     subst (IsAnswerOf m.ends) (sym goes.answer_is) (among_answer m.ends goes.stopped (clock_of new.board.plain) (subst (IsAmong m.ends) end one.1.1))

@@ -8,7 +8,8 @@ use Rattle.debugger_meaning.specs.declared.command.Command.TheVariants.{Break}
 use Rattle.debugger_meaning.specs.Commands.{break_command, is_colon}
 use Rattle.debugger_meaning.specs.CommandWords.{count_of, hex_number, words_of}
 use Rattle.probe.specs.declared.inquiry.Inquiry.{Inquiry}
-use Rattle.probe.specs.declared.inquiry.Inquiry.TheVariants.{Chips, List as Listing, Counts, Signals, Events, Key}
+use Rattle.probe.specs.declared.inquiry.Inquiry.TheVariants.{Chips, List as Listing, Forms, Counts}
+use Rattle.probe.specs.declared.inquiry.Inquiry.TheVariants.{Signals, Events, Key}
 use Rattle.probe.specs.declared.inquiry.Place.{Place}
 use Rattle.probe.specs.declared.kinds.Kind.{Kind}
 use Rattle.probe.specs.Kinds.{kinds_from}
@@ -37,6 +38,11 @@ abbrev pub list_of : Option Place → Option ℕ → Option Inquiry
 list_of (Some place) (Some count) = list_within place count
 list_of (Some place) None = None
 list_of None _ = None
+
+-- what the instructions do that `list` would show
+abbrev pub forms_of : Option Inquiry → Option Inquiry
+forms_of (Some (Listing place count)) = Some (Forms place count)
+forms_of _ = None
 
 -- an inquiry that runs for some clocks
 abbrev pub run_inquiry : List ℕ → Option ℕ → Option Inquiry
@@ -69,7 +75,8 @@ inquiry_with name first =
 abbrev pub inquiry_with_two : List ℕ → List ℕ → List ℕ → Option Inquiry
 inquiry_with_two name first second =
     if bytes_eq name (codes "list") then list_of (place_of first) (count_of second) else (
-    if bytes_eq name (codes "key") then key_at (hex_number 2 first) (count_of second) else None)
+    if bytes_eq name (codes "forms") then forms_of (list_of (place_of first) (count_of second)) else (
+    if bytes_eq name (codes "key") then key_at (hex_number 2 first) (count_of second) else None))
 
 abbrev pub inquiry_of_two : List ℕ → List ℕ → List ℕ → List (List ℕ) → Option Inquiry
 inquiry_of_two name first second [] = inquiry_with_two name first second

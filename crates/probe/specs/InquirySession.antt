@@ -7,9 +7,11 @@ use Rattle.debugger_meaning.specs.Commands.{command_of}
 use Rattle.debugger_meaning.specs.Session.{AnswersLine, Shows}
 use Rattle.debugger_meaning.specs.Stands.{SessionState}
 use Rattle.probe.specs.declared.inquiry.Inquiry.{Inquiry}
-use Rattle.probe.specs.declared.inquiry.Inquiry.TheVariants.{Chips, List as Listing, Counts, Signals, Events, Key}
+use Rattle.probe.specs.declared.inquiry.Inquiry.TheVariants.{Chips, List as Listing, Forms, Counts}
+use Rattle.probe.specs.declared.inquiry.Inquiry.TheVariants.{Signals, Events, Key}
 use Rattle.probe.specs.ChipsText.{chips_text}
 use Rattle.probe.specs.Counts.{counts_text}
+use Rattle.probe.specs.FormLines.{forms_text}
 use Rattle.probe.specs.Inquiry.{inquiry_of}
 use Rattle.probe.specs.Listed.{events_text}
 use Rattle.probe.specs.Listing.{list_text}
@@ -23,6 +25,8 @@ abbrev pub AnswersInquiry : Inquiry → SessionState → Result Answer DebugFaul
 AnswersInquiry Chips old result new = Shows (chips_text old.board.plain) result × (new ≡ old)
 AnswersInquiry (Listing place count) old result new =
     Shows (list_text old.board.plain place.segment place.offset count) result × (new ≡ old)
+AnswersInquiry (Forms place count) old result new =
+    Shows (forms_text old.board.plain place.segment place.offset count) result × (new ≡ old)
 AnswersInquiry (Counts n) old result new = AnswersMaking n (counts_text old.board.plain n) old result new
 AnswersInquiry (Signals n) old result new = AnswersMaking n (signals_text old.board.plain n) old result new
 AnswersInquiry (Events n kinds) old result new =

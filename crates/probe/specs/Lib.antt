@@ -18,6 +18,7 @@ pub mod Moments
 pub mod Requests
 pub mod Met
 pub mod Listing
+pub mod FormLines
 pub mod Typed
 pub mod InquirySession
 pub mod Probe

@@ -1,4 +1,4 @@
--- What holds of the moments at which a key is tried.
+-- What holds of the moments at which a key is tried, or two.
 -- Laws: claims above the definitions, each proved as the contract of a function.
 use Rattle.std.specs.Prelude.{ℕ, ◌≡◌, ◌+◌, ◌<◌, ◌≤◌, ◌↔◌, Bool, ◌&&◌, nat_le}
 use Rattle.std.specs.Prelude.{List, Contains, count_by, Option, None, Some}
@@ -6,11 +6,13 @@ use Rattle.board_plain.specs.declared.stop.Stop.{Stop as End}
 use Rattle.board_plain.specs.Plain.{Plain, clock_of}
 use Rattle.debugger_meaning.specs.declared.answer.Answer.{Answer}
 use Rattle.debugger_meaning.specs.declared.answer.Answer.TheVariants.{Stop, Clock, StopAt, Text}
+use Rattle.debugger_meaning.specs.Stands.{SessionState}
 use Rattle.probe.specs.declared.moments.Ends.{Ends}
 use Rattle.probe.specs.declared.moments.Moments.{Moments}
+use Rattle.probe.specs.declared.moments.Second.{Second}
 use Rattle.probe.specs.declared.moments.Trial.{Trial}
 use Rattle.probe.specs.declared.stops.Stop.{Stop as ProbeStop}
-use Rattle.probe.specs.Moments.{AreRanges, EndsWith, key_tried}
+use Rattle.probe.specs.Moments.{AreRanges, EndsWith, key_tried, second_tried}
 use Rattle.probe.specs.Probe.{GoesOn, ProbeState, session_of}
 use Rattle.probe.specs.ProbeStops.{IsEndOf}
 use Rattle.probe.specs.Typed.{Takes}
@@ -43,18 +45,25 @@ IsAnswerOf (Some ends) (Stop number) = ⊥
 IsAnswerOf (Some ends) (Clock clock) = ⊥
 IsAnswerOf (Some ends) (Text text) = ⊥
 
--- what `go` answers in the session in which the key was typed for a clock is what the clock's range says
+-- a second key, if there is one, was typed so many clocks after the first
+abbrev pub TakesSecond : Option Second → ℕ → SessionState → SessionState → Answer → Type 0
+TakesSecond None stamp s t told = t ≡ s
+TakesSecond (Some second) stamp s t told = Takes (second_tried second stamp) s t told
+
+-- what `go` answers in the session in which the key was typed for a clock, and then the second, if there is one, is
+-- what the clock's range says
 abbrev pub MomentsAreRuns : Type 0
 MomentsAreRuns =
-    (old keyed new : ProbeState) (trial : Trial) (ranges : List Moments)
-    (m : Moments) (stamp : ℕ) (told answer : Answer)
+    (old keyed new : ProbeState) (typed : SessionState) (trial : Trial) (ranges : List Moments)
+    (m : Moments) (stamp : ℕ) (told second_told answer : Answer)
     → AreRanges old.stops old.board.plain trial trial.first trial.last ranges
     → Contains ranges m → m.first ≤ stamp → stamp ≤ m.last
-    → Takes (key_tried trial stamp) (session_of old) (session_of keyed) told → keyed.stops ≡ old.stops
+    → Takes (key_tried trial stamp) (session_of old) typed told
+    → TakesSecond trial.second stamp typed (session_of keyed) second_told → keyed.stops ≡ old.stops
     → GoesOn trial.count keyed new answer
     → IsAnswerOf m.ends answer
 
--- a key that comes after a run's end changes nothing of it
+-- a key that comes after a run's end changes nothing of it, nor does a second one after it
 abbrev pub PastTheEndAlike : Type 0
 PastTheEndAlike =
     (stops : List ProbeStop) (s : Plain) (trial : Trial) (stamp : ℕ) (end : Option End)

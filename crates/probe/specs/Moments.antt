@@ -1,6 +1,6 @@
--- How a run ends with one more key, for each clock at which it could come.
+-- How a run ends with one more key, or two, for each clock at which the first could come.
 -- To be believed by callers of this crate: the headline does not rest on it.
-use Rattle.std.specs.Prelude.{ℕ, ◌≡◌, ◌≢◌, ◌+◌, ◌<◌, ◌≤◌, ◌^◌, ◌⊎◌, IsTrue, List, [], ◌∷◌}
+use Rattle.std.specs.Prelude.{ℕ, ◌≡◌, ◌≢◌, ◌+◌, ◌<◌, ◌≤◌, ◌^◌, ◌⊎◌, Bool, true, ◌&&◌, IsTrue, List, [], ◌∷◌}
 use Rattle.std.specs.Prelude.{◌++◌, codes, Option, None, Some, IfSome, Result, MatchResult}
 use Rattle.std.specs.Fmt.{decimal}
 use Rattle.std.specs.List.{flat_map}
@@ -17,6 +17,7 @@ use Rattle.debugger_meaning.specs.Session.{IsText}
 use Rattle.events_laws.specs.WithKey.{with_key}
 use Rattle.probe.specs.declared.moments.Ends.{Ends}
 use Rattle.probe.specs.declared.moments.Moments.{Moments}
+use Rattle.probe.specs.declared.moments.Second.{Second}
 use Rattle.probe.specs.declared.moments.Trial.{Trial}
 use Rattle.probe.specs.declared.stops.Stop.{Stop}
 use Rattle.probe.specs.ProbeStops.{IsEndOf}
@@ -25,9 +26,21 @@ use Rattle.probe.specs.ProbeStops.{IsEndOf}
 abbrev pub key_tried : Trial → ℕ → StampedKey
 key_tried trial stamp = record { stamp = stamp; code = trial.code }
 
--- the run with the key ends like this
+-- a second key, so many clocks after the first; at the same clock it comes after it
+abbrev pub second_tried : Second → ℕ → StampedKey
+second_tried second stamp = record { stamp = stamp + second.after; code = second.code }
+
+abbrev pub with_second : Option Second → Plain → ℕ → Plain
+with_second None s stamp = s
+with_second (Some second) s stamp = with_key s (second_tried second stamp)
+
+-- the board that gets the trial's keys, if the first comes at this clock
+abbrev pub with_tried : Plain → Trial → ℕ → Plain
+with_tried s trial stamp = with_second trial.second (with_key s (key_tried trial stamp)) stamp
+
+-- the run with the keys ends like this
 abbrev pub EndsWith : List Stop → Plain → Trial → ℕ → Option End → Type 0
-EndsWith stops s trial stamp end = IsEndOf stops trial.count (with_key s (key_tried trial stamp)) end
+EndsWith stops s trial stamp end = IsEndOf stops trial.count (with_tried s trial stamp) end
 
 -- an end at the stop of these ends, from their least to their greatest clock; or no end, if they have none
 abbrev pub IsAmong : Option Ends → Option End → Type 0
@@ -36,7 +49,7 @@ IsAmong None (Some end) = ⊥
 IsAmong (Some ends) None = ⊥
 IsAmong (Some ends) (Some end) = (end.number ≡ ends.number) × ((ends.least ≤ end.clock) × (end.clock ≤ ends.greatest))
 
--- the key at one of these clocks leads to an end at this stop and clock
+-- the key at one of these clocks, and the second, if there is one, lead to an end at this stop and clock
 pub record IsReached (stops : List Stop) (s : Plain) (trial : Trial) (m : Moments) (number clock : ℕ) : Type 0 where
   pub stamp : ℕ
   pub from : m.first ≤ stamp
@@ -77,11 +90,24 @@ ends_text (Some ends) =
 unfoldable pub moments_line : Moments → List ℕ
 moments_line m = decimal m.first ++ (codes " " ++ (decimal m.last ++ ends_text m.ends))
 
--- a key that can be tried: its clocks are still to come, and the run ends in time
+-- how many clocks after the first key the last one comes
+abbrev pub span_of : Option Second → ℕ
+span_of None = 0
+span_of (Some second) = second.after
+
+-- the code of a second key, if there is one, is a key's
+abbrev pub names_second : Option Second → Bool
+names_second None = true
+names_second (Some second) = names_key second.code
+
+abbrev pub names_keys : Trial → Bool
+names_keys trial = names_key trial.code && names_second trial.second
+
+-- keys that can be tried: their clocks are still to come, and the run ends in time
 pub record CanBeTried (clock : ℕ) (trial : Trial) : Type 0 where
-  pub within : trial.last ≤ 2 ^ 40
+  pub within : trial.last + span_of trial.second ≤ 2 ^ 40
   pub in_time : clock + trial.count ≤ 2 ^ 40
-  pub scan : IsTrue (names_key trial.code)
+  pub scan : IsTrue (names_keys trial)
   pub later : clock < trial.first
 
 -- the answer has a line for each range of a trial
@@ -93,13 +119,13 @@ pub record TellsMoments (stops : List Stop) (s : Plain) (trial : Trial) (answer 
 
 -- why a trial is refused: the first of these reasons that holds
 abbrev pub IsPastLimit : ℕ → Trial → Type 0
-IsPastLimit clock trial = (2 ^ 40 < trial.last) ⊎ (2 ^ 40 < clock + trial.count)
+IsPastLimit clock trial = (2 ^ 40 < trial.last + span_of trial.second) ⊎ (2 ^ 40 < clock + trial.count)
 
 abbrev pub CannotBeTried : ℕ → Trial → DebugFault → Type 0
 CannotBeTried clock trial ClockLimit = IsPastLimit clock trial
-CannotBeTried clock trial BadScan = ¬ (IsPastLimit clock trial) × ¬ (IsTrue (names_key trial.code))
+CannotBeTried clock trial BadScan = ¬ (IsPastLimit clock trial) × ¬ (IsTrue (names_keys trial))
 CannotBeTried clock trial StampsFall =
-    ¬ (IsPastLimit clock trial) × (IsTrue (names_key trial.code) × (trial.first ≤ clock))
+    ¬ (IsPastLimit clock trial) × (IsTrue (names_keys trial) × (trial.first ≤ clock))
 CannotBeTried clock trial (Memory None) = CanBeTried clock trial
 CannotBeTried clock trial (Memory (Some at)) = ⊥
 CannotBeTried clock trial BadCommand = ⊥

@@ -9,6 +9,7 @@ use Rattle.debugger_meaning.specs.declared.command.Command.TheVariants as comman
 use Rattle.debugger_meaning.specs.Commands.{command_of}
 use Rattle.debugger_meaning.specs.CommandWords.{count_of, hex_number, words_of}
 use Rattle.probe.specs.declared.kinds.Kind.{Kind}
+use Rattle.probe.specs.declared.moments.Second.{Second}
 use Rattle.probe.specs.declared.moments.Trial.{Trial}
 use Rattle.probe.specs.declared.stops.Request.{Request}
 use Rattle.probe.specs.declared.stops.Request.TheVariants.{Add, Go, BackStop, Try}
@@ -48,19 +49,35 @@ stop_in (name ∷ words) =
 unfoldable pub stop_of : List ℕ → Option Stop
 stop_of line = stop_in (words_of line)
 
--- a key that is tried at each clock from the first to the last: `moments 1E 1000 4000 100000`
-abbrev pub trial_within : Option ℕ → Option ℕ → Option ℕ → Option ℕ → Option Trial
-trial_within (Some code) (Some first) (Some last) (Some count) =
-    if nat_le first last then Some (record { code = code; first = first; last = last; count = count }) else None
-trial_within (Some code) (Some first) (Some last) None = None
-trial_within (Some code) (Some first) None _ = None
-trial_within (Some code) None _ _ = None
-trial_within None _ _ _ = None
+-- a second key, and how many clocks after the first it comes; or no second key
+abbrev pub second_by : Option ℕ → Option ℕ → Option (Option Second)
+second_by (Some code) (Some after) = Some (Some (record { code = code; after = after }))
+second_by (Some code) None = None
+second_by None _ = None
+
+abbrev pub second_in : List (List ℕ) → Option (Option Second)
+second_in [] = Some None
+second_in (code ∷ []) = None
+second_in (code ∷ after ∷ []) = second_by (hex_number 2 code) (count_of after)
+second_in (code ∷ after ∷ more ∷ rest) = None
+
+-- a key that is tried at each clock from the first to the last, alone or with a second one: `moments 1E 1000 4000
+-- 100000`, `moments 1E 1000 4000 100000 9E 50`
+abbrev pub trial_within : Option ℕ → Option ℕ → Option ℕ → Option ℕ → Option (Option Second) → Option Trial
+trial_within (Some code) (Some first) (Some last) (Some count) (Some second) =
+    if nat_le first last then
+    Some (record { code = code; first = first; last = last; count = count; second = second })
+    else None
+trial_within (Some code) (Some first) (Some last) (Some count) None = None
+trial_within (Some code) (Some first) (Some last) None _ = None
+trial_within (Some code) (Some first) None _ _ = None
+trial_within (Some code) None _ _ _ = None
+trial_within None _ _ _ _ = None
 
 abbrev pub trial_in : List (List ℕ) → Option Trial
-trial_in (name ∷ code ∷ first ∷ last ∷ count ∷ []) =
+trial_in (name ∷ code ∷ first ∷ last ∷ count ∷ rest) =
     if bytes_eq name (codes "moments") then trial_within
-    (hex_number 2 code) (count_of first) (count_of last) (count_of count)
+    (hex_number 2 code) (count_of first) (count_of last) (count_of count) (second_in rest)
     else None
 trial_in _ = None
 

@@ -1,7 +1,7 @@
 //! Inquiries, and how a line is read as one.
 ghost use Rattle.std.specs.Prelude.{◌≡◌, []};
 ghost use Rattle.debugger_meaning.specs.CommandWords.{count_of, hex_number, words_of};
-ghost use Rattle.probe.specs.Inquiry.{events_of, inquiry_of, inquiry_with, inquiry_with_two, key_at, key_of, list_of, place_of, run_inquiry};
+ghost use Rattle.probe.specs.Inquiry.{events_of, forms_of, inquiry_of, inquiry_with, inquiry_with_two, key_at, key_of, list_of, place_of, run_inquiry};
 ghost use Rattle.probe.specs.Kinds.{kinds_from};
 
 use crate::kinds::{Kinds, read_kinds};
@@ -22,6 +22,8 @@ pub enum Inquiry {
     Chips,
     /// Lists this many instructions, 1 to 4,096, from a place on.
     List(Place, u16),
+    /// Tells what this many instructions do, 1 to 4,096, from a place on.
+    Forms(Place, u16),
     /// Runs for this many clocks, and counts them by what began.
     Counts(u64),
     /// Runs for this many clocks, and lists the changes of wires.
@@ -69,12 +71,14 @@ fn inquiry_with(name: &[u8], first: &[u8]) -> Option<Inquiry>
     run_inquiry(name, first)
 }
 
-/// Reads the line of an inquiry's name and two words after it: `list` or `key`; `None` if it is no inquiry.
+/// Reads the line of an inquiry's name and two words after it: `list`, `forms` or `key`; `None` if it is no inquiry.
 fn inquiry_with_two(name: &[u8], first: &[u8], second: &[u8]) -> Option<Inquiry>
     ensures { result ≡ inquiry_with_two name.now first.now second.now }
 {
     if name == b"list".as_slice() {
         list(first, second)
+    } else if name == b"forms".as_slice() {
+        forms(first, second)
     } else if name == b"key".as_slice() {
         key_at(first, second)
     } else {
@@ -133,6 +137,16 @@ fn list(place: &[u8], count: &[u8]) -> Option<Inquiry>
         return None;
     }
     Some(Inquiry::List(place, count as u16))
+}
+
+/// Reads the words after `forms`, which are those after `list`, as an inquiry.
+fn forms(place: &[u8], count: &[u8]) -> Option<Inquiry>
+    ensures { result ≡ forms_of (list_of (place_of place.now) (count_of count.now)) }
+{
+    match list(place, count) {
+        Some(Inquiry::List(place, count)) => Some(Inquiry::Forms(place, count)),
+        _ => None,
+    }
 }
 
 /// Reads the place from which instructions are listed: `SEGMENT:OFFSET`, or a physical address, to which the segment of

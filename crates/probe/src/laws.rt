@@ -35,8 +35,8 @@ pub fn each_moment_stands_once()
     ensures one_list { OneListOfRanges }
 {}
 
-/// What `go` answers after a key has been typed for a clock is what the clock's range in `moments` says, and a key that
-/// comes after the run's end changes nothing of it, so that no such key has to be tried.
+/// What `go` answers after a key has been typed for a clock, or two, is what the clock's range in `moments` says, and a
+/// key that comes after the run's end changes nothing of it, so that no such key has to be tried.
 pub fn moments_are_runs()
     ensures runs { MomentsAreRuns }
     ensures past_the_end { PastTheEndAlike }

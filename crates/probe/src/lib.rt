@@ -10,6 +10,7 @@ mod counter_text;
 mod counts;
 mod edits;
 mod event_lines;
+mod forms_text;
 pub mod inquiry;
 mod kinds;
 pub mod lab;

@@ -82,15 +82,15 @@ fn push_line(
     Ok(offset.wrapping_add(size_listed(&stands)))
 }
 
-/// Decodes what stands at a place in the board's memory, for its line of `list`.
-fn stands_at(board: &Board, segment: u16, offset: u16) -> Decoding
+/// Decodes what stands at a place in the board's memory, for its line of `list` or `forms`.
+pub(crate) fn stands_at(board: &Board, segment: u16, offset: u16) -> Decoding
     ensures { result ≡ stands_at board.now.plain segment offset }
 {
     decode(&BoardBytes(board), segment, offset).unpack()
 }
 
-/// How many bytes a line of `list` shows: the instruction's, or the one that begins none.
-fn size_listed(stands: &Decoding) -> u16
+/// How many bytes a line of `list` or `forms` shows: the instruction's, or the one that begins none.
+pub(crate) fn size_listed(stands: &Decoding) -> u16
     ensures { result ≡ size_listed stands.now }
 {
     match stands {
@@ -121,8 +121,8 @@ fn line_of(
     format!(in alloc; "{segment}:{offset} {bytes} {listed}\n")
 }
 
-/// Returns the `size` bytes from a place on, two hexadecimal digits each, for a line of `list`.
-fn bytes_text(
+/// Returns the `size` bytes from a place on, two hexadecimal digits each, for a line of `list` or `forms`.
+pub(crate) fn bytes_text(
     alloc: Global,
     board: &Board,
     segment: u16,

@@ -1,5 +1,5 @@
-//! How runs end with one more key, for each clock at which it could come.
-ghost use Rattle.std.specs.Prelude.{ℕ, ◌≡◌, ◌+◌, ◌-◌, ◌<◌, ◌≤◌, ◌^◌, ◌++◌, ◌∷◌, [], All, IfOk, MatchResult, OnOk, true, length, min, max};
+//! How runs end with one more key, or two, for each clock at which the first could come.
+ghost use Rattle.std.specs.Prelude.{ℕ, ◌≡◌, ◌+◌, ◌-◌, ◌<◌, ◌≤◌, ◌^◌, ◌++◌, ◌∷◌, [], All, IfOk, MatchResult, OnOk, true, length, min, max, nat_le};
 ghost use Rattle.std.specs.List.{flat_map};
 ghost use Rattle.std.specs.Result.{IfErr};
 ghost use Rattle.std.specs.String.{string_bytes};
@@ -8,7 +8,7 @@ ghost use Rattle.debugger_meaning.specs.SessionInvariant.{LacksMemory};
 ghost use Rattle.debugger_meaning.specs.Stands.{session_about};
 ghost use Rattle.events_laws.specs.WithKey.{with_key};
 ghost use Rattle.probe.specs.Looked.{RanToStop};
-ghost use Rattle.probe.specs.Moments.{AnswersTrial, AreRanges, CanBeTried, CannotBeTried, moments_line};
+ghost use Rattle.probe.specs.Moments.{AnswersTrial, AreRanges, CanBeTried, CannotBeTried, moments_line, names_keys, span_of, with_tried};
 ghost use Rattle.probe.specs.Requests.{IsRising};
 ghost use Rattle.probe.specs.ProbeStops.{IsEndOf};
 ghost use Rattle.probe.specs.Tried.{RunsTo, TriedNext, TriedSoFar, added, ends_of, ends_with, joined, moments_of};
@@ -27,13 +27,21 @@ use execute_noted::notes::Accesses;
 use std::alloc::{AllocError, Global};
 
 /// What a line `moments` asks: a key's code that is tried at each clock from the first to the last, in runs of `count`
-/// clocks from the board's present one.
+/// clocks from the board's present one; alone, or with a second key.
 #[derive(Clone, Copy, Debug, PartialEq, Eq)]
 pub struct Trial {
     pub code: u8,
     pub first: u64,
     pub last: u64,
     pub count: u64,
+    pub second: Option<Second>,
+}
+
+/// A trial's second key, which comes so many clocks after the first; if 0, at the same clock, after it.
+#[derive(Clone, Copy, Debug, PartialEq, Eq)]
+pub struct Second {
+    pub code: u8,
+    pub after: u64,
 }
 
 /// The stop at which some runs end, and the least and the greatest clock at which they do.
@@ -52,10 +60,10 @@ pub struct Moments {
     pub ends: Option<Ends>,
 }
 
-/// Answers the line `moments`: how runs from the board's clock end with one more key, for each clock of the trial.
-/// Refused in this order: as `ClockLimit` if the last of those clocks, or the end of the run, is past the last clock
-/// there is; as `BadScan` if no key sends the code; as `StampsFall` if the first clock isn't later than the board's; as
-/// `Memory` if there is none.
+/// Answers the line `moments`: how runs from the board's clock end with the trial's keys, for each clock of the first.
+/// Refused in this order: as `ClockLimit` if the last clock of a key, or the end of the run, is past the last clock there
+/// is; as `BadScan` if no key sends a code; as `StampsFall` if the first clock isn't later than the board's; as `Memory`
+/// if there is none.
 pub(crate) fn tell_moments(
     board: &Board,
     alloc: Global,
@@ -78,16 +86,46 @@ pub(crate) fn tell_moments(
 fn end_of(clock: Clock, trial: Trial) -> Result<Clock, DebugFault>
     ensures { MatchResult result (λ end. (end ≡ clock + trial.count) × CanBeTried clock trial) (CannotBeTried clock trial) }
 {
-    if trial.last > Clock::LAST || Clock::LAST - clock.get() < trial.count {
+    if !is_within(trial.last, span_of(&trial.second)) || Clock::LAST - clock.get() < trial.count {
         return Err(DebugFault::ClockLimit);
     }
-    if !is_scan_code(trial.code) {
+    if !names_keys(&trial) {
         return Err(DebugFault::BadScan);
     }
     if trial.first <= clock.get() {
         return Err(DebugFault::StampsFall);
     }
     Ok(Clock::new(clock.get() + trial.count).unwrap())
+}
+
+/// Whether there is a clock so many clocks after another.
+fn is_within(last: u64, span: u64) -> bool
+    ensures { result ≡ nat_le (last + span) (2 ^ 40) }
+{
+    last <= Clock::LAST && span <= Clock::LAST - last
+}
+
+/// How many clocks after a trial's first key its last one comes.
+fn span_of(second: &Option<Second>) -> u64
+    ensures { result ≡ span_of second.now }
+{
+    match second {
+        Some(second) => second.after,
+        None => 0,
+    }
+}
+
+/// Whether each code of a trial is one that a key sends.
+fn names_keys(trial: &Trial) -> bool
+    ensures { result ≡ names_keys trial.now }
+{
+    if !is_scan_code(trial.code) {
+        return false;
+    }
+    match &trial.second {
+        Some(second) => is_scan_code(second.code),
+        None => true,
+    }
 }
 
 /// Tries the key at one clock of the trial after another, each in a run of a copy of the board. Returns the ranges of
@@ -133,7 +171,7 @@ fn try_at(
     ranges: &mut Vec<Moments>,
 ) -> Result<bool, DebugFault>
     requires start { 1 ≤ stamp }
-    requires limit { stamp ≤ 2 ^ 40 }
+    requires limit { stamp + span_of trial.second ≤ 2 ^ 40 }
     requires before { clock_of bare.old.plain < stamp }
     requires in_time { clock_of bare.old.plain ≤ end }
     requires trail { length bare.old.trail ≤ 32 }
@@ -152,11 +190,7 @@ fn try_at(
         add(ranges, stamp, trial.last, &stopped)?;
         return Ok(true);
     }
-    let key = StampedKey {
-        stamp: Clock::new(stamp).unwrap(),
-        code: trial.code,
-    };
-    let mut tried = copy_with(bare, alloc, key)?;
+    let mut tried = copy_with(bare, alloc, trial, stamp)?;
     let stopped = run(&mut tried, watches, end)?;
     // while the copy still exists, so that its memory isn't given back only to be asked for again
     add(ranges, stamp, stamp, &stopped)?;
@@ -176,18 +210,34 @@ fn clock_before(stamp: u64, end: Clock) -> Clock
     }
 }
 
-/// Copies a board with one key more, to run it with the key that is tried.
-fn copy_with(board: &Board, alloc: Global, key: StampedKey) -> Result<Board, DebugFault>
-    ensures plain { IfOk result (λ copy. copy.plain ≡ with_key board.now.plain key) }
+/// Copies a board with the trial's keys, to run it with them: the first comes at the stamp.
+fn copy_with(board: &Board, alloc: Global, trial: Trial, stamp: u64) -> Result<Board, DebugFault>
+    requires limit { stamp + span_of trial.second ≤ 2 ^ 40 }
+    ensures plain { IfOk result (λ copy. copy.plain ≡ with_tried board.now.plain trial stamp) }
     ensures few { IfOk result (λ copy. length copy.trail ≤ 32) }
     ensures fault { IfErr result LacksMemory }
 {
-    let Ok(keys) = board.keys_with(alloc, key) else {
+    let mut copy = copy_of(board)?;
+    put_key(&mut copy, alloc, trial.code, stamp)?;
+    if let Some(second) = trial.second {
+        put_key(&mut copy, alloc, second.code, stamp + second.after)?;
+    }
+    Ok(copy)
+}
+
+/// Gives a board one key more, which comes at a clock. Refused as `Memory` if there is none.
+fn put_key(board: &mut Board, alloc: Global, code: u8, stamp: u64) -> Result<(), DebugFault>
+    requires limit { stamp ≤ 2 ^ 40 }
+    ensures plain { OnOk result
+        (board.new ≡ record board.old { plain = with_key board.old.plain (record { stamp = stamp; code = code }) }) }
+    ensures fault { IfErr result LacksMemory }
+{
+    let stamp = Clock::new(stamp).unwrap();
+    let Ok(keys) = board.keys_with(alloc, StampedKey { stamp, code }) else {
         return Err(DebugFault::Memory(None));
     };
-    let mut copy = copy_of(board)?;
-    copy.take_keys(keys);
-    Ok(copy)
+    board.take_keys(keys);
+    Ok(())
 }
 
 /// Copies a board, so that a trial leaves the session's own as it is. Refused as `Memory` if there is none.

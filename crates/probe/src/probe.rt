@@ -161,7 +161,7 @@ impl Probe {
         with_number(self.session.back(count), clock, number)
     }
 
-    /// Answers the line `moments`: how runs from here would end with one more key, for each clock of the trial. The
+    /// Answers the line `moments`: how runs from here would end with the trial's keys, for each clock of the first. The
     /// probe stays as it is.
     fn moments(&mut self, alloc: Global, trial: Trial) -> Result<Answer, DebugFault>
         requires { IsRising trial }

@@ -1,6 +1,7 @@
 //! A session that answers inquiries.
 ghost use Rattle.std.specs.Prelude.{◌≡◌};
 ghost use Rattle.probe.specs.ChipsText.{chips_text};
+ghost use Rattle.probe.specs.FormLines.{forms_text};
 ghost use Rattle.probe.specs.Listing.{list_text};
 ghost use Rattle.probe.specs.InquirySession.{AnswersInquiry, AnswersProbe};
 ghost use Rattle.debugger_meaning.specs.Session.{Shows};
@@ -9,6 +10,7 @@ ghost use Rattle.debugger_meaning.specs.Stands.{Stands};
 use crate::chips_text::chips_text;
 use crate::counts::tell_counts;
 use crate::event_lines::tell_events;
+use crate::forms_text::forms_text;
 use crate::inquiry::{Inquiry, Place, read_inquiry};
 use crate::list_text::list_text;
 use crate::signals::tell_signals;
@@ -18,8 +20,8 @@ use debugger_meaning::answer::Answer;
 use debugger_meaning::fault::DebugFault;
 use std::alloc::Global;
 
-/// Answers a typed line: an inquiry here, and any other line as the debugger's session does. `chips` and `list` change
-/// nothing; `counts`, `signals` and `events` run for some clocks; `key` adds a key that is still to come. An inquiry is
+/// Answers a typed line: an inquiry here, and any other line as the debugger's session does. `chips`, `list` and `forms`
+/// change nothing; `counts`, `signals` and `events` run for some clocks; `key` adds a key that is still to come. An inquiry is
 /// refused as `Memory` if there is none. The board always stays the session's first one some clocks later.
 pub fn command(session: &mut Session, alloc: Global, line: &str) -> Result<Answer, DebugFault>
     ensures answers { AnswersProbe line.now session.old result session.new }
@@ -41,6 +43,7 @@ fn answer(session: &mut Session, alloc: Global, inquiry: Inquiry) -> Result<Answ
     match inquiry {
         Inquiry::Chips => chips(session, alloc),
         Inquiry::List(place, count) => list(session, alloc, place, count),
+        Inquiry::Forms(place, count) => forms(session, alloc, place, count),
         Inquiry::Counts(count) => tell_counts(session, alloc, count),
         Inquiry::Signals(count) => tell_signals(session, alloc, count),
         Inquiry::Events(count, kinds) => tell_events(session, alloc, count, kinds.as_slice()),
@@ -60,4 +63,11 @@ fn list(session: &Session, alloc: Global, place: Place, count: u16) -> Result<An
     ensures { Shows (list_text session.now.board.plain place.segment place.offset count) result }
 {
     Ok(Answer::Text(list_text(alloc, session.board(), place, count)?))
+}
+
+/// Answers the inquiry `forms`: what `count` instructions from a place in memory on do.
+fn forms(session: &Session, alloc: Global, place: Place, count: u16) -> Result<Answer, DebugFault>
+    ensures { Shows (forms_text session.now.board.plain place.segment place.offset count) result }
+{
+    Ok(Answer::Text(forms_text(alloc, session.board(), place, count)?))
 }

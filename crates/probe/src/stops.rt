@@ -2,10 +2,10 @@
 ghost use Rattle.std.specs.Prelude.{◌≡◌, ◌<◌, ◌^◌, IfSome, length};
 ghost use Rattle.debugger_meaning.specs.CommandWords.{words_of};
 ghost use Rattle.probe.specs.ProbeStops.{HasBytes};
-ghost use Rattle.probe.specs.Requests.{changes_in, is_standing, request_of, stop_of, trial_of, IsRequest, IsRising};
+ghost use Rattle.probe.specs.Requests.{changes_in, is_standing, request_of, second_in, stop_of, trial_of, IsRequest, IsRising};
 
 use crate::kinds::{Kinds, read_kinds};
-use crate::moments::Trial;
+use crate::moments::{Second, Trial};
 use arrayvec::ArrayVec;
 use board_plain::stop::Condition;
 use debugger_meaning::command::{Command, read_command};
@@ -42,7 +42,7 @@ pub(crate) enum Request {
     Go(u64),
     /// Goes back to the last earlier clock at which a stop was met.
     BackStop,
-    /// Answers how a run would end with one more key, for each clock of the trial.
+    /// Answers how a run would end with one more key, or two, for each clock of the trial.
     Try(Trial),
 }
 
@@ -95,7 +95,7 @@ fn read_stop(line: &str) -> Option<Stop>
 }
 
 /// Reads a line `moments CODE FIRST LAST COUNT` as the trial of a key: its code, the first and the last clock at which
-/// it may come, and how many clocks a run has; `None` if it is no such line.
+/// it may come, and how many clocks a run has; `CODE2 AFTER` at its end is a second key. `None` if it is no such line.
 #[tactic(auto, unfolding(crate::specs::Requests::trial_of))]
 fn read_trial(line: &str) -> Option<Trial>
     ensures value { result ≡ trial_of line.now }
@@ -109,13 +109,11 @@ fn read_trial(line: &str) -> Option<Trial>
     let (first, rest) = next_word(rest)?;
     let (last, rest) = next_word(rest)?;
     let (count, rest) = next_word(rest)?;
-    if next_word(rest).is_some() {
-        return None;
-    }
     let code = hex_number(2, code)?;
     let first = count_of(first)?;
     let last = count_of(last)?;
     let count = count_of(count)?;
+    let second = read_second(rest)?;
     if last < first {
         return None;
     }
@@ -124,7 +122,28 @@ fn read_trial(line: &str) -> Option<Trial>
         first,
         last,
         count,
+        second,
     })
+}
+
+/// Reads the words after a trial's first key as its second: a code, and how many clocks after the first it comes. The
+/// inner `None` is a trial without a second key, the outer one what is no trial.
+fn read_second(words: &[u8]) -> Option<Option<Second>>
+    ensures { result ≡ second_in (words_of words.now) }
+{
+    let Some((code, rest)) = next_word(words) else {
+        return Some(None);
+    };
+    let (after, rest) = next_word(rest)?;
+    if next_word(rest).is_some() {
+        return None;
+    }
+    let code = hex_number(2, code)?;
+    let after = count_of(after)?;
+    Some(Some(Second {
+        code: code as u8,
+        after,
+    }))
 }
 
 /// Reads the words after `changes` as a stop on changes of bytes: an address, and how many bytes from it on, one if no

@@ -6,7 +6,7 @@ use Rattle.board_plain.specs.Board.{BoardState}
 use Rattle.debugger_meaning.specs.declared.answer.Answer.{Answer}
 use Rattle.debugger_meaning.specs.declared.fault.DebugFault.{DebugFault}
 use Rattle.debugger_meaning.specs.Answers.{fault_number}
-use Rattle.probe.specs.Probe.{AnswersStopping, ProbeState, probe_about}
+use Rattle.probe.specs.Lab.{AnswersLab, LabState, lab_about}
 use Rattle.pcboard_texts.specs.declared.fault.Fault.{Fault}
 use Rattle.pcboard_texts.specs.Answer.{IsBoardOf, IsTrueRefusal}
 use Rattle.pcboard_texts.specs.RunFaults.{line_of, number_of}
@@ -17,12 +17,12 @@ use Rattle.zebludor_session.specs.declared.calls.Begun.{Begun}
 use Rattle.zebludor_session.specs.declared.calls.Told.{Told}
 
 -- how sessions begin and answer lines: as those of `pcprobe` do
-abbrev pub AnswersSession : Answering ProbeState
-AnswersSession = record { begins = probe_about; answers = AnswersStopping }
+abbrev pub AnswersSession : Answering LabState
+AnswersSession = record { begins = lab_about; answers = AnswersLab }
 
 -- a session that begins about a board has told nothing yet
 abbrev pub IsAbout : BoardState → OpenSession → Type 0
-IsAbout board session = (session.probe ≡ probe_about board) × (reply_text session.reply ≡ [])
+IsAbout board session = (session.lab ≡ lab_about board) × (reply_text session.reply ≡ [])
 
 -- the bytes and the run file's text give a board, and this session begins about it
 pub record BeginsSession (hex : Bool) (bytes run : List ℕ) (session : OpenSession) : Type 0 where
@@ -85,7 +85,7 @@ pub record AnswersOne (line : List ℕ) (old : OpenSession)
     (new : Option OpenSession) (before after : List ℕ) (told : Told) : Type 0 where
   pub session : OpenSession
   pub kept : new ≡ Some session
-  pub answers : AnswersTyped AnswersSession line old.probe session.reply session.probe
+  pub answers : AnswersTyped AnswersSession line old.lab session.reply session.lab
   pub tells : TellsReply session.reply before after told
 
 -- if there is no session, that is told, and nothing changes

@@ -7,13 +7,13 @@ use board::board::Board;
 use debugger_meaning::answer::Answer;
 use debugger_meaning::fault::DebugFault;
 use pcboard_texts::debugging::print_reply;
-use probe::probe::Probe;
+use probe::lab::Lab;
 use std::alloc::{AllocError, Global};
 
-/// A probe, and its last reply: no text, as long as it has answered no line.
+/// A lab, and its last reply: no text, as long as it has answered no line.
 #[derive(Drop)]
 pub struct OpenSession {
-    pub probe: Probe,
+    pub lab: Lab,
     pub reply: Result<Answer, DebugFault>,
 }
 
@@ -24,9 +24,9 @@ impl OpenSession {
         ensures session { IfOk result (λ session. IsAbout board session.value) }
         ensures fault { IfErr result (λ fault. fault ≡ DebugFault.Memory None) }
     {
-        let probe = Probe::new(alloc, board)?;
+        let lab = Lab::new(alloc, board)?;
         let reply = Ok(Answer::Text(String::new(alloc)));
-        match Box::new(alloc, OpenSession { probe, reply }) {
+        match Box::new(alloc, OpenSession { lab, reply }) {
             Ok(session) => Ok(session),
             Err(_) => Err(DebugFault::Memory(None)),
         }
@@ -35,9 +35,9 @@ impl OpenSession {
     /// Answers a caller's line as `pcprobe` does, and keeps the reply, whose text and fault can be asked for until the
     /// next line.
     pub fn answer(&mut self, alloc: Global, line: &[u8])
-        ensures { AnswersTyped AnswersSession line.now self.old.probe self.new.reply self.new.probe }
+        ensures { AnswersTyped AnswersSession line.now self.old.lab self.new.reply self.new.lab }
     {
-        self.reply = reply_to(alloc, &mut self.probe, line);
+        self.reply = reply_to(alloc, &mut self.lab, line);
     }
 
     /// The text of the last reply, as `pcprobe` prints it, for the caller's buffer; no bytes before the first line.
@@ -63,13 +63,13 @@ impl OpenSession {
     }
 }
 
-/// What a probe answers to a session's line, or the fault with which it refuses it. A line that isn't UTF-8 is no
+/// What a lab answers to a session's line, or the fault with which it refuses it. A line that isn't UTF-8 is no
 /// command.
-fn reply_to(alloc: Global, probe: &mut Probe, line: &[u8]) -> Result<Answer, DebugFault>
-    ensures { AnswersTyped AnswersSession line.now probe.old result probe.new }
+fn reply_to(alloc: Global, lab: &mut Lab, line: &[u8]) -> Result<Answer, DebugFault>
+    ensures { AnswersTyped AnswersSession line.now lab.old result lab.new }
 {
     match std::str::from_utf8(line) {
-        Ok(line) => probe.command(alloc, line),
+        Ok(line) => lab.command(alloc, line),
         Err(_) => Err(DebugFault::BadCommand),
     }
 }

@@ -2,15 +2,13 @@
 use Rattle.std.proofs.Common.{◌≡◌, ◌+◌, ◌<◌, ◌≤◌, Bool, List, true, false, ap, sym, subst, ◌∙◌, arith}
 use Rattle.std.specs.Prelude.{◌||◌, is_some, nat_eq}
 use Rattle.board_plain.specs.Plain.{Plain, clock_of}
-use Rattle.events_laws.specs.WithKey.{with_key}
 use Rattle.probe.specs.declared.moments.Moments.{Moments}
 use Rattle.probe.specs.declared.stops.Stop.{Stop}
-use Rattle.probe.specs.Moments.{AreRanges, key_tried}
+use Rattle.probe.specs.Moments.{AreRanges}
 use Rattle.probe.specs.Tried.{RunsTo, Tried}
 use Rattle.probe.specs.Watched.{stops_of}
-use Rattle.probe.proofs.Counting.{number_of}
+use Rattle.probe.proofs.Ending.{tried_clock}
 use Rattle.probe.proofs.Trying.{copy_ends, on_none, rest, stands_within, tried_more, undecided}
-use Rattle.probe.proofs.Waiting.{clock_same}
 use Rattle.probe.proofs.moments.try_at.Goals.{then-is_some-via-then-is_some, then-is_some-via-else-is_some+then-eq}
 use Rattle.probe.proofs.moments.try_at.Goals as goal
 
@@ -39,7 +37,7 @@ run-requires-2-clause-from c =
     let there =
     stands_within (stops_of c.args.watches.now) before c.args.bare.now.plain c.run.new.board.plain c.in_ok-stopped.stopped from c.in_ok-stopped.ensures.runs in
     let same : clock_of c.in_ok-tried.tried.plain ≡ clock_of c.run.new.board.plain =
-    ap clock_of c.in_ok-tried.ensures.plain ∙ clock_same c.run.new.board.plain _ in
+    ap clock_of c.in_ok-tried.ensures.plain ∙ tried_clock c.run.new.board.plain c.args.trial c.args.stamp in
     omega (arith, there, same, within)
 
 pub returns-in_err-add-2-clause-keeps : goal.returns-in_err-add-2-clause-keeps
@@ -63,10 +61,9 @@ returns-clause-tried c = λ s so.
     let moved =
     on_none stops s bare next c.args.trial c.args.end before c.args.stamp ranges c.args.watches.now c.run.new.watches so.so_far from early within
     (undecided stops c.args.end before bare next c.in_ok-stopped.stopped undecided_yet c.in_ok-stopped.ensures.runs) c.in_ok-stopped.ensures.keeps in
-    let stamp : c.unwrap.result ≡ c.args.stamp = number_of c.new.result c.unwrap.result c.args.stamp _ c.new.ensures c.unwrap.ensures in
     let ended =
-    copy_ends stops next c.in_ok-tried.tried.plain c.run-2.new.board.plain (key_tried c.args.trial c.args.stamp) c.args.end c.in_ok-stopped-2.stopped
-    (c.in_ok-tried.ensures.plain ∙ ap (λ n. with_key next (key_tried c.args.trial n)) stamp)
+    copy_ends stops next c.in_ok-tried.tried.plain c.run-2.new.board.plain c.args.trial c.args.stamp c.args.end c.in_ok-stopped-2.stopped
+    c.in_ok-tried.ensures.plain
     (subst (λ (xs : List Stop). RunsTo xs c.args.end c.in_ok-tried.tried.plain c.run-2.new.board.plain c.in_ok-stopped-2.stopped)
     c.in_ok-stopped.ensures.keeps.stops c.in_ok-stopped-2.ensures.runs) in
     subst (λ (rs : List Moments). Tried stops s next c.args.trial c.args.end (c.args.stamp + 1) rs c.run-2.new.watches) (sym c.in_ok-add-2.ensures)

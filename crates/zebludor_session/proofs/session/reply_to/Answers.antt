@@ -5,9 +5,9 @@ use Rattle.zebludor_session.proofs.session.reply_to.Goals as goal
 
 pub returns-in-Ok : goal.returns-in-Ok
 returns-in-Ok c =
-    typed_text AnswersSession c.args.line.now c.args.probe.now c.command.new.self c.command.result c.in-Ok.ensures.cases.1
-    (subst (λ (line : List ℕ). AnswersSession.answers line c.args.probe.now c.command.result c.command.new.self)
-    c.in-Ok.ensures.cases.0 c.command.ensures.answers)
+    typed_text AnswersSession c.args.line.now c.args.lab.now c.command.new.self c.command.result c.in-Ok.ensures.cases.1
+    (subst (λ (line : List ℕ). AnswersSession.answers line c.args.lab.now c.command.result c.command.new.self)
+    c.in-Ok.ensures.cases.0 c.command.ensures)
 
 pub returns-in-Err : goal.returns-in-Err
-returns-in-Err c = typed_bytes AnswersSession c.args.line.now c.args.probe.now c.in-Err.ensures.cases.0
+returns-in-Err c = typed_bytes AnswersSession c.args.line.now c.args.lab.now c.in-Err.ensures.cases.0
