@@ -15,7 +15,6 @@ from tests.support import TOOLS, TOP, ToolCase, example, is_there, not_run
 from tests.test_dap import Client
 from toolbox import foreign, program
 from toolbox.command import Sorry
-from toolbox.data_labels import labels_of_data
 from toolbox.desk.board import Board
 from toolbox.desk.language import Language
 from toolbox.guests import Guest, prepared
@@ -305,9 +304,9 @@ class Included(ToolCase):
     def source(self, name: str) -> str:
         return self.file('it.asm', f"include '{name}'\norg 100h\nMOV AX,4C00h+answer\nINT 21h\nEND\n")
 
-    def refused(self, name: str) -> str:
+    def refused(self, name: str, status: int = 2) -> str:
         """Why a file isn't included, which is one sentence."""
-        out, err = self.called('try', self.source(name), status=2)
+        out, err = self.called('try', self.source(name), status=status)
         self.assertEqual((out, err.count('\n')), ('', 1))
         return err
 
@@ -337,9 +336,9 @@ class Included(ToolCase):
         for name in ('below/inner.inc', outside, '..\\outside.inc', '..'):
             self.assertIn(f'it.asm includes {name}; what it includes is named without folders, and stands beside it', self.refused(name))
         os.symlink(outside, f'{self.room}/link.inc')
-        self.assertIn("it is a link, which isn't followed", self.refused('link.inc'))
+        self.assertIn("it is a link, which isn't followed", self.refused('link.inc', 3))
         os.mkfifo(f'{self.room}/pipe.inc')
-        self.assertIn('it is a FIFO, and no file', self.refused('pipe.inc'))
+        self.assertIn('it is a FIFO, and no file', self.refused('pipe.inc', 3))
         self.assertIn("includes none.inc, which isn't beside it", self.refused('none.inc'))
         self.assertIn('it.asm includes itself', self.refused('it.asm'))
 
@@ -386,7 +385,7 @@ class Lines(ToolCase):
         text = '.MODEL SMALL\n.DATA\nmsg DB "Hi"\n  DB "$"\nsmall? DW 2 DUP(?)\nlast DWORD ?\n.CODE\nmain: MOV AX,4C00h\n INT 21h\nEND main\n'
         path = self.file('it.asm', text)
         with prepared(Guest(path, language='masm'), Files(path, '')) as files:
-            found = labels_of_data(files, listing_of(files))
+            found = listing_of(files).data
         self.assertEqual([(one.name, one.line, one.kind, one.length) for one in found], [('msg', 3, 'DB', 3), ('small?', 5, 'DW', 4), ('last', 6, 'DD', 4)])
 
     def test_lines_of_macros_and_of_what_is_included(self) -> None:

@@ -260,13 +260,13 @@ class Underlined(ToolCase):
             self.assertEqual([diagnostic for diagnostic in here.found[IT] if diagnostic['severity'] == 1], [], line)
 
     def test_warnings(self) -> None:
-        lines = 'SEGMENT MAIN AT 0F000h\nx: DB 1\nMOV AL,x\nMOV BL,x+1\nMOV [x],AL\nINC BYTE [x]\nMOV AX,0F000h\nMOV SS,AX\nINT 60h\n; Grüße\nENDS\n'
+        lines = 'SEGMENT MAIN AT 0F000h\nx: DB 1\nMOV AL,x\nMOV BL,x+1\nMOV [x],AL\nINC BYTE [x]\nMOV AX,0F000h\nMOV SS,AX\nINT 60h\n; greetings\nENDS\n'
         here = Here()
         here.open(lines)
         self.assertEqual({diagnostic['severity'] for diagnostic in here.found[IT]}, {2})
         found = [(diagnostic['range']['start']['line'], diagnostic['code']) for diagnostic in here.found[IT]]
         wanted = [(2, 'offset-in-byte'), (3, 'offset-in-byte'), (4, 'variable-in-rom'), (5, 'variable-in-rom'), (7, 'variable-in-rom')]
-        self.assertEqual(sorted(found), sorted([*wanted, (8, 'no-vector'), (9, 'comment-not-ascii'), (0, 'no-reset')]))
+        self.assertEqual(sorted(found), sorted([*wanted, (8, 'no-vector'), (0, 'no-reset')]))
         for name in {name for _, name in found}:
             here.tell('workspace/didChangeConfiguration', settings={'zebludor': {'off': [name]}})
             here.tell('workspace/didChangeConfiguration', settings={})
@@ -367,7 +367,7 @@ class Places(ToolCase):
             ';',
             'x:',
             ':',
-            '[' * 100_000,
+            'x: ' + '[' * 100_000,
             'a ' * 50_000,
             "DB '" + 'x' * 100_000,
             '\ud800',

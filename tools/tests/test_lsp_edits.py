@@ -33,7 +33,7 @@ STATEMENTS: tuple[str, ...] = (
     'ADD AL,[BX+{}]',
 )
 STATEMENTS += ('DB 3 DUP(1, 2)', "CMP AL,';'", 'NOP', 'OUT 20h,AL', '')
-COMMENTS = ('', '; {}', ";it's {}", '\t ; grün', ' ;')
+COMMENTS = ('', '; {}', ";it's {}", '\t ; green', ' ;')
 
 
 def source(dice: random.Random) -> str:

@@ -7,7 +7,6 @@ import re
 from typing import Callable, Iterator
 
 from toolbox.command import Sorry, read_bytes, waiting
-from toolbox.comments import handed
 from toolbox.faults import Fault, fault_in
 from toolbox.hints import STATEMENTS, WORDS
 from toolbox.listing import code_of, label_in
@@ -19,7 +18,11 @@ OPENING = re.compile(r'\s*(\w+\s*:\s*)?SEGMENT\b', re.I)
 
 
 def stand_ins(line: str) -> list[str]:
-    """What may stand for a refused line, so that the lines behind it are judged as they would be: its label, or nothing."""
+    """What may stand for a refused line, so that the lines behind it are judged as they would be: itself without its comment, or a byte
+    order mark, if these alone aren't ASCII; its label, or nothing."""
+    plain = code_of(line).removeprefix('\ufeff')
+    if not line.isascii() and plain.isascii():
+        return [plain, '']
     label, code = label_in(line), code_of(line)
     data = re.match(r'\s*([A-Za-z_]\w*)\s+(D[BWD]|PROC|LABEL)\b', code, re.I)
     name = label or (data and data[1])
@@ -112,6 +115,6 @@ def refused_in(copy: Copy, say: Callable[[str], None] = lambda _: None) -> Itera
 def refused_lines(path: str, is_told: bool = True) -> Iterator[tuple[Fault, bool]]:
     """Those of a file. How far it is, is told on standard error."""
     tells = waiting(f'why: asking about the lines of {path}') if is_told else contextlib.nullcontext(lambda _: None)
-    copy = Copy(read_bytes(handed(path)).decode('utf-8', 'surrogateescape'))
+    copy = Copy(read_bytes(path).decode('utf-8', 'surrogateescape'))
     with tells as say:
         yield from filter(None, refused_in(copy, say))

@@ -7,9 +7,10 @@ import os
 import re
 from typing import Any, Optional
 
+from zebludor import RANGES as FIELD_RANGES
+
 from toolbox import limits, program, reading
-from toolbox.command import tool, waiting
-from toolbox.comments import handed
+from toolbox.command import handed_on, tool, waiting
 from toolbox.faults import Fault, fault_in
 from toolbox.hints import hint_of
 from toolbox.messages import TWICE_DEFINED, first_definition
@@ -21,7 +22,7 @@ from toolbox.shown import LONGEST_LINE, bounded, clipped
 from toolbox.symbols import image_of
 
 FIRST_LOST = 0xA0000
-RANGES = {'version': (1, 2), 'ram': (0, 65535), 'sw1': (0, 255), 'sw2': (0, 31), 'budget': (0, None)}
+RANGES: dict[str, tuple[int, Optional[int]]] = FIELD_RANGES | {'budget': (0, None)}  # of a larger one another fault tells
 TASKS = {'run': 2, 'asm': 1, 'debug': 2}
 
 
@@ -186,7 +187,7 @@ def of_ram(file: str, run_file: str, is_hex: bool) -> list[str]:
     ram = fields_of(run_file)['ram']
     if ram % 16 or not 16 <= ram <= 640:
         return [f'"ram" is {ram}; the board takes 16, 32, 48 and so on to 640']
-    text = '\n'.join(lines_of(file)) if is_hex else program.run(['asm', '--', handed(file)]).out
+    text = '\n'.join(lines_of(file)) if is_hex else program.run(['asm', '--', handed_on(file)]).out
     past = [address for address in image_of(text) if ram * 1024 <= address < FIRST_LOST]
     if not past:
         return []

@@ -12,8 +12,7 @@ from dataclasses import dataclass
 from typing import Iterator
 
 from toolbox import reading
-from toolbox.command import Sorry, read_bytes
-from toolbox.comments import text_of
+from toolbox.command import Sorry, Unreadable, read_bytes
 from toolbox.listing import Listing, label_row, line_of, own_name, placed_labels
 from toolbox.program import TOP, Ran, given_text, run
 from toolbox.shown import LONGEST_LINE, bounded, clipped
@@ -22,8 +21,6 @@ MADE = re.compile(r'[.?]+\d+')  # a label that pcmasm makes, of @@, of LOCAL, or
 OWN = f'{TOP}/services/masm'  # what programs may include that their own folder hasn't
 MOST_INCLUDED = 64
 DIALECT = re.compile(rb'^[ \t]*(?:\w+[ \t]*:[ \t]*)?SEGMENT[ \t]+\w+[ \t]+AT\b', re.I | re.M)  # no other assembler's
-OTHER = b'\n%\n'  # a line that shows NASM's source; it stands behind a text of which no line shows an assembler
-SHOWN = re.compile(r'[^:]*:(\d+): this is a line of (NASM|the dialect)')
 PLACE = re.compile(r'([^\n]*):(\d+):[ \t](.*)')
 WANTED = re.compile(r'includes (.*), which isn\'t given')
 AS_OWN = "taken as one of the board's own dialect"
@@ -109,13 +106,8 @@ def origin_of(octets: bytes) -> tuple[str, int | None]:
     found = DIALECT.search(octets)
     if found:
         return 'dialect', octets.count(b'\n', 0, found.start()) + 1
-    ran = run(['/dev/stdin'], octets + OTHER, 'pcmasm')
-    shown = SHOWN.match(ran.err) if ran.status == 1 else None
-    if not shown:
-        return 'masm', None
-    if int(shown[1]) == octets.count(b'\n') + 2:
-        return 'dialect', None
-    return 'nasm' if shown[2] == 'NASM' else 'dialect', int(shown[1])
+    name, *line = run(['--origin', '/dev/stdin'], octets, 'pcmasm').out.split() or ['dialect']
+    return name, int(line[0]) if line else None
 
 
 def is_masm(path: str) -> bool:
@@ -171,7 +163,7 @@ def read_within(source: str, folder: str, name: str) -> tuple[str, bytes]:
             raise Sorry(f'{source} includes itself')
         return path, reading.read_whole(name, within=handle)
     except OSError as error:
-        raise Sorry(f"{source} includes {name}, which can't be read: {error.strerror}") from None
+        raise Unreadable(f"{source} includes {name}, which can't be read: {error.strerror}") from None
     finally:
         os.close(handle)
 
@@ -229,7 +221,7 @@ def places_in(answer: str, names: dict[str, str]) -> Iterator[tuple[str, int, st
 
 def lines_of(octets: bytes) -> list[str]:
     """A text's lines, as a person wrote them."""
-    return [text_of(line.rstrip(b'\r')) for line in octets.split(b'\n')]
+    return [reading.text_of(line.rstrip(b'\r')) for line in octets.split(b'\n')]
 
 
 def refused(path: str, octets: bytes) -> Iterator[Remark]:

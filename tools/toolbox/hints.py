@@ -155,11 +155,14 @@ def of_a_bare_hexadecimal(code: str) -> str | None:
 def of_characters(line: str) -> str | None:
     """A hint where a character isn't the dialect's."""
     if line.startswith('\ufeff'):
-        return 'the file begins with a byte order mark, three bytes that an editor put there: save it as UTF-8 without it'
-    for column, sign in enumerate(line, 1):
-        if not (' ' <= sign <= '~' or sign in '\t\r'):
-            return f'column {column} has {sign!r}; only printable ASCII, tabulators and line ends stand outside comments'
-    return None
+        return "the file begins with a byte order mark: save it as UTF-8 without it, or tail -c +4 FILE > NEW leaves it out"
+    found = next(((column, sign) for column, sign in enumerate(line, 1) if not (' ' <= sign <= '~' or sign in '\t\r')), None)
+    if not found:
+        return None
+    plain = 'a source has printable ASCII, tabulators and line ends alone'
+    if found[0] <= len(code_of(line)):
+        return f'column {found[0]} has {found[1]!r}; {plain}'
+    return f'column {found[0]} has {found[1]!r}; {plain}, in comments too: iconv -c -f UTF-8 -t ASCII FILE > NEW leaves the rest out'
 
 
 def near(word: str, known: list[str]) -> str:

@@ -7,9 +7,8 @@ import struct
 from dataclasses import dataclass
 
 from toolbox import services
-from toolbox.command import Sorry, tool
-from toolbox.comments import handed, own_lines
-from toolbox.listing import label_row, line_of, physical
+from toolbox.command import Sorry, handed_on, tool
+from toolbox.listing import label_row, line_of, parts_of, physical
 from toolbox.program import TOP, answer_of
 from toolbox.services import LEAST_RAM, MOST_RAM, SPAN
 from toolbox.symbols import image_of
@@ -194,8 +193,8 @@ def source(name: str, args: str, ram: int) -> Loaded:
     """A source of the dialect. It begins where its far jump at FFFF:0000 leads, which gives way to the services', else with its
     first byte. One that begins at offset 100h of a segment whose first 256 bytes are free is laid out as a .COM program; else the
     PSP stands behind the source's last byte in RAM."""
-    image = image_of(answer_of(['asm', '--', handed(name)]))
-    rows = answer_of(['asm', '--list', '--', handed(name)]).split('\n')[:-1]
+    image = image_of(answer_of(['asm', '--', handed_on(name)]))
+    rows = answer_of(['asm', '--list', '--', handed_on(name)]).split('\n')[:-1]
     reset = {address: image.pop(address) for address in range(RESET, RESET + 16) if address in image}
     if reset and (list(reset) != list(range(RESET, RESET + 5)) or reset[RESET] != 0xEA):
         raise Sorry(f'{name}: at FFFF:0000 stands nothing but JMP FAR start, or nothing')
@@ -208,7 +207,7 @@ def source(name: str, args: str, ram: int) -> Loaded:
     psp = place_of(name, image, start, ram)
     environment = psp - ROOM_BEFORE + 1
     found = served(image | prefix_of(psp, environment, name, args) | begins(psp, start, (psp, 0xFFFE), environment), start, psp + 0x1000)
-    own = [(' ' * 28 if is_reset(row) else row[:28].ljust(28)) + text for row, text in zip(rows, own_lines(name))]
+    own = [' ' * 28 + row[28:] if is_reset(row) else row for row in rows]
     return Loaded(found.image, found.services, own + found.rows[1:], found.end)
 
 
@@ -240,26 +239,14 @@ def check_ram(ram: object, where: str) -> int:
 def hex_of(image: dict[int, int]) -> str:
     """An image as Intel HEX, sixteen bytes a record."""
     rows, bank = list[str](), -1
-    for first in sorted({address & ~15 for address in image}):
-        for at, octets in runs_of(image, first):
+    for first, octets in parts_of(image).items():
+        for row in range(first & ~15, first + len(octets), 16):
+            at = max(row, first)
             if at >> 16 != bank:
                 bank = at >> 16
                 rows.append(record(0, 2, struct.pack('>H', bank << 12)))
-            rows.append(record(at & 0xFFFF, 0, octets))
+            rows.append(record(at & 0xFFFF, 0, octets[at - first : row + 16 - first]))
     return '\n'.join([*rows, record(0, 1, b''), ''])
-
-
-def runs_of(image: dict[int, int], first: int) -> list[tuple[int, bytes]]:
-    """The parts without a gap of sixteen bytes of memory."""
-    found: list[tuple[int, bytes]] = []
-    for at in range(first, first + 16):
-        if at not in image:
-            continue
-        if found and found[-1][0] + len(found[-1][1]) == at:
-            found[-1] = found[-1][0], found[-1][1] + bytes([image[at]])
-        else:
-            found.append((at, bytes([image[at]])))
-    return found
 
 
 def record(offset: int, kind: int, data: bytes) -> str:

@@ -38,6 +38,14 @@ def too_long(path: str, most: int) -> Unfit:
     return Unfit(errno.EFBIG, f'it has more than {most:,} bytes', path)
 
 
+def text_of(octets: bytes) -> str:
+    """Bytes as a person wrote them: UTF-8, else a character for each byte."""
+    try:
+        return octets.decode('utf-8')
+    except UnicodeDecodeError:
+        return octets.decode('latin-1')
+
+
 def read_whole(path: str, most: int = LONGEST, within: int | None = None) -> bytes:
     """The bytes of a file. OSError tells why nothing was read. `within` is the handle of a folder, in which the path is a name that may
     be no link. What isn't regular isn't even opened, since some devices act on that."""

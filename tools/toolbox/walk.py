@@ -10,7 +10,7 @@ from typing import Any, Iterator, Protocol
 from zebludor import Happening, happening_of
 
 from toolbox.asking import Raw, Told, ask
-from toolbox.comments import handed
+from toolbox.command import handed_on
 from toolbox.effects import PREFIXES, Does, effect_of
 from toolbox.listing import Line, Listing, code_of, physical
 from toolbox.places import Event, event_of, line_at
@@ -207,7 +207,7 @@ class Run:
         """The addresses of the program's bytes."""
         if self.files.is_hex:
             return {at for first, part in self.listing.parts.items() for at in range(first, first + len(part))}
-        return set(image_of(answer_of(['asm', '--', handed(self.files.file)])))
+        return set(image_of(answer_of(['asm', '--', handed_on(self.files.file)])))
 
     def has(self, address: int) -> bool:
         """Whether the program has a byte at an address."""

@@ -14,7 +14,7 @@ from dataclasses import dataclass
 from typing import IO, Any, Callable, Iterator
 
 from toolbox import runfile
-from toolbox.command import Sorry
+from toolbox.command import Sorry, Unreadable
 from toolbox.guests import Guest
 from toolbox.reading import read_whole
 from toolbox.runfile import DEFAULTS, text_of
@@ -47,7 +47,7 @@ def octets_of(path: str) -> bytes | None:
     except FileNotFoundError:
         return None
     except OSError as error:
-        raise Sorry(f"{path} can't be read: {error.strerror}") from None
+        raise Unreadable(f"{path} can't be read: {error.strerror}") from None
 
 
 def still(path: str, octets: bytes | None) -> Callable[[], None]:
@@ -179,7 +179,7 @@ class Kept:
             self._finish()
             octets = octets_of(given.file)
             if octets is None:
-                raise Sorry(f"{given.file} can't be read: it isn't there")
+                raise Unreadable(f"{given.file} can't be read: it isn't there")
             source, sums[0] = text_in(given.file, octets), sum_of(octets)
             if given.run_file:
                 run = octets_of(given.run_file)

@@ -9,7 +9,6 @@ from typing import Callable
 
 from toolbox import services
 from toolbox.command import Sorry
-from toolbox.comments import plain_of
 from toolbox.every import Copy, refused_in
 from toolbox.faults import Fault
 from toolbox.listing import ADDRESS_COLUMNS, line_of, physical, probed
@@ -27,7 +26,7 @@ def used() -> float:
 
 def plain(whole: str) -> str:
     """A text as the program is handed it."""
-    return plain_of(whole.encode('utf-8', 'surrogatepass')).decode('utf-8', 'surrogateescape')
+    return whole.encode('utf-8', 'surrogatepass').decode('utf-8', 'surrogateescape')
 
 
 @dataclass(frozen=True)

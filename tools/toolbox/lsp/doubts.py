@@ -102,16 +102,8 @@ def no_reset(source: Source, answers: Answers) -> Iterator[Doubt]:
         yield Doubt('no-reset', span.first, span.name.start, span.name.end, text)
 
 
-def foreign_comments(source: Source, _: Answers) -> Iterator[Doubt]:
-    """Comments with characters that aren't ASCII, which pcboard itself refuses."""
-    for number, line in enumerate(source.lines):
-        if line.comment and not line.comment.text.isascii():
-            text = "pcboard itself takes ASCII alone; the tools hand it this comment's other characters as ?"
-            yield Doubt('comment-not-ascii', number, line.comment.start, line.comment.end, text)
-
-
-DOUBTS: tuple[Callable[[Source, Answers], Iterator[Doubt]], ...] = (of_lines, variables_in_rom, no_vectors, no_reset, foreign_comments)
-NAMES = (*doubts.NAMES, 'variable-in-rom', 'no-vector', 'no-reset', 'comment-not-ascii')
+DOUBTS: tuple[Callable[[Source, Answers], Iterator[Doubt]], ...] = (of_lines, variables_in_rom, no_vectors, no_reset)
+NAMES = (*doubts.NAMES, 'variable-in-rom', 'no-vector', 'no-reset')
 
 
 def doubts_of(source: Source, answers: Answers) -> list[Doubt]:

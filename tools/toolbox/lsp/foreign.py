@@ -1,4 +1,4 @@
-"""Sources of other assemblers, by their names and by what stands at a line's head; and those of MASM, as pcmasm tells."""
+"""Sources of other assemblers, by their names and as pcmasm tells."""
 from __future__ import annotations
 
 import contextlib
@@ -9,12 +9,8 @@ from toolbox import foreign
 from toolbox.command import Sorry
 from toolbox.lsp.source import Source
 
-LOOKS = (
-    ('NASM', r'\s*(%\w+|section\s+[.\w]+\s*$|bits\s+\d+\s*$|\[\s*(bits|org|section|cpu)\b|(global|extern)\s+\w)'),
-    ('gas', r'\s*(\.(text|globl|global|section|intel_syntax|att_syntax|code16|align|ascii|asciz|byte|word)\b)'),
-)
 MASM, AS_BYTES = 'MASM', ('utf-8', 'surrogatepass')
-PATTERNS = [(name, re.compile(look, re.I)) for name, look in LOOKS]
+GAS = re.compile(r'\s*\.(text|globl|global|section|intel_syntax|att_syntax|code16|align|ascii|asciz|byte|word)\b', re.I)
 
 
 @dataclass(frozen=True)
@@ -41,11 +37,9 @@ def seems(uri: str, source: Source) -> Note | None:
     if uri.lower().endswith('.nasm'):
         return Note('NASM', 0)
     with contextlib.suppress(Sorry):
-        if foreign.origin_of(source.text.whole.encode(*AS_BYTES))[0] == 'masm':
+        name, line = foreign.origin_of(source.text.whole.encode(*AS_BYTES))
+        if name == 'masm':
             return Note(MASM, 0)
-    for number, line in enumerate(source.text.lines):
-        if len(line) < 1000 and line.lstrip()[:1] not in ('', ';'):
-            for name, pattern in PATTERNS:
-                if pattern.match(line.partition(';')[0]):
-                    return Note(name, number)
+        if name == 'nasm' and line:
+            return Note('gas' if GAS.match(source.text.lines[line - 1]) else 'NASM', line - 1)
     return None

@@ -43,8 +43,9 @@ $('byte-who').onclick = () => {
 };
 $('byte-set').onclick = () => {
   const one = opener, [address, count] = chosen, shown = one.textContent, kept = [...one.childNodes];
+  const at = address > 0xFFFF ? `[0${hex(address, 5)}h]` : `0:[0${hex(address, 4)}h]`;
   close();
-  edit_in_place(one, `${count === 2 ? 'WORD' : 'BYTE'} [${hex(address, 5)}]`, /^[0-9A-F]{2}$/.test(shown) ? shown : '', true, () => one.replaceChildren(...kept));
+  edit_in_place(one, `${count === 2 ? 'WORD' : 'BYTE'} ${at}`, /^[0-9A-F]{2}$/.test(shown) ? shown : '', true, () => one.replaceChildren(...kept));
 };
 $('byte-menu').addEventListener('keydown', event => {
   const all = [$('byte-stop'), $('byte-who'), $('byte-set')];
