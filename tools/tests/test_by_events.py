@@ -15,6 +15,7 @@ STRING = (
     'print:  POP SI\nagain:  LODSB\n        OR AL,AL\n        JNZ again\n        PUSH SI\n        RET'
 )
 DROPPED = f'{STACK}        CALL one\n        HLT\none:    CALL two\n        NOP\n        RET\ntwo:    ADD SP,2\n        RET'
+LOADED = f'{STACK}again:  CALL one\none:    CALL two\ntwo:    PUSH AX\n        MOV SP,800h\n        JMP again'
 CONTROLLER = ''.join(
     f'        MOV AL,{value}\n        OUT {port},AL\n' for port, value in (('63h', '99h'), ('61h', '40h'), ('20h', '13h'), ('21h', '8'), ('21h', '1'))
 )
@@ -60,6 +61,12 @@ class ByEvents(ToolCase):
         """The inner call ends with the outer one."""
         self.assertEqual(self.dbg(DROPPED, 'until one', 'next')[-1], 'HLT')
         self.assertEqual(self.dbg(DROPPED, 'until two', 'finish')[-1], 'HLT')
+
+    def test_a_load_of_sp(self) -> None:
+        """Out of the inner call and over it lead to where SP has been loaded with what it was before the outer one: so high the
+        stack is known to be only by what came before."""
+        for place, way in (('two', 'finish'), ('one', 'next'), ('again', 'next')):
+            self.assertEqual(self.dbg(LOADED, f'until {place}', way)[-1], 'JMP again', place)
 
     def test_beginnings(self) -> None:
         """An interrupt that is taken at a place, or a halt before it, isn't its beginning: that is the first start

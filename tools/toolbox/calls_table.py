@@ -2,7 +2,7 @@
 from __future__ import annotations
 
 from dataclasses import dataclass
-from typing import Iterator
+from typing import Any, Iterator
 
 from toolbox.calls import Calls, Routine
 from toolbox.effects import Does, Far
@@ -34,6 +34,24 @@ def times(count: int) -> str:
     return f'{count:,} times' if count != 1 else 'once'
 
 
+def tally_fields(tally: Tally | None) -> dict[str, Any] | None:
+    """What was measured as JSON has it, if anything was."""
+    if not tally or not tally.times:
+        return None
+    return {'times': tally.times, 'least': tally.least, 'most': tally.most, 'sum': tally.sum, 'at': tally.at}
+
+
+def service_fields(tally: Tally | None) -> dict[str, Any] | None:
+    """The longest service, if one has ended."""
+    return {'clocks': tally.most, 'at': tally.at} if tally and tally.times else None
+
+
+def request_fields(line: Line) -> dict[str, Any]:
+    """What became of a line's requests, as JSON has it."""
+    counts = {'unseen': line.unseen, 'polled': line.polled, 'forgotten': line.forgotten}
+    return {'latency': tally_fields(line.taken), 'fell': tally_fields(line.fell), 'waits': line.waits} | counts
+
+
 @dataclass
 class CallsTable:
     """What a run's calls came to, as text."""
@@ -48,6 +66,34 @@ class CallsTable:
         yield from self._interrupts()
         yield ''
         yield from self._off()
+
+    def fields(self) -> dict[str, Any]:
+        """The same as JSON has it."""
+        lines, requests = self.calls.requests.lines, self.calls.requests
+        served = self._served()
+        keys = sorted({*served, *((True, requests.base + level) for level, line in enumerate(lines) if line.has_come)})
+        return {
+            'routines': [self._routine(*each) for each in sorted(self.calls.routines.items(), key=lambda each: (-each[1].took.sum, self.name(each[0])))],
+            'strays': self.calls.strays,
+            'interrupts': [{'type': type_, 'is_entry': is_entry, 'service': service_fields(served.get((is_entry, type_)))} for is_entry, type_ in keys],
+            'requests': [{'line': f'IR{level}', **request_fields(line)} for level, line in enumerate(lines) if line.has_come],
+            'off': self._off_fields(),
+        }
+
+    def _routine(self, key: Key, row: Routine) -> dict[str, Any]:
+        """A routine as JSON has it."""
+        type_, is_entry, far = key
+        what = {'name': self.name(key), 'place': '%04X:%04X' % far, 'type': type_, 'is_entry': is_entry}
+        figures = {'clocks': tally_fields(row.took), 'own': tally_fields(row.own), 'stack': row.stack if row.took.times else None}
+        return what | {'times': row.calls} | figures | {'otherwise': row.otherwise, 'unended': row.unended}
+
+    def _off_fields(self) -> dict[str, Any]:
+        """How long interrupts were off, as JSON has it."""
+        off, longest = self.calls.off, None
+        if off.longest:
+            begun, end, by, until = off.longest
+            longest = {'begun': begun, 'end': end, 'by': self.place(by), 'until': self.place(until)}
+        return {'first': off.first[0] if off.first else None, 'longest': longest, 'since': off.since[0] if off.since else None}
 
     def name(self, key: Key) -> str:
         """What a routine is called: by its label, else its place, with the interrupt that it serves."""
@@ -77,15 +123,19 @@ class CallsTable:
         if row.unended:
             yield f'{name}: not left yet at the end {times(len(row.unended))}, and not averaged; first called at {min(row.unended)}'
 
-    def _interrupts(self) -> Iterator[str]:
-        """A line for each type: its latency, and its longest service."""
-        calls, requests = self.calls, self.calls.requests
+    def _served(self) -> dict[tuple[bool, int], Tally]:
+        """The longest services of each type."""
         served = dict[tuple[bool, int], Tally]()
-        for (type_, is_entry, _), row in calls.routines.items():
+        for (type_, is_entry, _), row in self.calls.routines.items():
             if type_ is not None:
                 longest = served.setdefault((is_entry, type_), Tally())
                 if row.took.times:
                     longest.add(row.took.most, row.took.at)
+        return served
+
+    def _interrupts(self) -> Iterator[str]:
+        """A line for each type: its latency, and its longest service."""
+        requests, served = self.calls.requests, self._served()
         lines = {(True, requests.base + level): line for level, line in enumerate(requests.lines) if line.has_come}
         yield f'{"":<16} {"latency, in clocks":>41} {"":>12} {"longest":>9}'
         yield f'{"interrupt":<16} {"taken":>9} {NUMBERS} {"most at":>12} {"service":>9} {"at":>12}'

@@ -14,9 +14,10 @@ before it is followed; with `asks()` also where flags and targets are wanted.
 it has seen, the innermost last, each a `Frame`; what was called before isn't known. `Out(follower, frame).ends(mark)`
 follows a mark and says whether it ends that frame's call: by the return that takes its address from where the call has
 put it, also a string's behind that address if the routine has taken it by POP and puts another one there, or jumps
-there by a register; or by a return from above it, if the address was dropped. Interrupts, calls on the way, other
-tasks' stacks and words that were pushed to be jumped to don't count. Without a frame it is the routine that runs at the
-state: a return ends it that takes its address from at or above SP, where nothing has been pushed since.
+there by a register; by a return from above it, if the address was dropped; or by a load of SP to above it, no higher
+than the stack is known to have been. Interrupts, calls on the way, other tasks' stacks and words that were pushed to be
+jumped to don't count. Without a frame it is the routine that runs at the state: a return ends it that takes its address
+from at or above SP, where nothing has been pushed since.
 `Requests(controller)` takes wires and ports, and tells each request's rise, fall and acceptance.
 
 The cases in tests/following, which any other implementation can be held against, are lines and answers."""
@@ -84,7 +85,7 @@ class Port(NamedTuple):
 What = Start | Entry | Wire | Port
 T = TypeVar('T')
 MOVING, FOR_STACK, RETURNING = (Does.PUSHES, Does.MOVES, Does.LOADS_FLAGS), (Does.LOADS, Does.MAY_TRAP), (Does.RETURNS, Does.RETURNS_WITH_FLAGS)
-FOR_FLAGS, CALLING = (Does.LOADS_FLAGS, Does.RETURNS_WITH_FLAGS), (Does.CALLS, Does.TRAPS)
+LOADING, FOR_FLAGS, CALLING = (Does.LOADS, Does.SETS_SP), (Does.LOADS_FLAGS, Does.RETURNS_WITH_FLAGS), (Does.CALLS, Does.TRAPS)
 
 
 class Mark:
@@ -271,7 +272,8 @@ class Follower:
         self.nest = list[Frame]()
         self.ended: Frame | None = None
         self._open = dict[int, list[Frame]]()  # by where their return addresses lie
-        self._left = dict[Far, list[Frame]]()  # the nests of other stacks, by SS and SP as they were left
+        self.base = state.pointer  # how high the present stack is known to be, beside what its calls tell
+        self._left = dict[Far, tuple[list[Frame], int]]()  # the nests and bases of other stacks, by SS and SP as they were left
 
     def follow(self, mark: Mark) -> None:
         """The next mark."""
@@ -328,18 +330,18 @@ class Follower:
             self.ended.is_passed, self.ended.is_lifted = True, False
 
     def _load(self, clock: int, octets: bytes, segment: int, pointer: int) -> None:
-        """SS or SP is loaded: within a routine's frame; to another task's stack, or back to one; or to where nothing is
-        known."""
-        stack, nest, here = self.stack, self.nest, (self.stack.segment, self.stack.level % 0x10000)
+        """SS or SP is loaded: back to another task's stack; within the present one, by which calls below are dropped; or to
+        a stack of which nothing is known."""
+        stack, nest, level, here = self.stack, self.nest, self.stack.level, (self.stack.segment, self.stack.level % 0x10000)
         stack.load(clock, segment, pointer)
-        if (segment, pointer) == here or segment == here[0] and is_by_frame(octets):
-            return
-        is_near = segment == here[0] and nest and stack.level >= stack.lowest(segment, nest[0].clock)
-        if is_near and stack.level <= nest[-1].level:
-            return
-        self._left[here] = nest
-        back = self._left.pop((segment, pointer), None)
-        self.nest = back if back is not None else [frame for frame in nest if is_near and frame.level >= stack.level]
+        top = max([self.base, *(frame.above for frame in nest[:1])])
+        is_within = (segment, pointer) not in self._left and level <= stack.level <= top
+        if segment == here[0] and (is_within or is_by_frame(octets)):
+            while nest and nest[-1].level < stack.level:
+                nest.pop()
+        else:
+            self._left[here] = nest, self.base
+            self.nest, self.base = self._left.pop((segment, pointer), ([], stack.level))
 
     def called(self, frame: Frame, mark: Mark) -> None:
         """A call was followed."""
@@ -349,10 +351,11 @@ class Follower:
 
 
 class Out:
-    """The way out of a call that the follower has in its nest, or without a frame out of the routine that runs."""
+    """The way out of a call that the follower has in its nest, or without a frame out of the routine that runs. If what
+    called before isn't known, it may be `unsure` whether SP was loaded to above the call or to another stack."""
 
-    def __init__(self, follower: Follower, frame: Frame | None = None) -> None:
-        self.follower, self.frame = follower, frame
+    def __init__(self, follower: Follower, frame: Frame | None = None, is_known: bool = True) -> None:
+        self.follower, self.frame, self.is_known, self.unsure = follower, frame, is_known, False
         self._nest = follower.nest
         self.intact = follower.stack.level  # from there on upwards nothing has been pushed since
 
@@ -362,15 +365,18 @@ class Out:
         return self.follower.nest is self._nest
 
     def ends(self, mark: Mark) -> bool:
-        """Follows a mark, and tells whether it ends the call."""
-        follower, frame, does = self.follower, self.frame, mark.does
-        level, is_own = follower.stack.level, self.is_own
+        """Follows a mark, and tells whether it ends the call, or whether that can't be told."""
+        follower, frame, does, stack = self.follower, self.frame, mark.does, self.follower.stack
+        level, segment, is_own = stack.level, stack.segment, self.is_own
         follower.follow(mark)
         if frame and follower.ended is frame:
             return True
         if does in RETURNING:
             return is_own and level >= self.intact and (frame is None or level > frame.level)
-        if is_own and follower.stack.level < level:
+        if does in LOADING and frame and is_own and stack.segment == segment and stack.level > frame.level:
+            self.unsure = not self.is_own and not self.is_known
+            return self.unsure or self.is_own
+        if is_own and stack.level < level:
             self.intact = max(self.intact, level)
         return False
 
