@@ -30,7 +30,7 @@ import time
 import weakref
 from dataclasses import dataclass
 from types import SimpleNamespace
-from typing import IO, TYPE_CHECKING, Any, Callable, Iterable, Iterator, Mapping, NamedTuple, NoReturn, Sequence, TypeVar
+from typing import IO, TYPE_CHECKING, Any, Callable, Container, Iterable, Iterator, Mapping, NamedTuple, NoReturn, Sequence, TypeVar
 
 if TYPE_CHECKING:
     import ctypes  # else imported where the chips are loaded: what only runs programs begins sooner without it
@@ -49,16 +49,19 @@ SESSIONS = f'{TOP}/lib/libzebludor_session.so', f'{TOP}/crates/zebludor_session/
 ROWS, COLUMNS = 25, 80
 REGISTER_LINES = (('AX', 'BX', 'CX', 'DX', 'SP', 'BP', 'SI', 'DI'), ('CS', 'DS', 'ES', 'SS', 'IP', 'FL'))
 REGISTERS = REGISTER_LINES[0] + REGISTER_LINES[1]
+REGISTER_TEXT = re.compile('\n'.join(' '.join(f'{name}=([0-9A-F]{{4}})' for name in names) for names in REGISTER_LINES))
 HALVES = {f'{name}{half}': (f'{name}X', shift) for name in 'ABCD' for half, shift in (('L', 0), ('H', 8))}
 # What stands on the stack where a routine is called: the bytes of its return address, and of FL; and the offset to which it returns.
 RETURNS, RETURNED_TO = {'near': 2, 'far': 4, 'iret': 6}, 0xFFFF
 SET_AT_ONCE = 16  # bytes of a command
 GIVEN_AT_ONCE = 200  # commands: their answers fit in the pipe
+CLOCK_ALONE = re.compile(rb'clock (\d{1,13})\n')
 FLAGS = {'CF': 0, 'PF': 2, 'AF': 4, 'ZF': 6, 'SF': 7, 'TF': 8, 'IF': 9, 'DF': 10, 'OF': 11}
 DEFAULTS: dict[str, Any] = {'version': 1, 'ram': 64, 'sw1': 0, 'sw2': 0, 'budget': 10_000_000, 'keys': []}
 # What version 2 of run files has besides: which chip the timer is, and which table the clocks. Of version 1 they are the first.
 CHOICES: dict[str, tuple[str, ...]] = {'timer': ('8253', '8254'), 'clocks': ('C1', 'C2')}
 FIRST_CHOICES = {name: them[0] for name, them in CHOICES.items()}
+RANGES = {'version': (1, 2), 'ram': (0, 65535), 'sw1': (0, 255), 'sw2': (0, 31), 'budget': (0, LAST_CLOCK)}
 
 Source = str | bytes | os.PathLike
 T = TypeVar('T')
@@ -73,11 +76,12 @@ class NotReturned(Exception):
 
 
 class Fault(Exception):
-    """A refusal by the program: its number and name, and its line and clock, where it tells them."""
+    """A refusal by the program: its number and name, and its line and clock, where it tells them; of a run's field also why."""
 
-    def __init__(self, number: int, name: str, line: int | None = None, clock: int | None = None) -> None:
+    def __init__(self, number: int, name: str, line: int | None = None, clock: int | None = None, why: str = '') -> None:
         self.number, self.name, self.line, self.clock = number, name, line, clock
-        super().__init__(f'fault {number} {name}' + ('' if line is None else f' line {line}') + ('' if clock is None else f' clock {clock}'))
+        places = ('' if line is None else f' line {line}') + ('' if clock is None else f' clock {clock}')
+        super().__init__(f'fault {number} {name}{places}' + (f': {why}' if why else ''))
 
 
 def fault_in(text: str) -> Fault | None:
@@ -151,15 +155,22 @@ class Report:
         return f'<pre style="{style}">{html.escape(chr(10).join(self.screen))}</pre>'
 
 
+class Registers(dict[str, int]):
+    """A session's registers. Up to version 0.4 they were a method's answer: so they can be called, a version long."""
+
+    def __call__(self) -> dict[str, int]:
+        import warnings
+
+        warnings.warn('session.registers is no method any more: leave the brackets out', DeprecationWarning, stacklevel=2)
+        return self
+
+
 def registers_of(lines: list[str]) -> dict[str, int]:
     """The registers of a report's two lines, or of a session's answer to `regs`."""
-    found: dict[str, int] = {}
-    for line, names in zip(lines, REGISTER_LINES, strict=True):
-        pairs = re.findall(r'(\w\w)=([0-9A-F]{4})(?: |$)', line)
-        if [name for name, _ in pairs] != list(names):
-            raise ValueError(line)
-        found.update((name, int(value, 16)) for name, value in pairs)
-    return found
+    found = REGISTER_TEXT.fullmatch('\n'.join(lines))
+    if not found:
+        raise ValueError(lines)
+    return {name: int(value, 16) for name, value in zip(REGISTERS, found.groups())}
 
 
 def _value(line: str, name: str) -> str:
@@ -207,7 +218,24 @@ def _fields(given: dict[str, Any]) -> dict[str, Any]:
     if unknown:
         raise TypeError(f'{sorted(unknown)[0]} is no field of a run file: {", ".join((*DEFAULTS, *CHOICES))}')
     fields = DEFAULTS | {name: [list(key) for key in value] if name == 'keys' else value for name, value in given.items()}
-    return fields | {'version': 2} | FIRST_CHOICES | given if given.keys() & CHOICES.keys() else fields
+    fields |= {'version': 2} | FIRST_CHOICES | {name: fields[name] for name in given} if given.keys() & CHOICES.keys() else {}
+    if why := next(_unfit(fields), ''):
+        raise Fault(32, 'BadField', why=why)
+    return fields
+
+
+def _unfit(fields: dict[str, Any]) -> Iterator[str]:
+    """Why fields are none that a run file may have: the program tells of them all that one of them is bad."""
+    for name, (least, most) in RANGES.items():
+        greatest = (1 << 64) - 1 if name == 'budget' else most  # of one that is too large the program tells by itself
+        if type(fields[name]) is not int or not least <= fields[name] <= greatest:
+            yield f'{name} is {fields[name]!r}, and has to be {least:,} to {most:,}'
+    for name in CHOICES.keys() & fields.keys():
+        if fields[name] not in CHOICES[name]:
+            yield f'{name} is {fields[name]!r}, and has to be {" or ".join(CHOICES[name])}'
+    for place, key in enumerate(fields['keys']):
+        if len(key) != 2 or not all(type(one) is int and one >= 0 for one in key) or key[0] > LAST_CLOCK:
+            yield f'keys[{place}] is {key!r}, and has to be a clock, 0 to {LAST_CLOCK:,}, and a scan code'
 
 
 # The program.
@@ -266,13 +294,12 @@ def limited(words: list[str]) -> list[str]:
 
 def ran(words: list[str], given: bytes = b'', most: int = sys.maxsize, name: str = 'pcboard') -> Ran:
     """Runs a program to its end. An answer of more than `most` bytes isn't read, which is told as Unfit."""
-    with tempfile.TemporaryFile() as err:
-        words, pipe = limited([program(name), *words]), subprocess.PIPE
-        process = subprocess.Popen(words, stdin=pipe, stdout=pipe, stderr=err)
-        assert process.stdin and process.stdout
+    with tempfile.TemporaryFile() as to, tempfile.TemporaryFile() as err:
+        to.write(given)  # into a file, not a pipe: a session answers before it has read all
+        to.seek(0)
+        process = subprocess.Popen(limited([program(name), *words]), stdin=to, stdout=subprocess.PIPE, stderr=err)
+        assert process.stdout
         try:
-            with contextlib.suppress(BrokenPipeError), process.stdin as to:
-                to.write(given)  # it answers once it has read all, so neither side waits for the other
             with process.stdout as out:
                 octets = bytearray()
                 while piece := out.read1(1 << 16):  # read() would make room for `most` at once
@@ -329,9 +356,9 @@ def _there(source: os.PathLike) -> str:
     try:
         reading = _toolbox('limits of files').reading
     except Unfit:  # where the tools aren't
-        return path
+        reading = None
     try:
-        reading.check(path)
+        os.stat(path) if reading is None else reading.check(path)
     except OSError as error:
         raise Unfit(f"{path} can't be read: {error.strerror}") from None
     return path
@@ -401,6 +428,31 @@ def _served(path: str, services: bool | None, given: dict[str, Any], room: str) 
     except tools.command.Sorry as sorry:
         raise Unfit(str(sorry).replace(f'{room}/source', 'the source')) from None
     return made and [made.file, made.run_file]
+
+
+def batch(
+    source: Source,
+    runs: Iterable[dict[str, Any] | str | bytes],
+    *,
+    is_hex: bool = False,
+    jobs: int | None = None,
+    seconds: int = 60,
+    memory: int = 256,
+    known: Container[str] = (),
+) -> Iterator[dict[str, Any]]:
+    """The answers to many runs of a program, in their order, as tools/batch has them (docs/sweeps.md). A run is a run file, with a `name`
+    if you like, as a dict or as a line of JSON. Each may take so many processor seconds and megabytes. Runs whose ids are known are
+    left out."""
+    tools = _toolbox('batches')
+    from toolbox import batches  # pylint: disable=import-error
+
+    lines = (json.dumps(run).encode() if isinstance(run, dict) else run.encode() if isinstance(run, str) else run for run in runs)
+    with _files(source) as names, tempfile.TemporaryDirectory() as room:
+        try:
+            made = batches.batch_of(names[1], bool(_hex_words(source, is_hex)), room, seconds, memory)
+            yield from batches.answers(made, lines, jobs or os.cpu_count() or 1, known)
+        except tools.command.Sorry as sorry:
+            raise Unfit(str(sorry)) from None
 
 
 def assemble(source: Source) -> str:
@@ -568,26 +620,29 @@ class Dialogue:
 
     def some_and(self, commands: list[str], question: str) -> tuple[list[str], list[str]]:
         """The answers of such commands, and that of a question behind them, which has many lines."""
-        first, last = commands[:-GIVEN_AT_ONCE], commands[-GIVEN_AT_ONCE:]
-        found = self.some(first)
-        self._send('\n'.join([*last, question, 'go 0']) + '\n')
-        return found + [self.rest() for _ in last], self._lines()
+        found = self.some(commands[:-GIVEN_AT_ONCE])
+        last = commands[-GIVEN_AT_ONCE:]
+        self._send('\n'.join([*last, question, 'go 0\n']))
+        lines = self._lines(len(last))
+        return found + lines[: len(last)], lines[len(last) :]
 
     def many(self, command: str) -> list[str]:
         """The answer of any other command. `go 0` behind it changes nothing, and its answer marks the end: a line of the screen may
         say what it likes, but has 80 characters."""
         self._send(command + '\ngo 0\n')
-        return self._lines()
+        return self._lines(0)
 
-    def _lines(self) -> list[str]:
-        """The lines up to the answer of `go 0`."""
-        lines: list[str] = []
-        while True:
-            line = self._line()
-            if re.fullmatch(r'clock \d{1,13}', line):
-                self.clock, self.is_idle = int(line.split()[1]), True
-                return lines
-            lines.append(line)
+    def _lines(self, first: int) -> list[str]:
+        """So many lines, and those behind them up to the answer of `go 0`."""
+        octets, end = bytearray(), None
+        while end is None or octets.count(b'\n') <= first:
+            piece = self._out.read1(1 << 16)  # type: ignore[attr-defined]
+            if not piece:
+                self._ended()
+            octets += piece
+            end = CLOCK_ALONE.fullmatch(octets, octets.rfind(b'\n', 0, -1) + 1)
+        self.clock, self.is_idle = int(end[1]), True
+        return octets.decode('ascii', 'replace').split('\n')[:-2]
 
     def happenings(self, command: str) -> list[str]:
         """The lines of an answer that ends with its clock, or is a refusal alone."""
@@ -953,9 +1008,10 @@ class Session:
         """Back to the last earlier clock at which a stop held (`back stop`)."""
         return self._one('back stop')
 
-    def registers(self) -> dict[str, int]:
-        """The registers (`regs`)."""
-        return registers_of(self._many('regs'))
+    @property
+    def registers(self) -> Registers:
+        """The registers (`regs`), as a report has them."""
+        return Registers(registers_of(self._many('regs')))
 
     def screen(self) -> list[str]:
         """The screen's 25 lines."""
@@ -1003,7 +1059,7 @@ class Session:
         `undo` takes it back, and no way back leads before it. Changes at one clock are one."""
         self._of_the_probe('set')
         if isinstance(place, str) and (place in REGISTERS or place in HALVES or place in FLAGS):
-            self._change([f'set {name} {word:X}' for name, word in with_parts(self.registers(), {place: value}).items()])
+            self._change([f'set {name} {word:X}' for name, word in with_parts(self.registers, {place: value}).items()])
             return
         octets, at = value if isinstance(value, bytes) else _octets(value, size), self._address(place)
         before = self.dump(at, len(octets)) if len(octets) > SET_AT_ONCE else b''
@@ -1132,7 +1188,7 @@ class Routine:
 
     def __init__(self, session: Session, place: tuple[int, int], returns: str, most: int, with_memory: bool) -> None:
         self._session, self._place, self._returns, self._most, self._with_memory = session, place, returns, most, with_memory
-        self._clock, self._were, self._bytes_were = session.clock, session.registers(), dict[int, int]()
+        self._clock, self._were, self._bytes_were = session.clock, session.registers, dict[int, int]()
         # What stands there at its clock by now. IP is set once even if it is the same: that ends a halt.
         self._are, self._bytes_are, self._is_changed = {**self._were, 'IP': -1}, dict[int, int](), False
         self._kept = next((list(given) for clock, given in session._changes[-1:] if clock == self._clock), None)
@@ -1140,6 +1196,7 @@ class Routine:
         self._back_to = (place[0] if returns == 'near' else RETURNED_TO, RETURNED_TO)
         if self._back_to not in session._returns:
             session._returns[self._back_to] = session.stop_at('%X:%X' % self._back_to)
+        self._returned = f'stop {session._returns[self._back_to]} '
 
     def __enter__(self) -> Routine:
         return self
@@ -1155,20 +1212,22 @@ class Routine:
             self._session._change(self._kept or [])
 
     def __call__(self, *, stack: Sequence[int] = (), memory: Mapping[str | int, int | bytes] | None = None, **registers: int) -> Returned:
-        wanted = with_parts(self._were, {name.upper(): value for name, value in registers.items()})
-        frame, segment = self._frame(wanted, stack), wanted.get('SS', self._were['SS'])
-        wanted |= {'SP': (wanted.get('SP', self._were['SP']) - len(frame)) % 0x10000, 'CS': self._place[0], 'IP': self._place[1]}
-        octets = {(16 * segment + (wanted['SP'] + at) % 0x10000) % MEMORY: octet for at, octet in enumerate(frame)}
-        for place, value in (memory or {}).items():
+        then = {**self._were, **with_parts(self._were, {name.upper(): value for name, value in registers.items()})}
+        frame = self._frame(then['FL'], stack)
+        top = then['SP'] = (then['SP'] - len(frame)) % 0x10000
+        then['CS'], then['IP'] = self._place
+        first = 16 * then['SS']
+        octets = {(first + (top + at) % 0x10000) % MEMORY: octet for at, octet in enumerate(frame)}
+        for place, value in memory.items() if memory else ():
             octets |= enumerate(value if isinstance(value, bytes) else _octets(value, 1), self._session._address(place))
         self._look_at(octets)
-        found, clocks = self._run(wanted, octets), self._session.clock - self._clock
+        found, clocks = self._run(then, octets), self._session.clock - self._clock
         return Returned(found, self._written(clocks) if self._with_memory else {}, clocks - self._left)
 
-    def _frame(self, wanted: dict[str, int], stack: Sequence[int]) -> bytes:
+    def _frame(self, flags: int, stack: Sequence[int]) -> bytes:
         """What stands on the stack where the routine begins."""
-        words = (self._back_to[1], self._back_to[0], wanted.get('FL', self._were['FL']))[: RETURNS[self._returns] // 2]
-        return b''.join(_octets(word, 2) for word in (*words, *stack))
+        words = (self._back_to[1], self._back_to[0], flags)[: RETURNS[self._returns] // 2]
+        return b''.join([_octets(word, 2) for word in (*words, *stack)])
 
     def _back(self) -> list[str]:
         """The command that leads back to where each call begins."""
@@ -1185,32 +1244,33 @@ class Routine:
             before |= enumerate(self._session.dump(run.start, len(run)), run.start)
         self._took(self._session._asked(self._session._dialogue.some, _set_lines(before)))
         self._bytes_were |= before
+        self._bytes_are |= before
 
     def _took(self, answers: list[str]) -> None:
         """Raises what was refused. The first `set` that wasn't has begun a change, unless it belongs to one."""
         if not self._is_changed and any(answer == f'clock {self._clock}' for answer in answers):
             self._is_changed, changes = True, self._session._changes
             self._session._changes = changes if self._kept is not None else [*changes, (self._clock, list[str]())][-16:]
-        for fault in filter(None, map(fault_in, answers)):
-            raise fault
+        for answer in answers:
+            if answer.startswith('fault'):
+                raise fault_in(answer) or Unfit(answer)
 
-    def _run(self, wanted: dict[str, int], octets: dict[int, int]) -> dict[str, int]:
-        """The registers where the routine has returned, of the board with these registers and bytes and all else as it was. Other stops
-        are passed."""
-        session, then, bytes_then = self._session, self._were | wanted, self._bytes_were | octets
-        names = [name for name, word in then.items() if self._are.get(name) != word]
-        sets = _set_lines({at: octet for at, octet in bytes_then.items() if self._bytes_are.get(at, self._bytes_were[at]) != octet})
-        sets += [f'set {name} {then[name]:X}' for name in names]
-        answers, lines = session._asked(session._dialogue.some_and, [*self._back(), *sets, f'go {self._most}'], 'regs')
+    def _run(self, then: dict[str, int], octets: dict[int, int]) -> dict[str, int]:
+        """The registers where the routine has returned, of the board with these registers, these bytes, and all else as it was. Other
+        stops are passed."""
+        session, bytes_then = self._session, {**self._bytes_were, **octets}
+        commands = self._back()
+        commands += _set_lines(dict(bytes_then.items() - self._bytes_are.items())) if bytes_then != self._bytes_are else []
+        commands += [f'set {name} {word:X}' for name, word in then.items() if word != self._are[name]]
+        answers, lines = session._asked(session._dialogue.some_and, [*commands, f'go {self._most}'], 'regs')
         self._took(answers)
         self._are, self._bytes_are = then, bytes_then
-        met, end = answers[-1].split(), self._clock + self._most
-        while not (met[0] == 'stop' and (int(met[1]) == session._returns[self._back_to] or self._has_returned(lines))):
+        end = self._clock + self._most
+        while not (answers[-1].startswith(self._returned) or answers[-1].startswith('stop') and self._has_returned(lines)):
             if session.clock >= end:
                 raise NotReturned(f"the routine hasn't returned within {self._most:,} clocks")
             answers, lines = session._asked(session._dialogue.some_and, [f'go {end - session.clock}'], 'regs')
             self._took(answers)
-            met = answers[-1].split()
         return registers_of(lines)
 
     def _has_returned(self, lines: list[str]) -> bool:

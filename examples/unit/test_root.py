@@ -33,7 +33,7 @@ def test_what_it_leaves() -> None:
         returned = board.call('root', ax=65535, dx=1, si=2, di=3, bp=4)
         kept = {name: returned.registers[name] for name in ('DX', 'SI', 'DI', 'BP', 'DS', 'ES', 'SS')}
         assert kept == {'DX': 1, 'SI': 2, 'DI': 3, 'BP': 4, 'DS': 0, 'ES': 0, 'SS': 0}
-        assert returned.registers['SP'] == board.registers()['SP']
+        assert returned.registers['SP'] == board.registers['SP']
         assert returned.memory == {}
         assert returned.clocks < 1500
 

@@ -66,11 +66,11 @@ class Changes(ToolCase):
 
     def test_set_and_undo(self) -> None:
         session = self.session()
-        before = session.registers()
+        before = session.registers
         for place, value in (('AX', 0x1234), ('BL', -1), ('ZF', 1), ('FL', 0xF0D7), ('CF', 0), (0x700, bytes(range(40))), (0x500, 7)):
             session.set(place, value)
         session.set('count', 0x1234, 2)
-        now = session.registers()
+        now = session.registers
         self.assertEqual((now['AX'], now['BX'], now['FL'], session.word('count')), (0x1234, 0xFF, 0xF0D6, 0x1234))
         self.assertEqual((session.dump(0x700, 40), session.byte(0x500)), (bytes(range(40)), 7))
         for place, value in (('AX', 70000), ('AL', 256), (0x500, 256)):
@@ -83,11 +83,11 @@ class Changes(ToolCase):
         session.go(10)
         session.set('DX', 1)
         session.undo()
-        self.assertEqual((session.clock, session.registers()['DX']), (35, 0))
+        self.assertEqual((session.clock, session.registers['DX']), (35, 0))
         with self.assertRaisesRegex(Fault, '54 BeforeStart'):
             session.back(11)
         session.undo()
-        self.assertEqual((session.clock, session.registers(), session.word('count')), (25, before, 5))
+        self.assertEqual((session.clock, session.registers, session.word('count')), (25, before, 5))
         with self.assertRaisesRegex(Fault, '54 BeforeStart'):
             session.undo()
         with Session(SOURCE) as other:
@@ -97,7 +97,7 @@ class Changes(ToolCase):
     def test_calls(self) -> None:
         """By the 8086's manual MOV takes 2 clocks between registers, ADD 3, and RET 8."""
         session = self.session()
-        before = session.registers()
+        before = session.registers
         found = session.call('double', ax=0x1234)
         self.assertEqual((found.registers['AX'], found.registers['BX'], found.registers['SP'], found.clocks, found.memory), (0x2468, 0x1234, 0x400, 13, {}))
         found = session.call('adds', stack=[5, 700], bp=9)
@@ -114,7 +114,7 @@ class Changes(ToolCase):
             self.assertRaises(ValueError, session.call, 'double', **wrong)
         with self.assertRaisesRegex(Fault, '55 NoCell'):
             session.call('copy', memory={0xA0000: 1})
-        self.assertEqual((session.clock, session.registers(), session.dump(0x3F0, 16), session.byte(0x510)), (25, before, bytes(16), 0))
+        self.assertEqual((session.clock, session.registers, session.dump(0x3F0, 16), session.byte(0x510)), (25, before, bytes(16), 0))
 
     def test_what_was_set_before(self) -> None:
         """At the clock of a call stays, with keys that were typed; so does a level before, and other stops are passed."""
@@ -128,12 +128,12 @@ class Changes(ToolCase):
         session.stop_at(0xF600, 0xFFFF)  # where near calls return to
         for number in range(3):
             self.assertEqual(session.call('double', ax=number).registers['AX'], 2 * number)
-        self.assertEqual((session.clock, session.registers()['CX'], session.registers()['DX']), (35, 2, 1))
+        self.assertEqual((session.clock, session.registers['CX'], session.registers['DX']), (35, 2, 1))
         self.assertEqual([(each.clock, each.value) for each in session.events(600, 'keys')], [(500, 0x1E)])
         session.undo()
-        self.assertEqual((session.clock, session.registers()['CX'], session.events(600, 'keys')), (35, 0, []))
+        self.assertEqual((session.clock, session.registers['CX'], session.events(600, 'keys')), (35, 0, []))
         session.undo()
-        self.assertEqual((session.clock, session.registers()['DX']), (30, 0))
+        self.assertEqual((session.clock, session.registers['DX']), (30, 0))
 
     def test_a_routine_called_often(self) -> None:
         """Each call is of the board as it stood: what one got isn't the next one's."""
@@ -147,7 +147,7 @@ class Changes(ToolCase):
                 adds(stack=[3], memory={0xFFFE: b'\1\2\3'})
             self.assertEqual((session.dump(0xFFFE, 2), adds(stack=[4, 5]).registers['AX']), (bytes(2), 9))
             raise ZeroDivisionError
-        self.assertEqual((session.clock, session.registers()['BX'], session.byte(0x500)), (25, 0, 0))
+        self.assertEqual((session.clock, session.registers['BX'], session.byte(0x500)), (25, 0, 0))
 
 
 class Example(ToolCase):

@@ -47,6 +47,33 @@ def read(path: str) -> str:
 class Texts(unittest.TestCase):
     """Over texts alone."""
 
+    def test_fields_that_do_not_fit(self) -> None:
+        """Each is refused as the program does, with its name and range; and a file that isn't there with its path."""
+        for fields, why in (
+            ({'budget': -1}, 'budget is -1, and has to be 0 to 1,099,511,627,776'),
+            ({'ram': 65536}, 'ram is 65536, and has to be 0 to 65,535'),
+            ({'sw1': 256}, 'sw1 is 256, and has to be 0 to 255'),
+            ({'sw2': 1.5}, 'sw2 is 1.5, and has to be 0 to 31'),
+            ({'timer': '8255'}, "timer is '8255', and has to be 8253 or 8254"),
+            ({'keys': [(5, 30), (6,)]}, 'keys[1] is [6], and has to be a clock, 0 to 1,099,511,627,776, and a scan code'),
+        ):
+            for use in (zebludor.run, Session):
+                with self.assertRaises(Fault) as raised:
+                    use('', **fields)  # type: ignore[arg-type]
+                self.assertEqual((raised.exception.number, str(raised.exception)), (32, f'fault 32 BadField: {why}'))
+        with self.assertRaisesRegex(Unfit, "^/none.asm can't be read: No such file"):
+            zebludor.run(pathlib.Path('/none.asm'))
+
+    def test_registers_of_a_session(self) -> None:
+        """As a report's; with brackets too, a version long."""
+        source = f'{SHOWING}text:   DB 80 DUP ("A")\nENDS\n{RESET}'.replace('"', "'")
+        with Session(source) as session:
+            session.go(100)
+            registers = session.registers
+            self.assertEqual(registers, zebludor.run(source, budget=100).registers)
+            with self.assertWarns(DeprecationWarning):
+                self.assertEqual(session.registers(), registers)
+
     def test_layouts_are_the_headers(self) -> None:
         text = read(f'{TOP}/c/zebludor.h')
         header = Header(text)
@@ -118,6 +145,11 @@ class Runs(ToolCase):
         with self.assertRaisesRegex(Fault, 'fault 36 RamSize'):
             zebludor.run(source, ram=17)
 
+    def test_a_session_given_more_than_pipes_hold(self) -> None:
+        """It answers while most of its commands haven't been read."""
+        ran = zebludor.ran(['debug', *self.program('        HLT')], b'regs\n' * 20_000)
+        self.assertEqual((ran.status, ran.err, ran.out.count('AX=0000 ')), (0, '', 20_000))
+
     def test_the_assembler(self) -> None:
         source = example('monitor')[0]
         text = zebludor.assemble(read(source))
@@ -172,13 +204,13 @@ class Runs(ToolCase):
             with Session(source) as session:
                 self.assertEqual(session.source.labels['tick'], (0xF600, 0x58))
                 self.assertEqual((session.source.line(number), session.source.place('tick+5')), ((0xF600, 0x58), (0xF600, 0x5D)))
-                self.assertEqual((session.stop_at('tick'), session.go(2000), session.registers()['IP']), (1, 1, 0x58))
+                self.assertEqual((session.stop_at('tick'), session.go(2000), session.registers['IP']), (1, 1, 0x58))
                 self.assertEqual((session.word('tick'), session.byte('tick+1'), session.word(0xF6058)), (0xFE26, 0xFE, 0xFE26))
                 for refused in (lambda it=session: it.stop_at('tock'), lambda it=session: it.word('tock'), lambda it=session: it.source.line(9999)):
                     self.assertRaises(Unfit, refused)
         text, symbols = self.file('it.hex', zebludor.assemble(path)), self.file('it.lst', zebludor.listing(path))
         with Session(pathlib.Path(text), symbols=symbols) as session:
-            self.assertEqual((session.stop_at('tick'), session.go(2000), session.registers()['IP']), (1, 1, 0x58))
+            self.assertEqual((session.stop_at('tick'), session.go(2000), session.registers['IP']), (1, 1, 0x58))
         with Session(pathlib.Path(text)) as session:
             self.assertRaises(Unfit, session.stop_at, 'tick')
         with self.assertRaises(Unfit):
@@ -193,7 +225,7 @@ class Runs(ToolCase):
             self.assertEqual((last.clock, last.text, last.octets.hex()), (1009, 'ES: INC BYTE [00000h]', '26fe060000'))
             self.assertEqual(session.trail()[-2].entry, 8)
             session.back_step()
-            self.assertEqual((session.clock, session.registers()['IP']), (1009, 0x58))
+            self.assertEqual((session.clock, session.registers['IP']), (1009, 0x58))
             self.assertEqual((session.stop_at(0xF600, 0x55), session.back_to_stop(), session.clock), (2, 2, 946))
             session.back(41)
             session.step()
@@ -216,7 +248,7 @@ class Runs(ToolCase):
                 try:
                     for _ in range(60):
                         session.go(7)
-                        if len(session.trail()) > 32 or len(session.dump(0x400, 5000)) != 5000 or [*session.registers()] != [*zebludor.REGISTERS]:
+                        if len(session.trail()) > 32 or len(session.dump(0x400, 5000)) != 5000 or [*session.registers] != [*zebludor.REGISTERS]:
                             faults.append('another answer')
                         session.back(3)
                 except (Unfit, Fault, ValueError, IndexError) as error:
@@ -228,7 +260,7 @@ class Runs(ToolCase):
             for each in threads:
                 each.join()
             self.assertEqual((faults, session.clock), ([], 4 * 60 * 4))
-        for ask in (session.registers, session.close, lambda: session.go(1), lambda: session.dump(0, 1), session.trail):
+        for ask in (lambda: session.registers, session.close, lambda: session.go(1), lambda: session.dump(0, 1), session.trail):
             if ask == session.close:
                 ask()
                 continue
@@ -256,7 +288,7 @@ class Runs(ToolCase):
             self.assertEqual((last.what, session.byte(last.place)), ('write', last.value))
             with self.assertRaisesRegex(Fault, '51 BadCommand'):
                 session.events(5)
-            self.assertEqual((session.clock, len(session.registers())), (3000, 14))
+            self.assertEqual((session.clock, len(session.registers)), (3000, 14))
         ticks = '\n'.join(['SEGMENT M AT 0F000h', 'go: INC WORD [count]', ' JMP go', 'ENDS', 'SEGMENT D AT 0', ' DB 7', 'count: DW 0FFh', 'ENDS', RESET])
         with Session(ticks, probe=True) as session:
             self.assertEqual([each[2:] for each in session.events(200, 'writes=count')][:2], [(1, 0), (1, 1)])
@@ -301,7 +333,7 @@ class Runs(ToolCase):
             for _ in range(2):
                 session.go(9000 - session.clock)
                 report = zebludor.run(source, keys=[(1500, 0x9E), (3000, 0x23), (5000, 0xA3), (5000, 0x17)], budget=9000)
-                self.assertEqual((session.registers(), session.screen()), (report.registers, report.screen))
+                self.assertEqual((session.registers, session.screen()), (report.registers, report.screen))
                 session.back(8000)
         self.assertEqual(report.text, 'HI')
 
@@ -311,7 +343,7 @@ class Runs(ToolCase):
             with Session(f"{SHOWING}text:   DB '{text:80}'\nENDS\n{RESET}") as session:
                 session.go(5000)
                 self.assertEqual([it.rstrip() for it in session.screen()], [text] + 24 * [''])
-                self.assertEqual((session.clock, session.registers()['CX']), (5000, 0))
+                self.assertEqual((session.clock, session.registers['CX']), (5000, 0))
 
 
 if __name__ == '__main__':

@@ -20,7 +20,7 @@ def run_here(image: Image, **fields: object) -> Answer:
         session.stop_at_halt()
         if session.go(CLOCKS) is None:
             raise Sorry(f'the board came to no halt in {CLOCKS:,} clocks')
-        registers = session.registers()
+        registers = session.registers
         ram = b''.join(session.dump(at, PART) for at in range(0, mame.RAM, PART))
         return Answer(ram, session.dump(mame.TEXT, mame.TEXT_SIZE), True, (registers['CS'], registers['IP']))
 
