@@ -1,8 +1,7 @@
 #!/bin/sh
 #SBATCH --array=0-9
 #SBATCH --output=sweep-%a.log
-# A sweep by Slurm, in a folder that all machines see: sbatch --wait examples/sweep/slurm.sh PROGRAM FOLDER
+# A batch by Slurm, in a folder that all machines see: sbatch --wait examples/sweep/slurm.sh PROGRAM PARTS
 #
-# Of the tasks, ten here, each takes its share of the run files. Sent again, they go on where they were ended.
-find "$2" -name '*.json' | sort -V | awk -v of="$SLURM_ARRAY_TASK_COUNT" -v it="$SLURM_ARRAY_TASK_ID" 'NR % of == it' |
-    xargs examples/sweep/each "$1"
+# Ten parts, PARTS.00 to PARTS.09, a task each. Sent again, they go on where they were ended.
+exec examples/sweep/part "$1" "$2.$(printf %02d "$SLURM_ARRAY_TASK_ID")"

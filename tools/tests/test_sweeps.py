@@ -1,165 +1,110 @@
-"""examples/sweep: runs side by side, each once, also behind an interrupt; refused ones apart. What needs another program than a
-shell is told as not run where that isn't there."""
+"""docs/sweeps.md's engines, by the commands that it prints: each run is answered once, also after an interrupt in the midst. What needs
+another program than a shell is told as not run if that isn't there."""
 from __future__ import annotations
 
-import contextlib
+import glob
+import importlib.util
+import json
 import os
+import re
 import shutil
 import signal
 import subprocess
 import unittest
 
-from tests.support import EXAMPLES, TOOLS, ToolCase, is_there, until
+from tests.support import EXAMPLES, TOOLS, TOP, ToolCase, is_there, not_run, until
 
-# It tells in a list which run file it was given. While a file `waits` is there, it waits once two reports are.
-STAND_IN = """#!/bin/sh
-echo "$4" >> {room}/list
-while [ -e {room}/waits ] && [ $(ls {room}/sweep/*.txt | wc -l) -ge 2 ]; do sleep 0.02; done
-exec {program} "$@"
-"""
+MANY = 2000  # runs on engines that are there
 
 
-def is_group(number: int) -> bool:
-    """Whether a process of this group is there."""
-    try:
-        os.killpg(number, 0)
-    except ProcessLookupError:
-        return False
-    return True
-
-
-def interrupt(process: subprocess.Popen[bytes]) -> None:
-    """Interrupts a group of processes as often as it takes to end them all: a shell that is just starting a program can miss one."""
-
-    def has_ended() -> bool:
-        with contextlib.suppress(ProcessLookupError):
-            os.killpg(process.pid, signal.SIGINT)
-        return process.poll() is not None and not is_group(process.pid)
-
-    if not until(has_ended, 0.1):
-        os.killpg(process.pid, signal.SIGKILL)
-        raise AssertionError('an interrupted sweep goes on')
+def printed(start: str) -> str:
+    """A command of the page, by how it begins."""
+    with open(f'{TOP}/docs/sweeps.md', encoding='utf-8') as file:
+        return next(line for line in re.findall(r'`([^`]+)`', file.read()) if line.startswith(start))
 
 
 class Sweeps(ToolCase):
-    """In a folder that has what the files speak of."""
+    """In a folder that has what the page speaks of."""
 
     def setUp(self) -> None:
         super().setUp()
         from toolbox import program
 
-        for name, target in (('examples', EXAMPLES), ('tools', TOOLS), ('pcboard', program.path())):
+        for name, target in (('examples', EXAMPLES), ('tools', TOOLS)):
             os.symlink(target, f'{self.room}/{name}')
-        self.shell('python3 examples/sweep/make_runs.py examples/nested.json sweep 1800 2801 100')
-        self.file('sweep/late.json', '{"version":1}')
+        self.environment = os.environ | {'PCBOARD': os.path.realpath(program.path()), 'HOME': self.room}
 
-    def shell(self, line: str, status: int = 0, **environment: str) -> str:
-        """What a command prints on both streams, where it ends with this status."""
-        done = subprocess.run(
-            line,
-            shell=True,
-            stdin=subprocess.DEVNULL,
-            stdout=subprocess.PIPE,
-            stderr=subprocess.STDOUT,
-            text=True,
-            cwd=self.room,
-            env=os.environ | {'PCBOARD': './pcboard'} | environment,
-            check=False,
-        )
-        self.assertEqual(done.returncode, status, done.stdout)
-        return done.stdout
+    def parts(self, runs: int, parts: int) -> None:
+        """So many runs, one of which is refused, in parts."""
+        self.shell(f'examples/sweep/make_runs.py examples/nested.json 1000 {999 + runs} 1 > runs.jsonl; echo x >> runs.jsonl')
+        self.shell(f'split -n l/{parts} -d runs.jsonl runs.')
 
-    def stand_in(self) -> str:
-        """A program that tells of its runs."""
-        path = self.file('program', STAND_IN.format(room=self.room, program=os.path.realpath(f'{self.room}/pcboard')))
-        os.chmod(path, 0o755)
-        return path
+    def shell(self, line: str, **environment: str) -> None:
+        """A command that ends with status 0."""
+        done = subprocess.run(line, shell=True, capture_output=True, text=True, cwd=self.room, env=self.environment | environment, check=False)
+        self.assertEqual(done.returncode, 0, done.stdout + done.stderr)
 
-    def ran(self) -> list[str]:
-        """The run files that it was given."""
-        with open(f'{self.room}/list', encoding='utf-8') as lines:
-            return sorted(lines.read().split())
+    def answered(self) -> list[str]:
+        """The whole lines of answers."""
+        lines = list[str]()
+        for path in sorted(glob.glob(f'{self.room}/runs.*.results')):
+            with open(path, encoding='ascii') as file:
+                lines += [line for line in file if line.endswith('\n')]
+        return lines
 
-    def kinds(self) -> list[int]:
-        """How many reports, refusals and halves of either there are."""
-        names = os.listdir(f'{self.room}/sweep')
-        return [sum(name.endswith(end) for name in names) for end in ('.txt', '.fault', '.new')]
-
-    def check_table(self) -> None:
-        """The sweep's table, with the refused run in it."""
-        rows = self.tool(
-            'table',
-            '--of',
-            'name,state,line1',
-            *(f'{self.room}/sweep/{name}' for name in os.listdir(f'{self.room}/sweep') if name.endswith(('.txt', '.fault'))),
-            status=1,
-        )[0].splitlines()
-        self.assertEqual((len(rows), rows[1], rows[-1]), (13, 'key-1800\thalted\ttkttKtkttKttt', 'late\tfault 32 BadField\t'))
-
-    def test_refused_runs_are_told_and_kept_apart(self) -> None:
-        printed = self.shell('examples/sweep/each examples/nested.asm sweep/*.json', status=1)
-        self.assertEqual(printed, 'sweep/late.json: fault 32 BadField\n')
-        self.assertEqual(self.kinds(), [11, 1, 0])
-        self.check_table()
-        self.assertEqual(self.shell('examples/sweep/each examples/nested.asm sweep/*.json', PCBOARD='/none'), '')
-        self.shell('examples/sweep/each nothing.asm sweep/key-1800.json')
-        self.shell('rm sweep/key-1800.txt; examples/sweep/each nothing.asm sweep/key-1800.json', status=2)
-        self.assertEqual(self.kinds(), [10, 1, 0])
-
-    def interrupted(self, line: str) -> None:
-        """A sweep that is ended in its midst and begun again: what was told before isn't run again."""
-        program, waits = self.stand_in(), self.file('waits', '')
+    def ended_and_gone_on_with(self, line: str, runs: int) -> None:
+        """A batch that is killed half-way, and then comes to its end: nothing is lost, and nothing twice."""
         with subprocess.Popen(
-            line,
-            shell=True,
-            stdin=subprocess.DEVNULL,
-            stdout=subprocess.DEVNULL,
-            stderr=subprocess.DEVNULL,
-            cwd=self.room,
-            env=os.environ | {'PCBOARD': program},
-            start_new_session=True,
+            line, shell=True, stdout=subprocess.DEVNULL, stderr=subprocess.DEVNULL, cwd=self.room, env=self.environment, start_new_session=True
         ) as process:
-            self.assertTrue(until(lambda: self.kinds()[0] >= 2))
-            interrupt(process)
-        os.remove(waits)
-        done, before = self.kinds(), self.ran()
-        self.assertLess(sum(done[:2]), 12, 'it had come to its end')
-        self.shell(line, status=1, PCBOARD=program)
-        self.assertEqual(self.kinds(), [11, 1, 0])
-        again = self.ran()
-        self.assertEqual(len(again), len(before) + 12 - sum(done[:2]))
-        self.check_table()
+            self.assertTrue(until(lambda: len(self.answered()) >= runs // 2 or process.poll() is not None, 0.05))
+            self.assertIsNone(process.poll(), 'it had come to its end')
+            os.killpg(process.pid, signal.SIGKILL)
+        self.shell(f'{line} --unlock' if line.startswith('snakemake') else 'true')
+        self.shell(line)
+        self.check(runs)
 
-    def test_goes_on_behind_an_interrupt(self) -> None:
-        self.interrupted('examples/sweep/each examples/nested.asm sweep/*.json')
+    def check(self, runs: int) -> None:
+        """Each run is answered once, and as without an engine."""
+        lines = self.answered()
+        self.assertEqual((len(lines), len({json.loads(line)['id'] for line in lines})), (runs, runs))
+        with open(f'{self.room}/runs.jsonl', encoding='ascii') as file:
+            some = ''.join(file.readlines()[:: runs // 20])
+        for line in self.called('batch', 'examples/nested.asm', given=some)[0].splitlines(True):
+            self.assertIn(line, lines)
+
+    def test_a_part(self) -> None:
+        self.parts(60, 1)
+        self.ended_and_gone_on_with('examples/sweep/part examples/nested.asm runs.00', 60)
 
     def test_slurms_tasks_share_them(self) -> None:
-        program = self.stand_in()
-        for task in ('0', '1', '2'):
-            self.shell('examples/sweep/slurm.sh examples/nested.asm sweep || true', SLURM_ARRAY_TASK_COUNT='3', SLURM_ARRAY_TASK_ID=task, PCBOARD=program)
-        self.assertEqual((len(self.ran()), len(set(self.ran())), self.kinds()), (12, 12, [11, 1, 0]))
+        self.parts(60, 10)
+        for task in range(10):
+            self.shell('examples/sweep/slurm.sh examples/nested.asm runs', SLURM_ARRAY_TASK_ID=str(task))
+        self.check(60)
 
     def test_gnu_parallel(self) -> None:
-        if is_there('parallel', 'a sweep by GNU parallel', 'parallel'):
-            with open(f'{EXAMPLES}/sweep/parallel.sh', encoding='utf-8') as file:
-                self.file('parallel.sh', file.read().replace('-n 20', '-j 2 -n 2').replace('$(dirname "$0")', 'examples/sweep'))
-            self.interrupted('sh parallel.sh examples/nested.asm sweep')
+        if is_there('parallel', 'a batch by GNU parallel', 'parallel'):
+            self.parts(MANY, 10)
+            self.ended_and_gone_on_with(printed('parallel '), MANY)
 
     def test_snakemake(self) -> None:
-        if not is_there('snakemake', 'a sweep by Snakemake', 'snakemake'):
+        if is_there('snakemake', 'a batch by Snakemake', 'snakemake'):
+            self.parts(MANY, 10)
+            self.ended_and_gone_on_with(printed('snakemake ') + ' --rerun-incomplete', MANY)
+            with open(f'{self.room}/runs.jsonl', encoding='ascii') as file:
+                self.assertEqual(len(file.readlines()), MANY)
+
+    def test_dask(self) -> None:
+        if not importlib.util.find_spec('dask'):
+            not_run('a batch by Dask; apt install python3-dask')
             return
-        line = 'snakemake -s examples/sweep/Snakefile -j 2 --config program=nested.asm folder=sweep'
-        shutil.copy(f'{EXAMPLES}/nested.asm', self.room)
-        program = self.stand_in()
-        self.shell(line, PCBOARD=program, HOME=self.room)
-        with open(f'{self.room}/sweep/table.tsv', encoding='utf-8') as file:
-            self.assertEqual(len(file.read().splitlines()), 13)
-        self.assertEqual(len(self.ran()), 12)
-        self.shell(line, PCBOARD=program, HOME=self.room)
-        self.assertEqual(len(self.ran()), 12)
-        self.shell("sed -i 's/9000/9001/' sweep/key-1500.json; " + line, PCBOARD=program, HOME=self.room)
-        self.assertEqual(self.ran().count('sweep/key-1500.json'), 2)
-        self.check_table()
+        self.parts(MANY, 1)
+        command = printed('dask.bag.')
+        code = f'import json, sys; sys.path.insert(0, {TOP + "/python"!r}); import dask.bag, zebludor, pathlib; program = pathlib.Path("examples/nested.asm")\n'
+        self.file('it.py', f'{code}if __name__ == "__main__":\n    for one in {command}.compute(): print(json.dumps(one, separators=(",", ":")))\n')
+        self.shell(f'{shutil.which("python3")} it.py > runs.00.results')
+        self.check(MANY)
 
 
 if __name__ == '__main__':
