@@ -11,7 +11,7 @@ from unittest import mock
 
 from tests.support import EXAMPLES, SECONDS, TOOLS, ToolCase, but_progress, until
 
-from toolbox.program import zebludor
+from toolbox.program import run, zebludor
 
 # It shows T, but where a key comes in the first three clocks of ten, and keeps a list of the keys that it was run with. Once there
 # are nine of them it waits while a file `waits` is there.
@@ -89,6 +89,15 @@ class StandIn(ToolCase):
             out.splitlines()[:3], ['without the key too: two: lost = 1: came 0', '1 of 1 moments tried, 1 failed', 'first 113: two: lost = 1: came 0']
         )
 
+    def test_a_second_key(self) -> None:
+        """It comes so many clocks after the last one, and at the same clock after it."""
+        files = self.begin('[[210,2]]')
+        for after, clocks in (('105', (208, 209, 210)), ('0', (103, 104, 105))):
+            self.file('list', '')
+            self.tool('moments', *files, '--jobs', '1', '--key', '1E', '--at', '103..106', '--pair', '9E', after, status=None)
+            wanted = [sorted([[210, 2], [stamp, 0x1E]]) + [[clock, 0x9E]] for stamp, clock in zip((103, 104, 105), clocks)]
+            self.assertEqual(self.listed()[:3], [sorted(keys, key=lambda key: key[0]) for keys in wanted])
+
     def test_what_cant_be_tried(self) -> None:
         files = self.begin()
         for words, wanted in (
@@ -99,6 +108,10 @@ class StandIn(ToolCase):
             (['--key', '1E', '--at', '890..902'], 'never comes'),
             (['--key', '1E', '--at', '1..9', '--sample', '9'], 'there are 8 moments'),
             (['--key', '1E', '--at', '1..9', '--symbols', 'x'], 'goes with --hex'),
+            (['--key', '1E', '--at', '1..9', '--pair', '54', '1'], '--pair 54 is no scan code'),
+            (['--key', '1E', '--at', '1..9', '--pair', '9E', '-1'], '--pair goes with --key'),
+            (['--key', 'any', '--at', '1..9'], 'no scan code'),
+            (['--stop', 'MAIN', '--key', '1E', '--at', '1..9', '--sample', '2'], '--stop goes with one --key'),
         ):
             self.assertIn(wanted, self.called('moments', *files, *words, status=2)[1])
         self.assertIn('give its name', self.called('moments', '-', *files[1:], '--key', '1E', '--at', '1..9', status=2)[1])
@@ -211,6 +224,31 @@ class Board(ToolCase):
             run = self.file('it.json', f'{{"version":1,"ram":64,"sw1":0,"sw2":0,"budget":1000,"keys":[[{clock},30]]}}')
             self.assertEqual(self.pcboard('debug', source, run, given='go 1000\ndump 402 1\n').stdout.splitlines()[-1], f'00402: {octet}', clock)
 
+    def test_a_second_key(self) -> None:
+        """What `moments` answers of two keys, by runs of `pcboard debug` that have them in their run files."""
+        source, stops = self.file('it.asm', TWICE), ['byte 402 1E', 'byte 402 9E', 'halted']
+        plain, trials = self.with_keys([]), [(150, 0), (150, 9), (184, 40), (420, 60), (465, 700)]
+        lines = [*stops, *(f'moments 1E {first} {first + 11} 600 9E {after}' for first, after in trials)]
+        ran = run(['--', source, plain], ('\n'.join(lines) + '\n').encode(), 'pcprobe')
+        self.assertEqual(ran.out.splitlines()[3:], [line for trial in trials for line in self.ranges(source, stops, *trial)])
+
+    def with_keys(self, keys: list[list[int]]) -> str:
+        """A run file with these keys."""
+        return self.file('it.json', f'{{"version":1,"ram":64,"sw1":0,"sw2":0,"budget":1000,"keys":{keys}}}')
+
+    def ranges(self, source: str, stops: list[str], first: int, after: int) -> list[str]:
+        """The ranges of twelve clocks of a key, each by a run of its own."""
+        found: list[list[int]] = []  # the first and the last clock, the stop, and the least and the greatest clock of the end
+        for stamp in range(first, first + 12):
+            files = source, self.with_keys([[stamp, 0x1E], [stamp + after, 0x9E]])
+            _, *stop, _, clock = ('go ' + self.pcboard('debug', *files, given='\n'.join([*stops, 'go 600', ''])).stdout.splitlines()[-1]).split()
+            number, at = int(stop[1]) if len(stop) > 1 else 0, int(clock)
+            if found and found[-1][2] == number:
+                found[-1] = [found[-1][0], stamp, number, min(found[-1][3], at), max(found[-1][4], at)]
+            else:
+                found.append([stamp, stamp, number, at, at])
+        return [f'{row[0]} {row[1]} ' + (f'stop {row[2]} {row[3]} {row[4]}' if row[2] else 'none') for row in found]
+
     def test_a_key_at_the_budget_comes(self) -> None:
         """The seventeenth, at the clock at which the run ends, is lost."""
         keys = str([[0, 30]] * 16)
@@ -310,6 +348,37 @@ class Measured(ToolCase):
         self.assertEqual(out, '3 of 3 moments tried, 0 came to full\nnever after 30000 to 30002\n')
         out, _ = self.tool('moments', '--measure', 'key', *words, '99936..99941')
         self.assertEqual(out.splitlines()[0] + out.splitlines()[-1], '5 of 5 moments tried, 4 came to keynever after 99940')
+
+    def run_to(self, place: str, keys: list[tuple[int, int]], budget: int) -> str:
+        """How a run with these keys comes to a place, by a session of its own."""
+        with zebludor.Session(Path(f'{TERMINAL}.asm'), keys=keys, budget=budget) as session:
+            session.stop_at(place)
+            session.go(budget)
+            return f'{place} at clock {session.clock}' if session.clock < budget else 'never'
+
+    def test_which_clocks_lead_to_a_place(self) -> None:
+        """Of one key, and of one with its release at once: each range by runs of its own."""
+        words = ('--stop', 'key', f'{TERMINAL}.asm', self.file('it.json', '{"version":1,"ram":64,"sw1":0,"sw2":0,"budget":2500,"keys":[]}'))
+        for more, second in (((), []), (('--pair', '9E', '3'), [(3, 0x9E)])):
+            out, _ = self.tool('moments', *words, '--key', '1E', '--at', '2300..2304', *more)
+            for stamp in range(2300, 2304):
+                wanted = self.run_to('key', [(stamp, 0x1E), *((stamp + after, code) for after, code in second)], 2500)
+                self.assertTrue(any(self.tells(line, stamp, wanted) for line in out.splitlines()), (out, stamp, wanted))
+
+    def tells(self, line: str, stamp: int, wanted: str) -> bool:
+        """Whether a range's line says of a stamp what is wanted."""
+        found = re.fullmatch(r'(\d+)(?: to (\d+))?: (never|key at clock (\d+)(?: to (\d+))?)', line)
+        assert found, line
+        if not int(found[1]) <= stamp <= int(found[2] or found[1]):
+            return False
+        clock = int(wanted.rpartition(' ')[2]) if wanted != 'never' else 0
+        return found[3] == 'never' if not clock else found[3] != 'never' and int(found[4]) <= clock <= int(found[5] or found[4])
+
+    def test_any_key(self) -> None:
+        """Codes with one answer are told at once."""
+        words = ('--stop', 'key', f'{TERMINAL}.asm', self.file('it.json', '{"version":1,"ram":64,"sw1":0,"sw2":0,"budget":100,"keys":[]}'))
+        out, _ = self.tool('moments', *words, '--key', 'any', '--at', '10..12')
+        self.assertEqual(out, '01-53 81-D3:\n10 to 11: never\n')
 
     def counts(self) -> tuple[list[int], str]:
         """The counts with which the race is lost, each by a run, and the source."""

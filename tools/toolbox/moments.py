@@ -20,7 +20,6 @@ from bisect import bisect_right
 from dataclasses import dataclass, field, replace
 from typing import Any, Iterator, Sequence
 
-from toolbox.comments import handed
 from toolbox.command import PYTHON, Sorry, read_text, tool, write_text
 from toolbox.events import first_start
 from toolbox.expectations import Planned, page_of
@@ -51,11 +50,20 @@ class Key:
 
 
 @dataclass(frozen=True)
+class Pair:
+    """A second key, so many clocks after the last that is tried; if none, at its clock, after it."""
+
+    code: int
+    after: int
+
+
+@dataclass(frozen=True)
 class Asked:
     """What is wanted of each run: a page's expectations, or the clocks up to a place."""
 
     page: str | None
     place: str | None = None
+    pair: Pair | None = None
 
 
 class Plan:
@@ -68,7 +76,7 @@ class Plan:
         self.keys, self.sample, self.seed = keys, sample, seed
         self.axes: list[Count | Key] = [*([count] if count else []), *keys]
         self.runs = page_of(asked.page) if asked.page else [Planned()]
-        self.text = read_text(files.file if files.is_hex else handed(files.file))
+        self.text = read_text(files.file)
         self.symbols = [files.symbols, read_text(path_of(files.symbols))] if files.symbols else []
         self.listing: Listing | None = None  # where labels stand, once it was asked
         self._poked: tuple[int, Files] | None = None
@@ -114,9 +122,10 @@ class Plan:
 
     def with_keys(self, fields: dict[str, Any], moment: int) -> dict[str, Any]:
         """A run file with the keys of a moment, each behind those that are stamped with its clock already."""
-        keys = [list(entry) for entry in fields['keys']]
-        for key, clock in zip(self.keys, self.stamps(moment)):
-            keys.insert(bisect_right([entry[0] for entry in keys], clock), [clock, key.code])
+        keys, stamps, pair = [list(entry) for entry in fields['keys']], self.stamps(moment), self.asked.pair
+        coming = [(clock, key.code) for key, clock in zip(self.keys, stamps)] + ([(stamps[-1] + pair.after, pair.code)] if pair else [])
+        for clock, code in coming:
+            keys.insert(bisect_right([entry[0] for entry in keys], clock), [clock, code])
         return fields | {'keys': keys}
 
     def words(self, room: str) -> list[str]:
@@ -126,11 +135,10 @@ class Plan:
         if self.count:
             keys += ['--first-count', f'{self.count.values.start}..{self.count.values.stop}', '--poke', self.count.named]
         sample = ['--sample', str(self.sample), '--seed', str(self.seed)] if self.sample else []
-        files = self.given
-        form = [*(['--hex'] if files.is_hex else []), *(['--symbols', files.symbols] if files.symbols else []), *self.how]
         what = ['--measure', self.asked.place] if self.asked.place else []
-        names = [each for each in (self.asked.page, files.file, files.run_file) if each]
-        return [PYTHON, '-S', tool, '--worker', room, *what, *keys, *sample, *form, '--', *names]
+        what += ['--pair', f'{self.asked.pair.code:02X}', str(self.asked.pair.after)] if self.asked.pair else []
+        names = [each for each in (self.asked.page, self.given.file, self.given.run_file) if each]
+        return [PYTHON, '-S', tool, '--worker', room, *what, *keys, *sample, *self.how, '--', *names]
 
     def sum(self) -> str:
         """What tells this plan from others: all that an outcome hangs on."""
@@ -144,6 +152,7 @@ class Plan:
             self.sample,
             self.seed,
             [(each.code, each.values.start, each.values.stop) for each in self.keys],
+            [self.asked.pair.code, self.asked.pair.after] if self.asked.pair else [],
             [self.count.named, self.count.values.start, self.count.values.stop] if self.count else [],
             program.st_size,
             program.st_mtime_ns,
