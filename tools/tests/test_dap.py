@@ -18,10 +18,9 @@ from typing import Any
 from tests.protocol import types
 from tests.support import SECONDS, SLOW, TOOLS, ToolCase, example, not_run, rooms_in
 
-from toolbox.dap.values import number_in
 from toolbox.effects import ends_with_call
 from toolbox.framing import Broken, Reader
-from toolbox.places import is_repeated, operation_of
+from toolbox.places import is_repeated, operation_of, value_number
 from toolbox.program import Files, Session, path
 from toolbox.report import registers_of
 
@@ -46,6 +45,7 @@ class Client:
         assert self.adapter.stdout
         self.reader = Reader(self.adapter.stdout.fileno())
         self.watch = threading.Timer(SECONDS, self.adapter.kill)
+        self.watch.daemon = True  # a test that fails doesn't wait for it
         self.watch.start()
 
     def raw(self, octets: bytes) -> None:
@@ -161,7 +161,7 @@ class Words(unittest.TestCase):
     def test_operations(self) -> None:
         self.assertEqual([operation_of(text) for text in ('REP MOVSW', 'ES: INC BYTE [00000h]', 'HLT', 'LOCK XCHG AX,BX')], ['MOVSW', 'INC', 'HLT', 'XCHG'])
         self.assertEqual([is_repeated(text) for text in ('REP ES: MOVSW', 'MOVSW', 'REPNE SCASB')], [True, False, True])
-        self.assertEqual([number_in(text) for text in ('0B8h', '0x10', '101b', '17')], [0xB8, 0x10, 5, 17])
+        self.assertEqual([value_number(text) for text in ('0B8h', '0x10', '101b', '17')], [0xB8, 0x10, 5, 17])
 
     def test_the_protocols_types(self) -> None:
         """What is held against them is found: a field too few, too many, of another type; a word that isn't one of them."""
@@ -474,11 +474,11 @@ class Sessions(ToolCase):
         self.assertEqual(
             [(one['name'], one['type'], one['value'], one['memoryReference']) for one in rows],
             [
-                ('name', 'DB, 3', "48 49 00  'HI.'", '0x00400'),
-                ('count', 'DW', '0FFFFh (65535)', '0x00403'),
-                ('list', 'DW, 3', '0001 0002 0003', '0x00405'),
-                ('large', 'DD', '012345678h (305419896)', '0x0040B'),
-                ('over', 'DB', "041h (65) 'A'", '0x0040F'),
+                ('name', 'DB[3], 3 bytes', "48 49 00  'HI.'", '0x00400'),
+                ('count', 'DW, 2 bytes', '0FFFFh (65535)', '0x00403'),
+                ('list', 'DW[3], 6 bytes', '0001 0002 0003', '0x00405'),
+                ('large', 'DD, 4 bytes', '012345678h (305419896)', '0x0040B'),
+                ('over', 'DB, 1 byte', "041h (65) 'A'", '0x0040F'),
             ],
         )
         parts = client.ask('variables', variablesReference=rows[2]['variablesReference'], start=1, count=1)['variables']

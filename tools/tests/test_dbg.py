@@ -121,7 +121,7 @@ class Sessions(ToolCase):
         answers = self.dbg(
             'ticks',
             *('to 1000', 'AX = 1234h', 'AL = 7', '[tick] = 90h', 'ZF = 1', 'regs', 'break tick', 'to 2000000', 'clear 1', 'state', 'u tick 1', 'undo'),
-            *('to 1100', 'BX = 5', 'key a 3000', 'next', 'back 3', 'keys', 'to 1100', '[400] = 1, 2', 'last 400', 'to 1000', 'undo', 'AX = 70000', 'Q = 1'),
+            *('to 1100', 'BX = 5', 'key a 3000', 'next', 'back 3', 'keys', 'to 1100', '[0:400] = 1, 2', 'last 400', 'to 1000', 'undo', 'AX = 70000', 'Q = 1'),
             *('AX = 5 5', '[A0000] = 1', '[nope] = 1', 'undo 1', 'log writes 300'),
         )
         for wanted in (
@@ -281,7 +281,7 @@ class Sessions(ToolCase):
         answers = self.dbg('hello', 'frob', 'break nope', 'go x', 'clear 3', 'byte b0000 100', 'to 2000000000000', 'help go')
         for line, wanted in zip(answers, ('no command', 'no label', 'no number of clocks', 'no stop 3', 'up to FF', 'no clock', 'go [N]')):
             self.assertIn(wanted, line)
-        self.assertIn("can't be read", self.tool('dbg', 'no.asm', 'no.json', status=2)[1])
+        self.assertIn("can't be read", self.tool('dbg', 'no.asm', 'no.json', status=3)[1])
         self.assertIn('fault 3', self.tool('dbg', example('hello')[1], example('hello')[1], status=2)[1])
         self.assertIn('--hex', self.tool('dbg', '--help')[0])
 
@@ -322,6 +322,14 @@ class Sessions(ToolCase):
                 self.assertTrue(run.startswith(f'{stop}, clock '), (line, stamp, run))
                 self.assertIn(int(run.split('clock ')[1].split(':')[0]), range(int(least), int(greatest or least) + 1))
         self.assertEqual(up_to, 2000)
+
+    def test_moments_of_two_keys(self) -> None:
+        """The first one that comes is met; what can't be asked is told of the second, too."""
+        asked = ('moments 1E 940 942 960 9E 3', 'moments 1E 5 6 1 9E', 'moments 1E 5 6 1 FF 1', 'moments FF 5 6 1 9E 1', 'moments 1E 5 6 1 9E 1 1')
+        lines = self.dbg('ticks', 'when keys', *asked)[1:]
+        self.assertEqual(lines[0], '      940 to       942: stop 1 (when keys), clock 940 to 942')
+        for line, said in zip(lines[1:], ('how many clocks after the first', 'no key sends FF', 'no key sends FF', 'use: moments KEY FIRST')):
+            self.assertIn(said, line)
 
     def test_moments_that_cant_be_asked(self) -> None:
         answers = self.dbg(

@@ -13,8 +13,6 @@ from tests.test_dap import Client
 from tests.test_symbols import NASM, ROM, hex_of
 
 from toolbox.command import Sorry
-from toolbox.data_labels import of_c
-from toolbox.listing import Line, Listing
 from toolbox.places import far_of
 from toolbox.symbols import image_of, symbols_of
 
@@ -94,23 +92,16 @@ class Lines(Case):
         self.assertEqual(symbols_of(symbols, image).files, {})
 
     def test_variables_of_c(self) -> None:
-        """Names that are declared outside of functions, with their types; none of what a declaration's values say."""
-        texts = (
-            'char title[] = "ticks, keys";',
-            'int ticks, *keys = 0;',
-            'long sums[3] = {1, 2, 3};',
-            'int sum(n) int n;',
-            '{',
-            '    int ticks;',
-            'static char last;',
-        )
-        lines = [Line(number, text, None, b'', 'a.c') for number, text in enumerate(texts, 1)]
-        places = {'_title': 0, '_ticks': 12, '_keys': 14, '_sums': 16, '_last': 28, '_sum': 40}
-        listing = Listing(labels={name: (0x50, at) for name, at in places.items()}, files={'a.c': lines})
-        self.assertEqual(
-            [(one.name, one.line, one.kind, one.place[1], one.length) for one in of_c(listing)],
-            [('_title', 1, 'DB', 0, 12), ('_ticks', 2, 'DW', 12, 2), ('_keys', 2, 'DW', 14, 2), ('_sums', 3, 'DD', 16, 12), ('_last', 7, 'DB', 28, 1)],
-        )
+        """Of a module with a listing, as it is declared there, if the map has the name once; two modules may have one of their own each."""
+        program, _, symbols = self.c()
+        with open(program, encoding='ascii') as file:
+            image = image_of(file.read())
+        data = [(one.name, os.path.basename(one.source), one.line, one.said, one.sizes, one.place) for one in symbols_of(symbols, image).data]
+        self.assertEqual(data, [('_text', 'sums.c', 2, 'char', (5,), (0, 0x500)), ('_total', 'sums.c', 3, 'int', (), (0, 0x508))])
+        with open(symbols, 'a', encoding='ascii') as file:
+            file.write('                more                 _text  3  00000600  r\n')
+        found = symbols_of(symbols, image)
+        self.assertEqual(([one.name for one in found.data], '_text' in found.labels, found.reserved), (['_total'], True, {'_text', '_total', '__edata'}))
 
     def test_dbg(self) -> None:
         program, run_file, symbols = self.c()

@@ -1,35 +1,50 @@
-"""A program's own data: its labels of DB, DW and DD, how long they are, and what memory holds there. Of Intel HEX so far as its
-symbols' files tell NASM's statements or C's declarations."""
+"""A program's own data: its labels of DB, DW and DD, how long they are, and what memory holds there. What other assemblers' listings tell
+of theirs, `nasm_data` and `c_data` read."""
 from __future__ import annotations
 
 import re
+from bisect import bisect_right
 from dataclasses import dataclass
 from typing import Any, Callable
 
-from toolbox.command import read_text
-from toolbox.comments import handed
 from toolbox.listing import Line, Listing, code_of, label_in, own_name, physical
-from toolbox.program import Files, answer_of
 
 SIZES = {'DB': 1, 'DW': 2, 'DD': 4}
-OF_NASM = re.compile(r'\s*([A-Za-z_.?@][\w.$#@~?]*)\s*:?\s+(?:times\s+\S+\s+)?(?:D|RES)([BWD])\b(?:\s+(\d+)\s*(?:;|$))?', re.I)
-LABEL_OF_NASM = re.compile(r'\s*([A-Za-z_?@][\w.$#@~?]*)\s*:')
-OF_C = re.compile(r'(?:(?:static|extern|const|unsigned|signed)\s+)*(char|int|short|long|unsigned)\b([^;()]*)[;=]')
-VALUES_OF_C = re.compile(r'"[^"]*"|\{[^}]*\}?')  # in which commas and names stand, too
-SIZES_OF_C = {'char': 'DB', 'long': 'DD'}
+SIGNED = ('int', 'short', 'long', 'signed char')  # types of C
 # So many bytes of a label are shown; of how many more there are the page tells.
 MOST_BYTES = 1024
+MEMORY, SHOWN = 1 << 20, 8  # the latter: bytes of a line that a listing has
+MOVES = re.compile(r'\b(?:ORG|SEGMENT|ENDS)\b', re.I)  # what is behind it doesn't stand behind what is before it
 
 
 @dataclass(frozen=True)
 class Datum:
-    """A label of data: its name, line, statement, address and length in bytes."""
+    """A label of data: its name, line, statement, address and length in bytes; of C also the name of its elements' type, how many there
+    are in each dimension, and its source."""
 
     name: str
     line: int
     kind: str
     place: tuple[int, int]
     length: int
+    said: str = ''
+    sizes: tuple[int, ...] = ()
+    source: str = ''
+
+    @property
+    def size(self) -> int:
+        """The bytes of a value."""
+        return SIZES[self.kind]
+
+    @property
+    def dimensions(self) -> tuple[int, ...]:
+        """How many values it has in each dimension; none of a single one."""
+        count = self.length // self.size
+        return self.sizes if self.said else (count,) if count > 1 else ()
+
+    def places(self) -> range:
+        """Its bytes."""
+        return range(physical(*self.place), physical(*self.place) + self.length)
 
 
 def kind_in(text: str) -> str | None:
@@ -48,33 +63,61 @@ def goes_on(text: str, kind: str) -> bool:
     return not label_in(text) and (kind_in(text) == kind or is_empty(text))
 
 
-def data_of(listing: Listing, image: dict[int, int]) -> list[Datum]:
+def data_of(listing: Listing, image: Callable[[], dict[int, int]], is_loaded: bool = True) -> list[Datum]:
     """The labels of data in the order of the source. A label's data are its statement and those of its kind behind it, up to the
-    next label or another statement."""
+    next label or another statement. The image is asked for where the listing doesn't tell an end, which has a line's first bytes, or if it
+    is loaded those that stand there."""
     found, labelled = list[Datum](), list[str]()
-    lines = listing.rows or listing.lines
-    for at, line in enumerate(lines):
+    ends = Ends(listing.rows or listing.lines, image, is_loaded)
+    for at, line in enumerate(ends.lines):
         name = label_in(line.said)
         if name:
             labelled.append(own_name(name) if line.dialect else name)
         kind = kind_in(line.said)
         if kind and line.address and labelled:
-            end = next((n for n in range(at + 1, len(lines)) if not goes_on(lines[n].said, kind)), len(lines))
-            length = length_of(lines[at:end], lines[end:], image)
-            found += [Datum(label, line.number, kind, line.address, length) for label in labelled]
+            length = ends.end_of(at, kind) - physical(*line.address)
+            if length > 0 and not length % SIZES[kind]:
+                found += [Datum(label, line.number, kind, line.address, length, source=line.source) for label in labelled]
         if kind or not is_empty(line.said):
             labelled.clear()
     return found
 
 
-def length_of(own: list[Line], later: list[Line], image: dict[int, int]) -> int:
-    """How many bytes lines place: as far as the source has bytes, and not into a later line's."""
-    first = next(line.address for line in own if line.address)
-    begin, others = physical(*first), {physical(*line.address) for line in later if line.address}
-    end = begin
-    while end in image and (end == begin or end not in others):
-        end += 1
-    return end - begin
+class Ends:
+    """Where the data of lines end."""
+
+    def __init__(self, lines: list[Line], image: Callable[[], dict[int, int]], is_loaded: bool) -> None:
+        self.lines, self._image, self._is_loaded = lines, image, is_loaded
+        self._octets: dict[int, int] | None = None
+        self._starts = sorted({physical(*line.address) for line in lines if line.address})
+
+    def end_of(self, at: int, kind: str) -> int:
+        """Where the data of a statement end that stands at a line, with those of its kind behind it."""
+        last, here = at, at + 1
+        while here < len(self.lines) and goes_on(self.lines[here].said, kind):
+            last = here if self.lines[here].address else last
+            here += 1
+        return self._end(last)
+
+    def _end(self, at: int) -> int:
+        """Where the bytes of a line end."""
+        line = self.lines[at]
+        assert line.address
+        begin = physical(*line.address)
+        if not self._is_loaded and len(line.shown) < SHOWN:
+            return begin + len(line.shown)
+        for later in self.lines[at + 1 :]:
+            if MOVES.search(code_of(later.said)):
+                break
+            if later.address:
+                return physical(*later.address)
+        if self._octets is None:
+            self._octets = self._image()
+        end, more = begin, bisect_right(self._starts, begin)
+        stop = self._starts[more] if more < len(self._starts) else MEMORY
+        while end < stop and end in self._octets:
+            end += 1
+        return end
 
 
 def values_of(data: list[Datum], dump: Callable[[int, int], bytes]) -> list[dict[str, Any]]:
@@ -92,46 +135,6 @@ def values_of(data: list[Datum], dump: Callable[[int, int], bytes]) -> list[dict
     ]
 
 
-def labels_of_data(files: Files, listing: Listing) -> list[Datum]:
-    """The labels of data of a board's program."""
-    if not files.is_hex or files.source or listing.rows:
-        from toolbox.symbols import image_of  # which stands on listings, as this does
-
-        return data_of(listing, image_of(read_text(files.file) if files.is_hex else answer_of(['asm', '--', handed(files.file)])))
-    return of_nasm(listing) + of_c(listing)
-
-
-def of_nasm(listing: Listing) -> list[Datum]:
-    """The labels before NASM's D.. and RES.., of the length that is told, else up to the next label."""
-    found, above = list[Datum](), ''
-    for line in listing.lines:
-        match, label = OF_NASM.match(line.text), LABEL_OF_NASM.match(line.text)
-        name = match[1] if match else label[1] if label else ''
-        name = above + name if name.startswith('.') else name
-        above = above if name.startswith(above + '.') or not name else name
-        place = listing.labels.get(name)
-        if match and place:
-            kind = f'D{match[2].upper()}'
-            count = int(match[3]) * SIZES[kind] if match[3] and 'RES' in line.text.upper() else room_after(listing, place, SIZES[kind])
-            found.append(Datum(name, line.number, kind, place, count))
-    return found
-
-
-def of_c(listing: Listing) -> list[Datum]:
-    """The variables that C declares outside of functions: pointers and int are words."""
-    found = list[Datum]()
-    for line in (one for lines in listing.files.values() for one in lines if not listing.lines and one.text[:1].strip()):
-        match = OF_C.match(VALUES_OF_C.sub('', line.text))
-        for star, name, array in re.findall(r'(\*?)\s*([A-Za-z_]\w*)\s*(\[?)[^,]*', match[2]) if match else []:
-            place = listing.labels.get(f'_{name}')
-            if match and place:
-                kind = 'DW' if star else SIZES_OF_C.get(match[1], 'DW')
-                length = room_after(listing, place, SIZES[kind]) if array else SIZES[kind]
-                found.append(Datum(f'_{name}', line.number, kind, place, length))
-    return found
-
-
-def room_after(listing: Listing, place: tuple[int, int], size: int) -> int:
-    """Bytes from a place up to the next label of its segment, in whole values; of the last label one value."""
-    later = [offset for segment, offset in listing.labels.values() if segment == place[0] and offset > place[1]]
-    return max(size, (min(later) - place[1]) // size * size) if later else size
+def in_one_piece(data: list[Datum]) -> list[Datum]:
+    """Those whose bytes stand one behind the other: not over the end of a segment, or of memory."""
+    return [one for one in data if one.place[1] + one.length <= 0x10000 and one.places().stop <= MEMORY]

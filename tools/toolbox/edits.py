@@ -4,16 +4,14 @@ from __future__ import annotations
 
 import re
 from dataclasses import dataclass
-from typing import Callable
-
 from toolbox.command import Sorry
 from toolbox.dap.board import FLAG_BITS
 from toolbox.dap.values import Expression, Value
 from toolbox.listing import Listing
-from toolbox.places import address_of
+from toolbox.places import address_of, check_bracketed, is_address, said
 from toolbox.report import HALVES
 from toolbox.session_board import SessionBoard
-from toolbox.watches import watch_size
+from toolbox.watches import value_size
 
 SIZES = {'BYTE': 1, 'WORD': 2}
 PLACE = re.compile(r'(?:(BYTE|WORD)\s*)?\[([^\[\]]*)\]', re.I)
@@ -74,7 +72,7 @@ def as_said(text: str) -> str:
     return f'0{shown[1]}' if shown else text
 
 
-def assign(board: SessionBoard, listing: Listing, text: str, said: Callable[[str], str] = str) -> str:
+def assign(board: SessionBoard, listing: Listing, text: str) -> str:
     """What `AX = 5`, `[tick] = 90h` and `WORD [count] = 1, 2, 3` say is done; what stands there now, in words. In brackets a place
     stands as in other commands, or what registers lead to; each value has as many bytes as one of the label, unless BYTE or WORD
     says it."""
@@ -83,9 +81,9 @@ def assign(board: SessionBoard, listing: Listing, text: str, said: Callable[[str
         raise Sorry('use: AX = 5, or [PLACE] = 90h')
     numbers = [value.number for value in values_of(board, listing, right)]
     found = PLACE.fullmatch(left)
-    address = _address(listing, said(found[2].strip())) if found else None
+    address = _address(board, listing, found[2].strip()) if found else None
     if found and address is not None:
-        target = Target(address=address, size=SIZES[found[1].upper()] if found[1] else watch_size(listing, address))
+        target = Target(address=address, size=SIZES[found[1].upper()] if found[1] else value_size(listing, address))
     else:
         target = target_of(board, listing, left)
     return set_target(board, target, numbers)
@@ -101,9 +99,11 @@ def target_of(board: SessionBoard, listing: Listing, text: str) -> Target:
     return Target(address=value.address, size=value.size)
 
 
-def _address(listing: Listing, text: str) -> int | None:
-    """The address of a place, or None of what isn't one."""
+def _address(board: SessionBoard, listing: Listing, text: str) -> int | None:
+    """The address of a place in brackets, or None of what isn't one. What could be two is refused."""
+    if not is_address(text):
+        check_bracketed(text, False)
     try:
-        return address_of(listing, text)
+        return address_of(listing, said(board.registers(), text))
     except Sorry:
         return None

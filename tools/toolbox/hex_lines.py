@@ -5,17 +5,20 @@ from __future__ import annotations
 import os
 import re
 from dataclasses import replace
+from functools import partial
 
 from toolbox.command import Sorry, read_text
+from toolbox.c_data import FILE, LINE, SECTION, Row, data_in
+from toolbox.data_labels import Datum
 from toolbox.listing import ADDRESS_COLUMNS, Line, Listing, line_of, physical
 
 MOST_LINES = 1 << 20  # of a source that a listing tells
 SOURCES = ('.asm', '.nasm', '.s', '.inc')
 # Of a source of MASM: file, line, row of the dialect's listing, the file's own line.
 PLACED = re.compile(r'([^\n]*?):(\d+):\t([^\t\n]*)\t(.*)')
-ROW = re.compile(r'\d{5} ([0-9A-F]{4}|    ) (.{36}) ?(.*)')  # of as86: offset, bytes, text
 OF_MODULE = re.compile(r' *(\S+) +(\S+) +0 +([0-9A-Fa-f]{8})')  # of ld86: a name of code
-OF_C, FILE_OF_C, SECTION = re.compile(r'! (\d+) ?(.*)'), re.compile(r'# (\d+) "([^"]*)"'), re.compile(r'\.(text|data|bss)\b', re.I)
+ROW = re.compile(r'\d{5} ([0-9A-F]{4}|    ) (.{36}) ?(.*)')  # of as86: offset, bytes, text
+OF_ANY = re.compile(r' *\S+ +(\S+) +[0-9A-Fa-f] +([0-9A-Fa-f]{8})')  # of ld86: a name of code or of data
 
 
 def filled(lines: list[Line]) -> list[Line]:
@@ -77,29 +80,47 @@ def with_modules(found: Listing, path: str, rows: list[str]) -> Listing:
             modules.setdefault(name, {})[label] = found.labels[label][1]
     folder, at, files = os.path.dirname(os.path.abspath(path)), dict[int, Line](), dict[str, dict[int, Line]]()
     segment = next((found.labels[label][0] for them in modules.values() for label in them), 0)
+    listings = {path: read_rows(path) for name in modules if os.path.isfile(path := os.path.join(folder, f'{name}.lst'))}
     for name, labels in modules.items():
         listing = os.path.join(folder, f'{name}.lst')
-        for line in of_module(listing, labels, segment) if os.path.isfile(listing) else []:
+        for line in of_module(listing, listings[listing], labels, segment) if listing in listings else []:
             files.setdefault(line.source, {}).setdefault(line.number, line)
             if line.address:
                 at.setdefault(physical(*line.address), line)
                 if not files[line.source][line.number].address:
                     files[line.source][line.number] = line
     own = {source: filled(list(them.values())) for source, them in files.items() if any(one.address for one in them.values())}
-    return replace(found, modules=at, files=own)
+    places = dict[str, set[str]]()
+    for label, address in (one.groups() for one in map(OF_ANY.match, rows) if one):
+        places.setdefault(label, set()).add(address)
+    sure = {label: found.labels[label] for label, them in places.items() if len(them) == 1 and label in found.labels}
+    return replace(found, modules=at, files=own, read_data=lambda: variables_of(listings, sure))
 
 
-def of_module(path: str, labels: dict[str, int], segment: int) -> list[Line]:
+def variables_of(listings: dict[str, list[Row]], places: dict[str, tuple[int, int]]) -> list[Datum]:
+    """The variables of C of modules, of those whose names stand for one place alone and are declared in one way."""
+    found = [one for path, rows in listings.items() for one in data_in(rows, partial(named, path), places)]
+    ways = dict[str, set[Datum]]()
+    for one in found:
+        ways.setdefault(one.name, set()).add(replace(one, line=0, source=''))
+    return list({one.name: one for one in found if len(ways[one.name]) == 1}.values())
+
+
+def read_rows(path: str) -> list[Row]:
+    """The rows of as86's listing: offset, bytes and text."""
+    return [one.groups() for one in map(ROW.match, read_text(path).split('\n')) if one]
+
+
+def of_module(path: str, rows: list[Row], labels: dict[str, int], segment: int) -> list[Line]:
     """The lines of a module by as86's listing: of C, whose lines stand in it as comments, those of C; else the assembler's. A row of
     code belongs to the line of C above it. Offsets are counted from the module's first byte, which its labels tell."""
-    rows = [one.groups() for one in map(ROW.match, read_text(path).split('\n')) if one]
     base = base_of(rows, labels)
-    is_code, is_c = True, any((match := OF_C.match(text)) and FILE_OF_C.match(match[2]) for _, _, text in rows)
+    is_code, is_c = True, any((match := LINE.match(text)) and FILE.match(match[2]) for _, _, text in rows)
     found, now = list[Line](), Line(0, '', None, b'', named(path, os.path.basename(os.path.splitext(path)[0]) + '.s'))
     for number, (offset, octets, text) in enumerate(rows, 1):
-        match, section = OF_C.match(text), SECTION.match(text.strip())
+        match, section = LINE.match(text), SECTION.match(text.strip())
         is_code = section[1].lower() == 'text' if section else is_code
-        begins = FILE_OF_C.match(match[2]) if match else None
+        begins = FILE.match(match[2]) if match else None
         if begins:
             now = Line(int(begins[1]), '', None, b'', named(path, begins[2]))
         elif match or not is_c:
@@ -111,7 +132,7 @@ def of_module(path: str, labels: dict[str, int], segment: int) -> list[Line]:
     return found
 
 
-def base_of(rows: list[tuple[str, ...]], labels: dict[str, int]) -> int | None:
+def base_of(rows: list[Row], labels: dict[str, int]) -> int | None:
     """Where a module's code begins, by a label that both the listing and the map have."""
     is_code = True
     for offset, value, text in rows:

@@ -5,11 +5,13 @@ import os
 import re
 from dataclasses import dataclass, field, replace
 from functools import cached_property
-from typing import Iterable, Iterator, NamedTuple
+from typing import TYPE_CHECKING, Callable, Iterable, Iterator, NamedTuple
 
-from toolbox.command import Sorry, read_bytes, read_text
-from toolbox.comments import handed, own_lines
+from toolbox.command import Sorry, handed_on, read_bytes, read_text
 from toolbox.program import Files, answer_of, given_text
+
+if TYPE_CHECKING:
+    from toolbox.data_labels import Datum
 
 ADDRESS_COLUMNS = 28
 PLACED = re.compile(r'([0-9A-F]{4}):([0-9A-F]{4}) ((?:[0-9A-F]{2})*)\+? ')
@@ -48,10 +50,30 @@ class Listing:
     at: dict[int, Line] = field(default_factory=dict)
     labels: dict[str, tuple[int, int]] = field(default_factory=dict)
     parts: dict[int, bytes] = field(default_factory=dict)
+    reserved: set[str] = field(default_factory=set)  # labels of data, by a symbols' file that tells them from those of code
     absent: set[str] = field(default_factory=set)  # labels of sections without bytes, of which nothing says where they stand
     files: dict[str, list[Line]] = field(default_factory=dict)  # of Intel HEX the lines of each file, from its first on
     modules: dict[int, Line] = field(default_factory=dict)  # of several files those that place bytes, by physical address
     rows: list[Line] = field(default_factory=list)  # of a source of MASM what becomes of it, in the order of the dialect's lines
+    read_data: Callable[[], list[Datum]] = list
+    read_constants: Callable[[], dict[str, int]] = dict
+
+    @cached_property
+    def data(self) -> list[Datum]:
+        """The labels of data of which the source tells how long they are, and whose bytes stand one behind the other."""
+        from toolbox.data_labels import in_one_piece  # which stands on this module, as what reads data does
+
+        return in_one_piece(self.read_data())
+
+    @cached_property
+    def constants(self) -> dict[str, int]:
+        """EQU's names with their values, as far as the source tells them."""
+        return self.read_constants()
+
+    def datum_at(self, address: int) -> Datum | None:
+        """The label of data that begins at a physical address; of several the one that has the most bytes."""
+        them = [one for one in self.data if physical(*one.place) == address]
+        return max(them, key=lambda one: one.length, default=None)
 
     @cached_property
     def coded(self) -> list[tuple[Line, str]]:
@@ -69,6 +91,12 @@ class Listing:
     def source_text(self, line: Line) -> str:
         """A line beside a place: of one source without its comment, of several with its file."""
         return f'{os.path.basename(line.source)}:{line.number}: {line.text.strip()}' if self.modules else f'{line.number}: {code_of(line.text).strip()}'
+
+    def place_text(self, segment: int, offset: int) -> str:
+        """An address with its label and source line."""
+        label, line = self.label_before(segment, offset), self.line_from(physical(segment, offset))
+        source = f'| {self.source_text(line)}' if line else ''
+        return ' '.join(filter(None, (f'{segment:04X}:{offset:04X}', label, source)))
 
     def has(self, address: int) -> bool:
         """Whether a line begins at a physical address, or Intel HEX has a byte there."""
@@ -172,16 +200,31 @@ def listing_of(files: Files) -> Listing:
         return replace(symbols_of(files.symbols, image, files.source) if files.symbols else Listing(), parts=parts_of(image))
     if files.symbols:
         raise Sorry(f'{files.file} is a source, which has its own labels; --symbols goes with --hex')
-    rows, own = answer_of(['asm', '--list', '--', handed(files.file)]).split('\n')[:-1], own_lines(files.file)
-    lines = [line_of(number, row, own[number - 1]) for number, row in enumerate(rows, 1)]
+    rows = answer_of(['asm', '--list', '--', handed_on(files.file)]).split('\n')[:-1]
+    lines = [line_of(number, row) for number, row in enumerate(rows, 1)]
     found = Listing(lines)
     for line in lines:
         if line.address:
             found.at.setdefault(physical(*line.address), line)
     names = [name for name in map(label_in, (each.text for each in lines if ':' in each.text)) if name]
     if names:
-        found.labels.update(probed(read_bytes(handed(files.file)).decode('utf-8', 'surrogateescape'), names))
-    return found
+        found.labels.update(probed(read_bytes(files.file).decode('utf-8', 'surrogateescape'), names))
+    return replace(found, read_data=lambda: data_of_source(files, found), read_constants=lambda: constants_of_source(found))
+
+
+def data_of_source(files: Files, listing: Listing) -> list[Datum]:
+    """The labels of data of a source of the board's dialect."""
+    from toolbox.data_labels import data_of  # which stand on this module
+    from toolbox.symbols import image_of
+
+    return data_of(listing, lambda: image_of(answer_of(['asm', '--', handed_on(files.file)])), is_loaded=False)
+
+
+def constants_of_source(listing: Listing) -> dict[str, int]:
+    """The constants of a source of the board's dialect."""
+    from toolbox.nasm_data import constants_among  # which stands on this module
+
+    return constants_among(line.text for line in listing.lines)
 
 
 def labels_alone(listing: Listing) -> Listing:

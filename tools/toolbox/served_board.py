@@ -7,8 +7,7 @@ from functools import cached_property
 from toolbox.listing import physical
 from toolbox.loading import BLOCK, SECTOR
 from toolbox.places import Event, event_of
-from toolbox.runfile import read_run_file
-from toolbox.services import SIGNATURE, SIGNED, Served, left_at
+from toolbox.services import SIGNATURE, SIGNED, Served, left_at, ram_end_of
 from toolbox.session_board import SessionBoard, break_at
 from toolbox.walk import SERVICES, Part
 
@@ -22,8 +21,7 @@ class ServedBoard(SessionBoard):
     @cached_property
     def ram_end(self) -> int:
         """RAM's end, if the services stand in ROM, else 0."""
-        ram = read_run_file(self._files.run_file).get('ram') if self.dump(SIGNED, len(SIGNATURE)) == SIGNATURE else None
-        return 1024 * ram if isinstance(ram, int) else 0
+        return ram_end_of(self._files) if self.dump(SIGNED, len(SIGNATURE)) == SIGNATURE else 0
 
     def left(self) -> Served | None:
         """What the services have left here, or None."""
@@ -38,6 +36,11 @@ class ServedBoard(SessionBoard):
     def is_served_here(self) -> bool:
         """Whether the processor is in the services."""
         return bool(self.ram_end) and physical(*self.place()) >= SERVICES
+
+    @property
+    def is_own(self) -> bool:
+        """Whether the processor is in the program's own instructions, or that has ended."""
+        return not self.is_served_here or bool(self.ending())
 
     @property
     def is_before(self) -> bool:

@@ -328,6 +328,11 @@ class SessionBoard:
         """Undoes the change to which a way back has come."""
         self.undone.append(self.undo())
 
+    def undo_changes(self, count: int) -> None:
+        """Undoes so many changes, as a way back does."""
+        for _ in range(count):
+            self._undo_on_the_way()
+
     def mark(self) -> tuple[int, list[Deed]]:
         """Where the board stands, and how it was changed."""
         return self.clock, list(self.changes.deeds)
@@ -349,14 +354,18 @@ class SessionBoard:
         self._are_others()
         go(to)
 
-    def moments(self, code: int, first: int, last: int, clocks: int) -> Iterator[Moments]:
-        """How a run of so many clocks would end, by the session's stops, if a key came at the first of these clocks, at the next one, and
-        so on up to the last. The board stays as it is."""
+    def moments(self, code: int, first: int, last: int, clocks: int, stops: list[str], second: tuple[int, int] | None = None) -> Iterator[Moments]:
+        """How a run of so many clocks would end, by these stops alone, if a key came at the first of these clocks, at the next one, and
+        so on up to the last; and a second key, if its code is given, so many clocks after it. The board stays as it is."""
+        if self._stops != stops:
+            self.begin_anew(stops)
         end, before = self.clock + clocks, None
+        after = f' {second[0]:02X} {second[1]}' if second else ''
+        told = second[0] if second and 1 <= code & 0x7F <= 0x53 else code  # the code of a refusal
         while first <= last:
             to = min(last, first + TRIED_AT_ONCE - 1) if first <= end else last
-            for line in self._many(f'moments {code:02X} {first} {to} {clocks}'):
-                found = self._moments_in(line, code)
+            for line in self._many(f'moments {code:02X} {first} {to} {clocks}{after}'):
+                found = self._moments_in(line, told)
                 joined = before.with_next(found) if before else found
                 if before and not joined:
                     yield before

@@ -5,9 +5,12 @@ from __future__ import annotations
 
 import os
 import re
+from dataclasses import replace
 from itertools import takewhile
 
+from toolbox import nasm_data
 from toolbox.command import Sorry, read_text
+from toolbox.data_labels import data_of
 from toolbox.hex_lines import PLACED, of_places, with_modules, with_source
 from toolbox.listing import Line, Listing, line_of, physical, placed_labels
 
@@ -61,6 +64,8 @@ def symbols_of(given: str, image: dict[int, int], source: str | None = None) -> 
         found = of_places(filled, of_labels([row for row in filled if FAR_LABEL.fullmatch(row)], None, None))
     elif filled and all(re.match(r' *\d{1,7} ', row) for row in filled):
         found = with_source(of_nasm(filled, far, ram), path)
+        places = found.labels
+        found = replace(found, read_data=lambda: nasm_data.data_in(filled, places), read_constants=lambda: nasm_data.constants_in(filled))
     elif filled and re.match(OURS, filled[0]) and all(re.match(OURS, row) or FAR_LABEL.fullmatch(row) for row in filled):
         found = with_source(of_ours(rows), path, source)
     else:
@@ -116,6 +121,7 @@ class Waiting:
 
     def reserved(self, offset: int, count: int) -> None:
         """A row without them."""
+        self._found.reserved.update(self._names)
         self.stand(None if self._ram is None or self._is_structure else (self._ram, offset))
         self._end = None if self._ram is None else (self._ram, offset + count)
 
@@ -178,6 +184,7 @@ def of_a_map(rows: list[str], far: tuple[int, int], ram: int | None) -> Listing:
                 found.absent.add(symbol[3])
             else:
                 found.labels[symbol[3]] = ram, (offset - start) % 0x10000
+                found.reserved.add(symbol[3])
     return found
 
 
@@ -191,7 +198,9 @@ def of_labels(rows: list[str], far: tuple[int, int] | None, ram: int | None) -> 
             found.labels[label[3]] = int(label[1], 16), int(label[2], 16)
         elif flat := FLAT_LABEL.fullmatch(row):
             address, name = int(flat['nm'] or flat['ld86'], 16), flat['of_nm'] or flat['of_ld86']
-            if far and (flat['type'] or flat['part']) in ('T', 't', '0'):
+            is_code = (flat['type'] or flat['part']) in ('T', 't', '0')
+            found.reserved.update(set() if is_code else {name})
+            if far and is_code:
                 found.labels[name] = far[0], (far[1] + address) % 0x10000
             elif far and ram is None:
                 found.absent.add(name)
@@ -228,4 +237,9 @@ def finished(found: Listing, image: dict[int, int]) -> Listing:
         if line.address:
             at.setdefault(physical(*line.address), line)
     modules = {where: as_loaded(source_line) for where, source_line in found.modules.items()}
-    return Listing(lines, at, found.labels, absent=found.absent, files=files, modules=modules, rows=list(map(as_loaded, found.rows)))
+    whole = replace(found, lines=lines, at=at, files=files, modules=modules, rows=list(map(as_loaded, found.rows)))
+    has_dialect = whole.rows or found.read_data is list and lines
+    if not has_dialect:
+        return whole
+    constants = (lambda: nasm_data.constants_among(line.text for line in lines)) if not whole.rows else whole.read_constants
+    return replace(whole, read_data=lambda: data_of(whole, lambda: image), read_constants=constants)

@@ -7,7 +7,7 @@ from typing import Callable
 
 from toolbox.command import Sorry, write_text
 from toolbox.dap.board import Machine
-from toolbox.listing import Listing, physical
+from toolbox.listing import Listing
 from toolbox.places import operation_of
 from toolbox.program import LAST_CLOCK, Files
 from toolbox.runfile import read_run_file, text_of
@@ -118,7 +118,5 @@ class Live(Machine):
 
     def place_text(self) -> str:
         """Where the board stands: clock, place, label and source line."""
-        segment, offset = self.place()
-        line, label = self.listing.line_from(physical(segment, offset)), self.listing.label_before(segment, offset)
         ending = f'{self.ending()}, ' if self.ending() else ''
-        return f'clock {self.clock:,}: {ending}{segment:04X}:{offset:04X} {label} {f"| {self.listing.source_text(line)}" if line else ""}'.rstrip()
+        return f'clock {self.clock:,}: {ending}{self.listing.place_text(*self.place())}'

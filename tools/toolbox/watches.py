@@ -10,7 +10,7 @@ from toolbox.command import Sorry
 from toolbox.data_labels import SIZES, kind_in
 from toolbox.following import writer_in
 from toolbox.listing import Listing, physical
-from toolbox.places import number_of, told_of
+from toolbox.places import address_of, far_of, number_of, said, told_of
 
 if TYPE_CHECKING:
     from toolbox.session_board import SessionBoard
@@ -37,8 +37,10 @@ def watched_by(stop: str) -> range:
     return range(int(found[1], 16), int(found[2], 16) + 1) if found else range(0)
 
 
-def watch_size(listing: Listing, address: int) -> int:
-    """How many bytes a value has that begins at an address: as its line's DB, DW or DD says, else one."""
+def value_size(listing: Listing, address: int) -> int:
+    """How many bytes a value has that begins at an address: as its variable's type or its line's DB, DW or DD says, else one."""
+    if datum := listing.datum_at(address):
+        return datum.size
     line = listing.at.get(address)
     return SIZES.get(kind_in(line.said) or '', 1) if line else 1
 
@@ -55,6 +57,22 @@ def kind_of(text: str, address: Callable[[str], int]) -> str:
     if begin > end:
         raise Sorry(f'{text}: {begin:X} comes after {end:X}, and a range begins with its lowest')
     return f'{name}={begin:X}-{end:X}'
+
+
+def command_of(board: SessionBoard, listing: Listing, text: str) -> str:
+    """A command of the debugger in which places stand as people say them, as the program takes it. What it takes itself stays."""
+    name, *words = text.split()
+
+    def address(place: str) -> int:
+        return address_of(listing, said(board.registers(), place))
+
+    if name == 'break' and len(words) == 1:
+        return 'break %X:%X' % far_of(listing, said(board.registers(), words[0]))
+    if name == 'when' and words:
+        return ' '.join(['when', *(kind_of(each, address) for each in words)])
+    if name in ('byte', 'dump', 'changes') and words and not re.fullmatch('[0-9A-Fa-f]{1,5}', words[0]):
+        return ' '.join([name, f'{address(words[0]):X}', *words[1:]])
+    return text
 
 
 @dataclass(frozen=True)

@@ -12,22 +12,20 @@ from typing import Any, Callable
 from toolbox import guests
 from toolbox.command import PYTHON, Sorry
 from toolbox.conditions import Asked, count_of
+from toolbox.dap import console
 from toolbox.dap.board import ENDS, IF, MOST_BREAKPOINTS, Machine
 from toolbox.dap.sources import Sources, path_in
 from toolbox.dap.values import Disassembly, Expression, is_code
 from toolbox.dap.variables import Variables
-from toolbox.data_labels import labels_of_data
-from toolbox.edits import Target, as_said, assign, set_target, target_of, values_of
+from toolbox.edits import Target, as_said, set_target, target_of, values_of
 from toolbox.effects import Far
 from toolbox.framing import Broken, Read
 from toolbox.guests import Guest
-from toolbox.keying import key_lines, type_words
 from toolbox.listing import Line, Listing, listing_of, physical
 from toolbox.places import far_of, far_of_address
 from toolbox.program import LAST_CLOCK, TOP, Files, copied, is_hex_name
 from toolbox.runfile import budget_of, text_of
-from toolbox.scancodes import stamped, strokes_of
-from toolbox.services import TYPING
+from toolbox.scancodes import strokes_of
 from toolbox.session_board import Gone, Left, Paused, SessionBoard, break_at, place_of
 from toolbox.watches import NO_READS, changed, watch_of, what_was_seen
 
@@ -54,7 +52,6 @@ CAPABILITIES = {
     'supportsDataBreakpoints': True,
     'exceptionBreakpointFilters': [{'filter': name, 'label': label, 'default': False} for name, label in FILTERS.items()],
 }
-SHOWING = ('regs', 'screen', 'dump', 'trail', 'chips')
 BESIDE_A_RUN = (
     'pause',
     'disconnect',
@@ -265,7 +262,7 @@ class Adapter:
             places = [os.path.realpath(path_in(source)) for source in field(given, 'sources', list, []) if isinstance(source, str)]
             self.sources = Sources(self.program, listing, places, self.has_uris)
             self.machine = Machine(files, listing, budget, self.poll)
-            self.variables = Variables(self.machine, lambda: labels_of_data(files, listing), self.knows)
+            self.variables = Variables(self.machine, lambda: listing.data, self.knows)
         except Sorry as sorry:
             raise self.explained(run_file, is_hex, sorry) from None
         self.event('initialized')
@@ -290,10 +287,7 @@ class Adapter:
         """The run file that is named, or one of the keys and budget that are."""
         if given.get('run'):
             return os.path.realpath(field(given, 'run', str))
-        fields = guests.fields_for(guest, None)
-        if keys := field(given, 'keys', str, ''):
-            fields['keys'] = stamped(strokes_of(keys), *(TYPING if guest.is_one else (2000, 500, 1500)))
-            fields['budget'] = max(fields['budget'], 2 * fields['keys'][-1][0])
+        fields = guests.fields_for(guest, None, guests.typed(guest, strokes_of(field(given, 'keys', str, ''))))
         fields['budget'] = field(given, 'budget', int, fields['budget'])
         path = f'{self.room}/own.json'
         with open(path, 'w', encoding='utf-8') as file:
@@ -681,18 +675,6 @@ class Adapter:
 
         return {}, go
 
-    @staticmethod
-    def console(board: Machine, text: str) -> str | None:
-        """The answer to a command of the console; of an expression nothing."""
-        name, *words = text.split() or ['']
-        if name == 'key' and words:
-            return type_words(board, words)
-        if name == 'set' and words:
-            return assign(board, board.listing, text.removeprefix('set'))
-        if text == 'keys':
-            return '\n'.join(key_lines(board)) or 'no keys'
-        return '\n'.join(line.rstrip() for line in board.many(text)).rstrip() if name in SHOWING and '\n' not in text else None
-
     def on_evaluate(self, given: Fields) -> Fields | tuple[Fields, Callable[[], tuple[str, str]]]:
         text, board = field(given, 'expression', str).strip(), self.board()
         if given.get('context') == 'repl' and (found := re.fullmatch(r'to\s+([\d,_]+)', text)):
@@ -701,10 +683,14 @@ class Adapter:
         if given.get('context') == 'repl' and text == 'undo':
             undone = board.undo()
             return {'result': undone, 'variablesReference': 0}, lambda: ('goto', undone)
-        if given.get('context') == 'repl' and (shown := self.console(board, text)) is not None:
+        if given.get('context') == 'repl' and (way := console.way(board, text, self.wanted(), lambda line: self.output(f'{line}\n', 'stdout'))):
+            return {'result': text, 'variablesReference': 0}, way
+        if given.get('context') == 'repl' and (shown := console.answer(board, text)) is not None:
             if text.startswith('set '):
                 self.tell_changed()
             return {'result': shown, 'variablesReference': 0}
+        if self.variables and (named := self.variables.named(text)):
+            return {'result': named['value']} | {key: one for key, one in named.items() if key not in ('name', 'value')}
         value = Expression(board, board.listing, text).value()
         at = {} if value.address is None else {'memoryReference': f'0x{value.address:05X}'}
         return {'result': value.shown(), 'variablesReference': 0} | at

@@ -9,7 +9,7 @@ from toolbox.command import Sorry
 from toolbox.effects import Does, effect_of, signed
 from toolbox.events import clock_of
 from toolbox.followed import MOST_PIECE, STACKED, FollowedBoard
-from toolbox.following import CALLING, Out
+from toolbox.following import CALLING, Follower, Out
 from toolbox.listing import Listing, physical
 from toolbox.places import Event, is_repeated
 from toolbox.program import Files
@@ -67,14 +67,14 @@ class Machine(FollowedBoard):
             self.run([self.first_stop()], self.budget)
             return None
         begun = None if self.is_served_here else self.step()
-        while self.is_served_here and self.why == 'returned' and not self.ending():
+        while self.why == 'returned' and not self.is_own:
             self._out()
         return begun
 
     def back(self) -> None:
         """To where the processor was free before, within a halt to its HLT, and from the program's own instructions or its end to the
         last of these."""
-        own = self.own_trail() if self.ram_end and (not self.is_served_here or self.ending()) else []
+        own = self.own_trail() if self.ram_end and self.is_own else []
         if own:
             self.go_to(own[-1].clock)
         elif self.is_halted:
@@ -128,11 +128,16 @@ class Machine(FollowedBoard):
     def _over_call(self, begun: int) -> None:
         """Over what an instruction or entry that began at a clock has called, if it has called something."""
         after = self.clock
-        self.go_to(begun)
-        follower = self._beginning()
-        self._follow(follower, after)
-        if follower.nest:
-            self._end(Out(follower, follower.nest[-1]))
+        for beginning in self._beginning, self._taken:
+            self.go_to(begun)
+            follower = beginning()
+            self._follow(follower, after)
+            if not follower.nest:
+                return
+            out = Out(follower, follower.nest[-1], beginning == self._taken)
+            self._end(out)
+            if not out.unsure:
+                return
 
     def _over_repeats(self, begun: Event) -> None:
         """To where another instruction begins than a repeat, over interrupts that come first."""
@@ -147,10 +152,14 @@ class Machine(FollowedBoard):
                 return
         self.why = 'far'
 
+    def _taken(self) -> Follower:
+        """The calls under way, which are followed on from here."""
+        follower, self._known = self.follower(), (-1, None)
+        return follower
+
     def _out(self) -> None:
         """Out of the routine."""
-        here, follower = self.clock, self.follower()
-        self._known = (-1, None)
+        here, follower = self.clock, self._taken()
         self._end(Out(follower, follower.nest[-1] if follower.nest else None))
         if self.why == 'returned':
             self._known = self.clock, follower

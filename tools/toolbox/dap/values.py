@@ -1,6 +1,7 @@
 """What an editor asks about: expressions of registers, labels, numbers and memory, and disassembly from what ran."""
 from __future__ import annotations
 
+import itertools
 import re
 from dataclasses import dataclass
 
@@ -8,11 +9,11 @@ from toolbox.command import Sorry
 from toolbox.conditions import COMPARISONS
 from toolbox.dap.board import FLAG_BITS, Machine
 from toolbox.listing import Line, Listing, code_of, label_in, physical
-from toolbox.places import far_of
+from toolbox.places import address_of, check_bracketed, check_segment, far_of, is_address, said, value_number
 from toolbox.report import HALVES, value_in
 from toolbox.session_board import NONE, SessionBoard
 
-TOKEN = re.compile(r"\s*(0x[0-9A-Fa-f]+|[0-9][0-9A-Fa-f]*[Hh]|[01]+[Bb]|\d+|[A-Za-z_]\w*|'[^']'|&&|\|\||[=!<>]=|<>|[-+*:\[\]()=<>!&])")
+TOKEN = re.compile(r"\s*(\w+|'[^']'|&&|\|\||[=!<>]=|<>|[-+*:\[\]()=<>!&])", re.A)
 DATA = re.compile(r'(\w+\s*:)?\s*D[BWD]\b', re.I)
 LONGEST_INSTRUCTION, LONGEST, LISTED_AT_ONCE = 8, 16, 64  # an instruction has at most seven prefixes and six bytes more
 
@@ -39,15 +40,6 @@ class Value:
 def truth(is_so: bool) -> Value:
     """What a comparison gives: 1 or 0."""
     return Value(int(is_so), 1)
-
-
-def number_in(word: str) -> int:
-    """A number as the dialect or C writes it."""
-    if word.lower().startswith('0x'):
-        return int(word, 16)
-    if word[-1] in 'Hh':
-        return int(word[:-1], 16)
-    return int(word[:-1], 2) if word[-1] in 'Bb' else int(word)
 
 
 class Expression:
@@ -127,10 +119,13 @@ class Expression:
             self._close(')')
             return found
         size = {'BYTE': 1, 'WORD': 2}.get(self._take('BYTE', 'WORD').upper(), 0)
-        if self.words[:1] == ['['] or size:
-            return self._memory(None if self.words[:1] == ['['] else self._name().number, size or 1)
-        found = self._name()
-        return self._memory(found.number, 1) if self.words[:1] == [':'] else found
+        if self.words[:1] == ['[']:
+            return self._memory(None, size or 1)
+        word, found = ''.join(self.words[:1]), self._name()
+        if not size and self.words[:1] != [':']:
+            return found
+        check_segment(word)
+        return self._memory(found.number, size or 1)
 
     def _close(self, sign: str) -> None:
         if not self._take(sign):
@@ -142,13 +137,24 @@ class Expression:
             self._close(':')
         if not self._take('['):
             raise Sorry(f'{self.text}: memory is written BYTE [..] or WORD ES:[..]')
+        words = list(itertools.takewhile(lambda word: word not in '[]', self.words))
+        inside = ''.join(words)
+        if segment is None and is_address(inside) and not self.listing.label_of(inside):
+            del self.words[: len(words)]
+            self._close(']')
+            address = address_of(self.listing, said(self.registers, inside))
+            return self._read([(address + n) % (1 << 20) for n in range(size)])
+        check_bracketed(inside, segment is not None)
         is_stack = 'BP' in [word.upper() for word in self.words]
         offset = self._sum().number % 0x10000
         self._close(']')
         segment = self.registers['SS' if is_stack else 'DS'] if segment is None else segment % 0x10000
-        address = physical(segment, offset)
-        octets = b''.join(self.board.dump(physical(segment, (offset + n) % 0x10000), 1) for n in range(size))
-        return Value(int.from_bytes(octets, 'little'), size, address)
+        return self._read([physical(segment, (offset + n) % 0x10000) for n in range(size)])
+
+    def _read(self, places: list[int]) -> Value:
+        """The number that some bytes hold, the low one first."""
+        octets = b''.join(self.board.dump(place, 1) for place in places)
+        return Value(int.from_bytes(octets, 'little'), len(places), places[0])
 
     def _name(self) -> Value:
         """A register, flag, label or number."""
@@ -161,10 +167,14 @@ class Expression:
         if upper == 'SEG' and self.words:
             return Value(far_of(self.listing, self.words.pop(0))[0])
         if word[:1].isdigit():
-            return Value(number_in(word), 2 if number_in(word) < 0x10000 else 4)
+            number = value_number(word)
+            return Value(number, 2 if number < 0x10000 else 4)
         if len(word) == 3 and word[0] == "'":
             return Value(ord(word[1]), 1)
         label = self.listing.label_of(word)
+        if label is None and word in self.listing.constants:
+            number = self.listing.constants[word]
+            return Value(number, 2 if -0x8000 <= number < 0x10000 else 4)
         if label is None:
             raise Sorry(f'{word or self.text} is no register, flag, label or number')
         return Value(label[1], 2, physical(*label))

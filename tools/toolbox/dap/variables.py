@@ -7,14 +7,15 @@ from typing import Any, Callable
 from toolbox.command import Sorry
 from toolbox.dap.board import FLAG_BITS, Machine
 from toolbox.dap.values import Value
-from toolbox.data_labels import MOST_BYTES, SIZES, Datum
+from toolbox.data_labels import Datum
 from toolbox.edits import Target
 from toolbox.listing import physical
+from toolbox.printing import all_shown, shown, sized, type_of, values_of, variable_in
 
 Fields = dict[str, Any]
 SCOPES = ('Registers', 'Flags', 'Board', 'Data', 'Stack', 'Screen')  # by their references, from 1 on
 FIRST_DATUM = len(SCOPES) + 1
-STACK_WORDS, MOST_SHOWN = 16, 40
+STACK_WORDS = 16
 EVALUATED = {1: 'BYTE', 2: 'WORD'}  # what an expression can read
 
 
@@ -58,7 +59,7 @@ class Variables:
             length = datum.length
         elif 0 <= number - FIRST_DATUM < len(self.data()) and (found := re.fullmatch(r'\[(\d{1,6})\]', name)):
             datum = self.data()[number - FIRST_DATUM]
-            first, length = int(found[1]) * SIZES[datum.kind], SIZES[datum.kind]
+            first, length = int(found[1]) * datum.size, datum.size
         if not datum:
             return None
         at = physical(*datum.place) + first
@@ -74,7 +75,7 @@ class Variables:
         places, datum = self.places(number, name), self._datum(number, name)
         if not places or not datum:
             raise Sorry(f"{name} can't be set: a register, a flag, data and words of the stack can")
-        return Target(address=places[0], size=SIZES[datum.kind])
+        return Target(address=places[0], size=datum.size)
 
     def _datum(self, number: int, name: str) -> Datum | None:
         """The label of data that a variable is, or belongs to."""
@@ -110,37 +111,40 @@ class Variables:
         return [self._label(FIRST_DATUM + at, one) for at, one in enumerate(self.data())]
 
     def _label(self, number: int, datum: Datum) -> Fields:
-        values = self._values(datum)
-        if len(values) == 1:
-            return self._one(datum, 0, values[0], datum.name, datum.kind)
-        octets = b''.join((one.number % (1 << 8 * one.size)).to_bytes(one.size, 'little') for one in values)
-        shown = ' '.join(f'{one.number:0{2 * one.size}X}' for one in values[:8]) + (' ..' if len(values) > 8 else '')
-        if datum.kind == 'DB':
-            shown += "  '" + ''.join(chr(one) if 32 <= one < 127 else '.' for one in octets[:MOST_SHOWN]) + "'"
-        rows = datum.length // SIZES[datum.kind]
+        values = values_of(self._board, datum)
+        if len(values) == 1 and datum.length == datum.size:
+            return self._one(datum, 0, values[0], datum.name, type_of(datum))
         more: Fields = {'variablesReference': number if values else 0, 'indexedVariables': len(values)}
-        return self._known(datum, 0, row(datum.name, shown if values else 'no memory is there', **more), f'{datum.kind}, {rows}')
+        return self._known(datum, 0, row(datum.name, all_shown(datum, values) if values else 'no memory is there', **more), type_of(datum))
 
-    def _values(self, datum: Datum) -> list[Value]:
-        """What memory holds there, as far as it is shown."""
-        size, first = SIZES[datum.kind], physical(*datum.place)
-        octets = self._board.dump(first, min(datum.length, MOST_BYTES))
-        return [Value(int.from_bytes(octets[at : at + size], 'little'), size, first + at) for at in range(0, len(octets) - size + 1, size)]
+    def named(self, text: str) -> Fields | None:
+        """What an expression is that is a variable's name, or one of its values."""
+        found = variable_in(self._board.listing, text)
+        if not found:
+            return None
+        datum, index = found
+        if index is None:
+            return self._label(FIRST_DATUM + self.data().index(datum), datum)
+        rows = self._elements(datum)
+        if index >= len(rows):
+            raise Sorry(f'{datum.name} has {datum.length // datum.size:,} values, of which {len(rows):,} are shown')
+        return rows[index]
 
     def _elements(self, datum: Datum) -> list[Fields]:
-        return [self._one(datum, at * SIZES[datum.kind], one, f'[{at}]', datum.kind) for at, one in enumerate(self._values(datum))]
+        kind = datum.said or datum.kind
+        return [self._one(datum, at * datum.size, one, f'[{at}]', kind) for at, one in enumerate(values_of(self._board, datum))]
 
     def _one(self, datum: Datum, at: int, value: Value, name: str, kind: str) -> Fields:
         """One value, so many bytes after a label."""
         more: Fields = {}
         if value.size in EVALUATED and re.fullmatch(r'[A-Za-z_]\w*', datum.name):
             more['evaluateName'] = f'{EVALUATED[value.size]} SEG {datum.name}:[{datum.name}{f"+{at}" if at else ""}]'
-        return self._known(datum, at, row(name, value.shown(), **more), kind)
+        return self._known(datum, at, row(name, shown(value), **more), kind)
 
     def _known(self, datum: Datum, at: int, fields: Fields, kind: str) -> Fields:
         """A variable with its type and memory, as far as the client takes them."""
         if self._knows.get('supportsVariableType'):
-            fields['type'] = kind
+            fields['type'] = f'{kind}, {sized(datum.length if fields["name"] == datum.name else datum.size)}'
         if self._knows.get('supportsMemoryReferences'):
             fields['memoryReference'] = f'0x{(physical(*datum.place) + at) % (1 << 20):05X}'
         return fields

@@ -64,8 +64,9 @@ class Board(FollowedBoard):
         return met
 
     def _undone(self, watches: Iterable[str]) -> Met | None:
-        """A change of a watched byte in the clock that led to here."""
-        return next((Met('watch', found[0].address) for found in (changed(self, watch) for watch in watches) if found), None)
+        """A change of a watched byte in the clock that led to here, of one that is wanted."""
+        seen = ((watch, changed(self, watch)) for watch in watches)
+        return next((Met('watch', found[0].address) for watch, found in seen if found and self.is_met(watch)), None)
 
     def recover(self) -> None:
         """Behind a client that has gone: from a way back that nobody ends any more, the board is begun anew where it was."""

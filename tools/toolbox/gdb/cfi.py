@@ -17,6 +17,8 @@ BREG, BREGX = 0x70, b'\x92'
 FURTHER, SAME, CFA_AT, CFA_IS, VALUE_IS = b'\x04', b'\x08', b'\x0C', b'\x0F', b'\x16'
 NO_CALLER = b'\x07' + bytes([EIP])  # where a frame goes on is undefined
 PROLOGUES, POP_BP = (b'\x55\x89\xE5', b'\x55\x8B\xEC'), 0x5D
+PUSHES = {*range(0x50, 0x58), 0x4C}  # of registers, and DEC SP
+ROOM = {b'\x83\xEC': 3, b'\x81\xEC': 4, b'\x83\xC4': 3, b'\x81\xC4': 4}  # SUB and ADD of SP and a number
 RETURNS = {0xC3: 1, 0xC2: 3}  # near ones, with their lengths
 
 
@@ -88,6 +90,20 @@ def rules_of(octets: bytes) -> bytes:
             rules += FURTHER + struct.pack('<I', place - at) + returns_at(ESP, 0, False) + FURTHER + struct.pack('<I', length) + framed
             at = place + length
     return rules
+
+
+def behind_prologue(octets: bytes) -> range:
+    """How far from its first byte a routine's frame is set up: from behind PUSH BP and MOV BP,SP on, over pushes of registers, up to where
+    room has been made; nothing of a routine without a frame. A debugger that looks at instructions ends at one of these places."""
+    if octets[:3] not in PROLOGUES:
+        return range(0)
+    at = 3
+    while at < len(octets):
+        taken = 1 if octets[at] in PUSHES else ROOM.get(octets[at : at + 2], 0)
+        if not taken:
+            break
+        at += taken
+    return range(3, at + 1)
 
 
 def memory_of(listing: Listing) -> dict[int, int]:

@@ -7,12 +7,14 @@ import struct
 from dataclasses import dataclass, field
 
 from toolbox.effects import is_call
-from toolbox.gdb.cfi import MEMORY, counted, frames_of, sleb, uleb
+from toolbox.gdb.cfi import MEMORY, behind_prologue, counted, frames_of, memory_of, sleb, uleb
+from toolbox.gdb.variables import SHAPES, variables_of
 from toolbox.listing import Line, Listing, physical
 
 MACHINE, EXECUTABLE, PROGBITS, SYMTAB, STRTAB, NOBITS = 3, 2, 1, 2, 3, 8
 # Of a file by GNU's compilers from 4.5 on gdb takes the rules for callers also at a RET, where it else expects 32 bits.
 PRODUCER = b'GNU Zebludor 4.5\x00'
+PROLOGUE_ROOM = 32
 ASSEMBLER = 0x8001  # DW_LANG_Mips_Assembler, the language of all assemblers in DWARF 3
 
 
@@ -39,12 +41,20 @@ def end_of(run: list[tuple[int, Line]]) -> int:
     return run[-1][0] + len(run[-1][1].shown)
 
 
-def steps_of(run: list[tuple[int, Line]], files: list[str]) -> bytes:
-    """The program of line numbers for a run: the address, file and number of each line that isn't the one before, and where the
-    last one ends."""
+def entries_of(listing: Listing) -> set[int]:
+    """Where routines of C, whose lines have several instructions, have set up their frames."""
+    memory = memory_of(listing)
+    places = {physical(*place) for place in listing.labels.values()} & listing.modules.keys()
+    octets = {first: bytes(memory.get(address, 0) for address in range(first, min(first + PROLOGUE_ROOM, MEMORY))) for first in places}
+    return {first + place for first, them in octets.items() for place in behind_prologue(them)}
+
+
+def steps_of(run: list[tuple[int, Line]], files: list[str], entries: set[int]) -> bytes:
+    """The program of line numbers for a run: the address, file and number of each line that isn't the one before, or at which gdb has an
+    entry, and where the last one ends."""
     program, address, number, source = b'\x00\x05\x02' + struct.pack('<I', run[0][0]), run[0][0], 1, files[0]
     for here, line in run:
-        if here > run[0][0] and (line.number, line.source) == (number, source):
+        if here > run[0][0] and (line.number, line.source) == (number, source) and here not in entries:
             continue
         program += b'' if line.source == source else b'\x04' + uleb(files.index(line.source) + 1)
         program += b'\x02' + uleb(here - address) + b'\x03' + sleb(line.number - number) + b'\x01'
@@ -60,21 +70,26 @@ def lines_of(listing: Listing, paths: dict[str, str]) -> bytes:
     header = bytes([1, 1, 0xFB, 14, 13]) + lengths + files
     # Without any line gdb would leave out the unit: so of Intel HEX with labels alone the last byte of memory has one.
     runs = runs_of(listing) or [[(MEMORY - 1, Line(1, '', None, b'\x00', next(iter(paths))))]]
-    program = b''.join(steps_of(run, list(paths)) for run in runs)
+    entries = entries_of(listing) if listing.modules else set[int]()
+    program = b''.join(steps_of(run, list(paths), entries) for run in runs)
     return counted(struct.pack('<HI', 3, len(header)) + header + program)
 
 
-def unit_of(path: str, extents: dict[str, tuple[int, int]]) -> tuple[bytes, bytes]:
-    """`.debug_abbrev` and `.debug_info`: one unit, the source, over all of memory, and in it the labels as routines: by these gdb
-    tells a call from a step where neither frame has a caller."""
+def unit_of(path: str, extents: dict[str, tuple[int, int]], listing: Listing, files: list[str]) -> tuple[bytes, bytes]:
+    """`.debug_abbrev` and `.debug_info`: one unit, the source, over all of memory, and in it the variables, and the other labels as routines:
+    by these gdb tells a call from a step where neither frame has a caller."""
     forms = ((0x03, 0x08), (0x1B, 0x08), (0x25, 0x08), (0x13, 0x05), (0x10, 0x06), (0x11, 0x01), (0x12, 0x01))
     of_routines = ((0x03, 0x08), (0x11, 0x01), (0x12, 0x01))
-    shapes = [(1, 0x11, 1, forms), (2, 0x2E, 0, of_routines)]
+    shapes = [(1, 0x11, 1, forms), (2, 0x2E, 0, of_routines), *SHAPES]
     abbreviation = b''.join(bytes([*shape[:3], *(one for pair in shape[3] for one in pair), 0, 0]) for shape in shapes) + b'\x00'
     folder, name = (part.encode('utf-8', 'surrogateescape') + b'\x00' for part in os.path.split(path))
     unit = b'\x01' + name + folder + PRODUCER + struct.pack('<HIII', ASSEMBLER, 0, 0, MEMORY)
-    routines = (b'\x02' + label.encode() + b'\x00' + struct.pack('<II', *place) for label, place in extents.items() if place[0] < place[1])
-    return abbreviation, counted(struct.pack('<HIB', 3, 0, 4) + unit + b''.join(routines) + b'\x00')
+    data = {one.name for one in listing.data} | without_bytes(listing)
+    code = ((label, place) for label, place in extents.items() if place[0] < place[1] and label not in data)
+    routines = b''.join(b'\x02' + label.encode() + b'\x00' + struct.pack('<II', *place) for label, place in code)
+    head = struct.pack('<HIB', 3, 0, 4) + unit
+    variables = variables_of(4 + len(head), files, listing.data, {name: one for name, one in listing.constants.items() if name not in extents})
+    return abbreviation, counted(head + variables + routines + b'\x00')
 
 
 @dataclass
@@ -121,8 +136,13 @@ def extents_of(listing: Listing) -> dict[str, tuple[int, int]]:
     return {name: (address, end(address)) for name, address in sorted(places.items(), key=lambda pair: pair[1])}
 
 
+def without_bytes(listing: Listing) -> set[str]:
+    """Labels of room for data at places that Intel HEX doesn't fill: no code stands there, whatever their type."""
+    return {name for name in listing.reserved if name in listing.labels and not listing.has(physical(*listing.labels[name]))}
+
+
 def symbols_of(extents: dict[str, tuple[int, int]]) -> tuple[bytes, bytes]:
-    """`.symtab` and `.strtab`."""
+    """`.symtab` and `.strtab`. All labels are as those of code, for what is data may be that, too: so one can stop there."""
     names, rows = Table(), bytes(16)
     for name, (address, end) in extents.items():
         rows += struct.pack('<IIIBBH', names.place(name), address, end - address, 0x12, 0, 1)
@@ -146,7 +166,7 @@ class Section:
 def elf_of(listing: Listing, paths: dict[str, str]) -> bytes:
     """The file's bytes. Sources, as lines name them, stand at these full paths, of which the first is the unit's."""
     extents = extents_of(listing)
-    abbreviation, unit = unit_of(next(iter(paths.values())), extents)
+    abbreviation, unit = unit_of(next(iter(paths.values())), extents, listing, list(paths))
     symbols, names = symbols_of(extents)
     sections = [
         Section('.text', NOBITS, flags=6, size=MEMORY),

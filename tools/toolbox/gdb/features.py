@@ -11,6 +11,7 @@ TYPES = {'esp': 'data_ptr', 'ebp': 'data_ptr', 'eip': 'code_ptr', 'eflags': 'i38
 FIRST_FLOAT = len(CORE)
 FIRST_CONTROL = FIRST_FLOAT + len(FLOATS)
 FIRST_OWN = FIRST_CONTROL + len(CONTROLS)
+CLOCK = FIRST_OWN + len(OWN)
 
 
 UNKNOWN = 8 * 'x'
@@ -27,7 +28,7 @@ def description() -> str:
     flags = ''.join(f'<field name="{name}" start="{bit}" end="{bit}"/>' for name, bit in FLAGS.items())
     core = ''.join(register(name, 32, TYPES.get(name, 'int32')) for name in CORE)
     floats = ''.join(register(name, 80, 'i387_ext') for name in FLOATS) + ''.join(register(name, 32, 'int', ' group="float"') for name in CONTROLS)
-    own = ''.join(register(name, 16, 'uint16') for name in OWN)
+    own = ''.join(register(name, 16, 'uint16') for name in OWN) + register('clock', 64, 'uint64')
     return (
         '<?xml version="1.0"?><!DOCTYPE target SYSTEM "gdb-target.dtd"><target version="1.0"><architecture>i8086</architecture>'
         f'<osabi>none</osabi><feature name="org.gnu.gdb.i386.core"><flags id="i386_eflags" size="4">{flags}</flags>{core}{floats}</feature>'

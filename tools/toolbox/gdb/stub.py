@@ -10,16 +10,18 @@ from toolbox.conditions import Asked
 from toolbox.edits import assign
 from toolbox.gdb.board import Board, Met
 from toolbox.gdb.bytecode import Condition
-from toolbox.gdb.features import FIRST_OWN, OWN, UNKNOWN, WORD_OF_FRAMES, description, without_value
+from toolbox.gdb.features import CLOCK, FIRST_OWN, OWN, UNKNOWN, WORD_OF_FRAMES, description, without_value
 from toolbox.gdb.frames import RECORD, RECORDS, Frames
+from toolbox.gdb.judged import Judges
 from toolbox.gdb.wire import MOST_BYTES, Wire
 from toolbox.gdb.written import differing, write_memory, write_register, written_register
 from toolbox.keying import key_lines, type_words
+from toolbox.lasts import last_of
 from toolbox.listing import Listing, physical
 from toolbox.places import far_of_address
 from toolbox.program import BEFORE_START, LAST_CLOCK
 from toolbox.session_board import MOST_STOPS, Gone, Paused, SessionBoard, break_at
-from toolbox.watches import MEMORY, NO_READS, watch_of, watched_by, what_was_seen
+from toolbox.watches import MEMORY, NO_READS, command_of, watch_of, watched_by, what_was_seen
 
 # The order of the `g` packet. Those that point into a segment are told as physical addresses, so that gdb finds code and stack.
 NAMES = ('AX', 'CX', 'DX', 'BX', 'SP', 'BP', 'SI', 'DI', 'IP', 'FL', 'CS', 'SS', 'DS', 'ES')
@@ -53,7 +55,7 @@ class Stub:
         self._addresses = dict[int, list[Condition]]()  # of breakpoints, with their conditions, one of which is to hold
         self._watches, self._may_be_within = list[str](), False  # the latter: an instruction may be under way
         self._told = set[int]()
-        self._frames, self._records = Frames(), (-1, b'')  # the latter of a clock
+        self._frames, self._records, self._judges = Frames(), (-1, b''), Judges()  # the second of a clock
         self.has_ended, self._last, self._state = False, 'S05', 'running'
         self._is_extended = False  # gdb may begin anew, and come back to a board that it has left
         self._can_name_breaks = False
@@ -157,17 +159,17 @@ class Stub:
         """The registers by their numbers: those of `g`, but FS and GS, which the 8086 hasn't, and the board's own."""
         found = board.registers()
         of_gdb = (physical(found[SEGMENT_OF[name]], found[name]) if name in SEGMENT_OF else found[name] for name in NAMES)
-        return dict(enumerate(of_gdb)) | dict(enumerate(map(found.__getitem__, OWN.values()), FIRST_OWN))
+        return dict(enumerate(of_gdb)) | dict(enumerate(map(found.__getitem__, OWN.values()), FIRST_OWN)) | {CLOCK: board.clock}
 
     def _register(self, text: str) -> str:
         """A register by its number."""
-        number = int(text, 16) if re.fullmatch('[0-9a-f]{1,4}', text) else FIRST_OWN + len(OWN)
+        number = int(text, 16) if re.fullmatch('[0-9a-f]{1,4}', text) else CLOCK + 1
         if number == WORD_OF_FRAMES:
             return word_of(RECORD)
         value = self._registers(self._board).get(number)
         if value is None:
             return without_value(number) or 'E01'
-        return word_of(value) if number < len(NAMES) else value.to_bytes(2, 'little').hex()
+        return word_of(value) if number < len(NAMES) else value.to_bytes(8 if number == CLOCK else 2, 'little').hex()
 
     def _write(self, request: str) -> str:
         """Registers or memory as gdb wants them. What was known of callers may hold no more."""
@@ -183,6 +185,8 @@ class Stub:
 
     def _write_register(self, number: int, value: int) -> None:
         """A register, by its number."""
+        if number == CLOCK:
+            raise Sorry('the clock is where the board stands: "monitor to CLOCK" goes there')
         own = list(OWN.values())[number - FIRST_OWN : number - FIRST_OWN + 1] if number >= FIRST_OWN else []
         if number >= len(NAMES) and not own:
             raise Sorry('the 8086 has no such register')
@@ -222,6 +226,9 @@ class Stub:
         address = int(found[3], 16)
         if found[1] == 'z':
             self._addresses.pop(address, None)
+            self._judges.leave(address)
+        elif self._judges.put(address, list(map(condition_of, found[4].split(';')[1:]))):
+            pass
         elif address < MEMORY:
             if address not in self._addresses and self._is_full():
                 return f'E.{FULL}'
@@ -253,10 +260,14 @@ class Stub:
         register = self._registers(board).__getitem__
         return condition.holds(register, lambda address, count: board.dump(address, count) if address < MEMORY else b'')
 
-    def _breaks(self) -> list[str]:
-        """The stops that watchpoints and breakpoints are. Where it is a guess by which CS one is come to, that is told once."""
-        found = list(self._watches)
+    def _breaks(self, is_back: bool = False) -> list[str]:
+        """The stops that watchpoints and breakpoints are, those that always count first. Where it is a guess by which CS one is come to, that
+        is told once."""
         self._board.asked = {}
+        for watch in self._watches:
+            if asked := self._judges.asked(watched_by(watch)[0], self._holds, is_back):
+                self._board.asked[watch] = list(map(Asked, asked))
+        found = sorted(self._watches, key=self._board.asked.__contains__)
         for address in sorted(self._addresses):
             segment, offset, is_known = far_of_address(self._listing, address, self._board.registers()['CS'])
             if address in self._frames.returns:
@@ -280,9 +291,21 @@ class Stub:
             return self._stopped(TRAP, self._changed_since(before)) if self._board.step_back() else self._stopped(TRAP, 'replaylog:begin;')
         if request[0] in 'sS':
             return self._step()
-        before = self._board.clock
-        met = self._board.back(self._breaks()) if request == 'bc' else self._board.go(self._breaks())
-        return self._ended(met, before)
+        before, is_back = self._board.clock, request == 'bc'
+        met = self._board.back(self._breaks(is_back)) if is_back else self._board.go(self._breaks())
+        return self._shown(met) or self._ended(met, before)
+
+    def _shown(self, met: Met) -> str:
+        """The stop that gdb has to see before this one, and passes without a word; nothing, if there is none."""
+        watch = next((watch for watch in self._watches if met.how == 'watch' and met.number in watched_by(watch)), None)
+        passed = self._judges.passed.pop(watched_by(watch)[0], None) if watch else None
+        if passed is None:
+            return ''
+        if self._board.undone:  # the later clock is another board's by now
+            return self._stopped(TRAP)
+        self._board.go_to(passed)
+        self._may_be_within = True
+        return self._stopped(TRAP, f'watch:{met.number:x};')
 
     def _watched(self) -> list[tuple[int, bytes]]:
         """The watched bytes as they stand, with the address of the first."""
@@ -359,15 +382,15 @@ class Stub:
         if words[0] in ('', 'help') or not command.isprintable():
             self.tell(
                 'commands: '
-                + ', '.join((*STOPS, *MOVES, 'clock', 'set', 'undo', 'key', 'keys', 'regs', 'screen', 'dump', 'trail', 'chips'))
+                + ', '.join((*STOPS, *MOVES, 'clock', 'last', 'set', 'undo', 'key', 'keys', 'regs', 'screen', 'dump', 'trail', 'chips'))
                 + ' (docs/debugger.md)'
             )
         elif words[0] == 'quit':
             self.tell("gdb's own quit ends the session")
         elif words == ['exit']:
             self.has_ended = True
-        elif words[0] in STOPS:
-            self.tell(self._board.name(command))
+        elif words[0] in (*STOPS, 'dump'):
+            self.tell(self._named(command))
         elif words[0] in MOVES:
             answer = self._moved(words)
             self._tell_undone()
@@ -379,6 +402,11 @@ class Stub:
         elif words[0] in ('set', 'undo'):
             self._state, self._may_be_within = 'running', True
             self.tell(self._or_why(lambda: self._changed(command)))
+        elif words[0] == 'last':
+            self._state, self._may_be_within = 'running', True
+            answer = self._or_why(lambda: last_of(self._board, self._listing, words[1:]))
+            self._tell_undone()
+            self.tell(answer)
         elif words == ['keys']:
             self.tell('\n'.join(key_lines(self._board)) or 'no keys')
         elif words[0] in RUNS:
@@ -386,6 +414,16 @@ class Stub:
         else:
             self.tell('\n'.join(line.rstrip() for line in self._board.many(command)))
         return 'OK'
+
+    def _named(self, command: str) -> str:
+        """The answer to a command in which places may stand."""
+        try:
+            command = command_of(self._board, self._listing, command)
+        except Gone:
+            raise
+        except Sorry as sorry:
+            return str(sorry)
+        return '\n'.join(self._board.many(command)) if command.startswith('dump') else self._board.name(command)
 
     def _changed(self, command: str) -> str:
         """The answer to `set`, as the debugger takes it or with `=`, and to `undo`."""

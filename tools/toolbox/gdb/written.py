@@ -15,7 +15,7 @@ HEX = '[0-9a-fA-F]'
 
 def written_register(text: str) -> tuple[int, int]:
     """The number and the value of a `P` packet."""
-    found = re.fullmatch(f'({HEX}{{1,4}})=((?:{HEX}{{2}}){{2,4}})', text)
+    found = re.fullmatch(f'({HEX}{{1,4}})=((?:{HEX}{{2}}){{2,8}})', text)
     if not found:
         raise Sorry('no register is written so')
     return int(found[1], 16), int.from_bytes(bytes.fromhex(found[2]), 'little')
