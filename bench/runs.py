@@ -13,7 +13,7 @@ HERE = os.path.dirname(os.path.realpath(__file__))
 TOP = os.path.dirname(HERE)
 sys.path[:0] = [f'{TOP}/{folder}' for folder in ('tools', 'dev')]
 
-from toolbox.command import Sorry, handed_on, read_text, write_text
+from toolbox.command import Sorry, Unreadable, handed_on, read_text, write_text
 from toolbox.program import path as built_program
 from toolbox.runfile import read_run_file, text_of
 
@@ -33,7 +33,7 @@ def program(named: str | None) -> str:
         with open(handed_on(found, LONGEST_PROGRAM), 'rb') as file:
             head = file.read(4)
     except OSError as error:
-        raise Sorry(f"{found} can't be read: {error.strerror}") from None
+        raise Unreadable(f"{found} can't be read: {error.strerror}") from None
     if head != b'\x7fELF' or not os.access(found, os.X_OK):
         raise Sorry(f'{found} is no built program: give crates/pcboard/out/pcboard, not what starts it')
     return found

@@ -62,9 +62,9 @@ KINDS = {
     'crlf': (RIGHT.replace('\n', '\r\n').encode(), True),
     'tabs': (RIGHT.replace('        ', '\t').encode(), True),
     'other': (RIGHT.replace('MOV DI,0', 'XOR DI,DI').encode(), True),
-    'umlaut': (RIGHT.replace('; the code', '; größer').encode(), True),
-    'latin': (RIGHT.replace('; the code', '; größer').encode('latin-1'), True),
-    'mark': ('\ufeff'.encode() + RIGHT.encode(), True),
+    'umlaut': (RIGHT.replace('; the code', '; größer').encode(), False),
+    'latin': (RIGHT.replace('; the code', '; größer').encode('latin-1'), False),
+    'mark': ('\ufeff'.encode() + RIGHT.encode(), False),
     'wrong': (RIGHT.replace('QWERTY', 'QWARTY').encode(), False),
     'latch': (RIGHT.replace('MOV AL,0C0h', 'MOV AL,40h').encode(), False),
     'end': (RIGHT.replace('done:   MOV AL,20h', 'done:   MOV AL,0').encode(), False),
@@ -184,7 +184,7 @@ class Strangers(ToolCase):
             right = file.read()
         self.assertIn("QWERTYUIOP", right)
         self.file('a/it.asm', right)
-        self.file('b/it.asm', right.replace('MOV', 'mov') + '; Größe\n')
+        self.file('b/it.asm', right.replace('MOV', 'mov') + '; size\n')
         self.file("=w,r\n'.asm", right.replace('QWERTY', 'QWARTY'))
         self.file('refused.asm', ' MOV AX,0x10\n')
         self.file('empty.asm', '')
@@ -315,7 +315,7 @@ class Strangers(ToolCase):
         self.called('judge', page, source, '--keep', 'it')
         for number, wanted in ((1, 'HELLO'), (2, 'ZEBRA')):
             self.assertEqual(self.called('try', source, '--run', f'it-{number}.json')[0].splitlines()[0], wanted)
-        self.assertIn("it-1.json can't be written: File exists", self.called('judge', page, source, '--keep', 'it', status=2)[1])
+        self.assertIn("it-1.json can't be written: File exists", self.called('judge', page, source, '--keep', 'it', status=3)[1])
 
     def test_a_flood_ends_within_its_limits(self) -> None:
         """In 256 MB, with a row that says so, and the command of its text too."""

@@ -7,6 +7,7 @@ import contextlib
 import json
 import os
 import pathlib
+import re
 import signal
 import subprocess
 import sys
@@ -123,7 +124,16 @@ WORDS = (
 )
 IN_A_ROW = 'tools/judge --class page /'  # a submission that can't be read is told of in its row
 MAY_SUCCEED = {'tools/why fault', 'tools/trace --vcd', 'tools/try hello.asm --write'}
+# Lines that lack a word, a terminal, a report or a folder, so that no file is read.
+REFUSED_BEFORE = (
+    'tools/sound',
+    'tools/desk hello.asm',
+    'tools/moments --measure',
+    'tools/term',
+    'tools/why asm hello.asm',
+)
 WRITTEN = ('tools/trace --vcd', 'tools/try hello.asm --write', 'tools/sound')  # there the path is what is written
+SERVED = 'SEGMENT M AT 100h\nstart: MOV AX,4C00h\n INT 21h\nENDS\n'
 MORE_THAN_A_PIPE = 1 << 17
 MOST_SECONDS, MOST_MEGABYTES = 5, 300  # of the processor, and of the largest process
 ENDED = 4 * MOST_SECONDS  # also on a slow machine
@@ -147,6 +157,7 @@ class EveryTool(ToolCase):
         self.file('places', 'runs = start\n')
         self.file('hello.hex', self.pcboard('asm', f'{EXAMPLES}/hello.asm').stdout)
         self.file('hello.report', self.pcboard('run', f'{EXAMPLES}/hello.asm', f'{EXAMPLES}/hello.json').stdout)
+        self.file('served.asm', SERVED)
         self.environment = {'PATH': '/usr/bin:/bin', 'HOME': self.room} | {name.upper(): program.path(name) for name in PROGRAMS}
 
     def begin(self, tool: str, *words: str, out: int = subprocess.PIPE, given: int = subprocess.DEVNULL) -> subprocess.Popen[str]:
@@ -231,9 +242,18 @@ class EveryTool(ToolCase):
     def test_a_missing_file_and_a_folder_for_a_file(self) -> None:
         def check(line: str) -> None:
             status, out, err = self.run_tool(line)
-            if not any(line.startswith(start) for start in MAY_SUCCEED):
-                self.assertGreater(status, 0, line)
-                self.assertNotEqual(out if line.startswith(IN_A_ROW) else err, '', line)
+            if any(line.startswith(start) for start in MAY_SUCCEED):
+                return
+            self.assertGreater(status, 0, line)
+            self.assertNotEqual(out if line.startswith(IN_A_ROW) else err, '', line)
+            path = next((word for word in line.split() if word.startswith(self.room)), '')
+            if (
+                line.startswith('tools/')
+                and line.replace(path, '{}') in WORDS
+                and not re.search('includes_|served', line)
+                and not line.startswith((IN_A_ROW, *REFUSED_BEFORE))
+            ):
+                self.assertEqual((status, path in err), (3, True), f'{line}: {err}')
 
         lines = [*WORDS, *(f'{tool} {{}} {{}}' for tool in tools())]
         self.each(check, [line.replace('{}', path) for line in lines for path in (f'{self.room}/none/none', self.room)])
@@ -282,7 +302,7 @@ class NoFile(ToolCase):
         self.file('places', 'runs = start\n')
         self.file('hello.hex', self.pcboard('asm', f'{EXAMPLES}/hello.asm').stdout)
         self.file('hello.report', self.pcboard('run', f'{EXAMPLES}/hello.asm', f'{EXAMPLES}/hello.json').stdout)
-        self.file('served.asm', 'SEGMENT M AT 100h\nstart: MOV AX,4C00h\n INT 21h\nENDS\n')
+        self.file('served.asm', SERVED)
         os.mkfifo(f'{self.room}/fifo')
         os.symlink('/dev/zero', f'{self.room}/endless')
         with open(f'{self.room}/long', 'wb') as file:
@@ -313,7 +333,7 @@ class NoFile(ToolCase):
         return ended
 
     def test_every_tool(self) -> None:
-        """It refuses in a sentence, with status 2, unless it has read a file whose brackets are its own affair, or has no need of it."""
+        """It refuses in a sentence, with status 3 if it reads it, unless it has read a file whose brackets are its own affair, or has no need of it."""
         lines = [*(line for line in WORDS if not line.startswith(WRITTEN)), *(f'{tool} {{}} {{}}' for tool in tools())]
         for line, path in ((line, path) for line in lines for path in self.PATHS):
             name, *words = line.replace('{}', path).split()
@@ -324,12 +344,12 @@ class NoFile(ToolCase):
 
     def test_a_source_of_a_million_lines(self) -> None:
         """A source is read within as much, of however many lines its bytes are; also one that isn't UTF-8."""
-        for words, first in ((['why', 'run'], b''), (['try'], b';\xE9')):
+        for words, first, answer in ((['why', 'run'], b'', 'FFFF:0000'), (['try'], b';\xE9', 'fault 2 BadCharacter line 1')):
             with open(f'{self.room}/lines.asm', 'wb') as file:
                 file.write(first + b'\n' * 1_000_000)
             with self.subTest(words=words):
                 ended = self.ended('lines.asm', trials.started(words[0], [*words[1:], '--seconds', str(SECONDS), 'lines.asm']))
-                self.assertIn('FFFF:0000', ended.err)
+                self.assertIn(answer, ended.err)
 
     def test_python(self) -> None:
         """It is Unfit, or what the program refuses."""
@@ -385,12 +405,16 @@ class NoFile(ToolCase):
 
 
 def allowed(line: str, path: str) -> tuple[int, ...]:
-    """With which statuses a tool may end that meets one of these: a submission among others fails, and other brackets may be a page's."""
+    """With which statuses a tool may end that meets one of these: a submission among others fails, and other brackets may be a page's.
+    Of the lines above it is the one for what can't be read, unless other words are refused before."""
     if line.startswith('tools/why fault'):
         return 0, 1, 2
+    if line == 'tools/judge --class page {}':
+        return 1, *([2] if path == 'deep' else [])
     if path == 'deep' or not line.startswith('tools/'):
-        return 1, 2
-    return (1,) if line == 'tools/judge --class page {}' else (2,)
+        return 1, 2, 3
+    is_sure = line in WORDS and not re.search(r'includes_|}\.|served.asm hello', line) and not line.startswith(REFUSED_BEFORE)
+    return (3,) if is_sure else (2, 3)
 
 
 def framed(messages: Iterator[dict[str, object]]) -> bytes:

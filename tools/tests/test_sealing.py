@@ -53,6 +53,11 @@ class Sealing(ToolCase):
         self.assertEqual(lines[-2:], ['ok  the program here is the sealed one', '5 met, 0 not'])
         self.assertIn('is there already', self.called('judge', '--seal', 'it.seal', source, run, status=2)[1])
 
+    def test_what_seals_prints_no_json(self) -> None:
+        said = self.called('judge', '--json', '--seal', 'it.seal', *example('hello'), status=2)
+        self.assertEqual(said, ('', 'judge: --seal writes a file, and --json goes with what judges\n'))
+        self.assertFalse(os.path.exists(f'{self.room}/it.seal'))
+
     def test_one_that_is_edited(self) -> None:
         sealed = self.seal(*example('hello'))
         for name, old, new in (('report', 'HI', 'HO'), ('report', 'lost 0', 'lost 1'), ('program', '0748h', '0749h'), ('run file', '100', '60')):
@@ -88,11 +93,12 @@ class Sealing(ToolCase):
             os.environ.update({} if held is None else {'PCBOARD': held})
 
     def test_each_kind_of_program(self) -> None:
-        for words in (example('monitor'), (self.file('it.asm', NOT_ASCII),)):
-            sealed = self.seal(*words)
-            self.assertEqual('\xe9' in sealed['texts']['program'], words[0].endswith('it.asm'))
-            self.assertEqual(self.called('judge', '--sealed', 'it.seal')[0].splitlines()[-1], '5 met, 0 not')
-            os.remove(f'{self.room}/it.seal')
+        self.seal(*example('monitor'))
+        self.assertEqual(self.called('judge', '--sealed', 'it.seal')[0].splitlines()[-1], '5 met, 0 not')
+        os.remove(f'{self.room}/it.seal')
+        refused = self.called('judge', '--seal', 'it.seal', self.file('it.asm', NOT_ASCII), status=2)[1]
+        self.assertIn('the program refuses: fault 2 BadCharacter line 2', refused)
+        self.assertFalse(os.path.exists(f'{self.room}/it.seal'))
         with open(f'{self.room}/it.com', 'wb') as file:
             file.write(bytes.fromhex('B409BA0901CD21C3') + b'\x90Hello$')
         sealed = self.seal('it.com')

@@ -36,7 +36,7 @@ class Tables(ToolCase):
         out, _ = self.tool('table', '--of', 'name,state', bad, f'{STORED}/hello.report', status=1)
         self.assertIn('bad\tfault 3 BadLine line 2\n', out)
         self.assertIn('no column', self.tool('table', '--of', 'taste', bad, status=2)[1])
-        self.assertIn("can't be read", self.tool('table', 'nothing.txt', status=2)[1])
+        self.assertIn("can't be read", self.tool('table', 'nothing.txt', status=3)[1])
         self.assertIn('--of', self.tool('table', '--help')[0])
 
 

@@ -15,6 +15,7 @@ from itertools import zip_longest
 from typing import Any, Iterator
 
 from toolbox import feedback, guests, limits, submissions
+from toolbox.as_json import print_answer, row_fields
 from toolbox.command import PYTHON, Sorry, read_bytes, waiting, write_bytes, write_text
 from toolbox.expectations import Outcome, Planned
 from toolbox.marks import Row, as_csv, as_junit, cell, line_of, tell_copies
@@ -84,7 +85,7 @@ class Class:
         """What the judge of a copy answers. It hears no Control-C, so that what is done stays done, and is ended with this process."""
         given = self.given
         words = [*words_of(given), *([f'--feedback={folder}'] if folder else [])]
-        words = [PYTHON, '-S', JUDGE, '--json', *words, '--', self.page, copy, *([given.run] if given.run else [])]
+        words = [PYTHON, '-S', JUDGE, '--row', *words, '--', self.page, copy, *([given.run] if given.run else [])]
         streams: dict[str, Any] = {'stdin': subprocess.DEVNULL, 'stdout': subprocess.PIPE, 'stderr': subprocess.PIPE}
         process = started(words, **streams, text=True, errors='replace', start_new_session=True)
         self.at_work.add(process)
@@ -131,8 +132,7 @@ def why_not(status: int, err: str) -> str:
 
 def words_of(given: argparse.Namespace) -> list[str]:
     """The words that each file's judge is given too."""
-    words = [*(['--hex'] if given.hex else []), *guests.words_of(given)]
-    return words + [f'--file={path}' for path in given.files or []] + [f'--memory={given.memory or limits.MEMORY}']
+    return [*guests.words_of(given), f'--memory={given.memory or limits.MEMORY}']
 
 
 def included_of(paths: list[str]) -> dict[str, bytes]:
@@ -173,7 +173,7 @@ def table(page: str, planned: list[Planned], files: list[str], given: argparse.N
     folders = feedback.folders_of(files, given.feedback) if given.feedback else []
     said, rows = [outcome.said for outcome in them.outcomes], list[Row]()
     has_marks = any(outcome.weight > 1 for outcome in them.outcomes)
-    is_shown = '-' not in (given.csv, given.junit)
+    is_shown = not given.json and '-' not in (given.csv, given.junit)
     show(['file', 'met', *said, 'why not', *(['mark', 'of'] if has_marks else [])], is_shown)
     try:
         with waiting(f'judge: {len(files)} files') as say:
@@ -189,7 +189,8 @@ def table(page: str, planned: list[Planned], files: list[str], given: argparse.N
         for path, text in ((given.csv, as_csv(said, rows)), (given.junit, as_junit(page, rows))):
             if path:
                 write_text(path, text)
-    return 0 if all(each.met == len(said) for each in rows) else 1
+    status = 0 if all(each.met == len(said) for each in rows) else 1
+    return print_answer('judge', status, files=row_fields(rows)) if given.json else status
 
 
 def show(cells: list[str], is_shown: bool) -> None:

@@ -1,7 +1,8 @@
 """How every tool begins and ends, so that all of them refuse in the same way: a sentence on standard error that names the
-tool, and status 2."""
+tool, and a status that is one of all tools (docs/formats.md#exit-statuses)."""
 import argparse
 import contextlib
+import errno
 import gc
 import io
 import os
@@ -15,7 +16,7 @@ from toolbox import reading
 from toolbox.threads import begin
 from toolbox.writing import write_whole
 
-HINT_STATUS = 2
+HINT_STATUS, UNREADABLE_STATUS = 2, 3
 LONGEST = 1000  # characters of a sentence
 MOST = 100  # lines, or refused lines of a source
 MISTAKE = 'a mistake of this tool has ended it'
@@ -31,6 +32,14 @@ SYMBOLS = (
 
 class Sorry(Exception):
     """What was given isn't the tool's input; its text is a sentence for the user."""
+
+    status = HINT_STATUS
+
+
+class Unreadable(Sorry):
+    """A file can't be opened, read or written."""
+
+    status = UNREADABLE_STATUS
 
 
 class Reader(argparse.ArgumentParser):
@@ -106,13 +115,14 @@ def start(main: Callable[[list[str]], int]) -> None:
         status = status_of(main)
         sys.stdout.flush()
     except Sorry as sorry:
-        status = refuse(str(sorry))
+        status = refuse(str(sorry), sorry.status)
     except BrokenPipeError:
         silence()
         status = 0
     except OSError as error:
         silence()
-        status = refuse(f'{error.filename}: {error.strerror}' if error.filename else str(error.strerror or error))
+        sentence = f'{error.filename}: {error.strerror}' if error.filename else str(error.strerror or error)
+        status = refuse(sentence, HINT_STATUS if error.errno == errno.ENOMEM else UNREADABLE_STATUS)  # no file is to blame for want of memory
     except KeyboardInterrupt:
         silence()
         status = 130
@@ -153,14 +163,14 @@ def more(count: int) -> list[str]:
     return [f'.. and {count - MOST:,} lines more'] if count > MOST else []
 
 
-def refuse(sentence: str) -> int:
+def refuse(sentence: str, status: int = HINT_STATUS) -> int:
     """Tells why the tool can't do it, and returns the status. What it quotes of a file may be long."""
     lines = sentence.split('\n')
     # a sentence, lines that were bounded, and how many more there are
     shown = [*map(clipped, lines)] if len(lines) <= MOST + 2 else bounded(lines)
     with contextlib.suppress(OSError):
         print(f'{os.path.basename(sys.argv[0])}:', '\n'.join(shown), file=sys.stderr)
-    return HINT_STATUS
+    return status
 
 
 def silence() -> None:
@@ -198,7 +208,7 @@ def read_bytes(path: str, most: int = reading.LONGEST) -> bytes:
     try:
         return reading.read_whole(path, most)
     except OSError as error:
-        raise Sorry(f"{path} can't be read: {error.strerror}") from None
+        raise Unreadable(f"{path} can't be read: {error.strerror}") from None
 
 
 def read_input(most: int = reading.LONGEST) -> bytes:
@@ -206,9 +216,9 @@ def read_input(most: int = reading.LONGEST) -> bytes:
     try:
         octets = sys.stdin.buffer.read(most + 1)
     except OSError as error:
-        raise Sorry(f"standard input can't be read: {error.strerror}") from None
+        raise Unreadable(f"standard input can't be read: {error.strerror}") from None
     if len(octets) > most:
-        raise Sorry(f'standard input has more than {most:,} bytes')
+        raise Unreadable(f'standard input has more than {most:,} bytes')
     return octets
 
 
@@ -217,7 +227,7 @@ def handed_on(path: str, most: int = reading.LONGEST) -> str:
     try:
         reading.check(path, most)
     except reading.Unfit as error:
-        raise Sorry(f"{path} can't be read: {error.strerror}") from None
+        raise Unreadable(f"{path} can't be read: {error.strerror}") from None
     except OSError:
         pass
     return path
@@ -231,7 +241,7 @@ def write_text(path: str, text: str) -> None:
     try:
         sys.stdout.write(text)
     except OSError as error:
-        raise Sorry(f"{path} can't be written: {error.strerror}") from None
+        raise Unreadable(f"{path} can't be written: {error.strerror}") from None
 
 
 def write_bytes(path: str, octets: bytes) -> None:
@@ -239,4 +249,4 @@ def write_bytes(path: str, octets: bytes) -> None:
     try:
         write_whole(path, octets)
     except OSError as error:
-        raise Sorry(f"{path} can't be written: {error.strerror}") from None
+        raise Unreadable(f"{path} can't be written: {error.strerror}") from None

@@ -6,35 +6,22 @@ import hashlib
 from typing import Iterator
 
 from toolbox import foreign, guests
-from toolbox.command import Sorry, read_bytes
-from toolbox.comments import handed
+from toolbox.command import Unreadable, read_bytes
 from toolbox.expectations import Outcome, Planned, Subject
 from toolbox.faults import fault_in
 from toolbox.feedback import Feedback
 from toolbox.guests import LONGEST, Fields, Guest, prepared
 from toolbox.listing import parts_of
-from toolbox.program import LAST_CLOCK, Files, given_text, refusal, run
+from toolbox.program import Files, given_text, refused, run
 from toolbox.report import report_of
 from toolbox.runfile import with_fields
-from toolbox.scancodes import stamped
-from toolbox.services import TYPING
 from toolbox.symbols import image_of
 
 
 def fields_of(planned: Planned, guest: Guest, run_file: str | None, usual: Fields | None = None) -> Fields:
-    """The run file's fields of a planned run: RUN's, or the usual ones, and before these the page's. To a program with
-    services keys come later and more slowly."""
-    is_typed = guest.is_one and planned.strokes
-    more = planned.fields | ({'keys': stamped(planned.strokes, *TYPING)} if is_typed else {})
-    fields = guests.fields_for(guest, run_file, more, usual)
-    return fields | room_for_keys(fields, planned, run_file)
-
-
-def room_for_keys(fields: Fields, planned: Planned, run_file: str | None) -> Fields:
-    """The budget that has room for the keys, where nothing says one."""
-    if run_file or 'budget' in planned.fields or not fields['keys']:
-        return {}
-    return {'budget': min(max(fields['budget'], 2 * fields['keys'][-1][0]), LAST_CLOCK)}
+    """The run file's fields of a planned run: RUN's, or the usual ones, and before these the page's."""
+    more = dict(planned.fields)
+    return guests.fields_for(guest, run_file, more | guests.typed(guest, more.get('keys')), usual)
 
 
 @contextlib.contextmanager
@@ -51,12 +38,13 @@ def files_of(planned: Planned, guest: Guest, run_file: str | None, is_hex: bool,
 
 def subject_of(files: Files) -> Subject | str:
     """A run, or the program's refusal of its file."""
-    ran = run(files.words('run'))
+    words = files.words('run')
+    ran = run(words)
     fault = fault_in(ran.err)
     if ran.status == 1 and fault and fault.kind.of in ('source', 'hex', 'board'):
         return f'refused: {ran.err.strip()}'
     if ran.status:
-        raise Sorry(refusal(ran.status, ran.err))
+        raise refused(words, ran)
     return Subject(report_of(ran.out, 'the answer'), files)
 
 
@@ -105,7 +93,7 @@ def image_text(guest: Guest) -> str | None:
             return given_text(['asm'], foreign.translation_of(guest.file).text).out
         except foreign.Refused:
             return ''
-    return run(['asm', '--', handed(guest.file)]).out if guest.is_source else None
+    return run(['asm', '--', guest.file]).out if guest.is_source else None
 
 
 def keep(page: list[Planned], guest: Guest, run_file: str | None, is_hex: bool, name: str) -> None:
@@ -124,4 +112,4 @@ def keep_one(path: str, to: str) -> None:
         with open(to, 'xb') as new:
             new.write(octets)
     except OSError as error:
-        raise Sorry(f"{to} can't be written: {error.strerror}") from None
+        raise Unreadable(f"{to} can't be written: {error.strerror}") from None

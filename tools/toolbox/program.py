@@ -13,8 +13,7 @@ from typing import Any, Iterator, NoReturn
 import zebludor
 from zebludor import LAST_CLOCK, TOP, Ran, Unfit, is_hex_name, limit_memory, limited
 
-from toolbox.command import Sorry, handed_on, read_bytes, tool, write_bytes
-from toolbox.comments import handed
+from toolbox.command import UNREADABLE_STATUS, Sorry, Unreadable, handed_on, read_bytes, tool, write_bytes
 
 __all__ = [
     'BEFORE_START',
@@ -33,6 +32,7 @@ __all__ = [
     'limited',
     'path',
     'refusal',
+    'refused',
     'run',
 ]
 MOST_READ = 1 << 26  # bytes of an answer
@@ -77,13 +77,12 @@ class Files:
 
     def words(self, task: str) -> list[str]:
         """The command line of a task on these files. `--` lets a name begin with a hyphen."""
-        file, run_file = handed_on(self.file) if self.is_hex else handed(self.file), self.run_file and handed_on(self.run_file)
+        file, run_file = handed_on(self.file), self.run_file and handed_on(self.run_file)
         return [task, *(['--hex'] if self.is_hex else []), '--', file, run_file]
 
 
 def copied(files: Files, room: str) -> Files:
     """Copies of the files in a folder: a session that is begun anew is of the same program, whatever is edited meanwhile."""
-    handed(files.file)  # which tells by its own name whether it is one with other comments
     made = replace(files, file=f'{room}/file', run_file=f'{room}/run')
     for path, to in ((files.file, made.file), (files.run_file, made.run_file)):
         write_bytes(to, read_bytes(path))
@@ -98,8 +97,17 @@ def answer_of(words: list[str]) -> str:
     """What the program prints, or its refusal."""
     ran = run(words)
     if ran.status:
-        raise Refusal(refusal(ran.status, ran.err))
+        raise refused(words, ran)
     return ran.out
+
+
+def refused(words: list[str], ran: Ran) -> Sorry:
+    """Why the program printed no answer; if it couldn't open a file, which one."""
+    if ran.status != UNREADABLE_STATUS:
+        return Refusal(refusal(ran.status, ran.err))
+    for path in words[words.index('--') + 1 :]:
+        read_bytes(path)  # which refuses that one
+    return Unreadable(refusal(ran.status, ran.err))
 
 
 def refusal(status: int, err: str) -> str:
