@@ -230,19 +230,19 @@ class ToolCase(unittest.TestCase):
 
     def called(self, name: str, *words: str, given: str = '', status: int = 0) -> tuple[str, str]:
         """As `tool`, in this process: a start of Python less for each of many calls."""
-        from toolbox import comments, foreign
+        from toolbox import foreign
         from toolbox.command import Sorry, refuse, status_of
 
         out, err, held = io.StringIO(), io.StringIO(), (sys.argv, sys.stdin)
         handlers = {sign: signal.getsignal(sign) for sign in (signal.SIGINT, signal.SIGTERM, signal.SIGHUP)}
         sys.argv, sys.stdin = [f'{TOOLS}/{name}', *words], io.TextIOWrapper(io.BytesIO(given.encode()))
-        anew, unsaid = mock.patch.multiple(comments, _copies={}, _told=set()), mock.patch.object(foreign, '_told', set())
+        unsaid = mock.patch.object(foreign, '_told', set())
         try:
-            with contextlib.redirect_stdout(out), contextlib.redirect_stderr(err), contextlib.chdir(self.room), anew, unsaid:
+            with contextlib.redirect_stdout(out), contextlib.redirect_stderr(err), contextlib.chdir(self.room), unsaid:
                 try:
                     came = status_of(main_of(name))
                 except Sorry as sorry:
-                    came = refuse(str(sorry))
+                    came = refuse(str(sorry), sorry.status)
         finally:
             sys.argv, sys.stdin = held
             for sign, handler in handlers.items():

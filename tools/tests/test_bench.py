@@ -274,7 +274,7 @@ class Count(ToolCase):
             (['nowhere'], "can't be read"),
             (['--nonsense'], 'unrecognized'),
         ):
-            self.assertIn(why, self.count(*words, status=2)[1])
+            self.assertIn(why, self.count(*words, status=3 if why == "can't be read" else 2)[1])
         self.assertIn('--limit', self.count('--help')[0])
 
 

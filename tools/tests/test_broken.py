@@ -292,7 +292,7 @@ class NoThread(ToolCase):
             if re.search(r'\bThread\(|start_new_thread|ThreadPool', text):
                 found.append(os.path.relpath(module, TOOLS))
                 self.assertIn('want()', text, module)
-        self.assertEqual(sorted(found), ['toolbox/classes.py', 'toolbox/threads.py'])
+        self.assertEqual(sorted(found), ['toolbox/batches.py', 'toolbox/classes.py', 'toolbox/threads.py'])
 
     def test_without_memory(self) -> None:
         """The stacks of threads that have ended are there for the next one, which then lacks the memory to begin."""

@@ -1015,7 +1015,7 @@ class Boards(Served):
         self.assertEqual(self.client.ask('data', board=board)['data'], [])
 
     def test_data_of_hex(self) -> None:
-        """By NASM's statements of the symbols' file, without lines, which the editor hasn't: it has records."""
+        """By NASM's statements of the symbols' file, as many bytes as they make, without lines, which the editor hasn't: it has records."""
         program = self.file('rom.hex', hex_of(bytes.fromhex(ROM)))
         self.desk.given = Given(program, self.file('rom.json', text_of(RUN)), True, self.file('rom.lst', NASM))
         self.desk.files = Kept(self.desk.given)
@@ -1023,7 +1023,7 @@ class Boards(Served):
             board = self.client.ask('open', source=file.read(), run=RUN, hex=True)['board']
         found = self.client.ask('data', board=board)['data']
         shown = [(one['name'], one['line'], one['kind'], one['place'], one['length'], one['bytes']) for one in found]
-        self.assertEqual(shown, [('msg', 0, 'DB', 'F000:0007', 0x13, ROM.replace(' ', '').lower()[14 : 14 + 2 * 0x13])])
+        self.assertEqual(shown, [('msg', 0, 'DB', 'F000:0007', 0x11, ROM.replace(' ', '').lower()[14 : 14 + 2 * 0x11])])
 
     def test_callers(self) -> None:
         """Where the routine and the one above it return to, with label and line; none before the first call and after the last return."""
@@ -1240,7 +1240,7 @@ class Started(Begun):
         self.ended(process, signal.SIGINT)
 
     def test_words(self) -> None:
-        self.assertIn("can't be read", self.called('desk', 'none.asm', status=2)[1])
+        self.assertIn("can't be read", self.called('desk', 'none.asm', status=3)[1])
         self.assertIn('no such folder', self.called('desk', self.file('a.asm', FOREVER), 'none/a.json', status=2)[1])
         self.assertIn('is no JSON', self.called('desk', self.file('a.asm', FOREVER), self.file('a.json', '{'), status=2)[1])
         self.assertIn('a port is', self.called('desk', '--port', '70000', status=2)[1])

@@ -54,7 +54,7 @@ class Guests(ToolCase):
 
     def refused(self, octets: bytes, name: str, *words: str) -> str:
         """The sentence with which tools/try refuses bytes."""
-        out, err = self.called('try', self.binary(name, octets), *words, status=2)
+        out, err = self.called('try', self.binary(name, octets), *words, status=3 if len(octets) > 1 << 20 else 2)
         self.assertEqual(out, '')
         self.assertRegex(err, r'^try: [^\n]+\n\Z')
         return err
@@ -218,7 +218,7 @@ class Guests(ToolCase):
 
     def test_lines_are_those_of_the_source(self) -> None:
         """In a table, and where a label of the services stands, no line is."""
-        path = self.file('it.asm', SOURCE + '; Ende – fin\n')
+        path = self.file('it.asm', SOURCE + '; Ende, fin\n')
         out, _ = self.called('trace', path)
         self.assertEqual([int(line.split(' | ')[1].split(':')[0]) for line in out.splitlines()[:-1]], [3, 4, 5, 6, 7, 8])
         self.assertEqual(out.splitlines()[-1], ' 10000000 ended with exit code 3')
@@ -288,7 +288,7 @@ class Guests(ToolCase):
         _, err = self.called('try', much, '--output', 'much.out', '--budget', '66,000,000', status=2)
         self.assertIn('64,513 bytes, and the services keep the first 64,512', err)
         self.assertFalse(os.path.exists(f'{self.room}/much.out'))
-        self.assertIn("can't be written", self.called('try', return_lines, '--output', 'no/out', status=2)[1])
+        self.assertIn("can't be written", self.called('try', return_lines, '--output', 'no/out', status=3)[1])
         self.assertIn('goes with', self.called('try', example('hello')[0], '--output', 'out', status=2)[1])
         self.assertIn('had not begun', self.called('try', return_lines, '--output', 'out', '--budget', '5', status=2)[1])
 
@@ -301,7 +301,7 @@ class Guests(ToolCase):
         page = self.file('it.page', 'exit = 0\noutput = Hello\n')
         self.assertIn('2 met, 0 not', self.called('judge', page, 'kept.hex', 'kept.json', '--hex')[0])
         self.assertIn('Hello', out)
-        self.assertIn("can't be written", self.called('try', path, '--keep', 'no/kept', status=2)[1])
+        self.assertIn("can't be written", self.called('try', path, '--keep', 'no/kept', status=3)[1])
 
     def test_what_is_not_served_is_told(self) -> None:
         # MOV AH,4Bh; INT 21h; INT 20h
@@ -398,8 +398,8 @@ class Guests(ToolCase):
         self.assertIn('is empty', self.refused(b'', 'empty.com'))
         self.assertIn('more than 1,048,576 bytes', self.refused(b'\0' * 1048577, 'huge.com'))
         os.mkdir(f'{self.room}/folder.com')
-        self.assertIn('Is a directory', self.called('try', 'folder.com', status=2)[1])
-        self.assertIn("can't be read", self.called('try', 'nothing.exe', status=2)[1])
+        self.assertIn('Is a directory', self.called('try', 'folder.com', status=3)[1])
+        self.assertIn("can't be read", self.called('try', 'nothing.exe', status=3)[1])
         self.assertIn('no Intel HEX', self.called('try', '--hex', self.binary('it.com', HELLO), status=2)[1])
 
     def test_headers_that_lie(self) -> None:

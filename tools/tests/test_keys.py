@@ -76,10 +76,10 @@ class Tools(ToolCase):
             (['{frob}'], 'neither a key'),
             (['a{'], 'stands alone'),
             ([], 'no text'),
-            (['a', '--gap', '-1'], '0 or more'),
+            (['a', '--gap', '-1'], 'from 0 on'),
             (['a', '--run', 'no.json'], "can't be read"),
         ):
-            self.assertIn(wanted, self.tool('keys', *words, status=2)[1])
+            self.assertIn(wanted, self.tool('keys', *words, status=3 if wanted == "can't be read" else 2)[1])
         for words, wanted in ((['--ram', '40'], '16, 32'), (['--sw2', '32'], '0 to 31'), (['--budget', 'x'], 'no number')):
             self.assertIn(wanted, self.tool('runfile', *words, status=2)[1])
         self.assertIn('{enter}', self.tool('keys', '--help')[0])

@@ -29,7 +29,7 @@ INNER = {
     'moments LONGEST_KEPT',
     'dap.values LONGEST_INSTRUCTION',
     'dap.values LONGEST',
-    'dap.variables MOST_SHOWN',
+    'printing MOST_SHOWN',
     'data_labels MOST_BYTES',
     'desk.board MOST_LISTED',
     'desk.board MOST_MARKS',
@@ -65,7 +65,7 @@ INNER = {
 }
 # What reads files of the repository, of the kernel or of the tools' own, or looks at a file that it is about to write: pages, sums,
 # drafts, marks, tables.
-OWN = {'asking', 'command', 'crates', 'desk.drafts', 'desk.files', 'desk.pages', 'gdb.door', 'manual', 'proved', 'rooms', 'sources'}
+OWN = {'asking', 'batches', 'command', 'crates', 'desk.drafts', 'desk.files', 'desk.pages', 'gdb.door', 'manual', 'proved', 'rooms', 'sources'}
 OWN |= {'tools/desk', 'tools/test', 'writing'}
 UNITS = {'MB': 1 << 20, 'KB': 1 << 10}
 

@@ -189,7 +189,7 @@ class Pages(ToolCase):
         with open(f'{TOP}/docs/sweeps.md', encoding='utf-8') as file:
             plain = re.findall(r'^```\n(.*?)^```', file.read(), re.M | re.S)
         for block in plain:
-            if block.startswith('examples/sweep/'):
+            if block.startswith(('examples/sweep/', 'tools/batch', 'split')):
                 self.assertEqual(self.shell(block), '', block)
         self.assertEqual(self.check('docs/sweeps.md'), 1)
 

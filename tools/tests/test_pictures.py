@@ -5,6 +5,7 @@ import subprocess
 import sys
 import unittest
 import wave
+from unittest import mock
 from xml.etree import ElementTree
 
 from tests.support import STORED, TOOLS, TOP, ToolCase, example
@@ -72,6 +73,9 @@ class Pictures(ToolCase):
         )
         out, _ = self.tool('picture', '--of', ATTRIBUTES, run, '--ansi')
         self.assertTrue(out.startswith('\033[32mA\033[0m\033[32;1mB\033[0m\033[32;4mC\033[0m\033[32;1;4mD\033[0m\033[32;7mE\033[0m'))
+        with mock.patch.dict(os.environ, NO_COLOR='1'):
+            out, _ = self.tool('picture', '--of', ATTRIBUTES, run, '--ansi')
+        self.assertTrue(out.startswith('A\033[1mB\033[0m\033[4mC\033[0m\033[1;4mD\033[0m\033[7mE\033[0m'))
         self.assertEqual(self.tool('picture', '--of', ATTRIBUTES, run, '--ansi', '--at', '10')[0], '\n')
 
     def test_scrolled(self) -> None:
@@ -107,7 +111,7 @@ class Pictures(ToolCase):
         self.assertIn('is no report', self.tool('picture', 'a.svg', given='x', status=2)[1])
         self.assertIn('name the picture', self.tool('picture', status=2)[1])
         self.assertIn('fault 3', self.tool('picture', '--of', *reversed(example('hello')), 'a.svg', status=2)[1])
-        self.assertIn("can't be written", self.tool('picture', 'no/a.svg', given=stored('hello'), status=2)[1])
+        self.assertIn("can't be written", self.tool('picture', 'no/a.svg', given=stored('hello'), status=3)[1])
         self.assertIn('--ansi', self.tool('picture', '--help')[0])
 
 

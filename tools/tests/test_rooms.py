@@ -219,15 +219,15 @@ class Shared(ToolCase):
         os.mkdir(shared)
         os.chmod(shared, 0o1777)
         hello, run = example('hello')
-        accents = self.file('accents.asm', '; é\nSEGMENT MAIN AT 0F000h\nstart: HLT\nENDS\nSEGMENT RESET AT 0FFFFh\n JMP FAR start\nENDS\n')
+        plain = self.file('plain.asm', '; e\nSEGMENT MAIN AT 0F000h\nstart: HLT\nENDS\nSEGMENT RESET AT 0FFFFh\n JMP FAR start\nENDS\n')
         page = self.file('page', 'state = halted\n')
         lines = [
             ('dap',),
-            ('try', accents),
-            ('why', 'run', accents),
+            ('try', plain),
+            ('why', 'run', plain),
             ('trace', hello, run),
-            ('judge', page, accents),
-            ('judge', '--class', page, hello, accents),
+            ('judge', page, plain),
+            ('judge', '--class', page, hello, plain),
         ]
         lines += [('gdb', hello, run, '-batch')] if is_there('gdb', 'gdb in a shared folder', 'gdb') else []
         seen = 0

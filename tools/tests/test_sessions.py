@@ -329,7 +329,7 @@ class Sessions(ToolCase):
                 else:
                     clock = truth.clock(f'go {clock}', command.replace('_', ' '))
                     getattr(session, command)()
-                self.assertEqual((session.clock, session.registers()), (clock, zebludor.registers_of(truth.registers(clock))), (seed, said, before))
+                self.assertEqual((session.clock, session.registers), (clock, zebludor.registers_of(truth.registers(clock))), (seed, said, before))
                 self.assertEqual(session.dump(0x8C0, 64), truth.bytes(clock, 0x8C0, 64), (seed, said))
 
     def measures(self, seed: int) -> None:

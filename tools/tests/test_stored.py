@@ -448,8 +448,7 @@ class Stored(Repository):
         os.utime(f'{self.top}/crates/low/src/lib.rt', (1, 1))
 
     def test_the_tools_take_the_same(self) -> None:
-        for name in ('program', 'comments'):
-            shutil.copy(f'{TOP}/tools/toolbox/{name}.py', f'{self.top}/tools/toolbox')
+        shutil.copy(f'{TOP}/tools/toolbox/program.py', f'{self.top}/tools/toolbox')
         os.mkdir(f'{self.top}/python')
         shutil.copy(f'{TOP}/python/zebludor.py', f'{self.top}/python')
         asked = f'import sys; sys.path.insert(0, "{self.top}/tools"); from toolbox import program; print(program.path("%s"))'

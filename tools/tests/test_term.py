@@ -254,7 +254,7 @@ class Terminals(ToolCase):
     def test_the_prompt(self) -> None:
         terminal = self.begin(*example('ticks'))
         at = self.ask(terminal, 'to 0', 'clock 0: ')
-        self.assertEqual(at, 'clock 0: FFFF:0000  | 51: JMP FAR start')
+        self.assertEqual(at, 'clock 0: FFFF:0000 | 51: JMP FAR start')
         self.assertEqual(self.ask(terminal, 'break tick', 'stop 1'), 'stop 1: break F600:58 tick')
         terminal.type('go' + ENTER)
         self.assertTrue(terminal.until(lambda each: each.lines()[-2] == 'stop: break F600:58' and each.lines()[-1] == 'term>'), terminal.grid.lines())
@@ -276,7 +276,7 @@ class Terminals(ToolCase):
             ('key 54', 'no key sends 54'),
             ('drop', '2 key codes dropped'),
             ('frob', 'frob is no command'),
-            ('step 0', '0 is no decimal number from 1 on'),
+            ('step 0', '0 is no count: a decimal number from 1 on'),
             ('to', 'use: to CLOCK'),
             (f'keys {self.out}', f'the run up to clock 1,397 is in {self.out}'[:80]),
         ):
@@ -417,7 +417,7 @@ class Terminals(ToolCase):
         """Without a terminal, or with one that isn't known; and a place where nothing can be written, before anything is typed."""
         source = example('keys')[0]
         self.assertIn('a terminal is wanted', self.tool('term', source, status=2)[1])
-        self.assertIn('no such', self.tool('term', f'{self.room}/none.asm', status=2)[1].lower())
+        self.assertIn('no such', self.tool('term', f'{self.room}/none.asm', status=3)[1].lower())
         for words, said in (
             (('--save', f'{self.room}/none/it'), 'is a folder, or in none'),
             (('--save', self.room), 'is a folder'),

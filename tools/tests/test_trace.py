@@ -138,7 +138,7 @@ class Runs(ToolCase):
             (pipe, 'nobody reads it'),
             (self.room, 'Is a directory'),
         ):
-            self.assertEqual(self.called('trace', '--vcd', to, *example('ticks'), status=2), ('', f"trace: {to} can't be written: {why}\n"))
+            self.assertEqual(self.called('trace', '--vcd', to, *example('ticks'), status=3), ('', f"trace: {to} can't be written: {why}\n"))
 
     def test_keeps_the_clock_table(self) -> None:
         out, _ = self.tool('trace', *self.hello_by_c2())

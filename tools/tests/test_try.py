@@ -128,10 +128,10 @@ class Tries(ToolCase):
     def test_refusals(self) -> None:
         source, _ = example('hello')
         self.assertIn("nothing.asm can't be opened", self.called('try', 'nothing.asm', status=3)[1])
-        self.assertIn('x is none', self.called('try', source, '--budget', 'x', status=2)[1])
-        self.assertIn('0 to 1,099', self.called('try', source, '--budget', '-1', status=2)[1])
+        self.assertIn('x is no number', self.called('try', source, '--budget', 'x', status=2)[1])
+        self.assertIn('from 0 on', self.called('try', source, '--budget', '-1', status=2)[1])
         self.assertIn('{nokey}', self.called('try', source, '--keys', '{nokey}', status=2)[1])
-        self.assertIn("can't be written", self.called('try', source, '--write', 'no/it.json', status=2)[1])
+        self.assertIn("can't be written", self.called('try', source, '--write', 'no/it.json', status=3)[1])
         self.assertIn('--write', self.called('try', '--help')[0])
 
     def test_tells_how_far_it_is(self) -> None:

@@ -305,7 +305,7 @@ class Dap(ToolCase):
         self.assertIsNone(client.ask('dataBreakpointInfo', name='AX')['dataId'])
         self.assertIsNone(client.ask('dataBreakpointInfo', variablesReference=1, name='AX')['dataId'])
         self.assertIn('frob', client.ask('dataBreakpointInfo', name='frob')['description'])
-        self.assertEqual(client.ask('dataBreakpointInfo', name='WORD [8]')['dataId'], '00008 2')
+        self.assertEqual(client.ask('dataBreakpointInfo', name='WORD 0:[8]')['dataId'], '00008 2')
         answer = client.ask('setDataBreakpoints', breakpoints=[{'dataId': 'B0000 1'}, {'dataId': '00500 2', 'accessType': 'readWrite'}, {'dataId': 'x'}])
         first, *others = answer['breakpoints']
         self.assertTrue(first['verified'])

@@ -323,7 +323,7 @@ class Whole(ToolCase):
                 write_whole(f'{folder}/{name}', b'old')
             fill()
             for words in (('picture', f'{folder}/it.svg'), ('sound', '--slow', '100', f'{folder}/it.wav')):
-                self.assertIn('No space left on device', self.tool(*words, given=report, status=2)[1], words)
+                self.assertIn('No space left on device', self.tool(*words, given=report, status=3)[1], words)
             self.assertEqual([self.content(f'{folder}/{it}') for it in ('it.svg', 'it.wav')], [b'old'] * 2)
 
 

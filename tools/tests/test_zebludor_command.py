@@ -66,7 +66,7 @@ class Starting(Command):
         for word in ('test', 'toolbox', 'zebludor', 'nothing', '../tools/try'):
             printed, said = self.zebludor(word, status=2)
             self.assertEqual(printed, '')
-            self.assertRegex(said, rf'\Azebludor: {re.escape(word)} is no tool: dap, dbg, desk, .*, why\n\Z')
+            self.assertRegex(said, rf'\Azebludor: {re.escape(word)} is no tool: batch, dap, dbg, desk, .*, why\n\Z')
 
     def test_all_tools_are_listed(self) -> None:
         executable = {each for each in os.listdir(TOOLS) if os.path.isfile(f'{TOOLS}/{each}') and os.access(f'{TOOLS}/{each}', os.X_OK)}
@@ -113,7 +113,7 @@ class Names(Command):
         self.assertIn('or let zebludor try --services put such calls into ROM', said)
 
     def test_what_the_user_calls_so_keeps_its_name(self) -> None:
-        self.assertEqual(self.zebludor('table', 'tools/try', status=2)[1], "table: tools/try can't be read: No such file or directory\n")
+        self.assertEqual(self.zebludor('table', 'tools/try', status=3)[1], "table: tools/try can't be read: No such file or directory\n")
 
     def test_each_help(self) -> None:
         """Is the tool's own, whose columns stand as before."""

@@ -93,10 +93,9 @@ def files_of(dump: Callable[[int, int], bytes], left: Served | None) -> dict[str
             continue
         stem, ending = (part.decode('latin-1').rstrip() for part in (octets[:8], octets[8:]))
         name = f'{stem}.{ending}'.removesuffix('.')
-        clusters, where = chain_of(head, first), f'whose directory stands at {base + DIRECTORY:05X}h'
-        is_whole = clusters is not None and len(clusters) == (size + CLUSTER - 1) // CLUSTER
-        if not NAME.fullmatch(name) or name in found or clusters is None or not is_whole:
-            raise Sorry(f'the program has written over the disk of files, {where}')
+        clusters = chain_of(head, first)
+        if not NAME.fullmatch(name) or name in found or clusters is None or len(clusters) != (size + CLUSTER - 1) // CLUSTER:
+            raise Sorry(f'the program has written over the disk of files, whose directory stands at {base + DIRECTORY:05X}h')
         found[name] = b''.join(dump(base + CLUSTER * cluster, CLUSTER) for cluster in clusters)[:size]
     return found
 
@@ -104,12 +103,10 @@ def files_of(dump: Callable[[int, int], bytes], left: Served | None) -> dict[str
 def chain_of(head: bytes, cluster: int) -> list[int] | None:
     """A file's clusters, or None if they lead nowhere."""
     found = list[int]()
-    while cluster != END:
-        if not FIRST <= cluster < CLUSTERS or cluster in found:
-            return None
+    while FIRST <= cluster < CLUSTERS and cluster not in found:
         found.append(cluster)
         cluster = head[cluster]
-    return found
+    return found if cluster == END else None
 
 
 def check_folder(path: str) -> None:

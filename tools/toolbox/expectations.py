@@ -11,10 +11,10 @@ from toolbox.chips import Chips
 from toolbox.command import Sorry, read_text, tool
 from toolbox.events import first_start
 from toolbox.listing import Listing, listing_of
-from toolbox.places import address_of, far_of, number_of
+from toolbox.places import address_of, count_of, far_of, hexadecimal, number_of
 from toolbox.program import LAST_CLOCK, Files, ProbeSession, Session
 from toolbox.report import HALVES, REGISTERS, ROWS, Report, value_in
-from toolbox.scancodes import BARE, Stroke, stamped, strokes_of
+from toolbox.scancodes import strokes_of
 from toolbox.services import Served, served_of
 from toolbox.shown import clipped
 
@@ -180,14 +180,6 @@ def is_same(came: list[str], wanted: list[str]) -> bool:
     return len(came) == len(wanted) and all(a.lower() == b.lower() or hexadecimal(a) == hexadecimal(b) is not None for a, b in zip(came, wanted))
 
 
-def hexadecimal(text: str, most: int = 0xFFFF) -> int | None:
-    """The number that a text is, if it is one up to the most."""
-    try:
-        return number_of(text, most)
-    except Sorry:
-        return None
-
-
 def judge_not_shown(subject: Subject, _: str, wanted: str) -> str | None:
     """A text nowhere on the screen."""
     found = next((n for n, line in enumerate(subject.report.screen, 1) if plain(wanted) in line), None)
@@ -287,7 +279,7 @@ class Expectation:
         except NotThere as sorry:
             came = str(sorry)
         except Sorry as sorry:
-            raise Sorry(f'{self.where}: {sorry}') from None
+            raise type(sorry)(f'{self.where}: {sorry}') from None
         return Outcome(self.said(title), None if came is None else f'came {clipped(came)}', self.weight, has_run(subject.report))
 
 
@@ -298,11 +290,10 @@ def has_run(report: Report) -> bool:
 
 @dataclass
 class Planned:
-    """A run that a page asks for: its name, its run file's fields, what is typed, what is expected of it, and whether it is a secret."""
+    """A run that a page asks for: its name, its run file's fields, of `keys` the strokes, what is expected of it, and whether it is a secret."""
 
     title: str = ''
     fields: dict[str, Any] = field(default_factory=dict)
-    strokes: list[Stroke] | None = None
     is_hidden: bool = False
     expectations: list[Expectation] = field(default_factory=list)
 
@@ -336,9 +327,9 @@ def field_of(name: str, text: str, where: str) -> Any:
     try:
         if FIELDS[name] == 'keys':
             return strokes_of(text, name == 'plain keys')
-        return int(text.replace(',', ''), 0)
-    except (ValueError, Sorry) as error:
-        raise Sorry(f'{where}: {error if isinstance(error, Sorry) else f"{text} is no number"}') from None
+        return count_of(text, most=1 << 64)
+    except Sorry as sorry:
+        raise Sorry(f'{where}: {sorry}') from None
 
 
 WEIGHT, MOST_WEIGHT = re.compile(r'\s*\[([^\]]*)\](.*)'), 999
@@ -382,9 +373,6 @@ def read_line(runs: list[Planned], line: str, where: str) -> None:
             raise Sorry(f'{where}: hidden = yes keeps a run a secret, and without the line it is none')
         runs[-1].is_hidden = True
     elif is_head:
-        value = field_of(word, wanted, where)
-        if FIELDS[word] == 'keys':
-            runs[-1].strokes, value = value, stamped(value, *BARE)
-        runs[-1].fields[FIELDS[word]] = value
+        runs[-1].fields[FIELDS[word]] = field_of(word, wanted, where)
     else:
         runs[-1].expectations.append(expectation_of(name, wanted, where, line, weight))

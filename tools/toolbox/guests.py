@@ -15,11 +15,11 @@ from typing import Any, Iterator
 
 from toolbox import disk, foreign, loading
 from toolbox.command import SYMBOLS, Sorry, handed_on, read_bytes, write_bytes
-from toolbox.comments import handed
 from toolbox.loading import Loaded, check_ram
-from toolbox.program import Files, Refusal, answer_of, is_hex_name, limited
+from toolbox.program import LAST_CLOCK, Files, Refusal, answer_of, is_hex_name, limited
 from toolbox.runfile import DEFAULTS, read_run_file, text_of, with_run_file
-from toolbox.services import MOST_RAM, is_served
+from toolbox.scancodes import BARE, Stroke, stamped
+from toolbox.services import MOST_RAM, TYPING, is_served
 from toolbox.shown import bounded
 from toolbox.symbols import symbols_of
 
@@ -111,9 +111,10 @@ def guest_of(given: argparse.Namespace, file: str | None = None) -> Guest:
 
 def words_of(given: argparse.Namespace) -> list[str]:
     """Those words, for another command."""
-    names = [name for name in ('services', 'com', 'bare') if getattr(given, name)]
-    names += [given.language] if given.language else []
-    return [f'--{name}' for name in names] + ([f'--args={given.args}'] if given.args is not None else [])
+    names = [name for name in ('hex', 'services', 'com', 'bare') if getattr(given, name)] + ([given.language] if given.language else [])
+    valued = {'symbols': given.symbols, 'args': given.args}
+    words = [f'--{name}' for name in names] + [f'--{name}={value}' for name, value in valued.items() if value is not None]
+    return words + [f'--file={path}' for path in given.files or []]
 
 
 def looked_at(guest: Guest) -> Guest:
@@ -186,6 +187,7 @@ def compiled(guest: Guest, room: str) -> str:
     shown."""
     assert guest.language
     command, package = COMPILERS[guest.language]
+    read_bytes(guest.file)
     stem, folder = os.path.splitext(os.path.basename(handed_on(guest.file)))[0], os.path.dirname(guest.file) or '.'
     made = os.path.join(room, stem)
     words = {
@@ -221,11 +223,18 @@ def with_lines(guest: Guest, found: Loaded, made: str) -> Loaded:
     return replace(found, rows=[*foreign.rows_of(guest.file, lines), *found.rows[1:]])
 
 
+def typed(guest: Guest, strokes: list[Stroke] | None) -> Fields:
+    """The field of the keys that are typed, if any are. To a program with services they come later and more slowly."""
+    return {} if strokes is None else {'keys': stamped(strokes, *(TYPING if guest.is_one else BARE))}
+
+
 def fields_for(guest: Guest, run_file: str | None, more: Fields | None = None, usual: Fields | None = None) -> Fields:
     """The run file's fields: RUN's, or the usual ones, and before these `more`. With services it has all the RAM that
-    there can be."""
+    there can be, and where nothing says a budget, that has room for the keys."""
     fields = DEFAULTS | ({'ram': MOST_RAM} if guest.is_one else {}) | (usual or {})
     fields |= (read_run_file(run_file) if run_file else {}) | (more or {})
+    if not run_file and fields['keys'] and 'budget' not in (more or {}):
+        fields['budget'] = min(max(fields['budget'], 2 * fields['keys'][-1][0]), LAST_CLOCK)
     if guest.is_one:
         check_ram(fields['ram'], run_file or guest.file)
     return fields
@@ -254,7 +263,7 @@ def kept(guest: Guest, run_file: str | None, symbols: str | None, name: str | No
         raise Sorry(f'{there} is there already; FILE {paths[0]} and RUN {paths[1]} go on with it')
     with prepared(guest, Files(guest.file, run_file or '')) as made:
         if not made.symbols:  # the program refuses it, and says why
-            answer_of(['asm', '--', handed(guest.file)])
+            answer_of(['asm', '--', handed_on(guest.file)])
         assert made.symbols
         for path, to in zip((made.file, made.run_file, made.symbols), paths):
             write_bytes(to, read_bytes(path))

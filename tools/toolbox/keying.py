@@ -4,6 +4,7 @@ from __future__ import annotations
 import re
 
 from toolbox.command import Sorry
+from toolbox.places import count_of
 from toolbox.runfile import read_run_file
 from toolbox.scancodes import NAMED, UP, Stroke, named_stroke, names, stamped, stroke_of
 from toolbox.session_board import SessionBoard
@@ -17,10 +18,8 @@ def type_words(board: SessionBoard, words: list[str]) -> str:
     sign, or names as enter, f1, ctrl+c. CLOCK is when it goes down: without it, the next one."""
     if not 1 <= len(words) <= 2:
         raise Sorry(f'use: {USE}')
-    what, at = words[0], [each.replace(',', '') for each in words[1:]]
-    if at and not at[0].isdecimal():
-        raise Sorry(f'{words[1]} is no clock: a decimal number')
-    first, stroke = int(at[0]) if at else None, stroke_of_word(what)
+    what, first = words[0], count_of(words[1], 'clock', most=1 << 64) if words[1:] else None
+    stroke = stroke_of_word(what)
     if stroke is None:
         typed = [(board.type(int(what, 16), first), int(what, 16))]
     else:

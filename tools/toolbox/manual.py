@@ -98,7 +98,9 @@ def options_of(reader: argparse.ArgumentParser) -> list[Option]:
             continue
         takes = '' if action.nargs == 0 else (form._format_args(action, action.metavar or action.dest.upper()))  # type: ignore[arg-type]
         said = named(form._expand_help(action)) if action.help else ''
-        found.append(Option(tuple(action.option_strings), takes, tuple(map(str, action.choices or ())), said))
+        # a tool that looks at its first word by itself names what it may be as argparse names choices
+        choices = map(str, action.choices) if action.choices else re.findall(r'\w+', takes) if takes.startswith(('{', '[{')) else ()
+        found.append(Option(tuple(action.option_strings), takes, tuple(choices), said))
     return found
 
 

@@ -23,7 +23,7 @@ from toolbox.program import LAST_CLOCK, Files, ProbeSession
 from toolbox.report import A_SECOND, COLUMNS, ROWS, Report, registers_of
 from toolbox.runfile import read_run_file
 from toolbox.scancodes import names
-from toolbox.services import left_at, mark_of
+from toolbox.services import left_at, mark_of, ram_end_of
 from toolbox.text_memory import TEXT_MEMORY, shown
 from toolbox.walk import (
     COLOUR,
@@ -74,8 +74,7 @@ def told_of_run(report: Report, files: Files, listing: Listing | None = None, re
             text = f'nothing was asked of this run: of {report.clock:,} clocks no more than {reach:,} busy ones are made again'
             return [Told(text)]
         was_at_zero = go_to_end(session, report)
-        ram = read_run_file(files.run_file).get('ram')
-        ram_end = 1024 * ram if isinstance(ram, int) else 0
+        ram_end = ram_end_of(files)
         served = left_at(session, ram_end)
         trail = [event_of(line) for line in session.answers(['trail'])]
         is_ended = bool(served and served.phase == 2)

@@ -1,10 +1,12 @@
-"""Places as a person says them: labels, source lines, segment:offset and physical addresses; and events of the trail."""
+"""Numbers and places as a person says them to any tool (docs/debugger.md#numbers-and-places): labels, source lines, segment:offset and
+physical addresses; and events of the trail."""
 from __future__ import annotations
 
+import argparse
 import os
 import re
 
-from zebludor import Event, event_of
+from zebludor import LAST_CLOCK, REGISTERS, Event, event_of
 
 from toolbox.command import Sorry
 from toolbox.listing import Line, Listing, physical
@@ -12,16 +14,26 @@ from toolbox.listing import Line, Listing, physical
 __all__ = [
     'Event',
     'address_of',
+    'check_bracketed',
+    'check_segment',
+    'count_of',
+    'dialect',
     'event_of',
     'event_text',
     'far_of',
     'far_of_address',
+    'hexadecimal',
+    'is_address',
     'is_repeated',
     'line_at',
     'number_of',
     'of_line',
     'operation_of',
+    'option_of',
+    'pointed_out',
+    'said',
     'told_of',
+    'value_number',
 ]
 PREFIXES = ('ES:', 'CS:', 'SS:', 'DS:', 'LOCK', 'REP', 'REPNE')
 
@@ -57,12 +69,122 @@ def event_text(listing: Listing, event: Event) -> str:
     return f'{event.clock:>9} {told_of(listing, event)}'
 
 
+def dialect(number: int) -> str:
+    """A number as a source writes it in hexadecimal."""
+    digits = f'{number:X}'
+    return f'{"" if digits[0].isdigit() else "0"}{digits}h'
+
+
+def is_decimal(word: str) -> bool:
+    """Whether a word has decimal digits alone, and so says no base."""
+    return re.fullmatch('[0-9]+', word) is not None
+
+
+def two_ways(word: str, decimal: str, hexadecimal: str) -> Sorry:
+    """Why a number that says no base isn't taken."""
+    return Sorry(f'{word} is read two ways: in decimal it is {decimal}, in hexadecimal {hexadecimal}; write one of these')
+
+
+def value_number(word: str) -> int:
+    """A number where a source could stand: decimal, unless it says its base as the dialect or C does."""
+    if re.fullmatch('0x[0-9A-F]+', word, re.I):
+        return int(word, 16)
+    if re.fullmatch('[0-9][0-9A-F]*H', word, re.I):
+        return int(word[:-1], 16)
+    if re.fullmatch('[01]+B', word, re.I):
+        return int(word[:-1], 2)
+    if not is_decimal(word):
+        hint = f': in hexadecimal it is {dialect(int(word, 16))}' if re.fullmatch('[0-9A-F]+', word, re.I) else ''
+        raise Sorry(f'{word} is no number{hint or "; 40, 28h and 0x28 are some"}')
+    if word[0] == '0' and int(word) != int(word, 16):
+        raise two_ways(word, str(int(word)), dialect(int(word, 16)))
+    return int(word)
+
+
+def count_of(text: str, what: str = 'number', least: int = 0, most: int = LAST_CLOCK) -> int:
+    """A count, a clock or a run file's field: decimal, and commas may stand in it, unless it says its base."""
+    plain = re.sub('[,_]', '', text)
+    try:
+        number = value_number(plain)
+    except Sorry as sorry:
+        if is_decimal(plain):
+            raise
+        raise Sorry(f'{text} is no {what}: a decimal number from {least} on') from sorry
+    if not least <= number <= most:
+        raise Sorry(f'{text} is no {what}: a decimal number from {least} on' + (f' to {most:,}' if number > most else ''))
+    return number
+
+
+def option_of(text: str) -> int:
+    """A count or clock as an option's value."""
+    try:
+        return count_of(text)
+    except Sorry as sorry:
+        raise argparse.ArgumentTypeError(str(sorry)) from None
+
+
+def pointed_out(text: str) -> str:
+    """What the decimal numbers of an expression are in hexadecimal, of which somebody may have thought."""
+    them = [word for word in dict.fromkeys(re.findall(r"\w+|'.'", text)) if is_decimal(word) and int(word) > 9]
+    return ', '.join(f'{word} is {dialect(int(word))}' for word in them)
+
+
+def check_bracketed(text: str, has_segment: bool) -> None:
+    """Refuses what stands in brackets, after a segment or without one, if as an operand of the dialect it is one place, and as an address
+    of a command another."""
+    words = re.findall(r'\w+', text)
+    if ':' in text or {word.upper() for word in words} & set(REGISTERS):
+        return
+    word = next((word for word in words if is_decimal(word) and int(word) > 9), '')
+    is_alone = not has_segment and len(words) == 1 and re.fullmatch(r'(0x)?[0-9]\w*', text.strip()) is not None
+    if is_alone and is_address(text.strip()):
+        return
+    if is_alone:
+        operand, address = value_number(words[0]) if not word else int(word), number_of(words[0])
+        far = f'{dialect(address >> 4 & 0xF000)}:[{dialect(address & 0xFFFF)}]' if address > 0xFFFF else f'0:[{dialect(address)}]'
+        raise Sorry(f'[{text.strip()}] is read two ways: in a source it is DS:[{dialect(operand)}], as an address {far}; write one of these')
+    if word:
+        raise two_ways(word, dialect(int(word)), dialect(int(word, 16)))
+
+
+def is_address(text: str) -> bool:
+    """Whether what stands in brackets is an address as in commands, which no operand of a source is: SEGMENT:OFFSET, five hexadecimal
+    digits with a letter among them, or a number above FFFFh that says its base."""
+    if ':' in text:
+        return True
+    plain = re.sub(r'^0x|h$', '', text, flags=re.I)
+    is_based = plain != text and text[:1].isdigit()
+    return re.fullmatch('[0-9A-F]{1,6}', plain, re.I) is not None and (int(plain, 16) > 0xFFFF if is_based else len(text) == 5 and not is_decimal(text))
+
+
+def check_segment(word: str) -> None:
+    """Refuses a segment's number that says no base: a place has it in hexadecimal."""
+    if is_decimal(word) and int(word) > 9:
+        raise two_ways(word, dialect(int(word)), dialect(int(word, 16)))
+
+
+def said(registers: dict[str, int], place: str) -> str:
+    """A place in which registers stand for their values, as ES:DI."""
+    left, colon, right = place.partition(':')
+    if colon and {left.upper(), right.upper()} & registers.keys():
+        return ':'.join(f'{registers[name.upper()]:X}' if name.upper() in registers else name for name in (left, right))
+    return place
+
+
 def number_of(text: str, most: int = 0xFFFFF) -> int:
     """A hexadecimal number as a user writes it: 0B8h, B8, 0xB8."""
     plain = re.sub(r'^0x|h$', '', text, flags=re.I)
     if not re.fullmatch(r'[0-9A-Fa-f]+', plain) or int(plain, 16) > most:
         raise Sorry(f'{text} is no hexadecimal number up to {most:X}, and no label')
     return int(plain, 16)
+
+
+def hexadecimal(text: str, most: int = 0xFFFF) -> int | None:
+    """The number that a text is, if it is one up to the most."""
+    try:
+        return number_of(text, most)
+    except Sorry:
+        return None
 
 
 def far_of(listing: Listing, text: str) -> tuple[int, int]:

@@ -11,7 +11,6 @@ from typing import Callable, Iterator, NamedTuple
 
 from toolbox import reading
 from toolbox.command import Sorry
-from toolbox.comments import handed
 from toolbox.listing import line_of, placed_labels
 from toolbox.program import TOP, Files, Session, answer_of, run
 from toolbox.runfile import read_run_file
@@ -52,10 +51,10 @@ def is_served(path: str) -> bool | None:
             return False
     except OSError:
         return None
-    made = run(['asm', '--', handed(path)])
+    made = run(['asm', '--', path])
     if made.status:
         return None
-    return is_one(image_of(made.out), lambda: answer_of(['asm', '--list', '--', handed(path)]))
+    return is_one(image_of(made.out), lambda: answer_of(['asm', '--list', '--', path]))
 
 
 def is_one(image: dict[int, int], listed: Callable[[], str]) -> bool:
@@ -182,13 +181,18 @@ def served_of(files: Files, clock: int) -> Served | None:
 @contextlib.contextmanager
 def at_the_end(files: Files, clock: int) -> Iterator[tuple[Session, Served | None]]:
     """A session at a clock, and what the services left there."""
-    ram = read_run_file(files.run_file).get('ram')
     with Session(files) as session:
         session.stop(f'break {OVER[0]:X}:{OVER[1]:X}')
         ended = session.clock if session.go(clock).startswith('stop') else None
         if ended is not None:
             session.go(min(CLOCKS_OF_AN_END, clock - ended))
-        yield session, left_at(session, 1024 * ram if isinstance(ram, int) else 0, ended)
+        yield session, left_at(session, ram_end_of(files), ended)
+
+
+def ram_end_of(files: Files) -> int:
+    """Where RAM ends, as the run file says; 0 if it says nothing of that."""
+    ram = read_run_file(files.run_file).get('ram')
+    return 1024 * ram if isinstance(ram, int) else 0
 
 
 def mark_of(ram_end: int) -> int:

@@ -6,8 +6,7 @@ from typing import Callable
 
 from toolbox.command import Sorry, write_text
 from toolbox.keying import key_lines, type_words
-from toolbox.places import address_of, event_text, far_of, number_of
-from toolbox.program import LAST_CLOCK
+from toolbox.places import address_of, count_of, event_text, far_of, number_of
 from toolbox.runfile import read_run_file, text_of
 from toolbox.session_board import break_at, place_of
 from toolbox.term_board import Live
@@ -160,7 +159,4 @@ class Commands:
 
 def counted(text: str, least: int = 1) -> int:
     """A count or a clock."""
-    plain = text.replace(',', '')
-    if not plain.isdecimal() or not least <= int(plain) <= LAST_CLOCK:
-        raise Sorry(f'{text} is no decimal number from {least} on')
-    return int(plain)
+    return count_of(text, 'count', least)

@@ -14,12 +14,13 @@ from toolbox import guests
 from toolbox.chips import Chips, ends_before, facts
 from toolbox.command import Sorry
 from toolbox.dap.board import ENDS, MOST_BREAKPOINTS, Machine
-from toolbox.data_labels import Datum, labels_of_data, values_of
+from toolbox.data_labels import Datum, values_of
 from toolbox.desk.sound import MOST_SAMPLES, Speaker
 from toolbox.desk.work import Fields, Helpers, Job
 from toolbox.edits import assign
 from toolbox.effects import Far
 from toolbox.guests import Guest
+from toolbox.lasts import bytes_at
 from toolbox.listing import labels_alone, listing_of, physical
 from toolbox.asking import lines_of
 from toolbox.places import address_of, far_of, line_at, number_of
@@ -30,7 +31,7 @@ from toolbox.scancodes import names
 from toolbox.services import LEAST_RAM, MOST_RAM
 from toolbox.session_board import Paused, break_at, place_of
 from toolbox.text_memory import TEXT_MEMORY, WORDS, Cell, cells_at, start_of
-from toolbox.watches import changed, watch_of, watch_size, watched_by, what_was_seen
+from toolbox.watches import changed, watch_of, watched_by, what_was_seen
 
 GUEST = Guest('')  # whose look decides
 # A typed key reaches the keyboard so many clocks on, and lies so many behind the one before: a handler takes some hundred.
@@ -459,8 +460,7 @@ class Board:
     def data(self) -> Fields:
         """The program's labels of data, with what memory holds there; of Intel HEX without their lines, which the editor hasn't."""
         if self._data is None:
-            found = labels_of_data(self.files, self.whole)
-            self._data = [replace(one, line=0) for one in found] if self.is_hex else found
+            self._data = [replace(one, line=0) for one in self.whole.data] if self.is_hex else self.whole.data
         return {'clock': self.clock, 'data': values_of(self._data, self.machine.dump)}
 
     def why(self) -> Fields:
@@ -490,7 +490,7 @@ class Board:
         kind, *words = text.split() or ['']
         if kind == 'changes' and re.fullmatch(r'\S+( \d{1,6})?', ' '.join(words)):
             address = address_of(self.listing, words[0])
-            return watch_of(address, int(words[1]) if words[1:] else watch_size(self.listing, address))
+            return watch_of(address, int(words[1]) if words[1:] else bytes_at(self.listing, words[0], address))
         if kind == 'byte' and len(words) == 2:
             return f'byte {address_of(self.listing, words[0]):X} {number_of(words[1], 0xFF):X}'
         if text in ('sound', 'halted'):
