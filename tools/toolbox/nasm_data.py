@@ -19,7 +19,9 @@ CONSTANT = re.compile(r"""\s*([A-Za-z_?@][\w.$#@~?]*)\s*:?\s+equ\s+((?:'[^']*'|"
 NAMED_SEGMENT = re.compile(r'(?:\s*\w+\s*:)?\s*SEGMENT\s+(\w+)\s+AT\s+([^;]*)', re.I)
 TEXT, LEAST, GREATEST = 40, -(1 << 31), (1 << 32) - 1
 NUMBER = re.compile(
-    r"'[^'\\]{1,4}'|\"[^\"\\]{1,4}\"|0x[0-9a-f_]+|0[hxdobqy][0-9a-f_]+|\$[0-9][0-9a-f_]*|[0-9][0-9a-f_]*[hxdtoqby]?|[a-z_?@.][\w.$#@~?]*|\$\$?|<<|>>|.", re.I
+    r"'[^'\\]{1,4}'|\"[^\"\\]{1,4}\"|0x[0-9a-f_]+|[0-9][0-9a-f_]*h\b|0[hxdobqy][0-9a-f_]+|\$[0-9][0-9a-f_]*|[0-9][0-9a-f_]*[hxdtoqby]?|"
+    r'[a-z_?@.][\w.$#@~?]*|\$\$?|<<|>>|.',
+    re.I,
 )
 BASES = {'h': 16, 'x': 16, 'd': 10, 't': 10, 'o': 8, 'q': 8, 'b': 2, 'y': 2}
 OPERATORS: dict[type, Callable[[int, int], int]] = {
