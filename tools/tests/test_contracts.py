@@ -11,7 +11,7 @@ from parts.one_sided import function_of, worst_of
 from tests.support import TOP, ToolCase
 
 # Words of the row that are no such function.
-OTHERS = {'None', 'slot_for', 'Other', 'dev/contracts --one-sided', 'slot_for.rt', 'parts.rt'}
+OTHERS = {'None', 'dev/contracts --one-sided'}
 # Functions without a body, and what each may always answer.
 FORMS = (
     ('fn a(&self) -> bool\n    ensures { IsTrue result → IsQuiet self.now }\n', 'false'),
@@ -82,7 +82,7 @@ class Contracts(ToolCase):
             ('/// The byte that `port` gives', '/// The byte at `port`', 'The byte at `port`'),
             ('ensures state {', 'ensures bus {', '*value, bus*'),
         ):
-            self.assertEqual(source.count(old), 1)
+            self.assertIn(old, source)
             self.file('crates/bus/src/lib.rt', source.replace(old, new))
             self.assertIn(seen, self.run_it())
 

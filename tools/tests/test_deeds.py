@@ -1,4 +1,4 @@
-"""CONTRIBUTING's list for adding a deed, followed backwards: a copy that has lost NOT of a word in memory in these places is proved."""
+"""CONTRIBUTING's list for adding a deed: NOT of a byte stands in each of its places, and a copy without its arm is proved."""
 from __future__ import annotations
 
 import os
@@ -10,17 +10,17 @@ import unittest
 from tests.support import TOP, ToolCase, not_run
 from toolbox.crates import Crates
 
-PROVED = ('decode_cache', 'execute_slots', 'execute')  # those that hold the places, and what stands between them
-VARIANT, CHOICE = (f'crates/decode_cache/src/{stem}.rt' for stem in ('slot', 'slot_for'))
-ROW = 'crates/decode_cache/specs/Slots.antt'
-ARM, STILL = (f'crates/execute/src/{stem}.rt' for stem in ('by_slot', 'still'))
-# In each place what stands there, and what is left of it without the deed.
+PROVED = 'execute'
+DIGEST, EXECUTE = 'crates/digest', 'crates/execute/src'
+ARM = f'{EXECUTE}/by_slot.rt'
+# In each place what stands there of the deed.
 STEPS = (
-    (VARIANT, '    NotMW,\n', ''),
-    (ROW, 'deed_row condition deeds.NotMW = row (operations.Unary unaries.Not) WordInMemory Untold\n', ''),
-    (CHOICE, ' Dec DecMW, Not NotMW, Neg NegMW;\n', ' Dec DecMW, Neg NegMW;\n'),
-    (ARM, '        change WordInMemory: NotMW Not, NegMW Neg;\n', '        change WordInMemory: NegMW Neg;\n'),
-    (STILL, '        NotMW | NegMW ', '        NegMW '),
+    (f'{DIGEST}/src/slot.rt', '    NotB,\n'),
+    (f'{DIGEST}/specs/Slots.antt', 'deed_row condition deeds.NotB = row (operations.Unary unaries.Not) Byte Untold\n'),
+    (f'{DIGEST}/src/fill.rt', ' Not NotB, '),
+    (f'{EXECUTE}/acts.rt', '        Deed::NotB => act!(Unary Not, Byte Untold),\n'),
+    (ARM, ' NotB Not,'),
+    (f'{EXECUTE}/still.rt', ' NotB |'),
 )
 
 
@@ -36,7 +36,11 @@ class Places(ToolCase):
         page = read(f'{TOP}/CONTRIBUTING.md')
         chapter = page[page.index('# Add a deed') : page.index('# Add a family')]
         named = re.findall(r'`(crates/[\w/.]+\.(?:rt|antt))`', chapter)
-        self.assertEqual(named, [path for path, _, _ in STEPS])
+        self.assertEqual(named, [path for path, _ in STEPS])
+
+    def test_a_deed_stands_in_each(self) -> None:
+        for path, stands in STEPS:
+            self.assertEqual(read(f'{TOP}/{path}').count(stands), 1, path)
 
     def test_all_paths_of_the_families_list_are_there(self) -> None:
         page = read(f'{TOP}/CONTRIBUTING.md')
@@ -45,34 +49,25 @@ class Places(ToolCase):
             self.assertTrue(os.path.exists(f'{TOP}/{path}'), path)
 
 
-class LostDeed(ToolCase):
-    """A copy from which a deed is taken in these places and nowhere else, over the libraries that the gate left."""
+class LostArm(ToolCase):
+    """A copy whose loop has no arm for the deed, over the libraries that the gate left."""
 
-    def setUp(self) -> None:
-        super().setUp()
+    def test_it_is_proved(self) -> None:
         os.mkdir(f'{self.room}/crates')
         shutil.copy(f'{TOP}/crates.txt', self.room)
-        for name in Crates().below('execute'):
-            if name in PROVED:
-                shutil.copytree(f'{TOP}/crates/{name}', f'{self.room}/crates/{name}', ignore=shutil.ignore_patterns('out', 'must-fail', 'refused'))
-            else:
-                os.symlink(f'{TOP}/crates/{name}', f'{self.room}/crates/{name}')
-        for path, stands, left in STEPS:
-            text = read(f'{self.room}/{path}')
-            self.assertEqual(text.count(stands), 1, stands)
-            self.file(path, text.replace(stands, left))
-
-    def test_both_crates_are_proved(self) -> None:
+        for name in Crates().below(PROVED) - {PROVED}:
+            os.symlink(f'{TOP}/crates/{name}', f'{self.room}/crates/{name}')
+        shutil.copytree(f'{TOP}/crates/{PROVED}', f'{self.room}/crates/{PROVED}', ignore=shutil.ignore_patterns('out', 'must-fail', 'refused'))
+        self.file(ARM, read(f'{TOP}/{ARM}').replace(dict(STEPS)[ARM], ''))
         crates = Crates(self.room)
-        lacking = [name for name in crates.below('execute') - {*PROVED} if not os.path.exists(crates.rlib(name))]
+        lacking = [name for name in crates.below(PROVED) - {PROVED} if not os.path.exists(crates.rlib(name))]
         if lacking or not shutil.which('rt'):
-            not_run('the proof without a deed; it wants Rattle, and the libraries that rt ci leaves')
+            not_run('the proof without an arm; it wants Rattle, and the libraries that rt ci leaves')
             return
-        for name in PROVED:
-            os.makedirs(os.path.dirname(crates.rlib(name)))
-            ran = subprocess.run(crates.command(name, 2), cwd=crates.folder(name), stdin=subprocess.DEVNULL, capture_output=True, text=True, check=False)
-            self.assertEqual(ran.returncode, 0, (ran.stdout + ran.stderr)[-2000:])
-            self.assertRegex(ran.stdout + ran.stderr, r'(?m)^logic=proved functions=\d+ ')
+        os.makedirs(os.path.dirname(crates.rlib(PROVED)))
+        ran = subprocess.run(crates.command(PROVED, 2), cwd=crates.folder(PROVED), stdin=subprocess.DEVNULL, capture_output=True, text=True, check=False)
+        self.assertEqual(ran.returncode, 0, (ran.stdout + ran.stderr)[-2000:])
+        self.assertRegex(ran.stdout + ran.stderr, r'(?m)^logic=proved functions=\d+ ')
 
 
 if __name__ == '__main__':

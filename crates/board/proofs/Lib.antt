@@ -35,3 +35,4 @@ mod Repeated
 mod Standing
 mod Countdowns
 mod Waits
+mod SlotLength

@@ -12,7 +12,7 @@ use Rattle.board_plain.specs.declared.act.Act.{Act}
 use Rattle.decode.specs.declared.decoding.Decoding.{Decoding}
 use Rattle.decode.specs.declared.decoding.Decoding.TheVariants.{Found, NoRow}
 use Rattle.decode.specs.Decoding.{size_of, IsDecoded}
-use Rattle.decode.specs.DecodingFields.{is_found}
+use Rattle.decode.specs.FoundDecoding.{is_found}
 use Rattle.board.proofs.Entries.{found_size}
 use Rattle.board_plain.proofs.Clocks.{clock_goes_by}
 use Rattle.board_plain.proofs.Runs.{ran_none}

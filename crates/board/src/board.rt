@@ -22,7 +22,7 @@ ghost use Rattle.board.specs.Turns.{AreStepsOn, IsActOn, IsLeapOn, IsTurnOn};
 ghost use Rattle.board_plain.specs.Work.{steps_in, work_in, work_next};
 ghost use Rattle.board_types.specs.LineLevel.{from_bool};
 ghost use Rattle.events.specs.Accesses.{accesses_next};
-ghost use Rattle.board.specs.Doings.{act_of};
+ghost use Rattle.board.specs.Doings.{act_of, IsReadyToRun};
 
 use crate::doing::Doing;
 use crate::engine::Engine;
@@ -424,8 +424,9 @@ impl<A: Allocator> Board<A> {
         over_edges: bool,
         within: u64,
     ) -> Result<Option<Begun>, BoardFault>
-        requires next { act_of next.now ≡ next_act self.old.plain }
-        requires exact { IsExact self.old.plain.cpu self.old.plain.chips (act_of next.now) }
+        requires next { act_of self.old.plain.cpu self.old.plain.chips next.now ≡ next_act self.old.plain }
+        requires exact { IsExact self.old.plain.cpu self.old.plain.chips (act_of self.old.plain.cpu self.old.plain.chips next.now) }
+        requires ready { IsReadyToRun self.old.plain.cpu self.old.plain.chips next.now }
         requires works { 1 ≤ work_next self.old.plain }
         requires before { clock_of self.old.plain < within }
         requires limit { within ≤ 2 ^ 40 }

@@ -2,7 +2,7 @@
 
 use decode::decoded::Decoded;
 
-/// An act with its instruction ready to run; `act_of` says which act it is.
+/// An act, its instruction ready to run by its slot.
 #[derive(Drop)]
 pub(crate) enum Doing {
     Nothing,

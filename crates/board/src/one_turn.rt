@@ -8,7 +8,7 @@ ghost use Rattle.events.specs.Accesses.{accesses_next};
 ghost use Rattle.board.specs.HeldBack.{IsHeldBack};
 ghost use Rattle.board.specs.TrailState.{IsExact};
 ghost use Rattle.board.specs.OneTurn.{IsOneTurn, begun_of};
-ghost use Rattle.board.specs.Doings.{act_of};
+ghost use Rattle.board.specs.Doings.{act_of, IsReadyToRun};
 
 use crate::board::Board;
 use crate::doing::Doing;
@@ -34,15 +34,16 @@ impl Engine {
     /// but without an instruction's bytes. `None` if nothing does.
     #[inline(always)]
     pub(crate) fn begins(&self, next: &Doing) -> Option<Begun>
-        requires exact { IsExact self.now.cpu self.now.chips (act_of next.now) }
+        requires exact { IsExact self.now.cpu self.now.chips (act_of self.now.cpu self.now.chips next.now) }
+        requires ready { IsReadyToRun self.now.cpu self.now.chips next.now }
         ensures begun { option_to_list result
-            ≡ map begun_of (entry_at self.now (event_of self.now.cpu self.now.chips (act_of next.now))) }
+            ≡ map begun_of (entry_at self.now (event_of self.now.cpu self.now.chips (act_of self.now.cpu self.now.chips next.now))) }
         ensures clock { IfSome result (λ begun. begun.clock ≡ clock_of self.now) }
     {
         match next {
             Doing::Request => Some(self.begun(Some(self.chips.requested_type()))),
             Doing::SingleStep => Some(self.begun(Some(1))),
-            Doing::Instruction(decoded) if decoded.length() > 0 => Some(self.begun(None)),
+            Doing::Instruction(slot) if slot.length > 0 => Some(self.begun(None)),
             // no row of the encoding table fits the bytes there, and the processor jams
             Doing::Instruction(_) => None,
             Doing::Nothing | Doing::Iteration => None,

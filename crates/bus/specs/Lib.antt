@@ -1,3 +1,4 @@
 pub mod Bus
 pub mod PortWriteBus
 pub mod BusPromises
+pub mod Guards

@@ -2,10 +2,14 @@
 //! on a state.
 #![tactic(auto)]
 
-ghost use Rattle.std.specs.Prelude.{◌≡◌, ◌<◌, ◌^◌, ℕ};
+ghost use Rattle.std.specs.Prelude.{◌≡◌, ◌<◌, ◌^◌, ℕ, IsTrue};
 ghost use Rattle.bus.specs.Bus.{BusMeaning, with_word_at, word_at};
 ghost use Rattle.bus.specs.BusPromises.{IsBus};
+ghost use Rattle.bus.specs.Guards.{SameGuarded};
 
+pub mod guard;
+
+use crate::guard::Guard;
 use board_types::address::physical;
 
 /// Memory and ports, as an instruction reaches them. Contracts see what the bus reaches as a state of its own, which
@@ -58,6 +62,30 @@ pub trait Bus {
         let high = physical(segment, offset.wrapping_add(1));
         self.write8(physical(segment, offset), (word % 256) as u8);
         self.write8(high, (word / 256) as u8);
+    }
+
+    /// Writes a word at a segment and an offset, for a step by a slot. Returns whether it is known that no guarded byte has
+    /// changed, so that the next slot of a block is still what stands in memory. A bus that runs blocks has a body of its
+    /// own.
+    fn put_word(&mut self, segment: u16, offset: u16, word: u16, guard: Guard) -> bool
+        ensures state { state self.new ≡ with_word_at meaning (state self.old) segment offset word }
+        ensures guarded { IsTrue result → SameGuarded guard (meaning.byte_at (state self.old)) (meaning.byte_at (state self.new)) }
+    {
+        let _ = guard;
+        self.write_word(segment, offset, word);
+        false
+    }
+
+    /// Writes a byte at the physical address `addr`, below 100000h, for a step by a slot, and returns what `put_word`
+    /// returns.
+    fn put_byte(&mut self, addr: u32, value: u8, guard: Guard) -> bool
+        requires { addr < 2 ^ 20 }
+        ensures state { state self.new ≡ meaning.after_write (state self.old) addr value }
+        ensures guarded { IsTrue result → SameGuarded guard (meaning.byte_at (state self.old)) (meaning.byte_at (state self.new)) }
+    {
+        let _ = guard;
+        self.write8(addr, value);
+        false
     }
 
     // a byte that is written reads back if its address takes bytes, all else stays, and no port changes memory

@@ -6,3 +6,4 @@ pub mod AtSeenClock
 pub mod Controller
 mod SameBytes
 mod Guarded
+mod Codes

@@ -3,3 +3,4 @@ pub mod Prefixes
 pub mod Pieces
 pub mod Exact
 pub mod Fronts
+pub mod Slots

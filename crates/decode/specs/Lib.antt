@@ -1,5 +1,5 @@
 pub mod Decoding
 pub mod DecodingParts
 pub mod DecodeLaws
-pub mod DecodingFields
-pub mod DecodingOfFields
+pub mod FoundDecoding
+pub mod DecodedSlots

@@ -1,10 +1,13 @@
 //! The instruction at CS:IP.
+ghost use Rattle.std.specs.Int.{to_le_bytes, w64};
 ghost use Rattle.std.specs.Prelude.{◌≡◌, ◌≤◌, ◌<◌, ◌+◌, ◌^◌, length, take, drop, slice_index, None, Some, []};
 ghost use Rattle.board_types.specs.Address.{physical, offset_after};
 ghost use Rattle.isa.specs.Layout.{second_part};
+ghost use Rattle.decode.specs.DecodedSlots.{IsSlotAt};
 ghost use Rattle.decode.specs.Decoding.{code_at, decoded_after, decoded_from, form_at, found_or_none, prefix_of, prefixes_at, values_at, IsDecoded};
 
-use crate::decoded::Decoded;
+use crate::decoded::{Decoded, decoded};
+use crate::decoding::Decoding;
 use crate::parts::{code_of, number_at, place_at, prefix_of, reg_at, segment_at};
 use arrayvec::ArrayVec;
 use board_types::address::physical;
@@ -18,15 +21,45 @@ use isa::row::Row;
 /// address.
 const LONGEST: usize = 15;
 
-/// Decodes the instruction at CS:IP, with seven prefixes at most, for the decode cache and listings; `NoRow` if no row
-/// of the encoding table fits its bytes. Offsets wrap at 65,536 and addresses at 2^20.
+/// Decodes the instruction at CS:IP, with seven prefixes at most, for steps and the decode cache: its slot, of the deed
+/// `NoRow` if no row of the encoding table fits its bytes. CS:IP and the bytes aren't in the slot. Offsets wrap at 65,536
+/// and addresses at 2^20.
+#[tactic(auto, using(crate::proofs::Slots::fits))]
 pub fn decode<B: Bytes>(bytes: &B, cs: u16, ip: u16) -> Decoded
+    ensures value { IsSlotAt result (decoded_from (code_at (B.byte_at bytes.now) cs ip)) }
+    ensures exact { IsDecoded (code_at (B.byte_at bytes.now) cs ip) (decoded_from (code_at (B.byte_at bytes.now) cs ip)) }
+{
+    decoded(&decoding_at(bytes, cs, ip))
+}
+
+/// Decodes the instruction at CS:IP as `decode` does, for a caller that has read the eight bytes from there on at once:
+/// `front` has them, the first one lowest.
+#[tactic(auto, using(crate::proofs::Slots::fits))]
+pub fn decode_read<B: Bytes>(bytes: &B, cs: u16, ip: u16, front: u64) -> Decoded
+    requires { to_le_bytes w64 front ≡ take 8 (code_at (B.byte_at bytes.now) cs ip) }
+    ensures value { IsSlotAt result (decoded_from (code_at (B.byte_at bytes.now) cs ip)) }
+    ensures exact { IsDecoded (code_at (B.byte_at bytes.now) cs ip) (decoded_from (code_at (B.byte_at bytes.now) cs ip)) }
+{
+    decoded(&decoding_by(bytes, cs, ip, &front_in(front)))
+}
+
+/// Decodes the instruction at CS:IP as `decode` does, and writes it out, for listings.
+pub fn decoding_at<B: Bytes>(bytes: &B, cs: u16, ip: u16) -> Decoding
     ensures value { result ≡ decoded_from (code_at (B.byte_at bytes.now) cs ip) }
     ensures exact { IsDecoded (code_at (B.byte_at bytes.now) cs ip) result }
 {
-    let code = front_at(bytes, cs, ip);
+    decoding_by(bytes, cs, ip, &front_at(bytes, cs, ip))
+}
+
+/// Decodes the instruction at CS:IP, of which the first six bytes were read already; what `code` has after them doesn't
+/// matter.
+fn decoding_by<B: Bytes>(bytes: &B, cs: u16, ip: u16, code: &[u8; LONGEST]) -> Decoding
+    requires { take 6 code.now ≡ take 6 (code_at (B.byte_at bytes.now) cs ip) }
+    ensures value { result ≡ decoded_from (code_at (B.byte_at bytes.now) cs ip) }
+    ensures exact { IsDecoded (code_at (B.byte_at bytes.now) cs ip) result }
+{
     match prefix_of(code[0]) {
-        None => decode_bare(&code),
+        None => decode_bare(code),
         Some(_) => decode_whole(bytes, cs, ip),
     }
 }
@@ -34,7 +67,7 @@ pub fn decode<B: Bytes>(bytes: &B, cs: u16, ip: u16) -> Decoded
 /// Decodes an instruction at CS:IP that begins with a prefix, which is rare: it reads the full 15 bytes.
 #[cold]
 #[inline(never)]
-fn decode_whole<B: Bytes>(bytes: &B, cs: u16, ip: u16) -> Decoded
+fn decode_whole<B: Bytes>(bytes: &B, cs: u16, ip: u16) -> Decoding
     ensures value { result ≡ decoded_from (code_at (B.byte_at bytes.now) cs ip) }
     ensures exact { IsDecoded (code_at (B.byte_at bytes.now) cs ip) result }
 {
@@ -54,6 +87,16 @@ fn front_at<B: Bytes>(bytes: &B, cs: u16, ip: u16) -> [u8; LONGEST]
     code[4] = code_byte(bytes, cs, ip, 4);
     code[5] = code_byte(bytes, cs, ip, 5);
     code
+}
+
+/// The bytes of a number, the lowest first, and zeros after them.
+fn front_in(front: u64) -> [u8; LONGEST]
+    ensures { take 6 result ≡ take 6 (to_le_bytes w64 front) }
+{
+    let own = front.to_le_bytes();
+    [
+        own[0], own[1], own[2], own[3], own[4], own[5], own[6], own[7], 0, 0, 0, 0, 0, 0, 0,
+    ]
 }
 
 /// The 15 bytes from CS:IP on, as many as the longest instruction has with its prefixes.
@@ -86,8 +129,8 @@ fn code_byte<B: Bytes>(bytes: &B, cs: u16, ip: u16, index: u16) -> u8
     bytes.byte(physical(cs, ip.wrapping_add(index)))
 }
 
-/// Decodes the instruction at the front of `code`, which begins with no prefix: the common and fast case of `decode`.
-fn decode_bare(code: &[u8; LONGEST]) -> Decoded
+/// Decodes the instruction at the front of `code`, which begins with no prefix: the common and fast case of `decoding_at`.
+fn decode_bare(code: &[u8; LONGEST]) -> Decoding
     requires { prefix_of (slice_index code.now 0) ≡ None }
     ensures value { result ≡ decoded_after [] code.now }
     ensures exact { IsDecoded code.now result }
@@ -97,7 +140,7 @@ fn decode_bare(code: &[u8; LONGEST]) -> Decoded
 
 /// Decodes the instruction at the front of `code`, prefixes and all, for bytes that were read already, as those that
 /// the trail holds.
-pub fn decode_code(code: &[u8; LONGEST]) -> Decoded
+pub fn decode_code(code: &[u8; LONGEST]) -> Decoding
     ensures value { result ≡ decoded_from code.now }
     ensures exact { IsDecoded code.now result }
 {
@@ -106,7 +149,7 @@ pub fn decode_code(code: &[u8; LONGEST]) -> Decoded
 
 /// Reads the prefixes at the front of `code`, seven at most, and decodes the instruction after them.
 #[tactic(auto, unfolding(crate::specs::Decoding::decoded_from))]
-fn decode_prefixed(code: &[u8; LONGEST]) -> Decoded
+fn decode_prefixed(code: &[u8; LONGEST]) -> Decoding
     ensures { result ≡ decoded_from code.now }
 {
     let prefixes = prefixes_at(code);
@@ -132,20 +175,20 @@ fn prefixes_at(code: &[u8; LONGEST]) -> ArrayVec<Prefix, 7>
 /// Decodes the instruction at the front of `code`, after these prefixes: finds the encoding table's row for it, or
 /// answers `NoRow`.
 #[tactic(auto, unfolding(crate::specs::Decoding::decoded_after))]
-fn decode_after(prefixes: ArrayVec<Prefix, 7>, code: &[u8]) -> Decoded
+fn decode_after(prefixes: ArrayVec<Prefix, 7>, code: &[u8]) -> Decoding
     requires { 8 ≤ length code.now }
     ensures { result ≡ decoded_after prefixes.items code.now }
 {
     match row_at(code[0], code[1]) {
         Some(row) => decode_row(prefixes, row, code),
-        None => Decoded::no_row(),
+        None => Decoding::NoRow,
     }
 }
 
 /// Takes the instruction of `row` at the front of `code`, after these prefixes, apart into its form and the numbers in
-/// its fields, and makes it ready to run.
+/// its fields.
 #[tactic(auto, unfolding(isa::specs::Encoding::form_length))]
-fn decode_row(prefixes: ArrayVec<Prefix, 7>, row: Row, code: &[u8]) -> Decoded
+fn decode_row(prefixes: ArrayVec<Prefix, 7>, row: Row, code: &[u8]) -> Decoding
     requires { 8 ≤ length code.now }
     ensures { result ≡ found_or_none prefixes.items code.now (Some row) }
 {
@@ -162,7 +205,7 @@ fn decode_row(prefixes: ArrayVec<Prefix, 7>, row: Row, code: &[u8]) -> Decoded
         form,
         values,
     };
-    Decoded::found(&instr, length)
+    Decoding::Found(instr, length)
 }
 
 /// The form of an instruction of `row`, read from its opcode and the byte after it. `second` says what `row` has in

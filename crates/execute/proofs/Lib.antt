@@ -9,3 +9,6 @@ pub mod Delay
 pub mod Countdown
 pub mod Shaded
 pub mod Effects
+pub mod Turn
+pub mod TurnOperands
+pub mod TurnSteps

@@ -1,6 +1,7 @@
 //! The processor's instructions, each an exact step over any bus (8086 Family User's Manual, "Instruction Set").
 #![tactic(auto)]
 
+mod acts;
 pub mod by_slot;
 pub mod change;
 pub mod course;

@@ -4,15 +4,13 @@ ghost use Rattle.execute_arith.specs.Calculated.{calculated, divided};
 ghost use Rattle.execute_machine.specs.Locations.{machine};
 ghost use Rattle.execute_machine.specs.Widths.{size_of};
 ghost use Rattle.execute_arith.specs.Numbers.{double_half};
-ghost use Rattle.execute_arith.specs.Products.{accumulator, after_operation, after_product, dividend_of, has_fault, has_no_quotient, with_division, with_product, with_product_value};
+ghost use Rattle.execute_arith.specs.Products.{accumulator, after_operation, dividend_of, has_no_quotient, with_division, with_product, with_product_value};
 
 use crate::numbers::{
     Division, FullProduct, divide_signed, divide_unsigned, signed_product, unsigned_product,
 };
 use board_types::regs::Flags;
 use bus::Bus;
-use digest::digest::Digest;
-use execute_machine::location::{locate_first, operand};
 use execute_machine::registers::Registers;
 use execute_machine::stack::enter;
 use execute_machine::width::Width;
@@ -132,9 +130,9 @@ pub fn calculate_product(
     }
 }
 
-/// Multiplies or divides by an operand that has been read, for `perform_product`; a division without a quotient that
-/// fits enters interrupt 0. Returns whether that happened.
-fn perform_operation<B: Bus>(
+/// Multiplies or divides by an operand that has been read, in a turn; a division without a quotient that fits enters
+/// interrupt 0. Returns whether that happened.
+pub fn perform_operation<B: Bus>(
     bus: &mut B,
     registers: &mut Registers,
     operation: Product,
@@ -151,25 +149,4 @@ fn perform_operation<B: Bus>(
     }
     enter(bus, registers, 0);
     true
-}
-
-/// Performs MUL, IMUL, DIV or IDIV by an instruction's operand, in a step that isn't made by a slot. A division without
-/// a quotient that fits enters interrupt 0 and changes nothing else. Returns whether that happened, since the clocks
-/// depend on it.
-#[inline(never)]
-#[tactic(auto, unfolding(crate::specs::Products::after_product, crate::specs::Products::has_fault))]
-pub fn perform_product<B: Bus>(
-    bus: &mut B,
-    registers: &mut Registers,
-    operation: Product,
-    instr: &Digest,
-) -> bool
-    ensures machine { machine registers.new (B.state bus.new)
-        ≡ after_product B.meaning (machine registers.old (B.state bus.old)) operation instr.now }
-    ensures fault { result ≡ has_fault B.meaning (machine registers.old (B.state bus.old)) operation instr.now }
-{
-    let place = locate_first(registers, instr);
-    let width = place.width();
-    let operand = operand(bus, registers, place, width);
-    perform_operation(bus, registers, operation, width, operand)
 }

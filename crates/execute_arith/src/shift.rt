@@ -1,15 +1,10 @@
 //! What shifts and rotates do.
 ghost use Rattle.std.specs.Prelude.{◌≡◌, ◌<◌};
-ghost use Rattle.execute_machine.specs.Locations.{machine};
 ghost use Rattle.execute_machine.specs.Widths.{size_of};
-ghost use Rattle.execute_arith.specs.Shifts.{after_shift, after_shifts, shifted_operand, tells_result, with_shifted, with_told};
+ghost use Rattle.execute_arith.specs.Shifts.{after_shifts, shifted_operand, tells_result, with_shifted, with_told};
 
 use crate::single::{Shifted, left_by, right_by, rotate_by, signed_right_by, single};
-use bus::Bus;
-use digest::digest::Digest;
 use execute_machine::flags::{FlagRegister, StatusFlags};
-use execute_machine::location::{get, locate_first, locate_second, operand, put};
-use execute_machine::registers::Registers;
 use execute_machine::width::Width;
 use isa::operation::Shift;
 
@@ -48,28 +43,6 @@ fn set_shifted(flags: &mut FlagRegister, operation: Shift, width: Width, count: 
     if count > 0 {
         tell(flags, operation, width, after);
     }
-}
-
-/// Performs a shift or rotate on an instruction's first operand, in a step that isn't made by a slot: by 1 place, or as
-/// many as CL counts. A count of 0 writes the operand back and changes no flag.
-#[inline(never)]
-#[tactic(auto, unfolding(crate::specs::Shifts::after_shift))]
-pub fn perform_shift<B: Bus>(
-    bus: &mut B,
-    registers: &mut Registers,
-    operation: Shift,
-    instr: &Digest,
-)
-    ensures { machine registers.new (B.state bus.new)
-        ≡ after_shift B.meaning (machine registers.old (B.state bus.old)) operation instr.now }
-{
-    let place = locate_first(registers, instr);
-    let counter = locate_second(registers, instr);
-    let count = get(bus, registers, counter);
-    let width = place.width();
-    let a = operand(bus, registers, place, width);
-    let value = calculate_shift(&mut registers.flags, operation, width, a, count);
-    put(bus, registers, place, value);
 }
 
 /// Returns what a shift or rotate by `count` places makes of a number of this width, for steps by slots and all others,

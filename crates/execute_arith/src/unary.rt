@@ -1,36 +1,12 @@
 //! Arithmetic and logic on one operand.
 ghost use Rattle.std.specs.Prelude.{◌≡◌, ◌<◌, ◌-◌};
-ghost use Rattle.execute_arith.specs.ArithmeticMeaning.{after_unary, unary_result_of, with_unary_flags_of};
-ghost use Rattle.execute_machine.specs.Locations.{machine};
+ghost use Rattle.execute_arith.specs.ArithmeticMeaning.{unary_result_of, with_unary_flags_of};
 ghost use Rattle.execute_machine.specs.Widths.{size_of};
 
 use crate::sums::subtract;
-use bus::Bus;
-use digest::digest::Digest;
 use execute_machine::flags::FlagRegister;
-use execute_machine::location::{locate_first, operand, put};
-use execute_machine::registers::Registers;
 use execute_machine::width::Width;
 use isa::operation::Unary;
-
-/// Performs INC, DEC, NOT or NEG on an instruction's operand, in a step that isn't made by a slot.
-#[inline(always)]
-#[tactic(auto, unfolding(crate::specs::ArithmeticMeaning::after_unary))]
-pub fn perform_unary<B: Bus>(
-    bus: &mut B,
-    registers: &mut Registers,
-    operation: Unary,
-    instr: &Digest,
-)
-    ensures { machine registers.new (B.state bus.new)
-        ≡ after_unary B.meaning (machine registers.old (B.state bus.old)) operation instr.now }
-{
-    let to = locate_first(registers, instr);
-    let width = to.width();
-    let a = operand(bus, registers, to, width);
-    let result = calculate_unary(&mut registers.flags, operation, width, a);
-    put(bus, registers, to, result);
-}
 
 /// Returns what INC, DEC, NOT or NEG makes of a number of this width, for steps by slots and all others, and sets the
 /// flags, which NOT leaves as they are.

@@ -1,4 +1,6 @@
 //! How accesses of the processor are noted.
+ghost use Rattle.decode.specs.DecodedSlots.{IsSlotAt};
+ghost use Rattle.decode.specs.declared.decoding.Decoding.{Decoding};
 ghost use Rattle.std.specs.Prelude.{◌≡◌, List, []};
 ghost use Rattle.execute_meaning.specs.Boundaries.{after_enter};
 ghost use Rattle.execute_meaning.specs.Meaning.{after_again, after_step, step_result};
@@ -35,10 +37,10 @@ pub trait Notes {
         decoded: &Decoded,
         table: ClockTable,
     ) -> u16
-        ensures done { step_result cpu.new (B.state bus.new) result
-            ≡ after_step B.meaning table cpu.old (B.state bus.old) decoded.now }
-        ensures noted { are self.new
-            (after_step (noting B.meaning) table cpu.old (unnoted (B.state bus.old)) decoded.now).bus.accesses };
+        ensures done { (d : Decoding) → IsSlotAt decoded.now d → step_result cpu.new (B.state bus.new) result
+            ≡ after_step B.meaning table cpu.old (B.state bus.old) d }
+        ensures noted { (d : Decoding) → IsSlotAt decoded.now d → are self.new
+            (after_step (noting B.meaning) table cpu.old (unnoted (B.state bus.old)) d).bus.accesses };
 
     /// Makes the next iteration of a repeat, and notes its accesses. Answers the clocks that it takes.
     fn again<B: Bus>(&mut self, cpu: &mut Cpu, bus: &mut B, table: ClockTable) -> u16

@@ -1,4 +1,6 @@
 //! A bus that notes the accesses that are made over it, and what the processor does over that bus.
+ghost use Rattle.decode.specs.DecodedSlots.{IsSlotAt};
+ghost use Rattle.decode.specs.declared.decoding.Decoding.{Decoding};
 ghost use Rattle.std.specs.Prelude.{◌≡◌, ◌++◌, [], ◌∷◌, if◌then◌else◌};
 ghost use Rattle.execute_meaning.specs.Boundaries.{after_enter};
 ghost use Rattle.execute_meaning.specs.Meaning.{after_again, after_step, step_result};
@@ -95,10 +97,10 @@ pub(crate) fn step_noted<B: Bus>(
     decoded: &Decoded,
     table: ClockTable,
 ) -> (u16, Accesses)
-    ensures done { step_result cpu.new (B.state bus.new) result.0
-        ≡ after_step B.meaning table cpu.old (B.state bus.old) decoded.now }
-    ensures noted { result.1.items
-        ≡ (after_step (noting B.meaning) table cpu.old (unnoted (B.state bus.old)) decoded.now).bus.accesses }
+    ensures done { (d : Decoding) → IsSlotAt decoded.now d → step_result cpu.new (B.state bus.new) result.0
+        ≡ after_step B.meaning table cpu.old (B.state bus.old) d }
+    ensures noted { (d : Decoding) → IsSlotAt decoded.now d → result.1.items
+        ≡ (after_step (noting B.meaning) table cpu.old (unnoted (B.state bus.old)) d).bus.accesses }
 {
     let mut noting = Noting {
         bus,

@@ -1,6 +1,5 @@
 //! The flags as a word or a byte.
 ghost use Rattle.isa.specs.declared.register.ByteRegister.TheVariants.{Ah};
-ghost use Rattle.execute_machine.specs.Stack.{after_push};
 ghost use Rattle.execute_machine.specs.Registers.{with_byte_register};
 ghost use Rattle.std.specs.Prelude.{◌≡◌, ◌/◌, ◌%◌};
 ghost use Rattle.execute_machine.specs.Flags.{flag_state, popped_flags, pushed_word};
@@ -11,23 +10,13 @@ use board_types::regs::Flags;
 use bus::Bus;
 use execute_machine::flags::popped_flags;
 use execute_machine::registers::{Registers, set_byte};
-use execute_machine::stack::{pop, push};
+use execute_machine::stack::pop;
 use isa::register::ByteRegister;
-
-/// Performs PUSHF: pushes the nine flags as the word FLAGS.
-#[inline(never)]
-pub(crate) fn perform_pushf<B: Bus>(bus: &mut B, registers: &mut Registers)
-    ensures { machine registers.new (B.state bus.new)
-        ≡ after_push B.meaning (machine registers.old (B.state bus.old)) (pushed_word registers.old.flags) }
-{
-    let word = registers.flags.get().word();
-    push(bus, registers, word);
-}
 
 /// Performs POPF: pops a word and takes the nine flags from it.
 #[inline(never)]
 #[tactic(auto, unfolding(crate::specs::TransferMeaning::after_popf))]
-pub(crate) fn perform_popf<B: Bus>(bus: &B, registers: &mut Registers)
+pub fn perform_popf<B: Bus>(bus: &B, registers: &mut Registers)
     ensures { machine registers.new (B.state bus.now) ≡ after_popf B.meaning (machine registers.old (B.state bus.now)) }
 {
     let word = pop(bus, registers);

@@ -4,6 +4,4 @@
 
 pub mod flags_word;
 pub mod laws;
-pub mod places;
 pub mod ports;
-pub mod transfer;

@@ -4,8 +4,7 @@ ghost use Rattle.execute_meaning.specs.AccessCounts.{byte_at, byte_elements_writ
 ghost use Rattle.isa.specs.WordCounts.{pointer_words, word_at, word_at_place};
 ghost use Rattle.forms.specs.Reached.{accesses_of, byte_elements_read, divides, is_ax, port_name, port_of};
 
-use digest::digest::Digest;
-use isa::form::Place;
+use isa::form::{Instr, Place};
 use isa::operation::{Arithmetic, Control, Operation, Product, Strings, Transfer};
 use isa::row::Kind;
 
@@ -38,12 +37,22 @@ pub struct PortAccess {
 /// How many bytes in memory a step of an instruction reads and writes, or one element of a string instruction: if it
 /// enters an interrupt that it may enter, or if it doesn't.
 #[tactic(auto, unfolding(crate::specs::Reached::accesses_of))]
-pub fn accesses_of(instr: &Digest, entered: bool) -> Accesses
+pub fn accesses_of(instr: &Instr, entered: bool) -> Accesses
     ensures { result ≡ accesses_of instr.now entered }
 {
-    let (op, place, kind) = (instr.operation(), instr.place(), instr.first_kind());
-    let (first, second) = (word_at(kind, place), word_at(instr.second_kind(), place));
-    let (low, high) = (byte_at(kind, place), byte_at(instr.second_kind(), place));
+    let (op, place, kind) = (
+        instr.form.row.operation(),
+        instr.form.place,
+        instr.form.row.first(),
+    );
+    let (first, second) = (
+        word_at(kind, place),
+        word_at(instr.form.row.second(), place),
+    );
+    let (low, high) = (
+        byte_at(kind, place),
+        byte_at(instr.form.row.second(), place),
+    );
     let words_read = operands_read(op, first, second)
         + words_fetched(op, kind, entered)
         + elements_read(op);
@@ -235,19 +244,19 @@ pub(crate) fn divides(op: Operation) -> bool
 
 /// The port that an instruction reaches; `None` if it reaches none.
 #[tactic(auto, unfolding(crate::specs::Reached::port_of))]
-pub fn port_of(instr: &Digest) -> Option<PortAccess>
+pub fn port_of(instr: &Instr) -> Option<PortAccess>
     ensures { result ≡ port_of instr.now }
 {
-    match instr.operation() {
+    match instr.form.row.operation() {
         Operation::Transfer(Transfer::In) => Some(PortAccess {
             is_read: true,
-            name: port_name(instr.second_kind(), instr.number()),
-            is_word: is_ax(instr.first_kind()),
+            name: port_name(instr.form.row.second(), instr.values.number),
+            is_word: is_ax(instr.form.row.first()),
         }),
         Operation::Transfer(Transfer::Out) => Some(PortAccess {
             is_read: false,
-            name: port_name(instr.first_kind(), instr.number()),
-            is_word: is_ax(instr.second_kind()),
+            name: port_name(instr.form.row.first(), instr.values.number),
+            is_word: is_ax(instr.form.row.second()),
         }),
         _ => None,
     }

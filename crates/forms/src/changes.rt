@@ -2,10 +2,11 @@
 ghost use Rattle.std.specs.Prelude.{◌≡◌};
 ghost use Rattle.forms.specs.Changed.{adjusted_flags, alters_of, compared_flags, control_flags, elements_set, is_word, operand_sets, operand_sets_segment, processor_flags, product_sets, sets_segment, sets_word, shifted_flags, sp_moves, transfer_flags, transfer_sets, word_of};
 
+use crate::operands::{first, second};
 use crate::stack::{StackMove, move_of, writes_first};
 use board_types::regs::Flags;
-use digest::digest::Digest;
 use digest::operand::Operand;
+use isa::form::Instr;
 use isa::operation::{
     Adjust, Control, Looping, Operation, Processor, Product, Shift, Strings, Transfer, Unary,
 };
@@ -65,10 +66,10 @@ const ENTRY: Flags = Flags {
 
 /// Which flags an instruction may change.
 #[tactic(auto, unfolding(crate::specs::Changed::alters_of))]
-pub fn alters_of(instr: &Digest) -> Flags
+pub fn alters_of(instr: &Instr) -> Flags
     ensures { result ≡ alters_of instr.now }
 {
-    match instr.operation() {
+    match instr.form.row.operation() {
         Operation::Arithmetic(_) => STATUS,
         Operation::Shift(op) => shifted_flags(op),
         Operation::Product(Product::Mul | Product::Imul) => Flags {
@@ -189,14 +190,14 @@ fn processor_flags(op: Processor) -> Flags
 
 /// Whether an instruction may change a word register, or half of it.
 #[tactic(auto, unfolding(crate::specs::Changed::sets_word))]
-pub fn sets_word(instr: &Digest, register: WordRegister) -> bool
+pub fn sets_word(instr: &Instr, register: WordRegister) -> bool
     ensures { result ≡ sets_word instr.now register }
 {
     if matches!(register, WordRegister::Sp) {
         return moves_sp(move_of(instr));
     }
-    match instr.operation() {
-        Operation::Product(op) => product_sets(op, is_word(instr.first()), register),
+    match instr.form.row.operation() {
+        Operation::Product(op) => product_sets(op, is_word(first(instr)), register),
         Operation::Looping(op) => {
             !matches!(op, Looping::Jcxz) && matches!(register, WordRegister::Cx)
         }
@@ -204,7 +205,7 @@ pub fn sets_word(instr: &Digest, register: WordRegister) -> bool
         Operation::Adjust(Adjust::Cwd) => matches!(register, WordRegister::Dx),
         Operation::Adjust(_) => matches!(register, WordRegister::Ax),
         Operation::Transfer(op) => transfer_sets(instr, op, register),
-        op => writes_first(op) && operand_sets(instr.first(), register),
+        op => writes_first(op) && operand_sets(first(instr), register),
     }
 }
 
@@ -255,7 +256,7 @@ fn elements_set(op: Strings, repeated: bool, register: WordRegister) -> bool
 }
 
 /// Whether a data transfer sets a word register other than SP.
-fn transfer_sets(instr: &Digest, op: Transfer, register: WordRegister) -> bool
+fn transfer_sets(instr: &Instr, op: Transfer, register: WordRegister) -> bool
     ensures { result ≡ transfer_sets instr.now op register }
 {
     match op {
@@ -264,9 +265,9 @@ fn transfer_sets(instr: &Digest, op: Transfer, register: WordRegister) -> bool
         | Transfer::Les
         | Transfer::Lds
         | Transfer::Pop
-        | Transfer::In => operand_sets(instr.first(), register),
+        | Transfer::In => operand_sets(first(instr), register),
         Transfer::Xchg => {
-            operand_sets(instr.first(), register) || operand_sets(instr.second(), register)
+            operand_sets(first(instr), register) || operand_sets(second(instr), register)
         }
         Transfer::Xlat | Transfer::Lahf => matches!(register, WordRegister::Ax),
         Transfer::Push | Transfer::Pushf | Transfer::Popf | Transfer::Sahf | Transfer::Out => false,
@@ -298,12 +299,12 @@ fn word_of(half: ByteRegister) -> WordRegister
 
 /// Whether an instruction may change a segment register other than CS, which its target tells.
 #[tactic(auto, unfolding(crate::specs::Changed::sets_segment))]
-pub fn sets_segment(instr: &Digest, register: SegmentRegister) -> bool
+pub fn sets_segment(instr: &Instr, register: SegmentRegister) -> bool
     ensures { result ≡ sets_segment instr.now register }
 {
-    match instr.operation() {
+    match instr.form.row.operation() {
         Operation::Transfer(Transfer::Mov | Transfer::Pop) => {
-            operand_sets_segment(instr.first(), register)
+            operand_sets_segment(first(instr), register)
         }
         Operation::Transfer(Transfer::Les) => matches!(register, SegmentRegister::Es),
         Operation::Transfer(Transfer::Lds) => matches!(register, SegmentRegister::Ds),

@@ -2,8 +2,9 @@
 ghost use Rattle.std.specs.Prelude.{◌≡◌};
 ghost use Rattle.forms.specs.Flow.{control_flow, control_target, far_target, flow_of, near_target, target_of};
 
-use digest::digest::Digest;
+use crate::operands::first;
 use digest::operand::Operand;
+use isa::form::Instr;
 use isa::operation::{Control, Operation, Processor, Product};
 
 /// How an instruction leads on.
@@ -50,10 +51,10 @@ pub enum Target {
 
 /// How an instruction leads on.
 #[tactic(auto, unfolding(crate::specs::Flow::flow_of))]
-pub fn flow_of(instr: &Digest) -> Flow
+pub fn flow_of(instr: &Instr) -> Flow
     ensures { result ≡ flow_of instr.now }
 {
-    match instr.operation() {
+    match instr.form.row.operation() {
         Operation::Jump(_) | Operation::Looping(_) => Flow::Branch,
         Operation::Product(Product::Div | Product::Idiv) => Flow::MayEnter,
         Operation::Strings(_) => {
@@ -84,10 +85,10 @@ fn control_flow(op: Control) -> Flow
 
 /// The place to which an instruction leads, if not to the next one alone.
 #[tactic(auto, unfolding(crate::specs::Flow::target_of))]
-pub fn target_of(instr: &Digest) -> Target
+pub fn target_of(instr: &Instr) -> Target
     ensures { result ≡ target_of instr.now }
 {
-    match instr.operation() {
+    match instr.form.row.operation() {
         Operation::Jump(_) | Operation::Looping(_) => near_target(instr),
         Operation::Product(Product::Div | Product::Idiv) => Target::Vector(0),
         Operation::Control(op) => control_target(instr, op),
@@ -96,7 +97,7 @@ pub fn target_of(instr: &Digest) -> Target
 }
 
 /// The place to which a jump without a condition, a call, a return or an interrupt leads.
-fn control_target(instr: &Digest, op: Control) -> Target
+fn control_target(instr: &Instr, op: Control) -> Target
     ensures { result ≡ control_target instr.now op }
 {
     match op {
@@ -104,16 +105,16 @@ fn control_target(instr: &Digest, op: Control) -> Target
         Control::JmpFar | Control::CallFar => far_target(instr),
         Control::Ret | Control::Retf | Control::Iret => Target::Stack,
         Control::Int3 => Target::Vector(3),
-        Control::Int => Target::Vector((instr.number() % 256) as u8),
+        Control::Int => Target::Vector((instr.values.number % 256) as u8),
         Control::Into => Target::Vector(4),
     }
 }
 
 /// The place to which a near jump or call leads: its operand is a distance, a register or a word in memory.
-fn near_target(instr: &Digest) -> Target
+fn near_target(instr: &Instr) -> Target
     ensures { result ≡ near_target instr.now }
 {
-    match instr.first() {
+    match first(instr) {
         Operand::Number(distance) => Target::Relative(distance),
         Operand::Word(_) => Target::Register,
         _ => Target::Memory,
@@ -121,11 +122,11 @@ fn near_target(instr: &Digest) -> Target
 }
 
 /// The place to which a far jump or call leads: it stands in the instruction or in memory.
-fn far_target(instr: &Digest) -> Target
+fn far_target(instr: &Instr) -> Target
     ensures { result ≡ far_target instr.now }
 {
-    match instr.first() {
-        Operand::Number(offset) => Target::Far(instr.far_segment(), offset),
+    match first(instr) {
+        Operand::Number(offset) => Target::Far(instr.values.segment, offset),
         _ => Target::Memory,
     }
 }

@@ -6,5 +6,6 @@ pub mod accesses;
 pub mod changes;
 pub mod flow;
 pub mod laws;
+mod operands;
 pub mod stack;
 pub mod step_clocks;

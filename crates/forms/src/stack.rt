@@ -2,8 +2,9 @@
 ghost use Rattle.std.specs.Prelude.{◌≡◌};
 ghost use Rattle.forms.specs.StackMove.{control_move, is_sp, more_bytes, move_of, operand_move, transfer_move, writes_first};
 
-use digest::digest::Digest;
+use crate::operands::{first, second};
 use digest::operand::Operand;
+use isa::form::Instr;
 use isa::operation::{Arithmetic, Control, Operation, Product, Transfer, Unary};
 use isa::register::WordRegister;
 
@@ -23,10 +24,10 @@ const ENTRY: u16 = 0xFFFA;
 
 /// How an instruction moves SP.
 #[tactic(auto, unfolding(crate::specs::StackMove::move_of))]
-pub fn move_of(instr: &Digest) -> StackMove
+pub fn move_of(instr: &Instr) -> StackMove
     ensures { result ≡ move_of instr.now }
 {
-    match instr.operation() {
+    match instr.form.row.operation() {
         Operation::Transfer(op) => transfer_move(instr, op),
         Operation::Control(op) => control_move(instr, op),
         Operation::Product(Product::Div | Product::Idiv) => StackMove::Or(ENTRY),
@@ -35,24 +36,24 @@ pub fn move_of(instr: &Digest) -> StackMove
 }
 
 /// How a data transfer moves SP: pushes and pops by 2, and what is written to SP itself by what isn't told.
-fn transfer_move(instr: &Digest, op: Transfer) -> StackMove
+fn transfer_move(instr: &Instr, op: Transfer) -> StackMove
     ensures { result ≡ transfer_move instr.now op }
 {
     match op {
         Transfer::Push | Transfer::Pushf => StackMove::By(0xFFFE),
         Transfer::Popf => StackMove::By(2),
-        Transfer::Pop if is_sp(instr.first()) => StackMove::Loads,
+        Transfer::Pop if is_sp(first(instr)) => StackMove::Loads,
         Transfer::Pop => StackMove::By(2),
-        Transfer::Mov | Transfer::Lea | Transfer::Les | Transfer::Lds if is_sp(instr.first()) => {
+        Transfer::Mov | Transfer::Lea | Transfer::Les | Transfer::Lds if is_sp(first(instr)) => {
             StackMove::Loads
         }
-        Transfer::Xchg if is_sp(instr.first()) || is_sp(instr.second()) => StackMove::Loads,
+        Transfer::Xchg if is_sp(first(instr)) || is_sp(second(instr)) => StackMove::Loads,
         _ => StackMove::By(0),
     }
 }
 
 /// How a jump without a condition, a call, a return or an interrupt moves SP.
-fn control_move(instr: &Digest, op: Control) -> StackMove
+fn control_move(instr: &Instr, op: Control) -> StackMove
     ensures { result ≡ control_move instr.now op }
 {
     match op {
@@ -68,23 +69,23 @@ fn control_move(instr: &Digest, op: Control) -> StackMove
 }
 
 /// How many more bytes a return takes off the stack: 0 without an operand.
-fn more_bytes(instr: &Digest) -> u16
+fn more_bytes(instr: &Instr) -> u16
     ensures { result ≡ more_bytes instr.now }
 {
-    match instr.first() {
+    match first(instr) {
         Operand::Number(bytes) => bytes,
         _ => 0,
     }
 }
 
 /// How any other operation moves SP: only if SP is what it writes, by what its bytes tell of a sum or a difference.
-fn operand_move(instr: &Digest, op: Operation) -> StackMove
+fn operand_move(instr: &Instr, op: Operation) -> StackMove
     ensures { result ≡ operand_move instr.now op }
 {
-    if !writes_first(op) || !is_sp(instr.first()) {
+    if !writes_first(op) || !is_sp(first(instr)) {
         return StackMove::By(0);
     }
-    match (op, instr.second()) {
+    match (op, second(instr)) {
         (Operation::Arithmetic(Arithmetic::Add), Operand::Number(number)) => StackMove::By(number),
         (Operation::Arithmetic(Arithmetic::Sub), Operand::Number(number)) => {
             StackMove::By(number.wrapping_neg())

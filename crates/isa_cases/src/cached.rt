@@ -6,7 +6,9 @@ use crate::memory::Memory;
 use anyhow::{Context, Result, ensure};
 use board_types::address::ADDRESS_COUNT;
 use cases::Judged;
+use decode::decode::{decode_code, decoding_at};
 use decode::decoded::Decoded;
+use decode::decoding::Decoding;
 use decode_cache::cache::Cache;
 use std::alloc::{AllocError, Global};
 use std::marker::Model;
@@ -94,6 +96,14 @@ impl CachedMemory {
         self.cache.fetch(&self.memory, cs, ip)
     }
 
+    /// What stands at CS:IP: by the bytes that its slot has, if the cache keeps one, else by those of memory.
+    fn found(&self, cs: u16, ip: u16) -> Decoding {
+        match self.cache.slot(&self.memory, cs, ip) {
+            Some(slot) => decode_code(&kept_bytes(slot.code)),
+            None => decoding_at(&self.memory, cs, ip),
+        }
+    }
+
     /// Writes the bytes of a `set` line's digits, two for each, from an address on.
     fn set(&mut self, start: &str, digits: &str) -> Result<()> {
         let mut addr = u32::from_str_radix(start, 16)?;
@@ -119,7 +129,10 @@ impl CachedMemory {
         let cs = u16::from_str_radix(cs, 16)?;
         let ip = u16::from_str_radix(ip, 16)?;
         for _ in 0..2 {
-            judge_found(alloc, &self.fetch(cs, ip).unpack(), ip, length, Some(text))?;
+            let slot = self.fetch(cs, ip);
+            let found = self.found(cs, ip);
+            ensure!(slot.length == size_of(&found), "another length in the slot");
+            judge_found(alloc, &found, ip, length, Some(text))?;
         }
         Ok(())
     }
@@ -144,5 +157,21 @@ impl CachedMemory {
             let _ = self.fetch(cs, u16::from_str_radix(offset, 16).ok()?);
         }
         Some(())
+    }
+}
+
+/// The bytes that a slot has, the first one lowest, and zeros after them.
+fn kept_bytes(code: u64) -> [u8; 15] {
+    let own = code.to_le_bytes();
+    [
+        own[0], own[1], own[2], own[3], own[4], own[5], own[6], own[7], 0, 0, 0, 0, 0, 0, 0,
+    ]
+}
+
+/// How many bytes an instruction has that was found; 0 if no row fits.
+fn size_of(found: &Decoding) -> u8 {
+    match found {
+        Decoding::Found(_, size) => *size,
+        Decoding::NoRow => 0,
     }
 }

@@ -4,7 +4,7 @@ ghost use Rattle.isa.specs.Encoding.{FitsForm, IsForm};
 use crate::code::{Code, SEGMENT};
 use anyhow::{Result, bail, ensure};
 use board_types::choice::ClockTable;
-use decode::decode::decode;
+use decode::decode::decoding_at;
 use decode::decoding::Decoding;
 use disassembler::text::InstrText;
 use isa::clocks::cost;
@@ -30,7 +30,7 @@ pub fn judge(alloc: Global, case: &str, words: &[&str]) -> Result<()> {
 /// Judges the instruction at a case's offset: fails unless it encodes to its own bytes and has this length and, if one
 /// is wanted, this text.
 fn judge_code(alloc: Global, code: &Code, length: &str, text: Option<&str>) -> Result<()> {
-    let found = decode(code, SEGMENT, code.ip).unpack();
+    let found = decoding_at(code, SEGMENT, code.ip);
     if let Decoding::Found(instr, size) = &found {
         ensure!(is_encoded(instr, *size, code), "encoded as other bytes");
     }
@@ -110,7 +110,7 @@ fn judge_cost(bytes: &str, cl: &str, found: &str, clocks: &str) -> Result<()> {
         cx_zero: found.contains('z'),
         fault: found.contains('d'),
     };
-    match decode(&code, SEGMENT, code.ip).unpack() {
+    match decoding_at(&code, SEGMENT, code.ip) {
         Decoding::NoRow => bail!("no row"),
         Decoding::Found(instr, _) => {
             let taken = cost(&instr, &outcome, ClockTable::C1).0;

@@ -14,12 +14,12 @@ use board_types::choice::ClockTable;
 use board_types::digits::{HexByte, HexWord};
 use board_types::regs::Flags;
 use decode::decoding::Decoding;
-use digest::digest::Digest;
 use forms::accesses::{Accesses, PortAccess, PortName, accesses_of, port_of};
 use forms::changes::{alters_of, sets_segment, sets_word};
 use forms::flow::{Flow, Target, flow_of, target_of};
 use forms::stack::{StackMove, move_of};
 use forms::step_clocks::{StepClocks, clocks_told};
+use isa::form::Instr;
 use isa::register::{SegmentRegister, WordRegister};
 use std::alloc::{AllocError, Global};
 use std::fmt;
@@ -90,13 +90,12 @@ fn done_text(
 {
     match stands {
         Decoding::Found(instr, size) => {
-            let instr = Digest::new(instr);
             let next = offset.wrapping_add(u16::from(*size));
-            let leads = leads_text(alloc, &instr, segment, next)?;
+            let leads = leads_text(alloc, instr, segment, next)?;
             let leads = leads.as_str();
-            let changes = changes_text(alloc, &instr)?;
+            let changes = changes_text(alloc, instr)?;
             let changes = changes.as_str();
-            let reaches = reaches_text(alloc, &instr)?;
+            let reaches = reaches_text(alloc, instr)?;
             let reaches = reaches.as_str();
             format!(in alloc; "{leads}{changes}{reaches}")
         }
@@ -108,7 +107,7 @@ fn done_text(
 
 /// Returns where an instruction leads and how it moves SP, for its line; the next one stands at `next`.
 #[tactic(auto, unfolding(crate::specs::FormLines::leads_text))]
-fn leads_text(alloc: Global, instr: &Digest, segment: u16, next: u16) -> Result<String, AllocError>
+fn leads_text(alloc: Global, instr: &Instr, segment: u16, next: u16) -> Result<String, AllocError>
     ensures { IfOk result (λ text. string_bytes text ≡ leads_text instr.now segment next) }
 {
     let flow = flow_word(flow_of(instr));
@@ -234,7 +233,7 @@ impl fmt::Display for Signed {
 
 /// Returns which registers and flags an instruction may change, for its line.
 #[tactic(auto, unfolding(crate::specs::FormLines::changes_text))]
-fn changes_text(alloc: Global, instr: &Digest) -> Result<String, AllocError>
+fn changes_text(alloc: Global, instr: &Instr) -> Result<String, AllocError>
     ensures { IfOk result (λ text. string_bytes text ≡ changes_text instr.now) }
 {
     let sets = sets_text(alloc, instr)?;
@@ -246,7 +245,7 @@ fn changes_text(alloc: Global, instr: &Digest) -> Result<String, AllocError>
 
 /// Returns the names of the registers that an instruction may change, with commas between them, or `none`.
 #[tactic(auto, unfolding(crate::specs::FormLines::sets_text))]
-fn sets_text(alloc: Global, instr: &Digest) -> Result<String, AllocError>
+fn sets_text(alloc: Global, instr: &Instr) -> Result<String, AllocError>
     ensures { IfOk result (λ text. string_bytes text ≡ sets_text instr.now) }
 {
     let mut text = String::new(alloc);
@@ -258,7 +257,7 @@ fn sets_text(alloc: Global, instr: &Digest) -> Result<String, AllocError>
 }
 
 /// Adds the names of the general registers that an instruction may change.
-fn push_words(text: &mut String, instr: &Digest) -> Result<(), AllocError>
+fn push_words(text: &mut String, instr: &Instr) -> Result<(), AllocError>
     ensures { OnOk result (string_bytes text.new ≡ names_after (string_bytes text.old) (words_set instr.now)) }
 {
     push_word(text, instr, WordRegister::Ax, "AX")?;
@@ -268,7 +267,7 @@ fn push_words(text: &mut String, instr: &Digest) -> Result<(), AllocError>
 }
 
 /// Adds the names of the pointers and index registers that an instruction may change.
-fn push_pointers(text: &mut String, instr: &Digest) -> Result<(), AllocError>
+fn push_pointers(text: &mut String, instr: &Instr) -> Result<(), AllocError>
     ensures { OnOk result (string_bytes text.new ≡ names_after (string_bytes text.old) (pointers_set instr.now)) }
 {
     push_word(text, instr, WordRegister::Sp, "SP")?;
@@ -278,7 +277,7 @@ fn push_pointers(text: &mut String, instr: &Digest) -> Result<(), AllocError>
 }
 
 /// Adds the names of the segment registers that an instruction may change.
-fn push_segments(text: &mut String, instr: &Digest) -> Result<(), AllocError>
+fn push_segments(text: &mut String, instr: &Instr) -> Result<(), AllocError>
     ensures { OnOk result (string_bytes text.new ≡ names_after (string_bytes text.old) (segments_set instr.now)) }
 {
     push_name(text, sets_segment(instr, SegmentRegister::Ds), "DS")?;
@@ -289,7 +288,7 @@ fn push_segments(text: &mut String, instr: &Digest) -> Result<(), AllocError>
 /// Adds the name of a word register, if an instruction may change it.
 fn push_word(
     text: &mut String,
-    instr: &Digest,
+    instr: &Instr,
     register: WordRegister,
     name: &str,
 ) -> Result<(), AllocError>
@@ -356,7 +355,7 @@ fn letter(is_there: bool, name: &'static str) -> &'static str
 
 /// Returns what an instruction reaches, and its clocks by both tables, for its line.
 #[tactic(auto, unfolding(crate::specs::FormLines::reaches_text))]
-fn reaches_text(alloc: Global, instr: &Digest) -> Result<String, AllocError>
+fn reaches_text(alloc: Global, instr: &Instr) -> Result<String, AllocError>
     ensures { IfOk result (λ text. string_bytes text ≡ reaches_text instr.now) }
 {
     let memory = Reached {

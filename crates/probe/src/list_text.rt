@@ -10,7 +10,7 @@ use crate::inquiry::Place;
 use board::board::Board;
 use board_types::address::physical;
 use board_types::digits::{HexByte, HexWord};
-use decode::decode::decode;
+use decode::decode::decoding_at;
 use decode::decoding::Decoding;
 use disassembler::text::InstrText;
 use std::alloc::{AllocError, Global};
@@ -86,7 +86,7 @@ fn push_line(
 pub(crate) fn stands_at(board: &Board, segment: u16, offset: u16) -> Decoding
     ensures { result ≡ stands_at board.now.plain segment offset }
 {
-    decode(&BoardBytes(board), segment, offset).unpack()
+    decoding_at(&BoardBytes(board), segment, offset)
 }
 
 /// How many bytes a line of `list` or `forms` shows: the instruction's, or the one that begins none.

@@ -4,7 +4,7 @@ use arrayvec::ArrayVec;
 use board_types::address::physical;
 use board_types::bytes::Bytes;
 use board_types::image::Image;
-use decode::decode::decode;
+use decode::decode::decoding_at;
 use decode::decoding::Decoding;
 use isa::form::Instr;
 
@@ -47,7 +47,7 @@ impl Code {
 
     /// The instruction that is decoded at the offset; `None` if the encoding table has no row for the bytes.
     pub fn instruction(&self) -> Option<Instr> {
-        match decode(self, SEGMENT, OFFSET).unpack() {
+        match decoding_at(self, SEGMENT, OFFSET) {
             Decoding::Found(instr, _) => Some(instr),
             Decoding::NoRow => None,
         }

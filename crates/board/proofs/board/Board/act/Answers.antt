@@ -64,5 +64,6 @@ returns-clause-noted g c =
 pub returns-clause-begun : goal.returns-clause-begun
 returns-clause-begun g c =
     subst (λ (b : BoardState). option_to_list c.begins-begun.result ≡ map begun_of (trail_next b.plain)) c.self.view_is
-    (begins_by c.self.inside.engine (act_of c.args.next.now) (option_to_list c.begins-begun.result)
-    (subst (λ (b : BoardState). act_of c.args.next.now ≡ next_act b.plain) (sym c.self.view_is) c.requires.next) c.begins-begun.ensures.begun)
+    (begins_by c.self.inside.engine (act_of c.self.inside.engine.cpu c.self.inside.engine.chips c.args.next.now) (option_to_list c.begins-begun.result)
+    (subst (λ (b : BoardState). act_of b.plain.cpu b.plain.chips c.args.next.now ≡ next_act b.plain) (sym c.self.view_is) c.requires.next)
+    c.begins-begun.ensures.begun)

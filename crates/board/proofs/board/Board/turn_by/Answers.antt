@@ -13,6 +13,7 @@ use Rattle.events.specs.declared.access.Access.{Access}
 use Rattle.board.specs.UnseenClocks.{WiresStayThen}
 use Rattle.board.specs.HeldBack.{IsHeldBack}
 use Rattle.board.specs.OneTurn.{begun_of}
+use Rattle.board.specs.Doings.{act_of}
 use Rattle.board.proofs.Leap.{nothing_begins}
 use Rattle.board.proofs.OneTurn.{stay_then}
 use Rattle.board.proofs.Turns.{if_act}
@@ -90,7 +91,8 @@ pub act-requires-in-Instruction-clause-next : goal.act-requires-in-Instruction-c
 act-requires-in-Instruction-clause-next g c =
     let s : Plain = c.self.inside.engine in
     let asked = subst (λ (b : BoardState). act_at b.plain.cpu b.plain.chips c.args.boundary ≡ next_act b.plain) (sym c.self.view_is) c.requires.boundary in
-    c.instruction-next.ensures.act ∙ subst (λ (b : Boundary). act_at s.cpu s.chips b ≡ next_act s) c.in-Instruction.is asked
+    ap (λ (p : Plain). act_of p.cpu p.chips c.instruction-next.result) c.instruction-next.ensures.kept ∙ c.instruction-next.ensures.act
+    ∙ subst (λ (b : Boundary). act_at s.cpu s.chips b ≡ next_act s) c.in-Instruction.is asked
     ∙ ap next_act (sym c.instruction-next.ensures.kept)
 
 pub act-requires-in-Instruction-clause-works : goal.act-requires-in-Instruction-clause-works
