@@ -1,6 +1,6 @@
 /* An IBM PC 5150 for benches in C and C++: the timer (Intel 8253 or 8254), the interrupt controller (Intel 8259A), the
- * parallel port (Intel 8255A, mode 0), whole runs of the board, and sessions. The chips are in libzebludor_chips.a, the runs
- * in libzebludor_run.a, the sessions in libzebludor_session.a.
+ * parallel port (Intel 8255A, mode 0), whole runs of the board, sessions, and the programs pcboard and pcprobe over texts in
+ * memory. The chips are in libzebludor_chips.a, all else in libzebludor_program.a.
  *
  * A chip is a struct of numbers in the caller's memory, and each call works on that struct alone. Structs may be
  * copied, compared field by field, kept in files. Any bytes in one are some chip, so no call can be refused: a level or
@@ -11,9 +11,10 @@
  * type, and lead to what is declared, as long as the call lasts; what a call writes doesn't overlap with what else it is
  * given, and no other thread touches it meanwhile.
  *
- * What each call does is proved: its clause stands in src/ of crates/zebludor_chips, zebludor_run and zebludor_session, and
- * the definitions that clauses name in the specs/ of the crates below. That memory is found and given back, and that this
- * header declares what stands there, is only tested. docs/for-test-benches.md tells how to build and link. */
+ * What each call does is proved: its clause stands in src/ of crates/zebludor_chips and zebludor_program, and the
+ * definitions that clauses name in the specs/ of the crates below. That memory is found and given back, and that this
+ * header declares what stands there, is only tested. Calls answer numbers, or where a pointer leads, so they are the same on
+ * each target. docs/for-test-benches.md tells how to build and link. */
 #ifndef ZEBLUDOR_H
 #define ZEBLUDOR_H
 
@@ -235,16 +236,51 @@ ZEBLUDOR_ASSERT(ZEBLUDOR_ALIGNOF(zebludor_outcome) == 8);
 ZEBLUDOR_ASSERT(offsetof(zebludor_outcome, fault) == 17);
 
 /* Assembles a source, runs its image on the board that the text of a run file describes, for that file's clocks and with
- * its keys, and reports the board as `pcboard run` prints it. A report (statuses 0 and 2) is that of the plain board of
- * an image that the encoding table gives the source; a refusal is true of the texts; and where the source gives an image
- * that fits the run file's board, only a want of memory refuses it. Takes memory by malloc and realloc, and gives all of
- * it back; not to be called from a signal handler. */
-zebludor_outcome zebludor_run(const uint8_t *source, size_t source_length, const uint8_t *run, size_t run_length,
-                              uint8_t *out, size_t out_length);
+ * its keys, and reports the board as `pcboard run` prints it; `*outcome` may hold anything before, as all answers below. A
+ * report (statuses 0 and 2) is that of the plain board of an image that the encoding table gives the source; a refusal is
+ * true of the texts; and where the source gives an image that fits the run file's board, only a want of memory refuses it.
+ * Takes memory by malloc and realloc, and gives all of it back; not to be called from a signal handler. */
+void zebludor_run(const uint8_t *source, size_t source_length, const uint8_t *run, size_t run_length, uint8_t *out,
+                  size_t out_length, zebludor_outcome *outcome);
 
 /* The same for a text of Intel HEX. */
-zebludor_outcome zebludor_run_hex(const uint8_t *text, size_t text_length, const uint8_t *run, size_t run_length,
-                                  uint8_t *out, size_t out_length);
+void zebludor_run_hex(const uint8_t *text, size_t text_length, const uint8_t *run, size_t run_length, uint8_t *out,
+                      size_t out_length, zebludor_outcome *outcome);
+
+/* The programs. */
+
+/* How a program ended. */
+typedef struct zebludor_ended {
+    uint64_t out;   /* how many bytes standard output has; if `out` has less room, it is as it was */
+    uint64_t err;   /* how many bytes standard error has; if `err` has less room, it is as it was */
+    uint8_t status; /* the exit status (docs/formats.md) */
+} zebludor_ended;
+
+ZEBLUDOR_ASSERT(sizeof(zebludor_ended) == 24);
+ZEBLUDOR_ASSERT(ZEBLUDOR_ALIGNOF(zebludor_ended) == 8);
+ZEBLUDOR_ASSERT(offsetof(zebludor_ended, status) == 16);
+
+/* Runs pcboard. Its words are the lines of a text, as "run\nFILE\nRUN\n"; the word FILE names the first file, the word RUN the
+ * second, and no other is there. What the program prints of these bytes comes into `out` and `err`, each whole or not at all;
+ * the bytes after it are as they were. A call with more room gives it, as the same texts give the same. At status 3, for want
+ * of memory or of a file, nothing is said of either. */
+void zebludor_pcboard(const uint8_t *words, size_t words_length, const uint8_t *file, size_t file_length, const uint8_t *run,
+                      size_t run_length, const uint8_t *input, size_t input_length, uint8_t *out, size_t out_length,
+                      uint8_t *err, size_t err_length, zebludor_ended *ended);
+
+/* Runs pcprobe likewise. */
+void zebludor_pcprobe(const uint8_t *words, size_t words_length, const uint8_t *file, size_t file_length, const uint8_t *run,
+                      size_t run_length, const uint8_t *input, size_t input_length, uint8_t *out, size_t out_length,
+                      uint8_t *err, size_t err_length, zebludor_ended *ended);
+
+/* Translates a source of MASM, TASM or emu8086 into the dialect, as pcmasm does: the first of some texts, which may include the
+ * others. `names` has a line for each, `lengths` its length, and `bytes` what they hold, one after the other. At status 0 `out` is
+ * the translation, each line of which comes from a line of the texts: with `has_map` it begins with that line's place, NAME:LINE:,
+ * and a tabulator; and `err` has what is to be said of lines. At status 1 `err` says why there is none: for a source of another
+ * assembler too, unless `is_masm`. Status 2: names, lengths and bytes don't go together. 3: there is no memory. */
+void zebludor_masm(const uint8_t *names, size_t names_length, const uint64_t *lengths, size_t lengths_length,
+                   const uint8_t *bytes, size_t bytes_length, bool has_map, bool is_masm, uint8_t *out, size_t out_length,
+                   uint8_t *err, size_t err_length, zebludor_ended *ended);
 
 /* Sessions: a board that stops at any clock and goes back to any, by the commands of docs/debugger.md and docs/probe.md. */
 
@@ -283,27 +319,41 @@ ZEBLUDOR_ASSERT(sizeof(zebludor_told) == 16);
 ZEBLUDOR_ASSERT(ZEBLUDOR_ALIGNOF(zebludor_told) == 8);
 ZEBLUDOR_ASSERT(offsetof(zebludor_told, fault) == 9);
 
-/* Begins a session at clock 0 of the board that a source and the text of a run file give. One that was there is ended first. A
- * refusal leaves none, and is true of the texts: it is the one that zebludor_run gives, or the want of memory for the session,
- * fault 53. */
-zebludor_begun zebludor_session_new(zebludor_session *session, const uint8_t *source, size_t source_length,
-                                    const uint8_t *run, size_t run_length);
+/* Begins a session of pcprobe at clock 0 of the board that a source and the text of a run file give. One that was there is ended
+ * first. A refusal leaves none, and is true of the texts: it is the one that zebludor_run gives, or the want of memory for the
+ * session, fault 53. */
+void zebludor_session_new(zebludor_session *session, const uint8_t *source, size_t source_length, const uint8_t *run,
+                          size_t run_length, zebludor_begun *begun);
 
 /* Begins a session of a text of Intel HEX, else as zebludor_session_new. */
-zebludor_begun zebludor_session_new_hex(zebludor_session *session, const uint8_t *text, size_t text_length,
-                                        const uint8_t *run, size_t run_length);
+void zebludor_session_new_hex(zebludor_session *session, const uint8_t *text, size_t text_length, const uint8_t *run,
+                              size_t run_length, zebludor_begun *begun);
 
-/* Does what a line commands, and writes what pcprobe prints of it: the answer's lines, or the line of a fault. The line has no
- * line feed at its end. One with a line feed in it, one that isn't UTF-8 and `quit` are no commands: fault 51. The command is
- * made whatever the status is, so at statuses 2 and 3 ask for its text by zebludor_session_text. */
-zebludor_told zebludor_session_command(zebludor_session *session, const uint8_t *line, size_t line_length, uint8_t *out,
-                                       size_t out_length);
+/* Begins a session of `pcboard debug`, else as zebludor_session_new; the calls below are for it too. */
+void zebludor_debug_new(zebludor_session *session, const uint8_t *source, size_t source_length, const uint8_t *run,
+                        size_t run_length, zebludor_begun *begun);
+
+/* Begins a session of `pcboard debug` of a text of Intel HEX. */
+void zebludor_debug_new_hex(zebludor_session *session, const uint8_t *text, size_t text_length, const uint8_t *run,
+                            size_t run_length, zebludor_begun *begun);
+
+/* Does what a line commands, and writes what the session's program prints of it: the answer's lines, or the line of a fault. The
+ * line has no line feed at its end. One with a line feed in it, one that isn't UTF-8 and `quit` are no commands: fault 51. The
+ * command is made whatever the status is, so at statuses 2 and 3 ask for its text by zebludor_session_text. */
+void zebludor_session_command(zebludor_session *session, const uint8_t *line, size_t line_length, uint8_t *out,
+                              size_t out_length, zebludor_told *told);
 
 /* Writes the text of the session's last line again, as often as one likes; nothing before its first line. */
-zebludor_told zebludor_session_text(zebludor_session *session, uint8_t *out, size_t out_length);
+void zebludor_session_text(zebludor_session *session, uint8_t *out, size_t out_length, zebludor_told *told);
 
 /* Ends a session, gives all of its memory back, and leaves none. Without a session it does nothing. */
 void zebludor_session_drop(zebludor_session *session);
+
+/* Memory, as c/memory.c finds it. */
+
+/* From now on the calls of this thread hold so many bytes at most, what its sessions hold among them; 0 lifts the limit. A call that
+ * wants more is refused for want of memory. What a thread gives back that another took counts for the one that gives. */
+void zebludor_limit(uint64_t bytes);
 
 #ifdef __cplusplus
 }

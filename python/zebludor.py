@@ -45,7 +45,7 @@ PART = 10_000_000
 # The chips' library of a release, else the one that dev/build leaves.
 CHIPS = f'{TOP}/lib/libzebludor_chips.so', f'{TOP}/crates/zebludor_chips/out/libzebludor_chips.a'
 # The sessions' library, likewise.
-SESSIONS = f'{TOP}/lib/libzebludor_session.so', f'{TOP}/crates/zebludor_session/out/libzebludor_session.a'
+SESSIONS = f'{TOP}/lib/libzebludor_program.so', f'{TOP}/crates/zebludor_program/out/libzebludor_program.a'
 ROWS, COLUMNS = 25, 80
 REGISTER_LINES = (('AX', 'BX', 'CX', 'DX', 'SP', 'BP', 'SI', 'DI'), ('CS', 'DS', 'ES', 'SS', 'IP', 'FL'))
 REGISTERS = REGISTER_LINES[0] + REGISTER_LINES[1]
@@ -757,17 +757,18 @@ def sessions() -> Library | None:
 
 
 class Called(Dialogue):
-    """A session of pcprobe by the calls of the sessions' library, in this process: as a Dialogue, but for an interrupt, which comes
-    between the parts of a run, and else once a command is answered."""
+    """A session of pcprobe, or else of `pcboard debug`, by the calls of the sessions' library, in this process: as a Dialogue, but for
+    an interrupt, which comes between the parts of a run, and else once a command is answered."""
 
-    def __init__(self, library: Library, source: bytes, run: bytes, is_hex: bool) -> None:
+    def __init__(self, library: Library, source: bytes, run: bytes, is_hex: bool, is_probe: bool) -> None:
         self._command = library.calls['zebludor_session_command']
         self._text = library.calls['zebludor_session_text']
         self._drop = library.calls['zebludor_session_drop']
-        begin = library.calls['zebludor_session_new_hex' if is_hex else 'zebludor_session_new']
-        session = library.structs['zebludor_session']()
-        self._session = library.at(session)
-        self.is_there = not begin(self._session, source, len(source), run, len(run)).fault
+        begin = library.calls[f'zebludor_{"session" if is_probe else "debug"}_new{"_hex" * is_hex}']
+        session, begun, self._told = (library.structs[f'zebludor_{name}']() for name in ('session', 'begun', 'told'))
+        self._session, self._answer = library.at(session), library.at(self._told)
+        begin(self._session, source, len(source), run, len(run), library.at(begun))
+        self.is_there = not begun.fault
         self.clock, self.is_idle = 0, True
         self._make_room(1 << 16)
 
@@ -806,10 +807,11 @@ class Called(Dialogue):
 
     def _made(self, line: bytes) -> bytes:
         """The text of the answer of a command, made at once."""
-        told = self._command(self._session, line, len(line), self._room, self._size)
+        told = self._told
+        self._command(self._session, line, len(line), self._room, self._size, self._answer)
         if told.status == 2:
             self._make_room(told.length)
-            told = self._text(self._session, self._room, self._size)
+            self._text(self._session, self._room, self._size, self._answer)
         if told.status == 1:
             raise Unfit('the session is closed')
         if told.status == 3:
@@ -817,7 +819,7 @@ class Called(Dialogue):
         return bytes(memoryview(self._room)[: told.length])
 
 
-def called_of(words: list[str]) -> Called | None:
+def called_of(words: list[str], is_probe: bool) -> Called | None:
     """A session of the sessions' library about files, as a program's words name them. None if the library isn't there, if a
     program is named or its memory limited, and if the files aren't read or are refused, which the program tells by name."""
     is_chosen = any(os.environ.get(it) for it in ('PCBOARD', 'PCPROBE')) and not os.environ.get('ZEBLUDOR_SESSION')
@@ -826,7 +828,7 @@ def called_of(words: list[str]) -> Called | None:
         return None
     try:
         with open(words[-2], 'rb') as source, open(words[-1], 'rb') as run:
-            called = Called(library, source.read(), run.read(), '--hex' in words[:-2])
+            called = Called(library, source.read(), run.read(), '--hex' in words[:-2], is_probe)
     except OSError:
         return None
     return called if called.is_there else None
@@ -898,7 +900,7 @@ class Session:
         self._changes = list[tuple[int, list[str]]]()  # the last ones: their clocks, and what was given then, with the keys since
         self._returns = dict[tuple[int, int], int]()  # the stops to which routines return
         with _made(source, is_hex, services, fields) as words:
-            called = called_of(words)
+            called = called_of(words, probe)
             if called:
                 self._dialogue: Dialogue = called
                 return

@@ -1,4 +1,4 @@
 // node web/pcboard.mjs WORDS ..: the program pcboard, in node's engine.
-import {start} from './system.mjs';
+import {start} from './program.mjs';
 
 start('pcboard');

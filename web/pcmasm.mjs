@@ -1,4 +1,4 @@
 // node web/pcmasm.mjs WORDS ..: the program pcmasm, in node's engine.
-import {start} from './system.mjs';
+import {start} from './program.mjs';
 
 start('pcmasm');

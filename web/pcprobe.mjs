@@ -1,4 +1,4 @@
 // node web/pcprobe.mjs WORDS ..: the program pcprobe, in node's engine.
-import {start} from './system.mjs';
+import {start} from './program.mjs';
 
 start('pcprobe');

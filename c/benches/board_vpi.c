@@ -90,9 +90,10 @@ static int read_file(text *to, const char *path) {
 /* Makes a command, and keeps its text with a 0 after it, however long it is. */
 static zebludor_told make(struct board *board, const char *line) {
     text *last = &board->last;
-    zebludor_told told = zebludor_session_command(&board->session, (const uint8_t *)line, strlen(line), last->bytes, last->room - 1);
+    zebludor_told told;
+    zebludor_session_command(&board->session, (const uint8_t *)line, strlen(line), last->bytes, last->room - 1, &told);
     if (told.status == 2 && has_room(last, told.length + 1)) {
-        told = zebludor_session_text(&board->session, last->bytes, last->room - 1);
+        zebludor_session_text(&board->session, last->bytes, last->room - 1, &told);
     }
     last->bytes[told.status == 0 ? told.length : 0] = 0;
     return told;
@@ -103,7 +104,7 @@ static PLI_INT32 begin(const char *name, vpiHandle *given) {
     text source = {0}, run = {0};
     int is_read = read_file(&source, text_of(given[0])) && read_file(&run, text_of(given[1])) && has_room(&board->last, 1 << 16);
     zebludor_begun told = {0, 0};
-    if (is_read) told = zebludor_session_new(&board->session, source.bytes, source.length, run.bytes, run.length);
+    if (is_read) zebludor_session_new(&board->session, source.bytes, source.length, run.bytes, run.length, &told);
     free(source.bytes);
     free(run.bytes);
     if (!is_read) return fail(name, "a file can't be read");

@@ -48,8 +48,10 @@ static int read_text(text *to, const char *path) {
 }
 
 static zebludor_outcome run_it(int is_hex, size_t room) {
-    return (is_hex ? zebludor_run_hex : zebludor_run)(program.bytes, program.length, run.bytes, run.length,
-                                                      report.bytes, room);
+    zebludor_outcome outcome;
+    (is_hex ? zebludor_run_hex : zebludor_run)(program.bytes, program.length, run.bytes, run.length, report.bytes, room,
+                                               &outcome);
+    return outcome;
 }
 
 /* Each allocation refused in turn: a run is then refused for want of memory. As the refused allocation comes later, the program's

@@ -1,5 +1,6 @@
-"""A session by the library zebludor_session, which ZEBLUDOR_SESSION names: `session.py SOURCE RUN LINES ANSWERS` makes the lines and
-wants these answers; then 10,000 commands, in at most 1 s of the processor; then a run without end, which is interrupted."""
+"""Sessions by the library zebludor_program, which ZEBLUDOR_SESSION names: `session.py SOURCE RUN LINES ANSWERS` makes the lines and
+wants these answers of one of pcprobe; then one of `pcboard debug` refuses a line of the probe's; then 10,000 commands, in at most 1 s of
+the processor; then a run without end, which is interrupted."""
 import os
 import signal
 import sys
@@ -62,7 +63,7 @@ def interrupted():
 
 def main():
     source, run, lines, wanted = sys.argv[1:]
-    session = zebludor.called_of([source, run])
+    session = zebludor.called_of([source, run], True)
     assert session, 'no session begins'
     came = ''.join(answers(session, text_of(lines).splitlines()))
     assert came == text_of(wanted), 'the answers differ'
@@ -72,7 +73,9 @@ def main():
         raise AssertionError('a closed session answers')
     except zebludor.Unfit:
         pass
-    again = zebludor.called_of([source, run])
+    debugger = zebludor.called_of([source, run], False)
+    assert debugger.one('chips') == 'fault 51 BadCommand', 'the debugger has an answer of the probe'
+    again = zebludor.called_of([source, run], True)
     took = seconds(again)
     print(f'{COMMANDS} commands in {took:.2f} s')
     assert took <= SECONDS, f'{COMMANDS} commands take {took:.2f} s'

@@ -17,6 +17,7 @@ struct tried {
 extern u8 __heap_base;
 static u8 *top, *end;
 static block *freed[64];
+static u64 taken, most = ~(u64)0; /* how many bytes the blocks have that are taken, and may have */
 
 /* A block of a class, of memory that was never taken; 0 if there is none. */
 static block *fresh(u64 class) {
@@ -37,15 +38,21 @@ static block *fresh(u64 class) {
 
 static void *get(u64 size) {
     u64 class = size > 16 ? 64 - __builtin_clzll(size + 15) : 5;
-    if (class > 40)
+    if (class > 40 || (u64)1 << class > most || taken > most - ((u64)1 << class))
         return 0;
-    block *taken = freed[class];
-    if (taken)
-        freed[class] = taken->next;
-    else if (!(taken = fresh(class)))
+    block *got = freed[class];
+    if (got)
+        freed[class] = got->next;
+    else if (!(got = fresh(class)))
         return 0;
-    taken->class = class;
-    return taken + 1;
+    taken += (u64)1 << class;
+    got->class = class;
+    return got + 1;
+}
+
+/* As c/memory.c has it, but that blocks count as they are cut, and the caller's texts with them. */
+void zebludor_limit(u64 bytes) {
+    most = bytes ? bytes : ~(u64)0;
 }
 
 static struct tried tried(void *got) {
@@ -60,6 +67,7 @@ struct tried rattle_alloc(u64 size, u64 alignment) {
 
 void rattle_dealloc(void *given) {
     block *its = (block *)given - 1;
+    taken -= (u64)1 << its->class;
     its->next = freed[its->class];
     freed[its->class] = its;
 }

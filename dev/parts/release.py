@@ -30,12 +30,10 @@ FOLDERS = ('c', 'docs', 'editors', 'examples', 'python', 'services', 'tools')
 LEFT_OUT = ('tools/test', 'tools/tests', 'editors/grammar')  # which want the sources
 LIBRARIES = {
     'zebludor_chips': 'timer, interrupt controller and parallel port of an IBM PC 5150',
-    'zebludor_run': 'whole runs of an IBM PC 5150',
-    'zebludor_session': 'sessions with an IBM PC 5150, forth and back',
+    'zebludor_program': 'an IBM PC 5150: runs, sessions, and the programs pcboard and pcprobe',
 }
 MEMORY = 'lib/libzebludor_memory.a'  # c/memory.c, by which what takes memory calls malloc, realloc and free
-TAKE_MEMORY = ('zebludor_run', 'zebludor_session')
-SHARED = ('zebludor_chips', 'zebludor_session')  # what python/zebludor.py loads
+TAKE_MEMORY = ('zebludor_program',)
 TIME = 315532800  # of every file: the first second of 1980, the earliest that other kinds of archives have too
 PACKAGE = """prefix=${{pcfiledir}}/../..
 libdir=${{prefix}}/lib
@@ -195,7 +193,7 @@ def verdicts_of(crates: Crates) -> str:
     """The text RELEASE: the version, and a text as PROVED of all that was built, by its path."""
     stored = proved.read(STORED)
     assert stored
-    whole = Proved(stored.kit, stored.logic, {f'stored/{name}': made for name, made in stored.made.items()}, {})
+    whole = Proved(stored.kit, stored.logic, {f'stored/{name}': stored.made[name] for name in PROGRAMS}, {})
     for crate in LIBRARIES:
         library = proved.read(os.path.dirname(archive_of(crates, crate)))
         assert library
@@ -217,7 +215,7 @@ def contents() -> dict[str, tuple[bytes, bool]]:
     for path, (octets, _) in found.items():
         if path.endswith('.md'):
             found[path] = linked(path, octets.decode(), found).encode(), False
-    for crate in SHARED:
+    for crate in LIBRARIES:
         found[f'lib/lib{crate}.so'] = shared(crate, archive_of(crates, crate)), False
     found[MEMORY] = memory(), False
     found['RELEASE'] = verdicts_of(crates).encode(), False

@@ -27,9 +27,12 @@ exec {clang} "$@"
 # What of these words is for x86-64 alone, or names files: with what follows it, a word a line.
 OF_X86 = r'--(?:target|sysroot)=.*|-march=.*|-fPI[CE]|-Werror|-x\nir\n.*|-o\n.*|-mllvm\n-no-x86-call-frame-opt'
 WASM = ['--target=wasm64-unknown-unknown', '-mcpu=lime1', '-mllvm', '-expand-div-rem-bits=64', '-mllvm', '-expand-fp-convert-bits=64']
-# What a program on WebAssembly asks of web/system.mjs.
-SYSTEM = ('rattle_arg', 'rattle_errno', 'rattle_set_errno', '__sysv_signal', '__xpg_strerror_r', 'open', 'close', 'read', 'write')
 FEATURES = ('memory64', 'bulk-memory', 'sign-ext', 'mutable-globals', 'nontrapping-float-to-int', 'multivalue')
+
+
+OF_THE_HEAP = ('zebludor_take', 'zebludor_give', 'zebludor_limit')  # what c/targets/wasm.c has for callers
+# The calls that a shared library has for others.
+VISIBLE = '{ global: zebludor_*; local: *; };\n'
 
 
 class Failed(Exception):
@@ -63,7 +66,8 @@ TARGETS = {
         'mingw-w64, which is in the program, msvcrt and Windows',
         '.exe',
     ),
-    'wasm': Target(WASM, {'wasm-ld-19': 'lld-19', 'wasm-opt': 'binaryen'}, ['--export=main'], 'web/system.mjs and an engine', '.wasm'),
+    'shared': Target([], {}, [], 'glibc'),
+    'wasm': Target(WASM, {'wasm-ld-19': 'lld-19', 'wasm-opt': 'binaryen'}, [], 'an engine'),
 }
 
 
@@ -151,13 +155,23 @@ def archive(room, target, to, run):
         run(f'{TOOLCHAIN}/bin/llvm-ar', 'rcsD', to, made)
 
 
-def link_wasm(room, is_program, to, run):
-    """Links a module of WebAssembly, and makes its memory one of 32 bits, as more engines have it. A library imports nothing."""
+def link_shared(room, to, run):
+    """Makes of Rattle's own object a shared library for x86-64 Linux with glibc, by the kit's compiler and linker alone."""
+    memory = ['-nostdinc', '-isystem', f'{C}/targets/plain', '-std=c11', '-O2', '-fPIC']
+    run(CLANG, '--target=x86_64-unknown-linux-gnu', *memory, '-c', f'{C}/memory.c', '-o', f'{room}/memory.o')
+    write_text(f'{room}/visible', VISIBLE)
+    words = ['-shared', '-soname', os.path.basename(to), '--build-id=none', '--strip-all', '--hash-style=gnu', '-z', 'relro', '-z', 'now']
+    whole = ['--whole-archive', f'{room}/own', '--no-whole-archive', f'{room}/memory.o']
+    system = [f'{TOOLCHAIN}/lib/libc.so.6', '--as-needed', f'{TOOLCHAIN}/lib/ld-linux-x86-64.so.2']
+    run(f'{TOOLCHAIN}/bin/ld.lld', *words, '--no-undefined', '--gc-sections', f'--version-script={room}/visible', *whole, *system, '-o', to)
+
+
+def link_wasm(room, to, run):
+    """Links a library as a module of WebAssembly, which imports nothing, and makes its memory one of 32 bits, as more engines have it."""
     objects = [compiled(room, 'wasm', run), f'{room}/heap.o']
     run(CLANG, *WASM, '-O2', '-fno-builtin', '-ffreestanding', '-nostdinc', '-c', f'{C}/targets/wasm.c', '-o', objects[1])
-    write_text(f'{room}/system', '\n'.join(SYSTEM if is_program else ()))
-    exports = (f'--export={name}' for name in (['main'] if is_program else calls_in(f'{room}/module.ll')))
-    asked = ['--gc-sections', '-z', 'stack-size=1048576', '--stack-first', f'--allow-undefined-file={room}/system', *exports]
+    exports = (f'--export={name}' for name in calls_in(f'{room}/module.ll'))
+    asked = ['--gc-sections', '-z', 'stack-size=1048576', '--stack-first', *exports]
     run('wasm-ld-19', '-mwasm64', '--no-entry', '--strip-debug', *asked, '-o', f'{room}/64.wasm', *objects)
     run('wasm-opt', f'{room}/64.wasm', *(f'--enable-{name}' for name in FEATURES), '--memory64-lowering', '-O2', '-o', to)
 
@@ -165,27 +179,43 @@ def link_wasm(room, is_program, to, run):
 def calls_in(path):
     """The calls that the module of a library has for C, and those by which a caller takes memory for texts and gives it back."""
     with open(path, encoding='utf-8') as file:
-        return [*sorted(re.findall(r'^define (?!internal)[^@\n]*@(zebludor_\w+)\(', file.read(), re.M)), 'zebludor_take', 'zebludor_give']
+        return [*sorted(re.findall(r'^define (?!internal)[^@\n]*@(zebludor_\w+)\(', file.read(), re.M)), *OF_THE_HEAP]
+
+
+def file_of(crates, name, target):
+    """The name of the file that is made of a crate for a target. A library that is ready to be called has no `_program` in it."""
+    if crates.is_program(name):
+        return f'{name}{TARGETS[target].ending}'
+    short = name.removesuffix('_program')
+    return {'wasm': f'{short}.wasm', 'shared': f'lib{short}.so'}.get(target, f'lib{name}.a')
+
+
+def linked(room, is_program, target, file, run):
+    """Makes a file for a target of what is kept in a folder, and returns its path."""
+    os.makedirs(f'{room}/files', exist_ok=True)
+    made = f'{room}/files/{file}'
+    if target == 'wasm':
+        link_wasm(room, made, run)
+    elif target == 'shared':
+        link_shared(room, made, run)
+    elif is_program:
+        link(room, target, made, run)
+    else:
+        archive(room, target, made, run)
+    return made
 
 
 def make(crates, name, target, work):
     """Builds a program or a static library for a target, and puts it with PROVED into crates/NAME/out/TARGET."""
-    is_program, file = crates.is_program(name), f'{name}{TARGETS[target].ending}'
+    file = file_of(crates, name, target)
     with waiting(f'{name}: building it for {target}') as say:
         say('Rattle proves it for any x86-64')
         room = keep_module(crates, name, work)
         say('clang compiles its module')
-        run = partial(do, work, room)
-        if target == 'wasm':
-            link_wasm(room, is_program, f'{room}/made', run)
-        elif is_program:
-            link(room, target, f'{room}/made', run)
-        else:
-            file = f'lib{name}.a'
-            archive(room, target, f'{room}/made', run)
+        made = linked(room, crates.is_program(name), target, file, partial(do, work, room))
     to = f'{TOP}/crates/{name}/out/{target}/{file}'
     os.makedirs(os.path.dirname(to), exist_ok=True)
-    os.replace(shutil.copy(f'{room}/made', f'{to}.new'), to)
+    os.replace(shutil.copy(made, f'{to}.new'), to)
     note(to, crates, name, target, room)
 
 

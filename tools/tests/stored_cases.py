@@ -15,6 +15,9 @@ from toolbox import program
 from toolbox.crates import TOP
 
 LANES = 4
+# What runs pcboard on words, with files by their names, and standard input: the status, and what it prints and tells.
+Ran = tuple[int, bytes, bytes]
+Runner = Callable[[list[bytes], dict[bytes, bytes], bytes], Ran]
 # What stands before and behind a line of source_cases, and where its bytes begin and end.
 BEFORE = 'five EQU 5\nlow EQU -3\nbig EQU 1234h\nSEGMENT A AT 1000h\n ORG 0FF0h\nback: DB 0\n ORG 1000h\n'
 BEHIND = '\n ORG 1040h\nfore: DB 0\nlater EQU 7\n'
@@ -50,18 +53,27 @@ def parts_of(case: str) -> dict[str, list[str]]:
     return found
 
 
-def amiss_in_a_run(case: str) -> str | None:
-    """What isn't as a case of program_cases says, or nothing."""
-    parts = parts_of(case)
+def ran_here(words: list[bytes], files: dict[bytes, bytes], given: bytes) -> Ran:
+    """What the program that is here does, in a folder of its own that has these files."""
     with tempfile.TemporaryDirectory() as room:
-        for each in parts.get('file', []):
-            name, _, text = each.partition(' ')
-            with open(os.path.join(room.encode(), spelled(name)), 'wb') as file:
-                file.write(spelled(text))
-        words = [spelled(each) for each in parts.get('words', [''])[0].split()]
-        given = spelled(parts.get('input', [''])[0])
+        for name, octets in files.items():
+            with open(os.path.join(room.encode(), name), 'wb') as file:
+                file.write(octets)
         ran = subprocess.run([program.path(), *words], input=given, capture_output=True, cwd=room, check=False)
-    return amiss_in(parts, ran.returncode, ran.stdout, ran.stderr)
+    return ran.returncode, ran.stdout, ran.stderr
+
+
+def asked_in(case: str) -> tuple[list[bytes], dict[bytes, bytes], bytes]:
+    """The words, files and input of a case of program_cases."""
+    parts = parts_of(case)
+    files = (each.partition(' ') for each in parts.get('file', []))
+    words = [spelled(each) for each in parts.get('words', [''])[0].split()]
+    return words, {spelled(name): spelled(text) for name, _, text in files}, spelled(parts.get('input', [''])[0])
+
+
+def amiss_in_a_run(case: str, ran: Runner = ran_here) -> str | None:
+    """What isn't as a case of program_cases says, or nothing."""
+    return amiss_in(parts_of(case), *ran(*asked_in(case)))
 
 
 def amiss_in(parts: dict[str, list[str]], status: int, out: bytes, err: bytes) -> str | None:
@@ -77,11 +89,11 @@ def amiss_in(parts: dict[str, list[str]], status: int, out: bytes, err: bytes) -
     return 'what is printed' if not is_printed else None if is_told else 'what is told'
 
 
-def assembled(source: str, form: Callable[[dict[int, int]], str], fault: Callable[[str, str | None], str]) -> str:
+def assembled(ran: Runner, source: str, form: Callable[[dict[int, int]], str], fault: Callable[[str, str | None], str]) -> str:
     """What the assembler makes of a source: its bytes by their addresses, or its fault's number and line."""
-    ran = subprocess.run([program.path(), 'asm', '/dev/stdin'], input=source.encode('utf-8', 'surrogateescape'), capture_output=True, check=False)
-    said = re.fullmatch(r'fault (\d+) \w+(?: line (\d+))?\n', ran.stderr.decode())
-    return fault(said[1], said[2]) if said else form(bytes_of(ran.stdout.decode()))
+    _, out, err = ran([b'asm', b'source'], {b'source': source.encode('utf-8', 'surrogateescape')}, b'')
+    said = re.fullmatch(r'fault (\d+) \w+(?: line (\d+))?\n', err.decode())
+    return fault(said[1], said[2]) if said else form(bytes_of(out.decode()))
 
 
 def bytes_of(text: str) -> dict[int, int]:
@@ -103,29 +115,30 @@ def run_of(octets: dict[int, int], place: int, end: int) -> str:
     return text
 
 
-def placed(line: str) -> str:
+def placed(ran: Runner, line: str) -> str:
     """What a line places in a whole source, as source_cases has it."""
     return assembled(
+        ran,
         f'{BEFORE}{line}{BEHIND}',
         lambda octets: run_of(octets, PLACE, END) or 'none',
         lambda number, at: f'fault {number}' + (f' line {at}' if at and at != str(LINE) else ''),
     )
 
 
-def front(size: str, whole: str) -> str:
+def front(ran: Runner, size: str, whole: str) -> str:
     """What the first bytes of the source that is cut give."""
 
     def form(octets: dict[int, int]) -> str:
         places = ((0xF0000, 0xF0040), (0xFFFF0, 0x100030))
         return 'front' + ''.join(f' {place:05X}:{run_of(octets, place, end)}' for place, end in places if place in octets)
 
-    return assembled(whole[: int(size)], form, lambda number, at: f'front fault {number}' + (f' line {at}' if at else ''))
+    return assembled(ran, whole[: int(size)], form, lambda number, at: f'front fault {number}' + (f' line {at}' if at else ''))
 
 
-def amiss_in_a_line(case: str) -> str | None:
+def amiss_in_a_line(case: str, ran: Runner = ran_here) -> str | None:
     """The answer to a case of source_cases, if it isn't the wanted one."""
     text, _, wanted = case.partition(' => ')
-    answer = front(text.split()[1], cut_source()) if wanted.startswith('front') else placed(text)
+    answer = front(ran, text.split()[1], cut_source()) if wanted.startswith('front') else placed(ran, text)
     return None if answer == wanted else answer
 
 

@@ -88,6 +88,20 @@ def is_there(command: str, what: str, package: str) -> bool:
     return found
 
 
+def only_if(is_there: Callable[[Any], bool]) -> Callable[[Callable[[Any], None]], Callable[[Any], None]]:
+    """Of a test one that ends at once if this, which tells then what isn't run, says no."""
+
+    def checked(test: Callable[[Any], None]) -> Callable[[Any], None]:
+        @functools.wraps(test)
+        def asking(case: Any) -> None:
+            if is_there(case):
+                test(case)
+
+        return asking
+
+    return checked
+
+
 def example(name: str) -> tuple[str, str]:
     """The source and the run file of an example."""
     return f'{EXAMPLES}/{name}.asm', f'{EXAMPLES}/{name}.json'

@@ -27,6 +27,7 @@ class Header(unittest.TestCase):
         self.assertIn('zebludor_pit_advance', calls)
         self.assertIn('zebludor_run_hex', calls)
         self.assertIn('zebludor_session_command', calls)
+        self.assertIn('zebludor_pcprobe', calls)
 
     def test_another_type_is_found(self) -> None:
         module = benches()

@@ -89,6 +89,16 @@ class ForTargets(Repository):
         self.build('pcboard', '--target', 'musl')
         self.assertEqual(self.text('bin/proved').split()[2:], ['pcboard'])
 
+    def test_over_what_the_gate_proved(self) -> None:
+        """No crate below is proved again, and each has to be there."""
+        ran = self.build('pcboard', '--target', 'musl', '--proved')
+        self.assertIn('no library of low is here', ran.stderr)
+        os.makedirs(f'{self.room}/top/crates/low/out/rlib/low.rlib')
+        ran = self.build('pcboard', '--target', 'musl', '--proved')
+        self.assertEqual((ran.returncode, ran.stdout), (0, ''), ran.stderr)
+        self.assertEqual(self.text('bin/proved').split(), ['pcboard'])
+        self.assertIn('--proved wants a --target', self.build('pcboard', '--proved').stderr)
+
     def test_a_static_library(self) -> None:
         os.chmod(self.file('toolchain/bin/llvm-ar', '#!/bin/sh\necho "$1 $3" > "$2"\n'), 0o755)
         self.file('top/crates.txt', 'low:\nother staticlib: low\n')
@@ -97,9 +107,21 @@ class ForTargets(Repository):
         self.assertRegex(self.text('top/crates/other/out/aarch64/libother.a'), r'\ArcsD \S+/aarch64\.o\n\Z')
         self.assertIn('\nmade libother.a ', self.text('top/crates/other/out/aarch64/PROVED'))
 
+    def test_a_shared_library(self) -> None:
+        """The kit's own linker makes it, so that it is the same wherever it is made."""
+        linker = self.file('toolchain/bin/ld.lld', '#!/bin/sh\nfor word; do last=$word; done\necho "$*" > "$last"\n')
+        os.chmod(linker, 0o755)
+        self.file('top/crates.txt', 'low:\npcboard: low\nother_program staticlib: low\n')
+        os.rename(f'{self.room}/top/crates/other', f'{self.room}/top/crates/other_program')
+        ran = self.build('other_program', '--target', 'shared')
+        self.assertEqual((ran.returncode, ran.stdout), (0, ''), ran.stderr)
+        self.assertRegex(self.text('top/crates/other_program/out/shared/libother.so'), r' -soname libother\.so .*/own .*/memory\.o ')
+        self.assertRegex(self.text('top/crates/other_program/out/shared/PROVED'), r'\nmade libother\.so \w+ sources \w+\ntarget shared module \w+\ntrusted ')
+        self.assertIn('pcboard is a program, and for shared libraries alone are built', self.build('pcboard', '--target', 'shared').stderr)
+
     def test_what_a_library_has_for_its_callers(self) -> None:
         text = 'define i64 @zebludor_b(ptr %a) {\ndefine internal i64 @zebludor_c() {\ndefine { i64, i8 } @zebludor_a() #0 {\ndefine void @"it"() {\n'
-        self.assertEqual(targets.calls_in(self.file('module.ll', text)), ['zebludor_a', 'zebludor_b', 'zebludor_take', 'zebludor_give'])
+        self.assertEqual(targets.calls_in(self.file('module.ll', text)), ['zebludor_a', 'zebludor_b', *targets.OF_THE_HEAP])
 
     def test_what_is_built_for_none(self) -> None:
         for words, why in (

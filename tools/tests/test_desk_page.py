@@ -173,8 +173,11 @@ class OnePage(ToolCase):
         self.assertEqual(browser.run("document.querySelector('#ink .refused').textContent.replace(/;.*/,'').trim()"), 'DVI BX')
         self.assertEqual(browser.run("document.body.innerText.split('is DIV meant').length"), 2)
         page.write(source)
+        # Run runs what was changed from its start, in real time, up to where nothing more happens.
         browser.press('F8')
-        page.settled("view.clock===runFile.budget&&$('refusals').hidden&&refused.length===0")
+        page.settled("view.state==='halted for good'&&$('refusals').hidden&&refused.length===0")
+        self.assertLess(page.clock, browser.run('runFile.budget'))
+        self.assertEqual(page.screen(), report.screen)
         # To the start, step, a stop by the margin, run to it, back to it.
         page.click('#start', 'view.clock===0')
         self.assertEqual(browser.run('view.line'), browser.run("$('source').value.split('\\n').findIndex(it=>it.includes('JMP FAR'))") + 1)

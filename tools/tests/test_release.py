@@ -23,7 +23,7 @@ from toolbox.proved import PROGRAMS, Made, Proved
 from toolbox.sources import sum_of, sum_of_sources
 
 VERDICT = 'logic=proved functions=1 sum=0123456789abcdef native=nat'
-LIBRARIES = ('zebludor_chips', 'zebludor_run', 'zebludor_session')
+LIBRARIES = ('zebludor_chips', 'zebludor_program')
 CRATES = {it: {'low', it} for it in ('pcboard', *LIBRARIES)} | {'pcprobe': {'low', 'probe', 'pcprobe'}, 'pcmasm': {'low', 'pcmasm'}}
 NAME = release.name()
 MADE = (f'{NAME}.tar.gz', wheel.name(release.version()), debian.name(release.version()), 'Containerfile')
@@ -108,7 +108,7 @@ class Unpacked(Repository):
             shutil.copy(program.path(name), f'{self.top}/stored/{name}')
         self.file(
             'top/crates.txt',
-            'low:\npcboard: low\nprobe: low\npcprobe: low probe\npcmasm: low\nzebludor_chips staticlib: low\nzebludor_run staticlib: low\nzebludor_session staticlib: low\n',
+            'low:\npcboard: low\nprobe: low\npcprobe: low probe\npcmasm: low\nzebludor_chips staticlib: low\nzebludor_program staticlib: low\n',
         )
         for name in release.LIBRARIES:
             for part in ('src', 'out'):
@@ -268,8 +268,8 @@ class Release(Unpacked):
             'docs/book.txt',
             'lib/libzebludor_chips.a',
             'lib/libzebludor_chips.so',
-            'lib/libzebludor_session.so',
-            'lib/pkgconfig/zebludor_run.pc',
+            'lib/libzebludor_program.so',
+            'lib/pkgconfig/zebludor_program.pc',
             'editors/emacs.el',
         ):
             self.assertIn(f'{NAME}/{path}', names)
@@ -284,9 +284,9 @@ class Release(Unpacked):
         self.assertEqual(lines[:3], heads)
         made = [(f'{top}/{path}', crate) for path, crate in (*((f'stored/{it}', it) for it in PROGRAMS), *((f'lib/lib{it}.a', it) for it in LIBRARIES))]
         self.assertEqual(
-            lines[3:9], [f'made {os.path.relpath(path, top)} {sum_of(path)} sources {sum_of_sources(CRATES[crate], self.top)}' for path, crate in made]
+            lines[3:8], [f'made {os.path.relpath(path, top)} {sum_of(path)} sources {sum_of_sources(CRATES[crate], self.top)}' for path, crate in made]
         )
-        self.assertEqual(lines[9:], [f'{it}: {VERDICT} of={it}' for it in ('low', 'pcboard', 'pcmasm', 'pcprobe', 'probe', *LIBRARIES)])
+        self.assertEqual(lines[8:], [f'{it}: {VERDICT} of={it}' for it in ('low', 'pcboard', 'pcmasm', 'pcprobe', 'probe', *LIBRARIES)])
 
     def test_sums(self) -> None:
         top = self.unpacked()
@@ -398,13 +398,13 @@ class Libraries(Unpacked):
             return
         top = self.unpacked('plain')
         flags = subprocess.run(
-            ['pkg-config', '--cflags', '--libs', 'zebludor_run'],
+            ['pkg-config', '--cflags', '--libs', 'zebludor_program'],
             capture_output=True,
             text=True,
             check=True,
             env={'PATH': '/usr/bin:/bin', 'PKG_CONFIG_PATH': f'{top}/lib/pkgconfig'},
         ).stdout
-        self.assertRegex(flags, r' -L\S+/lib -l:libzebludor_run\.a -l:libzebludor_memory\.a ?\n\Z')
+        self.assertRegex(flags, r' -L\S+/lib -l:libzebludor_program\.a -l:libzebludor_memory\.a ?\n\Z')
         if not self.is_real:
             not_run('whole runs in C from a release; dev/benches builds their library')
             return
@@ -427,12 +427,12 @@ class Lacking(Unpacked):
 
     def test_what_is_missing(self) -> None:
         os.remove(self.made('zebludor_chips'))
-        os.remove(f'{self.top}/crates/zebludor_run/out/PROVED')
+        os.remove(f'{self.top}/crates/zebludor_program/out/PROVED')
         os.remove(f'{self.top}/LICENSE-MIT')
         self.refused(
             "LICENSE-MIT isn't there",
             "libzebludor_chips.a isn't there; dev/build zebludor_chips proves and builds it",
-            'nothing tells what crates/zebludor_run/out/libzebludor_run.a was made of; dev/build zebludor_run',
+            'nothing tells what crates/zebludor_program/out/libzebludor_program.a was made of; dev/build zebludor_program',
         )
 
     def test_other_sources(self) -> None:
@@ -455,7 +455,7 @@ class Lacking(Unpacked):
         self.refused(*(f'stored/{name} {one}' for name in PROGRAMS))
 
     def test_a_verdict_that_is_unknown(self) -> None:
-        path = f'{self.top}/crates/zebludor_run/out/PROVED'
+        path = f'{self.top}/crates/zebludor_program/out/PROVED'
         with open(path, encoding='utf-8') as file:
             verdicts = file.read()
         self.file(os.path.relpath(path, self.room), re.sub('^low: .*\n', '', verdicts, flags=re.M))

@@ -12,7 +12,7 @@ import unittest
 from collections.abc import Callable
 from dataclasses import replace
 
-from tests.repository import KIT, LOGIC, Repository
+from tests.repository import CRATES, KIT, LOGIC, Repository
 from tests.support import TOP, ToolCase, is_there, not_run, until
 from toolbox import program, proved
 from toolbox.command import write_text
@@ -119,6 +119,42 @@ class Stored(Repository):
         self.assertEqual(self.at_once(), '')
         shutil.rmtree(f'{self.room}/cache')
         self.assertIn('dev/build pcprobe proves this one here', self.launch(name='pcprobe').stderr)
+
+    def put_library(self) -> None:
+        """Puts the library's files there, as dev/build leaves them that makes them for targets."""
+        self.file('top/crates.txt', CRATES + 'zebludor_program staticlib: low\n')
+        os.makedirs(f'{self.top}/crates/zebludor_program/src')
+        self.file('top/crates/zebludor_program/src/lib.rt', '// nothing\n')
+        for name, target in proved.LIBRARY_FILES.items():
+            os.makedirs(f'{self.top}/crates/zebludor_program/out/{target}')
+            path = self.file(f'top/crates/zebludor_program/out/{target}/{name}', f'for {target}')
+            made = {name: proved.Made(sum_of(path), sum_of_sources({'low', 'zebludor_program'}, self.top))}
+            verdicts = {'low': VERDICT, 'zebludor_program': VERDICT}
+            whole = proved.Proved(KIT, LOGIC, made, verdicts, f'target {target} module 12\ntrusted it\n')
+            self.file(f'top/crates/zebludor_program/out/{target}/PROVED', whole.text())
+
+    def test_the_library_is_stored_with_them(self) -> None:
+        self.put_library()
+        self.build_all()
+        self.build('--store')
+        stored = self.proved(self.stored)
+        self.assertEqual(list(stored.made), [*NAMES, 'zebludor.wasm', 'libzebludor.so'])
+        self.assertEqual(stored.target, 'target wasm module 12\ntrusted it\ntarget shared module 12\ntrusted it\n')
+        self.assertEqual(stored.verdicts.keys(), {*ALL, 'zebludor_program'})
+        with open(f'{self.stored}/zebludor.wasm', encoding='ascii') as file:
+            self.assertEqual(file.read(), 'for wasm')
+        self.assertEqual(self.launch().stderr, '')
+
+    def test_a_library_of_other_sources_is_not_stored(self) -> None:
+        self.put_library()
+        self.build_all()
+        os.remove(f'{self.top}/crates/zebludor_program/out/shared/libzebludor.so')
+        ran = self.start(f'{self.top}/dev/build', '--store')
+        self.assertIn("libzebludor.so isn't there, or nothing tells what it was made of; dev/build zebludor_program --target shared makes it", ran.stderr)
+        self.change_text('crates/zebludor_program/src/lib.rt')
+        ran = self.start(f'{self.top}/dev/build', '--store')
+        self.assertIn('zebludor.wasm is not made of the present sources; dev/build zebludor_program --target wasm makes it', ran.stderr)
+        self.assertFalse(os.path.exists(self.stored))
 
     def test_where_nothing_can_be_kept_it_is_said_again(self) -> None:
         self.store()

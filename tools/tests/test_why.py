@@ -7,7 +7,7 @@ import unittest
 
 from tests.support import TOP, ToolCase, example
 
-from toolbox.faults import KINDS, MEMORY, Fault, fault_in
+from toolbox.faults import KINDS, Fault, fault_in
 from toolbox.hints import hint_of
 
 HINTS = (
@@ -93,7 +93,7 @@ class Words(unittest.TestCase):
         self.assertEqual(fault_in('fault 36 RamSize'), Fault(36, None))
         self.assertEqual(fault_in('stop 1\nfault 54 BeforeStart\n'), Fault(54, None))
         self.assertIsNone(fault_in('fault 3 BadLook line 1'))
-        self.assertEqual(KINDS[53].meaning, MEMORY)
+        self.assertEqual(KINDS[53].meaning, 'out of memory')
 
     def test_hints(self) -> None:
         for number, line, wanted in HINTS:

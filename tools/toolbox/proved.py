@@ -15,10 +15,12 @@ from toolbox.crates import CACHE, TOP, Crates, want_rattle
 from toolbox.sources import files, stamps, sum_of, sum_of_sources
 
 PROGRAMS = ('pcboard', 'pcprobe', 'pcmasm')  # which are stored together
+# The library that is stored beside them: for which target each of its files is made.
+LIBRARY, LIBRARY_FILES = 'zebludor_program', {'zebludor.wasm': 'wasm', 'libzebludor.so': 'shared'}
 STORED = f'{TOP}/stored'
 REMEMBERED = f'{CACHE}/zebludor/verdicts'
 VERDICT = 'logic=proved '
-TEXT = re.compile(r'kit (\S+)\nlogic (\S+)\n((?:made \S+ \S+ sources \S+\n)*)((?:target .*\n(?:trusted .*\n)*)?)((?:\w+: .*\n)*)(?:changed \S+ \S+\n)*')
+TEXT = re.compile(r'kit (\S+)\nlogic (\S+)\n((?:made \S+ \S+ sources \S+\n)*)((?:target .*\n(?:trusted .*\n)*)*)((?:\w+: .*\n)*)(?:changed \S+ \S+\n)*')
 
 
 @dataclass(frozen=True)
@@ -32,7 +34,7 @@ class Made:
 @dataclass(frozen=True)
 class Proved:
     """The text PROVED: kit and logic, what they made by the names of its files, and of each crate the line in which Rattle tells
-    that it is proved. Of a file for another target than x86-64 Linux with glibc also the lines that tell the target and the module
+    that it is proved. Of each file for another target than x86-64 Linux with glibc also the lines that tell the target and the module
     that was compiled for it, and what more is to be trusted."""
 
     kit: str
@@ -196,6 +198,34 @@ def built_here(name: str) -> Proved:
     return known
 
 
+def library_built_here(name: str) -> Proved:
+    """What is known of a file of the library for another target, which has to be made of the present sources."""
+    target, names = LIBRARY_FILES[name], Crates().below(LIBRARY)
+    path = f'{TOP}/crates/{LIBRARY}/out/{target}/{name}'
+    short, build = os.path.relpath(path, TOP), f'dev/build {LIBRARY} --target {target} makes it'
+    known = read(os.path.dirname(path))
+    made = known and known.of(path)
+    if known is None or made is None:
+        raise Sorry(f"{short} isn't there, or nothing tells what it was made of; {build}")
+    if made.sources != sum_of_sources(names):
+        raise Sorry(f'{short} is not made of the present sources; {build}')
+    lacking = sorted(names - known.verdicts.keys())
+    if lacking:
+        raise Sorry(f'the verdicts of {", ".join(lacking)} are unknown where {short} was made; {build}')
+    return known
+
+
+def library_file(name: str) -> str | None:
+    """The library's file of this name that was made of the present sources: the one that was built here, else the stored one, if any."""
+    sources = sum_of_sources(Crates().below(LIBRARY))
+    for folder in (f'{TOP}/crates/{LIBRARY}/out/{LIBRARY_FILES[name]}', STORED):
+        known, path = read(folder), f'{folder}/{name}'
+        made = known and known.of(path)
+        if made and made.sources == sources:
+            return path
+    return None
+
+
 def was_left_by_ci(program: str) -> bool:
     """Whether `rt ci` left this program, which it runs, and keeps what it printed. One that was copied there has nothing beside it."""
     printed = f'{os.path.dirname(program)}/stdout'
@@ -203,19 +233,22 @@ def was_left_by_ci(program: str) -> bool:
 
 
 def store() -> Proved:
-    """Makes the stored programs those that were built here. Nothing is stored where one of them can't be."""
-    built = [built_here(name) for name in PROGRAMS]
+    """Makes the stored programs and the library's files those that were built here. Nothing is stored where one of them can't be."""
+    library = LIBRARY_FILES if LIBRARY in Crates().static else {}
+    paths = {name: out(name) for name in PROGRAMS} | {name: f'{TOP}/crates/{LIBRARY}/out/{target}/{name}' for name, target in library.items()}
+    built = [*map(built_here, PROGRAMS), *map(library_built_here, library)]
     if len({(each.kit, each.logic) for each in built}) > 1:
-        raise Sorry(' and '.join(f'{each.kit} made crates/{name}/out/{name}' for name, each in zip(PROGRAMS, built)) + '; one kit has to make all of them')
-    whole = Proved(built[0].kit, built[0].logic, {}, {})
+        made = (f'{each.kit} made {os.path.relpath(path, TOP)}' for path, each in zip(paths.values(), built))
+        raise Sorry(' and '.join(made) + '; one kit has to make all of them')
+    whole = Proved(built[0].kit, built[0].logic, {}, {}, ''.join(each.target for each in built))
     for each in built:
         whole.made.update(each.made)
         whole.verdicts.update(each.verdicts)
     os.makedirs(STORED, exist_ok=True)
-    for name in PROGRAMS:
-        shutil.copyfile(out(name), f'{STORED}/{name}.new')
-        os.chmod(f'{STORED}/{name}.new', 0o755)
-    for name in PROGRAMS:
+    for name, path in paths.items():
+        shutil.copyfile(path, f'{STORED}/{name}.new')
+        os.chmod(f'{STORED}/{name}.new', 0o755 if name in PROGRAMS else 0o644)
+    for name in paths:
         os.replace(f'{STORED}/{name}.new', f'{STORED}/{name}')
     write_text(f'{STORED}/PROVED', whole.text())
     return whole

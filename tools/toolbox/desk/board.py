@@ -265,7 +265,7 @@ class Board:
         if state == 'running':
             return None
         if state != 'halted':
-            return self._moved(lambda: self.machine.one('step'), seen)
+            return self._moved(lambda: [self.machine.one('step')], seen)
         found = self._moved(self.machine.step_own, seen)
         if found['why'] == 'far':
             self.machine.go_to(here)

@@ -1,4 +1,5 @@
 /* What all parts of the page share: its elements, words for numbers, and how the desk is asked. */
+import {answer_of} from './served.js';
 export const HERTZ = 14318180 / 3, LAST = 2 ** 40;
 export const $ = id => document.getElementById(id);
 export const number = n => n.toLocaleString('en-US');
@@ -11,15 +12,12 @@ export function time_of(clocks) {
   return `${(isLong ? seconds : seconds * 1000).toLocaleString('en-US', shown)} ${isLong ? 's' : 'ms'}`;
 }
 /* Asking. A page asks one thing at a time, and follows what takes long. */
-export async function ask(word, fields = {}) {
-  let answer;
-  try {
-    answer = await fetch('do', {method: 'POST', headers: {'Content-Type': 'application/json'}, body: JSON.stringify({do: word, ...fields})});
-  } catch {
-    throw new Error('desk has ended: start tools/desk again');
-  }
-  if (!answer.ok) throw new Error(await answer.text() || 'desk is busy with other requests; try again');
-  return answer.json();
+export const ask = (word, fields = {}) => answer_of({do: word, ...fields});
+/* A run file's text, the fields in the order of docs/formats.md. */
+export function run_text(run) {
+  const order = ['version', 'ram', 'sw1', 'sw2', 'budget', 'keys', 'timer', 'clocks'];
+  const names = [...order.filter(it => it in run), ...Object.keys(run).filter(it => !order.includes(it))];
+  return `${JSON.stringify(Object.fromEntries(names.map(it => [it, run[it]])))}\n`;
 }
 export function say(text, isGood = false) {
   $('said').textContent = text;

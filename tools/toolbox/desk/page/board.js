@@ -3,16 +3,20 @@ import {$, HERTZ, LAST, ask, counted, differ, number, say, time_of} from './aski
 import {draw_rows} from './code.js';
 import {assembled, draw_paper, note_assembled, refused, tell_refused} from './editor.js';
 import {fields_now, isHex, note_run, runFile} from './files.js';
-import {draw_callers, draw_registers, draw_stack, draw_trail, draw_why, forget_before, forget_why} from './processor.js';
+import {draw_callers, draw_registers, draw_stack, draw_trail, draw_why, forget_before} from './processor.js';
+import {forget_why} from './processor.js';
 import {touched} from './saving.js';
 import {codes, draw_keys, draw_screen, send_keys} from './screen.js';
+import {tell_last} from './served.js';
 import {speaker} from './sound.js';
 import {begin_line, dragging, draw_marks, drawn, later, look_on, met, span} from './timeline.js';
 const TICK = 60, LONG_TICK = 240, STILL = 10;
-const ENDS = {jammed: 'the processor has jammed: there is no instruction here', 'halted for good': 'halted with interrupts off: nothing more will happen'};
+const ENDS = {jammed: 'the processor has jammed: there is no instruction here',
+  'halted for good': 'halted with interrupts off: nothing more will happen'};
 /* Why nothing more will happen in a state, if so: a program with services has ended. */
 const end_of = state => ENDS[state] || (state && state.startsWith('ended') ? state : '');
-export let board = null, seen = 0, view = null, looked = null, running = null, working = false, queue = Promise.resolve();
+export let board = null, seen = 0, view = null, looked = null, running = null, working = false,
+  queue = Promise.resolve();
 export let lines = {}, stops = [];
 export let wake = () => {};  // ends the wait between two pieces of a run
 
@@ -39,16 +43,20 @@ export async function move(word, fields = {}) {
   if (answer.sorry) { say(answer.sorry); return answer; }
   if (answer.registers) { show(answer, fields.light); tell_place(); }
   if (answer.told) say(answer.told, true);
-  if (['step', 'over', 'out'].includes(word) && (ENDS[answer.why] || end_of(answer.state))) say(end_of(answer.state) || ENDS[answer.why], true);
+  if (['step', 'over', 'out'].includes(word) && (ENDS[answer.why] || end_of(answer.state)))
+    say(end_of(answer.state) || ENDS[answer.why], true);
   if (answer.why === 'far') say('not over after 50,000,000 clocks; press it again to go on');
   return answer;
 }
 /* Where the board is after a move, for who listens. */
 function tell_place() {
-  const source = $('source').value === assembled ? assembled.split('\n')[view.line - 1] : '', code = (source || '').replace(/;.*/, '').trim();
-  $('aloud').textContent = `clock ${number(view.clock)}, ${view.line ? `line ${view.line}${code ? `: ${code}` : ''}` : view.place}${view.state === 'running' ? '' : `, ${view.state}`}`;
+  const source = $('source').value === assembled ? assembled.split('\n')[view.line - 1] : '',
+    code = (source || '').replace(/;.*/, '').trim();
+  const where = view.line ? `line ${view.line}${code ? `: ${code}` : ''}` : view.place;
+  $('aloud').textContent = `clock ${number(view.clock)}, ${where}${view.state === 'running' ? '' : `, ${view.state}`}`;
 }
-/* A board that was left alone is begun anew, of the text that it had, at the clock where it was, with its keys and stops. */
+/* A board that was left alone is begun anew, of the text that it had, at the clock where it was, with its keys and
+   stops. */
 export async function come_back(why, word) {
   const clock = view ? view.clock : 0, keys = (view && view.raw) || runFile.keys;
   board = null;
@@ -84,7 +92,12 @@ export async function begin(fields, clock = null, text = $('source').value) {
   begin_line(); forget_before();
   tell_refused(answer.refused || []);
   if (answer.sorry || answer.gone) { say(answer.sorry || answer.gone); return; }
-  if (answer.refused) { say(refused[0].line ? `${counted(refused.length, 'line')} refused` : 'refused'); lines = {}; draw_paper(); return; }
+  if (answer.refused) {
+    say(refused[0].line ? `${counted(refused.length, 'line')} refused` : 'refused');
+    lines = {};
+    draw_paper();
+    return;
+  }
   board = answer.board; lines = answer.lines; note_assembled(text);
   services = answer.services;
   $('to').value = answer.budget;
@@ -101,7 +114,10 @@ async function run_to(to) {
     answer = await follow_quietly(await ask('run', {board, seen, to, past: true, ms: 200}));
     if (!answer.registers) break;
     show(answer);
-    if (working && answer.clock < to) { say(`at clock ${number(answer.clock)} of ${number(to)}; Pause ends it`, true); draw_run(); }
+    if (working && answer.clock < to) {
+      say(`at clock ${number(answer.clock)} of ${number(to)}; Pause ends it`, true);
+      draw_run();
+    }
   } while (working && answer.clock < to);
   working = false;
   draw_run();
@@ -123,8 +139,17 @@ export function show(answer, isLight = false) {
   $('undo').hidden = !answer.changed;
   forget_why();
   if (answer.why === 'stop' && !met.includes(answer.clock)) met.push(answer.clock);
-  if (!isLight) { draw_registers(looked && looked.registers, answer.registers); looked = answer; draw_trail(); draw_callers(); draw_stack(); draw_keys(); later(look_on); }
-  else if (!isOn || differ(kept.registers, answer.registers)) draw_registers(looked && looked.registers, answer.registers);
+  if (!isLight) {
+    draw_registers(looked && looked.registers, answer.registers);
+    looked = answer;
+    draw_trail();
+    draw_callers();
+    draw_stack();
+    draw_keys();
+    later(look_on);
+  }
+  else if (!isOn || differ(kept.registers, answer.registers))
+    draw_registers(looked && looked.registers, answer.registers);
   if (!isOn || kept.line !== answer.line) draw_paper(!isLight);
   /* While a run goes on, its clock and the time line are drawn five times a second. */
   if (isOn && answer.why !== 'stop' && performance.now() < drawn + 200) return;
@@ -146,7 +171,8 @@ export async function put_stops(wanted) {
     say(answer.sorry);
     answer = await ask('stops', {board, stops: stops === wanted ? [] : stops.map(it => it.place)});
   }
-  if (answer.stops) stops = answer.stops.map(([place, label, line]) => ({place: line ? `:${line}` : place, at: place, label, line}));
+  if (answer.stops)
+    stops = answer.stops.map(([place, label, line]) => ({place: line ? `:${line}` : place, at: place, label, line}));
   draw_stops();
 }
 /* A stop in words: of a place its address, label and line. */
@@ -156,7 +182,8 @@ function told_of(stop) {
   const [, address, value] = /^byte (\w+) (\w+)$/.exec(stop.place) || [];
   if (address) return `the byte at ${address}${stop.label ? ` ${stop.label}` : ''} is ${value.padStart(2, '0')}`;
   const [, first, count] = /^changes (\w+) (\d+)$/.exec(stop.place) || [];
-  if (first) return `${count === '1' ? 'the byte' : `one of ${count} bytes`} at ${first}${stop.label ? ` ${stop.label}` : ''} changes`;
+  const which = count === '1' ? 'the byte' : `one of ${count} bytes`;
+  if (first) return `${which} at ${first}${stop.label ? ` ${stop.label}` : ''} changes`;
   return stop.at ? `${stop.at} ${stop.label}${stop.line ? `, line ${stop.line}` : ''}` : stop.place;
 }
 function draw_stops() {
@@ -177,7 +204,8 @@ export function toggle_stop(line) {
   return acts(async () => {
     const count = stops.length;
     await put_stops(there ? stops.filter(it => it !== there) : [...stops, {place: `:${line}`}]);
-    if (stops.length !== count) $('aloud').textContent = there ? `no stop at line ${line}` : `stop at line ${stops[stops.length - 1].line}`;
+    if (stops.length !== count)
+      $('aloud').textContent = there ? `no stop at line ${line}` : `stop at line ${stops[stops.length - 1].line}`;
   });
 }
 
@@ -199,8 +227,9 @@ export async function run_or_pause() {
     return;
   }
   say('');
-  if (!board || $('edit').classList.contains('stale')) act(assemble);  // what is run is what is seen
-  else act(run_on);
+  if (board && !$('edit').classList.contains('stale')) { act(run_on); return; }
+  /* What is run is what is seen, from its start. */
+  act(async () => { await begin(fields_now(), 0); if (board) await run_on(); });
 }
 export async function run_on() {
   const mine = running = {}, isReal = $('pace').value === 'real';
@@ -208,9 +237,17 @@ export async function run_on() {
   draw_run();
   speaker.follow(from, isReal);
   while (running === mine) {
-    if (codes.length) { await send_keys(); begun = performance.now(); from = view.clock; speaker.follow(from, isReal); if (running !== mine) break; }
-    const target = isReal ? Math.floor(from + (performance.now() - begun) * HERTZ / 1000) : LAST, tick = performance.now();
-    answer = await ask('run', {board, seen, to: Math.min(Math.max(target, view.clock), LAST), light: true, ms: isReal ? 50 : 100}).then(follow_quietly);
+    if (codes.length) {
+      await send_keys();
+      begun = performance.now();
+      from = view.clock;
+      speaker.follow(from, isReal);
+      if (running !== mine) break;
+    }
+    const target = isReal ? Math.floor(from + (performance.now() - begun) * HERTZ / 1000) : LAST,
+      tick = performance.now();
+    answer = await ask('run', {board, seen, to: Math.min(Math.max(target, view.clock), LAST), light: true, ms: isReal
+      ? 50 : 100}).then(follow_quietly);
     if (answer.gone || answer.sorry) break;
     still = answer.screen || differ(view.registers, answer.registers) ? 0 : still + 1;
     show(answer, true);
@@ -220,7 +257,12 @@ export async function run_on() {
     if (isReal) {
       if (speaker.chunk(answer.clock)) still = 0;
       const behind = (target - answer.clock) / HERTZ;
-      if (behind > .25 || performance.now() - tick > 1000) { begun = performance.now(); from = answer.clock; say('slower than a real board', true); speaker.follow(from, true); }
+      if (behind > .25 || performance.now() - tick > 1000) {
+        begun = performance.now();
+        from = answer.clock;
+        say('slower than a real board', true);
+        speaker.follow(from, true);
+      }
       /* Where nothing is seen or heard to change for a while, it is looked at less often. */
       const wait = (still > STILL ? LONG_TICK : TICK) - (performance.now() - tick);
       await new Promise(go => { wake = go; setTimeout(go, Math.max(0, wait)); });
@@ -245,6 +287,6 @@ export function forget_run(them) {
 export function pause_here() { running = null; wake(); }
 /* Who leaves the page ends its board. */
 export function leave() {
-  if (board) navigator.sendBeacon('do', new Blob([JSON.stringify({do: 'close', board})], {type: 'application/json'}));
+  if (board) tell_last({do: 'close', board});
   board = null;
 }

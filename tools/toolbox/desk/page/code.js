@@ -1,11 +1,12 @@
-/* The instructions of Intel HEX, where a source would be. A row is the one that comes next, may have a stop, and by a click gets one. */
+/* The instructions of Intel HEX, where a source would be. A row is the one that comes next, may have a stop, and by a
+   click gets one. */
 import {$, ask} from './asking.js';
 import {act, acts, board, followed, put_stops, stops, view} from './board.js';
 import {isHex} from './files.js';
 import {by_arrows} from './processor.js';
-let rows = [], wanted = true;
+let rows = [], isWanted = true;
 /* Records are shown instead where the user wants them, and where one is refused. */
-export function show_code(is = wanted) {
+export function show_code(is = isWanted) {
   const isOn = isHex && is;
   $('as-code').hidden = !isHex;
   $('as-code').setAttribute('aria-pressed', String(isOn));
@@ -24,16 +25,20 @@ export async function draw_code() {
 /* The rows, with what of them changes by itself: which comes next, and where stops are. */
 export function draw_rows() {
   if ($('code').hidden || !view) return;
-  const stopped = new Set(stops.map(it => it.at)), wasIn = $('code').contains(document.activeElement) ? [...$('code').children].indexOf(document.activeElement) : -1;
+  const stopped = new Set(stops.map(it => it.at)), wasIn = $('code').contains(document.activeElement)
+    ? [...$('code').children].indexOf(document.activeElement) : -1;
   const made = rows.map(([place, label, octets, text, line]) => {
     const one = document.createElement('button'), isNow = place === view.place;
-    one.textContent = `${place} ${label.padEnd(12)} ${octets.padEnd(14)} ${text.padEnd(26)} ${line ? `| ${line}` : ''}`.trimEnd();
-    one.className = [isNow && (/^(halted|ended)/.test(view.state) ? 'halted' : 'now'), stopped.has(place) && 'stop'].filter(Boolean).join(' ');
+    one.textContent =
+      `${place} ${label.padEnd(12)} ${octets.padEnd(14)} ${text.padEnd(26)} ${line ? `| ${line}` : ''}`.trimEnd();
+    one.className = [isNow && (/^(halted|ended)/.test(view.state) ? 'halted' : 'now'), stopped.has(place)
+      && 'stop'].filter(Boolean).join(' ');
     one.setAttribute('aria-pressed', String(stopped.has(place)));
     if (isNow) one.setAttribute('aria-current', 'true');
     one.title = stopped.has(place) ? `a stop at ${place}: a click removes it` : `a click sets a stop at ${place}`;
     one.tabIndex = isNow ? 0 : -1;
-    one.onclick = () => acts(() => put_stops(stopped.has(place) ? stops.filter(it => it.at !== place) : [...stops, {place}]));
+    one.onclick = () => acts(() =>
+      put_stops(stopped.has(place) ? stops.filter(it => it.at !== place) : [...stops, {place}]));
     return one;
   });
   if (made.length && !made.some(it => it.tabIndex === 0)) made[0].tabIndex = 0;
@@ -43,5 +48,5 @@ export function draw_rows() {
   if (now && wasIn < 0) now.scrollIntoView({block: 'nearest'});
 }
 by_arrows($('code'));
-$('as-code').onclick = () => { wanted = $('code').hidden; show_code(); };
+$('as-code').onclick = () => { isWanted = $('code').hidden; show_code(); };
 $('code-place').addEventListener('change', () => act(draw_code));

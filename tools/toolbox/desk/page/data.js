@@ -18,7 +18,10 @@ export function signed(value, bits) { return value >= 2 ** (bits - 1) ? value - 
 /* The signs of a number's bytes, the low one first, as memory has them. */
 function signs_of(value, bits) {
   let told = '';
-  for (let at = 0; at < bits; at += 8) { const octet = Math.floor(value / 2 ** at) % 256; told += octet >= 32 && octet < 127 ? String.fromCharCode(octet) : '.'; }
+  for (let at = 0; at < bits; at += 8) {
+    const octet = Math.floor(value / 2 ** at) % 256;
+    told += octet >= 32 && octet < 127 ? String.fromCharCode(octet) : '.';
+  }
   return told;
 }
 /* A register in the base that is chosen. */
@@ -30,7 +33,8 @@ $('base').onclick = () => {
 };
 function numbers_in(octets, wide) {
   const found = [];
-  for (let at = 0; at + wide <= octets.length; at += wide) found.push(octets.slice(at, at + wide).reduceRight((sum, it) => sum * 256 + it, 0));
+  for (let at = 0; at + wide <= octets.length; at += wide)
+    found.push(octets.slice(at, at + wide).reduceRight((sum, it) => sum * 256 + it, 0));
   return found;
 }
 function row_of(cells, isChanged, address, wide, index = null) {
@@ -45,34 +49,42 @@ function row_of(cells, isChanged, address, wide, index = null) {
   opens_menu(row.children[index === null ? 0 : 1], address, wide);
   return row;
 }
-function cells_of(value, wide) { return [`${hex(value, 2 * wide)}h`, String(value), String(signed(value, 8 * wide)), signs_of(value, 8 * wide)]; }
+function cells_of(value, wide) {
+  return [`${hex(value, 2 * wide)}h`, String(value), String(signed(value, 8 * wide)), signs_of(value, 8 * wide)];
+}
 function table_of(rows) {
   const table = document.createElement('table');
   table.append(...rows);
   return table;
 }
 function drawn_label({name, line, kind, place, length, bytes}) {
-  const octets = (bytes.match(/../g) || []).map(it => parseInt(it, 16)), wide = WIDTHS[kind], values = numbers_in(octets, wide), last = lastValues[`${name} ${place}`] || values;
+  const octets = (bytes.match(/../g) || []).map(it => parseInt(it, 16)), wide = WIDTHS[kind],
+    values = numbers_in(octets, wide), last = lastValues[`${name} ${place}`] || values;
   lastValues[`${name} ${place}`] = values;
   const head = document.createElement('button'), isArray = values.length > 1;
   head.textContent = name;
   head.title = line ? `line ${line}, ${place}` : place;
   head.onclick = event => { event.preventDefault(); to_line(line); };
-  const changed = values.map((it, at) => last[at] !== it), [segment, offset] = place.split(':').map(it => parseInt(it, 16)), first = (16 * segment + offset) % 2 ** 20;
+  const changed = values.map((it, at) => last[at] !== it), [segment, offset] =
+    place.split(':').map(it => parseInt(it, 16)), first = (16 * segment + offset) % 2 ** 20;
   if (!isArray) {
     const one = document.createElement('div');
     one.className = 'datum';
     one.append(head, ` ${kind} `, table_of(values.map(it => row_of(cells_of(it, wide), changed[0], first, wide))));
     return one;
   }
-  const all = document.createElement('details'), told = document.createElement('summary'), brief = document.createElement('span');
-  brief.textContent = `${values.slice(0, 8).map(it => hex(it, 2 * wide)).join(' ')}${values.length > 8 ? ' ..' : ''}${wide === 1 ? `  ${values.slice(0, 40).map(it => signs_of(it, 8)).join('')}` : ''}`;
+  const all = document.createElement('details'), told = document.createElement('summary'),
+    brief = document.createElement('span');
+  const shown = values.slice(0, 8).map(it => hex(it, 2 * wide)).join(' ') + (values.length > 8 ? ' ..' : '');
+  const signs = wide === 1 ? `  ${values.slice(0, 40).map(it => signs_of(it, 8)).join('')}` : '';
+  brief.textContent = shown + signs;
   if (changed.includes(true)) brief.className = 'changed';
   told.append(head, ` ${kind}, ${length / wide}: `, brief);
   all.className = 'datum';
   all.open = unfolded.has(name);
   all.ontoggle = () => { if (all.open) unfolded.add(name); else unfolded.delete(name); };
-  all.append(told, table_of(values.map((it, at) => row_of(cells_of(it, wide), changed[at], first + at * wide, wide, at))));
+  all.append(told,
+    table_of(values.map((it, at) => row_of(cells_of(it, wide), changed[at], first + at * wide, wide, at))));
   if (length > octets.length) all.append(`${number(length - octets.length)} bytes more: see Memory, from ${place}`);
   return all;
 }

@@ -21,7 +21,8 @@ export function stale() {
   $('edit').classList.toggle('stale', is);
   $('stale').hidden = !is;
 }
-/* So many rows, which stay when they are drawn anew: from a press on one that is taken out before the release no click comes. */
+/* So many rows, which stay when they are drawn anew: from a press on one that is taken out before the release no click
+   comes. */
 function keep_rows(list, count) {
   while (list.childElementCount > Math.max(0, count)) list.lastChild.remove();
   while (list.childElementCount < count) list.append(document.createElement('span'));
@@ -30,9 +31,11 @@ export function draw_paper(isFollowed = false) {
   const source = $('source'), now = view && board ? view.line : null, high = source.clientHeight;
   if (isFollowed && now && document.activeElement !== source) {
     const top = (now - 1) * lineHigh;
-    if (top < source.scrollTop + lineHigh || top > source.scrollTop + high - 3 * lineHigh) source.scrollTop = Math.max(0, top - high / 2);
+    if (top < source.scrollTop + lineHigh || top > source.scrollTop + high - 3 * lineHigh)
+      source.scrollTop = Math.max(0, top - high / 2);
   }
-  const top = source.scrollTop, texts = source.value.split('\n'), first = Math.floor(top / lineHigh), last = Math.min(texts.length, first + Math.ceil(high / lineHigh) + 1);
+  const top = source.scrollTop, texts = source.value.split('\n'), first = Math.floor(top / lineHigh),
+    last = Math.min(texts.length, first + Math.ceil(high / lineHigh) + 1);
   const bad = new Set(refused.map(it => it.line));
   draw_gutter(first, last, top, now, bad);
   draw_ink(texts, first, last, top, new Set([...bad, ...live_lines().map(it => it.line)]));
@@ -46,7 +49,8 @@ function draw_gutter(first, last, top, now, bad) {
     const row = gutter.children[line - first - 1], kind = kind_of(line, now), high = `${(line - 1) * lineHigh - top}px`;
     row.textContent = line;
     row.dataset.line = line;
-    row.className = [lines[line] && 'can', stopped.has(line) && 'stop', kind, bad.has(line) && 'bad'].filter(Boolean).join(' ');
+    row.className = [lines[line] && 'can', stopped.has(line) && 'stop', kind, bad.has(line)
+      && 'bad'].filter(Boolean).join(' ');
     row.style.top = high;
     row.title = lines[line] ? `${lines[line]}: click for a stop` : '';
     for (const name of [kind, bad.has(line) && 'bad']) if (name) {
@@ -60,8 +64,8 @@ function draw_gutter(first, last, top, now, bad) {
   for (const old of document.querySelectorAll('#sheet .mark')) old.remove();
   $('sheet').prepend(...shown);
 }
-/* The text in its colours lies under the editor's own, which can't be seen. Its words are those of the other editors' grammar; a
-   refused line is underlined from its first sign to its last. */
+/* The text in its colours lies under the editor's own, which can't be seen. Its words are those of the other editors'
+   grammar; a refused line is underlined from its first sign to its last. */
 let words = null, kinds = [];
 export function note_grammar(rows) {
   kinds = rows.map(it => it.name.split('.').slice(0, 2).join('-'));
@@ -115,7 +119,8 @@ function draw_refusals() {
 }
 export function to_line(line) {
   if (!line) return;
-  const source = $('source'), before = source.value.split('\n').slice(0, line - 1).join('\n').length + (line > 1 ? 1 : 0);
+  const source = $('source'), before = source.value.split('\n').slice(0, line - 1).join('\n').length + (line > 1 ? 1
+    : 0);
   source.focus();
   source.setSelectionRange(before, before);
   show_line(line);
@@ -123,11 +128,13 @@ export function to_line(line) {
 }
 function show_line(line) {
   const source = $('source');
-  if ((line - 1) * lineHigh < source.scrollTop || (line + 3) * lineHigh > source.scrollTop + source.clientHeight) source.scrollTop = Math.max(0, (line - 1) * lineHigh - source.clientHeight / 2);
+  if ((line - 1) * lineHigh < source.scrollTop || (line + 3) * lineHigh > source.scrollTop + source.clientHeight)
+    source.scrollTop = Math.max(0, (line - 1) * lineHigh - source.clientHeight / 2);
 }
 
 $('gutter').addEventListener('click', event => {  // by its height, since the numbers may be drawn anew under a finger
-  const line = Math.floor((event.clientY - $('gutter').getBoundingClientRect().top + $('source').scrollTop) / lineHigh) + 1;
+  const line = Math.floor((event.clientY - $('gutter').getBoundingClientRect().top + $('source').scrollTop) / lineHigh)
+    + 1;
   if (line <= $('source').value.split('\n').length) toggle_stop(line);
 });
 $('gutter').addEventListener('wheel', event => {
@@ -136,19 +143,22 @@ $('gutter').addEventListener('wheel', event => {
   source.scrollTop += event.deltaY * (event.deltaMode ? lineHigh : 1);
   if (source.scrollTop !== before) event.preventDefault();
 }, {passive: false});
-/* So many lines are changed as if typed; of more the browser takes milliseconds each, so these are put there, and can't be undone. */
+/* So many lines are changed as if typed; of more the browser takes milliseconds each, so these are put there, and can't
+   be undone. */
 const MOST_TYPED = 200;
 /* What is typed: by the browser's own command, so that it can be undone. */
 function insert(text) { document.execCommand('insertText', false, text); }
 /* The lines of the selection, from the first one's beginning to the last one's end. */
 function chosen_lines() {
   const source = $('source'), text = source.value, from = text.lastIndexOf('\n', source.selectionStart - 1) + 1;
-  const end = source.selectionEnd > source.selectionStart && text[source.selectionEnd - 1] === '\n' ? source.selectionEnd - 1 : source.selectionEnd;
+  const end = source.selectionEnd > source.selectionStart && text[source.selectionEnd - 1] === '\n'
+    ? source.selectionEnd - 1 : source.selectionEnd;
   const until = text.indexOf('\n', end) < 0 ? text.length : text.indexOf('\n', end);
   return [from, until, text.slice(from, until).split('\n')];
 }
 function put_lines([from, until], made) {
-  const source = $('source'), isOne = source.selectionStart === source.selectionEnd, behind = until - source.selectionEnd;
+  const source = $('source'), isOne = source.selectionStart === source.selectionEnd,
+    behind = until - source.selectionEnd;
   source.setSelectionRange(from, until);
   if (made.length <= MOST_TYPED) insert(made.join('\n'));
   else { source.setRangeText(made.join('\n'), from, until, 'end'); source.dispatchEvent(new Event('input')); }
@@ -166,7 +176,8 @@ function tab(isBack) {
   else insert(' '.repeat(WIDE - (source.selectionStart - from) % WIDE));
 }
 function comment() {
-  const [from, until, chosen] = chosen_lines(), filled = chosen.filter(it => it.trim()), isAll = filled.length > 0 && filled.every(it => /^\s*;/.test(it));
+  const [from, until, chosen] = chosen_lines(), filled = chosen.filter(it => it.trim()), isAll = filled.length > 0
+    && filled.every(it => /^\s*;/.test(it));
   put_lines([from, until], chosen.map(it => !it.trim() ? it : isAll ? it.replace(/^(\s*); ?/, '$1') : `; ${it}`));
 }
 /* A new line begins where the one before does; behind a label, where statements do. */
@@ -177,7 +188,8 @@ function new_line() {
 $('source').addEventListener('keydown', event => {
   const isControl = event.ctrlKey || event.metaKey, wasLeaving = isLeaving;
   if (!['Shift', 'Control', 'Alt', 'Meta'].includes(event.key)) isLeaving = event.key === 'Escape';
-  const deed = isControl && !event.altKey && event.key === '/' ? comment : isControl || event.altKey ? null : {Tab: wasLeaving ? null : () => tab(event.shiftKey), Enter: isHex ? null : new_line}[event.key];
+  const deed = isControl && !event.altKey && event.key === '/' ? comment : isControl || event.altKey ? null
+    : {Tab: wasLeaving ? null : () => tab(event.shiftKey), Enter: isHex ? null : new_line}[event.key];
   if (!deed) return;
   event.preventDefault();
   deed();
@@ -204,11 +216,13 @@ function find(way) {
     if (way && line[1]) { close_find(); to_line(to); }
     return;
   }
-  for (let at = text.indexOf(sought.toLowerCase()); sought && at >= 0; at = text.indexOf(sought.toLowerCase(), at + 1)) places.push(at);
+  for (let at = text.indexOf(sought.toLowerCase()); sought && at >= 0; at = text.indexOf(sought.toLowerCase(), at + 1))
+    places.push(at);
   $('find-told').textContent = !sought ? 'a text, or :LINE' : places.length ? `${places.length} found` : 'not found';
   if (!way || !places.length) return;
   const here = source.selectionStart, isFound = source.selectionEnd - here === sought.length && places.includes(here);
-  const next = way > 0 ? places.find(it => it > here || it === here && !isFound) ?? places[0] : places.filter(it => it < here).pop() ?? places[places.length - 1];
+  const next = way > 0 ? places.find(it => it > here || it === here && !isFound) ?? places[0]
+    : places.filter(it => it < here).pop() ?? places[places.length - 1];
   $('find-told').textContent = `${places.indexOf(next) + 1} of ${places.length}`;
   show_line(text.slice(0, next).split('\n').length);
   source.setSelectionRange(next, next + sought.length);
@@ -224,4 +238,8 @@ $('find-next').onclick = () => find(1);
 $('find-before').onclick = () => find(-1);
 $('find-close').onclick = close_find;
 $('source').addEventListener('scroll', () => draw_paper());
-$('source').addEventListener('input', () => { stale(); touched(); if (refused.length) { refused = []; draw_refusals(); } else draw_paper(); });
+$('source').addEventListener('input', () => {
+  stale();
+  touched();
+  if (refused.length) { refused = []; draw_refusals(); } else draw_paper();
+});

@@ -5,6 +5,7 @@ import {show_code} from './code.js';
 import {note_grammar} from './editor.js';
 import {send_left} from './keeping.js';
 import {leave_draft, may_leave, note_given, offer, settle, touched} from './saving.js';
+import {has_pickers, linked, pick_files} from './served.js';
 import {show_page} from './tabs.js';
 export let isHex = false, isGiven = false, runFile = {}, given = null, pages = {}, ends = '\n';
 export function note_run(fields) { runFile = fields; }
@@ -59,27 +60,42 @@ const OWN = '/own';
 /* A file's text, which the page would change in silence where it isn't UTF-8, or has a carriage return alone. */
 export async function text_of(file) {
   let text;
-  try { text = new TextDecoder('utf-8', {fatal: true, ignoreBOM: true}).decode(await file.arrayBuffer()); } catch { throw new Error(`${file.name} isn't UTF-8, as pcboard wants it; iconv converts a file`); }
-  if (/\r(?!\n)/.test(text)) throw new Error(`${file.name}: a carriage return stands alone there, which pcboard refuses`);
+  try {
+    text = new TextDecoder('utf-8', {fatal: true, ignoreBOM: true}).decode(await file.arrayBuffer());
+  } catch { throw new Error(`${file.name} isn't UTF-8, as pcboard wants it; iconv converts a file`); }
+  if (/\r(?!\n)/.test(text))
+    throw new Error(`${file.name}: a carriage return stands alone there, which pcboard refuses`);
   return text;
 }
-$('open').onclick = () => $('file').click();
+/* Files that a browser gives handles of are written to as the command's are. */
+$('open').onclick = () => {
+  if (!has_pickers()) { $('file').click(); return; }
+  acts(async () => {
+    if (!await may_leave()) return;
+    const given = await pick_files();
+    if (given) await take_given({given, drafts: []});
+  });
+};
 $('file').onchange = () => {
   const files = [...$('file').files];
   acts(async () => {
     let text = null, name = '', fields = null;
     for (const file of files) {
       const read = await text_of(file);
-      if (/\.json$/i.test(file.name)) { try { fields = JSON.parse(read); } catch { say(`${file.name} is no JSON`); return; } }
+      if (/\.json$/i.test(file.name)) { try {
+        fields = JSON.parse(read);
+      } catch { say(`${file.name} is no JSON`); return; } }
       else { text = read; name = file.name; }
     }
-    const isRun = Boolean(fields) && typeof fields === 'object' && !Array.isArray(fields), run = isRun ? fields : {...pages.defaults};
+    const isRun = Boolean(fields) && typeof fields === 'object' && !Array.isArray(fields), run = isRun ? fields
+      : {...pages.defaults};
     if (text === null && !isRun) { say('This is no run file: it is no JSON object.'); return; }
     if (text !== null && !await may_leave()) return;
     if (text !== null) put_file(name, text, run, /\.hex$/i.test(name)); else put_fields(run);
     await begin(run);
     touched();
-    if (text !== null && /\r\n/.test(text) && /(^|[^\r])\n/.test(text)) say(`${name}: its lines end in two ways; a copy that you save ends all with CR LF`);
+    if (text !== null && /\r\n/.test(text) && /(^|[^\r])\n/.test(text))
+      say(`${name}: its lines end in two ways; a copy that you save ends all with CR LF`);
   });
   $('file').value = '';
 };
@@ -91,14 +107,26 @@ $('example').onchange = () => {
     await (name === OWN ? take_given(await ask('hello')) : take_example(name));
   });
 };
-/* The page's beginning: the command's files, or an example. */
+/* A link's program is shown, and nothing of it runs before it is asked to. */
+async function take_linked() {
+  let found;
+  try { found = await linked(); } catch (error) { say(error.message); return false; }
+  if (!found) return false;
+  put_file(found.name, found.source, found.run, found.hex, {stops: found.stops});
+  say('This program came with the link: look at it, then press Run.', true);
+  return true;
+}
+/* The page's beginning: the command's files, a link's program, or an example. */
 export async function first() {
   pages = await ask('hello');
   if (await send_left(pages.given?.file)) pages = await ask('hello');
-  $('example').replaceChildren(...(pages.given ? [new Option(`your file, ${pages.given.name}`, OWN)] : [new Option('choose one', '')]), ...pages.examples.map(it => { const one = new Option(it.name, it.name); one.title = it.shows; return one; }));
+  $('example').replaceChildren(...(pages.given ? [new Option(`your file, ${pages.given.name}`, OWN)]
+    : [new Option('choose one', '')]),
+    ...pages.examples.map(it => { const one = new Option(it.name, it.name); one.title = it.shows; return one; }));
   note_grammar(pages.grammar);
   if (pages.given) { await take_given(pages); return; }
   offer(pages.drafts);
+  if (await take_linked()) return;
   $('example').value = 'first';
   await take_example('first');
   if (pages.amiss) say(pages.amiss);

@@ -1,4 +1,5 @@
-/* What the language server tells of the source: lines that are refused as you type, what a word means, and what completes one. */
+/* What the language server tells of the source: lines that are refused as you type, what a word means, and what
+   completes one. */
 import {$, ask} from './asking.js';
 import {lineHigh, live_lines, note_live} from './editor.js';
 import {isHex} from './files.js';
@@ -49,7 +50,8 @@ function caret() {
 function put(box, line, column) {
   const text = source.value.split('\n')[line] ?? '', paper = source.getBoundingClientRect();
   box.hidden = false;
-  const left = paper.left + LEFT + shown_column(text.slice(0, column)) * wide() - source.scrollLeft, top = paper.top + (line + 1) * lineHigh - source.scrollTop;
+  const left = paper.left + LEFT + shown_column(text.slice(0, column)) * wide() - source.scrollLeft,
+    top = paper.top + (line + 1) * lineHigh - source.scrollTop;
   box.style.left = `${Math.max(4, Math.min(left, innerWidth - box.offsetWidth - 4))}px`;
   box.style.top = `${top + box.offsetHeight > innerHeight ? Math.max(4, top - lineHigh - box.offsetHeight) : top}px`;
 }
@@ -57,29 +59,41 @@ function put(box, line, column) {
 /* What a word means: under the pointer when it rests, or by F1 at the caret. */
 let resting = 0, asking = 0;
 function hide() { clearTimeout(resting); asking += 1; meaning.hidden = true; }
-async function tell(line, column) {
-  const mine = ++asking, answer = await asked('hover', line, column), bad = live_lines().find(it => it.line === line + 1);
+async function tell_meaning(line, column) {
+  const mine = ++asking, answer = await asked('hover', line, column),
+    bad = live_lines().find(it => it.line === line + 1);
   if (mine !== asking || !(answer && answer.html || bad)) return;
   meaning.innerHTML = answer ? answer.html : '';
-  if (bad) { const why = document.createElement('p'); why.className = 'why'; why.textContent = bad.text; meaning.prepend(why); }
+  if (bad) {
+    const why = document.createElement('p');
+    why.className = 'why';
+    why.textContent = bad.text;
+    meaning.prepend(why);
+  }
   put(meaning, line, column);
 }
 source.addEventListener('mousemove', event => {
   hide();
   if (event.buttons || !choices.hidden) return;
-  resting = setTimeout(() => { const place = place_at(event.clientX, event.clientY); if (place) tell(...place); }, LINGER);
+  resting = setTimeout(() => {
+    const place = place_at(event.clientX, event.clientY);
+    if (place) tell_meaning(...place);
+  }, LINGER);
 });
-for (const name of ['mouseleave', 'mousedown', 'blur']) source.addEventListener(name, () => { hide(); if (name !== 'mouseleave') close(); });
-source.addEventListener('scroll', () => { meaning.hidden = true; close(); });
+for (const name of ['mouseleave', 'mousedown', 'blur']) source.addEventListener(name, () => {
+  hide();
+  if (name !== 'mouseleave') close_choices();
+});
+source.addEventListener('scroll', () => { meaning.hidden = true; close_choices(); });
 
 /* What completes a word: by Ctrl+Space, then as it is typed on. */
 let items = [], chosen = 0;
-function close() { choices.hidden = true; source.removeAttribute('aria-activedescendant'); }
+function close_choices() { choices.hidden = true; source.removeAttribute('aria-activedescendant'); }
 function begun() { return /\w*$/.exec(source.value.slice(0, source.selectionStart))[0]; }
 function choose() {
   const word = begun(), start = word.toLowerCase(), [line, column] = caret();
   const fitting = items.filter(it => it.label.toLowerCase().startsWith(start)).slice(0, MOST_CHOICES);
-  if (!fitting.length) { close(); return; }
+  if (!fitting.length) { close_choices(); return; }
   chosen = 0;
   choices.replaceChildren(...fitting.map((it, at) => {
     const one = document.createElement('li'), what = document.createElement('span');
@@ -101,7 +115,7 @@ function mark() {
 }
 function take() {
   const {label} = choices.children[chosen].dataset, end = source.selectionStart;
-  close();
+  close_choices();
   source.setSelectionRange(end - begun().length, end);
   document.execCommand('insertText', false, label);
 }
@@ -115,10 +129,12 @@ function step(by) { const count = choices.childElementCount; chosen = (chosen + 
 document.addEventListener('keydown', event => {
   if (document.activeElement !== source) return;
   const isOpen = !choices.hidden, plain = !event.ctrlKey && !event.altKey && !event.metaKey && !event.shiftKey;
-  const opening = event.ctrlKey && event.key === ' ' ? complete : plain && event.key === 'F1' ? () => tell(...caret()) : null;
-  const deed = isOpen && plain ? {ArrowDown: () => step(1), ArrowUp: () => step(-1), Enter: take, Tab: take, Escape: close}[event.key] : null;
+  const opening = event.ctrlKey && event.key === ' ' ? complete : plain && event.key === 'F1'
+    ? () => tell_meaning(...caret()) : null;
+  const deed = isOpen && plain ? {ArrowDown: () => step(1), ArrowUp: () => step(-1), Enter: take, Tab: take,
+    Escape: close_choices}[event.key] : null;
   if (!meaning.hidden && event.key !== 'F1') hide();
-  if (isOpen && !deed && /^(Arrow|Home|End|Page)/.test(event.key)) close();
+  if (isOpen && !deed && /^(Arrow|Home|End|Page)/.test(event.key)) close_choices();
   if (!opening && !deed) return;
   event.preventDefault();
   event.stopPropagation();

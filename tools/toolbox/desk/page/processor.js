@@ -20,7 +20,8 @@ export function draw_registers(before, now) {
     one.innerHTML = `<b>${name}</b> <span></span>`;
     one.lastChild.textContent = in_base(value);
     if (before && before[name] !== value) one.lastChild.className = 'changed';
-    edited(one.lastChild, () => edit_in_place(one.lastChild, name, in_base(value), base === 0, () => redraw_registers()));
+    edited(one.lastChild, () => edit_in_place(one.lastChild, name, in_base(value), base === 0,
+      () => redraw_registers()));
     made.append(one);
   }
   $('registers').replaceChildren(made);
@@ -33,7 +34,9 @@ export function draw_registers(before, now) {
 }
 /* A line of what runs, without its comment. */
 function source_at(line) {
-  return line ? `| ${line}: ${($('edit').classList.contains('stale') ? assembled : $('source').value).split('\n')[line - 1].replace(/;.*/, '').trim()}` : '';
+  if (!line) return '';
+  const text = $('edit').classList.contains('stale') ? assembled : $('source').value;
+  return `| ${line}: ${text.split('\n')[line - 1].replace(/;.*/, '').trim()}`;
 }
 /* Where the present routine, and those that called it, return to; a click leads to the line. */
 export function draw_callers() {
@@ -50,7 +53,8 @@ export function draw_trail() {
   const wasIn = $('trail').contains(document.activeElement);
   const list = view.trail.map(([clock, place, label, text, line]) => {
     const one = document.createElement('button');
-    one.textContent = `${String(clock).padStart(9)} ${place} ${label.padEnd(12)} ${text.padEnd(26)} ${source_at(line)}`.trimEnd();
+    one.textContent =
+      `${String(clock).padStart(9)} ${place} ${label.padEnd(12)} ${text.padEnd(26)} ${source_at(line)}`.trimEnd();
     one.title = `to clock ${clock}`;
     one.tabIndex = -1;
     one.onclick = () => acts(() => go_to(clock));
@@ -74,14 +78,16 @@ export function by_arrows(list) {
 }
 by_arrows($('trail'));
 export function draw_stack() {
-  $('stack').textContent = view.stack.slice(0, 8).map(([at, word, label]) => `${at}: ${word} ${label}`.trimEnd()).join('\n');
+  $('stack').textContent = view.stack.slice(0, 8).map(([at, word, label]) =>
+    `${at}: ${word} ${label}`.trimEnd()).join('\n');
 }
 export async function draw_memory() {
   if (!board) return;
   const answer = await ask('memory', {board, place: $('place').value, count: 256}).then(followed);
   if (answer.sorry) { $('bytes').textContent = answer.sorry; return; }
   if (!answer.bytes) return;
-  const octets = answer.bytes.match(/../g).map(it => parseInt(it, 16)), before = memoryBefore && memoryBefore.address === answer.address ? memoryBefore.octets : null;
+  const octets = answer.bytes.match(/../g).map(it => parseInt(it, 16)), before = memoryBefore
+    && memoryBefore.address === answer.address ? memoryBefore.octets : null;
   const made = document.createDocumentFragment();
   for (let at = 0; at < octets.length; at += 16) {
     made.append(`${hex(answer.address + at, 5)}: `);
@@ -92,7 +98,8 @@ export async function draw_memory() {
       if (before && before[at + place] !== octet) one.className = 'changed';
       made.append(opens_menu(one, answer.address + at + place, 1), ' ');
     });
-    made.append('  '.padEnd(2 + 3 * (16 - row.length)), row.map(it => it >= 32 && it < 127 ? String.fromCharCode(it) : '.').join(''), '\n');
+    made.append('  '.padEnd(2 + 3 * (16 - row.length)), row.map(it => it >= 32 && it < 127 ? String.fromCharCode(it)
+      : '.').join(''), '\n');
   }
   $('bytes').replaceChildren(made);
   memoryBefore = {address: answer.address, octets};
@@ -101,7 +108,11 @@ export async function draw_memory() {
 export async function draw_chips() {
   if (!board) return;
   const answer = await ask('chips', {board}).then(followed);
-  if (answer.sorry) { $('chip-lines').textContent = answer.sorry; $('chip-facts').replaceChildren(); chipsBefore = null; }
+  if (answer.sorry) {
+    $('chip-lines').textContent = answer.sorry;
+    $('chip-facts').replaceChildren();
+    chipsBefore = null;
+  }
   if (!answer.lines) return;
   const now = answer.lines.map(it => it.split(' ')), before = chipsBefore || now;
   $('chip-lines').replaceChildren(...now.map((words, at) => {
@@ -116,14 +127,19 @@ export async function draw_chips() {
     });
     return row;
   }));
-  $('chip-facts').replaceChildren(...answer.facts.map(it => { const one = document.createElement('p'); one.textContent = it; return one; }));
+  $('chip-facts').replaceChildren(...answer.facts.map(it => {
+    const one = document.createElement('p');
+    one.textContent = it;
+    return one;
+  }));
   chipsBefore = now;
 }
 
 $('place').addEventListener('change', () => act(draw_memory));
 with_menus($('bytes'), 16);
 
-/* Why the run goes nowhere, under the screen, as long as the clock is the one that it is told of. A line's number leads to it. */
+/* Why the run goes nowhere, under the screen, as long as the clock is the one that it is told of. A line's number leads
+   to it. */
 export function forget_why() {
   if (!view || $('why').dataset.clock === String(view.clock)) return;
   if (!$('why').hidden) { $('why').hidden = true; fit(); }

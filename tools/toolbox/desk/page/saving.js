@@ -1,21 +1,25 @@
-/* Saving: what isn't saved yet, drafts of it, and the files that the command's words name. What is saved is known by the desk's
-   answer. */
-import {$, ask, counted, say, yes} from './asking.js';
+/* Saving: what isn't saved yet, drafts of it, and the files that the command's words name. What is saved is known by
+   the desk's answer. */
+import {$, ask, counted, run_text, say, yes} from './asking.js';
 import {act, acts, begin, stops, view} from './board.js';
 import {ends, fields_now, given, isGiven, isHex, put_file, take_given} from './files.js';
-import {begin_draft, forget_copy, keep_copy, next_number, note_answer, send_anew, send_by_beacon, told} from './keeping.js';
+import {isAlone, link_of} from './served.js';
+import {begin_draft, forget_copy, keep_copy, next_number, note_answer, send_anew, send_by_beacon} from './keeping.js';
+import {told} from './keeping.js';
 const SOON = 500, LATEST = 3000;  // so long after a change, and at most after the first one, its draft is sent
 export let draftId = new_id(), kept = '', home = {}, fileHome = {}, sums = [null, null], offers = [];
 export let soon = 0, since = 0, drafting = Promise.resolve(), noticed = '', writing = 0;
 function new_id() { return crypto.randomUUID(); }
 /* All that a draft keeps. */
 export function held() {
-  return {given: isGiven, name: $('name').textContent, hex: isHex, source: $('source').value, run: fields_now(), stops: stops.map(it => it.place)};
+  return {given: isGiven, name: $('name').textContent, hex: isHex, source: $('source').value, run: fields_now(),
+    stops: stops.map(it => it.place)};
 }
 const said = run => JSON.stringify(run);
 /* Until it is settled, what the page holds belongs to no draft. */
 export function leave_draft() { draftId = ''; }
-/* What the page holds is what the desk has just given it. A draft that was taken is of its file, and of none it is new. */
+/* What the page holds is what the desk has just given it. A draft that was taken is of its file, and of none it is new.
+   */
 export function settle(id, number) {
   draftId = id || new_id(); kept = id ? said(held()) : '';
   begin_draft(number);
@@ -38,7 +42,8 @@ export function touched() {
   $('unsaved').textContent = isText ? 'not saved' : isRun ? 'run file not saved' : '';
   document.title = `${isText || isRun ? '\u25cf ' : ''}${$('name').textContent} - Zebludor desk`;
   clearTimeout(soon);
-  const now = performance.now(), isNew = draftId !== '' && isChanged && !is_kept(), isShort = !isNew || keep_copy(file_of(), told(draftId, held()));
+  const now = performance.now(), isNew = draftId !== '' && isChanged && !is_kept(), isShort = !isNew
+    || keep_copy(file_of(), told(draftId, held()));
   if (!isNew) forget_copy(draftId);
   since = since || now;
   soon = setTimeout(send_draft, isShort ? Math.max(0, Math.min(SOON, since + LATEST - now)) : 0);
@@ -52,7 +57,8 @@ function send_draft() {
     const id = draftId, now = held(), text = said(now), isWanted = is_changed() || now.stops.length > 0;
     if (isWanted ? text === kept : !kept) return;
     try {
-      const sorry = isWanted ? await send(id, now) : (await ask('drop draft', {id, given: now.given, number: next_number()})).sorry;
+      const sorry = isWanted ? await send(id, now)
+        : (await ask('drop draft', {id, given: now.given, number: next_number()})).sorry;
       if (sorry) { say(sorry); return; }
       if (id !== draftId) return;
       if (!isWanted) send_anew(0);
@@ -77,7 +83,8 @@ export const is_kept = () => kept !== '' && said(held()) === kept;
 export async function may_leave() {
   if (!is_changed()) return true;
   await send_draft();
-  return yes(is_kept() ? 'Your changes are not saved. Leave them? They stay as a draft.' : 'Your changes are not saved, and no draft of them is kept. Discard them?');
+  return yes(is_kept() ? 'Your changes are not saved. Leave them? They stay as a draft.'
+    : 'Your changes are not saved, and no draft of them is kept. Discard them?');
 }
 onbeforeunload = event => { if (is_changed() && (isGiven || !is_kept())) event.preventDefault(); };
 /* The last half second goes with the page; what is too long for that stays in the browser. */
@@ -92,15 +99,18 @@ export function offer(them) {
   $('offer').hidden = !offers.length;
   if (!offers.length) return;
   const one = offers[0], more = offers.length - 1;
-  const when = new Date(one.time * 1000).toLocaleString([], {day: 'numeric', month: 'long', hour: '2-digit', minute: '2-digit'});
-  $('offer-text').textContent = `A draft of ${one.name} from ${when}, ${counted(one.lines, 'line')}, isn't saved${more ? `, and ${more} more` : ''}.`;
+  const when = new Date(one.time * 1000).toLocaleString([],
+    {day: 'numeric', month: 'long', hour: '2-digit', minute: '2-digit'});
+  const what = `A draft of ${one.name} from ${when}, ${counted(one.lines, 'line')}`;
+  $('offer-text').textContent = `${what}, isn't saved${more ? `, and ${more} more` : ''}.`;
 }
 const draft_of = one => ask('draft', {id: one.id, given: one.given, source: $('source').value});
 async function take_draft() {
   const one = offers[0], draft = await draft_of(one);
   if (draft.sorry) { say(draft.sorry); offer(offers.slice(1)); return; }
   if (is_changed()) await send_draft();
-  put_file(draft.name, draft.source, draft.run, draft.hex, {given: one.given, stops: draft.stops, id: one.id, number: draft.number});
+  put_file(draft.name, draft.source, draft.run, draft.hex, {given: one.given, stops: draft.stops, id: one.id,
+    number: draft.number});
   if (!one.given) home = {source: null, run: null};
   offer(offers.slice(1));
   await begin(draft.run);
@@ -137,7 +147,8 @@ async function write(isOver = false) {
   fileHome = {source: isSource ? now.source : fileHome.source, run: isRun ? said(now.run) : fileHome.run};
   home = fileHome;
   touched();
-  const left = !given['run file'] && said(now.run) !== home.run ? '; the run file is not, since desk was started without one: Save gives it' : '';
+  const left = !given['run file'] && said(now.run) !== home.run
+    ? '; the run file is not, since desk was started without one: Save gives it' : '';
   tell(answer.sorry || `saved: ${answer.kept.join(', ')}${left}`, !answer.sorry);
   await send_draft();
 }
@@ -156,8 +167,12 @@ export async function notice() {
 }
 addEventListener('focus', notice);
 function show_conflict(answer, more) {
-  $('conflict-text').textContent = `${answer.changed.join(' and ')} ${answer.changed.length > 1 ? 'have' : 'has'} changed since this page has read ${answer.changed.length > 1 ? 'them' : 'it'}${answer.gone ? ': the file is no longer there' : ''}.${more}`;
-  $('conflict-difference').textContent = answer.difference.slice(2).join('\n') || 'The texts are the same; the run files differ.';
+  const [has, it] = answer.changed.length > 1 ? ['have', 'them'] : ['has', 'it'];
+  const gone = answer.gone ? ': the file is no longer there' : '';
+  $('conflict-text').textContent =
+    `${answer.changed.join(' and ')} ${has} changed since this page has read ${it}${gone}.${more}`;
+  $('conflict-difference').textContent = answer.difference.slice(2).join('\n')
+    || 'The texts are the same; the run files differ.';
   $('conflict-difference').hidden = true;
   $('conflict-take').hidden = Boolean(answer.gone);
   if ($('saving').open) $('saving').close();
@@ -171,20 +186,18 @@ $('conflict-take').onclick = () => {
 };
 
 /* The files as links, from what the page holds: also of what is refused, and where the desk has ended. */
-function run_text(run) {
-  const order = ['version', 'ram', 'sw1', 'sw2', 'budget', 'keys', 'timer', 'clocks'], names = [...order.filter(it => it in run), ...Object.keys(run).filter(it => !order.includes(it))];
-  return `${said(Object.fromEntries(names.map(it => [it, run[it]])))}\n`;
-}
 function draw_links() {
   const now = held(), name = now.name.replace(/\.\w+$/, '') || 'program', ending = now.hex ? 'hex' : 'asm';
-  for (const [id, end, text] of [['save-source', ending, now.source.replaceAll('\n', ends)], ['save-run', 'json', run_text(budgeted(now.run))]]) {
+  for (const [id, end, text] of [['save-source', ending, now.source.replaceAll('\n', ends)],
+    ['save-run', 'json', run_text(budgeted(now.run))]]) {
     const link = $(id);
     URL.revokeObjectURL(link.href);
     link.href = URL.createObjectURL(new Blob([text], {type: 'application/octet-stream'}));
     link.download = link.textContent = `${name}.${end}`;
   }
   const quoted = /[^\w.-]/.test(name) ? `'${name.replaceAll("'", "'\\''")}` : name, close = quoted === name ? '' : "'";
-  $('save-words').textContent = `./pcboard run ${quoted}.${ending}${close} ${quoted}.json${close}${now.hex ? ' --hex' : ''}`;
+  $('save-words').textContent =
+    `./pcboard run ${quoted}.${ending}${close} ${quoted}.json${close}${now.hex ? ' --hex' : ''}`;
 }
 function open_saving() {
   draw_links();
@@ -193,5 +206,12 @@ function open_saving() {
   if (!$('saving').open) $('saving').showModal();
 }
 $('save').onclick = open_saving;
+$('linking').hidden = !isAlone;
+$('link').onclick = async () => {
+  const {name, source, run, stops: places, hex} = held();
+  $('link-text').value = await link_of({name, source, run: budgeted(run), stops: places, hex});
+  $('link-text').select();
+  tell('The link holds program, run file, keys and stops; what opens it asks no server for them.', true);
+};
 $('up-to').onchange = draw_links;
 $('keep').onclick = () => write();

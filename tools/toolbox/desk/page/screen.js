@@ -1,6 +1,7 @@
 /* The screen, and the keys that are typed to the board. */
 import {$, ask, counted, number, say, yes} from './asking.js';
-import {act, acts, board, come_back, followed, move, pause_here, run_on, running, seen, show, view, wake} from './board.js';
+import {act, acts, board, come_back, followed, move, pause_here, run_on, running, seen, show, view} from './board.js';
+import {wake} from './board.js';
 import {draw_paper} from './editor.js';
 import {page} from './tabs.js';
 import {draw_marks, forget_marks} from './timeline.js';
@@ -23,10 +24,21 @@ export function draw_screen(rows) {
 
 /* Keys. A key's code is by its place. */
 const AS_THEY_WERE = 'Paused: the keys are as they were.';
-const PLACES = {Escape: 1, Minus: 12, Equal: 13, Backspace: 14, BracketLeft: 26, BracketRight: 27, Enter: 28, ControlLeft: 29, ControlRight: 29, Semicolon: 39, Quote: 40, Backquote: 41, ShiftLeft: 42, Backslash: 43, Comma: 51, Period: 52, Slash: 53, NumpadDivide: 53, ShiftRight: 54, PrintScreen: 55, NumpadMultiply: 55, AltLeft: 56, AltRight: 56, Space: 57, CapsLock: 58, NumLock: 69, ScrollLock: 70, Home: 71, Numpad7: 71, ArrowUp: 72, Numpad8: 72, PageUp: 73, Numpad9: 73, NumpadSubtract: 74, ArrowLeft: 75, Numpad4: 75, Numpad5: 76, ArrowRight: 77, Numpad6: 77, NumpadAdd: 78, End: 79, Numpad1: 79, ArrowDown: 80, Numpad2: 80, PageDown: 81, Numpad3: 81, Insert: 82, Numpad0: 82, Delete: 83, NumpadDecimal: 83, NumpadEnter: 28};
+const PLACES = {Escape: 1, Minus: 12, Equal: 13, Backspace: 14, BracketLeft: 26, BracketRight: 27, Enter: 28,
+  ControlLeft: 29, ControlRight: 29, Semicolon: 39, Quote: 40, Backquote: 41, ShiftLeft: 42, Backslash: 43, Comma: 51,
+  Period: 52, Slash: 53, NumpadDivide: 53, ShiftRight: 54, PrintScreen: 55, NumpadMultiply: 55, AltLeft: 56,
+    AltRight: 56, Space: 57, CapsLock: 58, NumLock: 69, ScrollLock: 70, Home: 71, Numpad7: 71, ArrowUp: 72,
+      Numpad8: 72, PageUp: 73, Numpad9: 73, NumpadSubtract: 74, ArrowLeft: 75, Numpad4: 75, Numpad5: 76,
+        ArrowRight: 77, Numpad6: 77, NumpadAdd: 78, End: 79, Numpad1: 79, ArrowDown: 80, Numpad2: 80, PageDown: 81,
+          Numpad3: 81, Insert: 82, Numpad0: 82, Delete: 83, NumpadDecimal: 83, NumpadEnter: 28};
 for (let n = 1; n <= 10; n++) { PLACES[`Digit${n % 10}`] = n + 1; PLACES[`F${n}`] = 58 + n; }
-[['QWERTYUIOP', 16], ['ASDFGHJKL', 30], ['ZXCVBNM', 44]].forEach(([row, first]) => [...row].forEach((it, at) => { PLACES[`Key${it}`] = first + at; }));
-const SCREEN_KEYS = [['Esc', 1], ...Array.from({length: 10}, (_, n) => [`F${n + 1}`, 59 + n]), ['Tab', 15], ['Ctrl', 29], ['Shift', 42], ['Alt', 56], ['Caps', 58], ['Num', 69], ['Scroll', 70], ['PrtSc', 55], ['Ins', 82], ['Del', 83], ['Home', 71], ['End', 79], ['PgUp', 73], ['PgDn', 81], ['\u2190', 75], ['\u2191', 72], ['\u2193', 80], ['\u2192', 77], ['5', 76], ['+', 78], ['-', 74], ['Bksp', 14], ['Enter', 28], ['Space', 57]];
+[['QWERTYUIOP', 16], ['ASDFGHJKL', 30], ['ZXCVBNM', 44]].forEach(([row, first]) => [...row].forEach((it, at) => {
+  PLACES[`Key${it}`] = first + at;
+}));
+const SCREEN_KEYS = [['Esc', 1], ...Array.from({length: 10}, (_, n) => [`F${n + 1}`, 59 + n]), ['Tab', 15],
+  ['Ctrl', 29], ['Shift', 42], ['Alt', 56], ['Caps', 58], ['Num', 69], ['Scroll', 70], ['PrtSc', 55], ['Ins', 82],
+  ['Del', 83], ['Home', 71], ['End', 79], ['PgUp', 73], ['PgDn', 81], ['\u2190', 75], ['\u2191', 72], ['\u2193', 80],
+    ['\u2192', 77], ['5', 76], ['+', 78], ['-', 74], ['Bksp', 14], ['Enter', 28], ['Space', 57]];
 export function key(code) {
   codes.push(code); wake();
   if (!running) act(async () => { if (codes.length) await send_keys(); });
@@ -40,7 +52,9 @@ export async function send_keys(more = {}) {
   let answer = await ask('type', {board, seen, ...fields}).then(followed);
   if (answer.later) {
     pause_here();
-    if (!await yes(`${counted(answer.later, 'key code was typed at a later clock. Drop it', 'key codes were typed at later clocks. Drop them')}, and type here?`)) { drop_codes(); return false; }
+    const [one, more] = ['key code was typed at a later clock. Drop it',
+      'key codes were typed at later clocks. Drop them'];
+    if (!await yes(`${counted(answer.later, one, more)}, and type here?`)) { drop_codes(); return false; }
     answer = await ask('type', {board, seen, ...fields, drop: true}).then(followed);
   }
   if (answer.gone) { await come_back(answer.gone); return false; }
@@ -57,7 +71,8 @@ export async function send_keys(more = {}) {
 }
 /* By sign: a sign's keys as a US keyboard has them, so that a keyboard of another country types what it says. */
 const SIGNS = {' ': [57]};
-[['1234567890-=', '!@#$%^&*()_+', 2], ['qwertyuiop[]', 'QWERTYUIOP{}', 16], ["asdfghjkl;'`", 'ASDFGHJKL:"~', 30], ['\\zxcvbnm,./', '|ZXCVBNM<>?', 43]].forEach(([plain, shifted, first]) => {
+[['1234567890-=', '!@#$%^&*()_+', 2], ['qwertyuiop[]', 'QWERTYUIOP{}', 16], ["asdfghjkl;'`", 'ASDFGHJKL:"~', 30],
+  ['\\zxcvbnm,./', '|ZXCVBNM<>?', 43]].forEach(([plain, shifted, first]) => {
   [...plain].forEach((it, at) => { SIGNS[it] = [first + at]; });
   [...shifted].forEach((it, at) => { SIGNS[it] = [42, first + at]; });
 });
@@ -130,9 +145,18 @@ function release() {
 }
 
 export function draw_keys() {
-  $('key-list').textContent = view.keys.length ? view.keys.map(([stamp, name, isDown]) => `${String(stamp).padStart(12)} ${name.padEnd(10)} ${isDown ? 'down' : 'up'}${stamp > view.clock ? '  to come' : ''}`).join('\n') : 'no keys yet';
+  const rows = view.keys.map(([stamp, name, isDown]) => {
+    const what = `${String(stamp).padStart(12)} ${name.padEnd(10)} ${isDown ? 'down' : 'up'}`;
+    return `${what}${stamp > view.clock ? '  to come' : ''}`;
+  });
+  $('key-list').textContent = rows.join('\n') || 'no keys yet';
 }
-$('keys-open').onclick = () => { const is = $('board-keys').hidden; $('board-keys').hidden = !is; $('keys-open').setAttribute('aria-expanded', String(is)); fit(); };
+$('keys-open').onclick = () => {
+  const is = $('board-keys').hidden;
+  $('board-keys').hidden = !is;
+  $('keys-open').setAttribute('aria-expanded', String(is));
+  fit();
+};
 /* Types a text; one that is refused stays in the field. */
 function type_text(text) {
   const wasRunning = running;
@@ -162,17 +186,22 @@ export function fit() {
   screen.append(probe);
   const wide = probe.getBoundingClientRect().width / 20;
   probe.remove();
-  const isNarrow = matchMedia('(max-width: 900px)').matches, room = tube.clientWidth - (isNarrow ? 22 : 30), high = tube.clientHeight - 24;
+  const isNarrow = matchMedia('(max-width: 900px)').matches, room = tube.clientWidth - (isNarrow ? 22 : 30),
+    high = tube.clientHeight - 24;
   const size = Math.min(room / wide, isNarrow && !document.fullscreenElement ? 20 : Math.max(high / 29, 6), 96);
   screen.style.fontSize = `${Math.floor(size * 20) / 20}px`;
   draw_paper(); draw_marks();
 }
 /* The whole window for the screen; Escape ends it. */
 $('full').onclick = async () => {
-  try { await $('tube').requestFullscreen(); $('screen').focus(); } catch { say('the browser lets no page fill its screen'); }
+  try {
+    await $('tube').requestFullscreen();
+    $('screen').focus();
+  } catch { say('the browser lets no page fill its screen'); }
 };
 /* In a narrow window one touch leads to each part. */
-for (const [id, part] of [['view-screen', 'look'], ['view-source', 'edit'], ['view-more', 'more']]) $(id).onclick = () => $(part).scrollIntoView();
+for (const [id, part] of [['view-screen', 'look'], ['view-source', 'edit'], ['view-more', 'more']])
+  $(id).onclick = () => $(part).scrollIntoView();
 addEventListener('resize', fit);
 new ResizeObserver(fit).observe($('tube'));
 matchMedia('(prefers-color-scheme: dark)').addEventListener('change', draw_marks);

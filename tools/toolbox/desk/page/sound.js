@@ -5,14 +5,29 @@ import {marks} from './timeline.js';
 const RATE = 48000;
 export const speaker = {
   context: null, known: null, at: 0, when: 0, moved: -Infinity, isOn: false, asking: false,
-  ready() { this.context = this.context || new AudioContext(); if (this.context.state === 'suspended') this.context.resume(); return this.context; },
-  follow(clock, isReal) { this.isOn = isReal && $('live').checked; this.at = clock; this.when = 0; this.known = null; this.moved = -Infinity; this.asking = false; if (this.isOn) this.foresee(clock); },
+  ready() {
+    this.context = this.context || new AudioContext();
+    if (this.context.state === 'suspended') this.context.resume();
+    return this.context;
+  },
+  follow(clock, isReal) {
+    this.isOn = isReal && $('live').checked;
+    this.at = clock;
+    this.when = 0;
+    this.known = null;
+    this.moved = -Infinity;
+    this.asking = false;
+    if (this.isOn) this.foresee(clock);
+  },
   end() { this.isOn = false; },
   /* With the keys that there are, what comes is determined: so a report tells the samples before they are played. */
   foresee(clock) {
     if (this.asking) return;
     this.asking = true;
-    ask('heard', {board, begin: clock, end: Math.floor(clock + 4 * HERTZ)}).then(answer => { this.known = answer.samples === undefined ? null : {...answer, data: samples_of(answer)}; this.asking = false; }, () => {});
+    ask('heard', {board, begin: clock, end: Math.floor(clock + 4 * HERTZ)}).then(answer => {
+      this.known = answer.samples === undefined ? null : {...answer, data: samples_of(answer)};
+      this.asking = false;
+    }, () => {});
   },
   chunk(clock) {
     if (!this.isOn || !this.known) return false;
@@ -34,7 +49,8 @@ export const speaker = {
 /* Its mean level over each sample. */
 function samples_of({samples}) { return Float32Array.from(atob(samples), it => it.charCodeAt(0) / 255 * .2); }
 function play(data, when) {
-  const context = speaker.ready(), buffer = context.createBuffer(1, data.length, RATE), source = context.createBufferSource();
+  const context = speaker.ready(), buffer = context.createBuffer(1, data.length, RATE),
+    source = context.createBufferSource();
   buffer.copyToChannel(data, 0);
   source.buffer = buffer;
   source.connect(context.destination);
@@ -43,15 +59,24 @@ function play(data, when) {
 }
 export function draw_sound() {
   const all = marks ? marks['all changes'] : 0;
-  $('sound-told').textContent = all ? `${counted(all, 'change')} up to clock ${number(marks.until)}, which is ${time_of(marks.until)} of a real board.` : 'The speaker is silent up to here.';
-  const shown = marks ? marks.changes.slice(0, 500).map(([clock, level]) => `${String(clock).padStart(12)} ${level ? 'high' : 'low'}`) : [];
-  $('sound-list').textContent = shown.join('\n') + (all > shown.length ? `\n.. and ${number(all - shown.length)} more` : '');
+  $('sound-told').textContent = all
+    ? `${counted(all, 'change')} up to clock ${number(marks.until)}, which is ${time_of(marks.until)} of a real board.`
+    : 'The speaker is silent up to here.';
+  const shown = marks ? marks.changes.slice(0,
+    500).map(([clock, level]) => `${String(clock).padStart(12)} ${level ? 'high' : 'low'}`) : [];
+  $('sound-list').textContent = shown.join('\n') + (all > shown.length ? `\n.. and ${number(all - shown.length)} more`
+    : '');
 }
 $('play').onclick = () => act(async () => {
   if (!marks || !marks['all changes']) { say('The speaker is silent.'); return; }
   const from = view.clock < marks.until ? view.clock : 0;
   const answer = await ask('heard', {board, begin: from, end: marks.until, slow: Number($('slow').value)});
-  if (!answer.samples) { say(answer.sorry || (answer.end > from ? 'The speaker is silent from here on.' : 'the run is too long to be played')); return; }
+  if (!answer.samples) {
+    say(answer.sorry || (answer.end > from ? 'The speaker is silent from here on.'
+      : 'the run is too long to be played'));
+    return;
+  }
   const seconds = play(samples_of(answer), speaker.ready().currentTime + .05);
-  say(`played from clock ${number(from)} on, ${seconds.toFixed(3)} s${answer['is cut'] ? ', and no longer' : ''}`, true);
+  say(`played from clock ${number(from)} on, ${seconds.toFixed(3)} s${answer['is cut'] ? ', and no longer' : ''}`,
+    true);
 });

@@ -20,9 +20,12 @@ function choose_tab(tab) {
   if (tab.id === 'tab-page') to_anchor();
   if (tab.id === 'tab-trail') $('trail').scrollTop = $('trail').scrollHeight;
 }
-$('tabs').addEventListener('click', event => { if (event.target.role === 'tab' || event.target.getAttribute('role') === 'tab') choose_tab(event.target); });
+$('tabs').addEventListener('click', event => {
+  if (event.target.role === 'tab' || event.target.getAttribute('role') === 'tab') choose_tab(event.target);
+});
 $('tabs').addEventListener('keydown', event => {
-  const all = [...document.querySelectorAll('[role="tab"]')].filter(it => !it.hidden), at = all.indexOf(document.activeElement);
+  const all = [...document.querySelectorAll('[role="tab"]')].filter(it => !it.hidden),
+    at = all.indexOf(document.activeElement);
   const to = {ArrowRight: at + 1, ArrowLeft: at - 1, Home: 0, End: all.length - 1}[event.key];
   if (to === undefined) return;
   event.preventDefault();

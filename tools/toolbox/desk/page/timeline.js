@@ -23,9 +23,12 @@ export function look_on() {
     if (answer.sorry || answer.gone) return;
     marks = answer; draw_marks(); draw_sound(); ask_speaker();
     if (view.clock !== clock || answer.clock !== clock) return;
-    if (!answer.told) { $('told').textContent = `the run is ${answer.changed ? 'changed, and so isn’t shown with' : 'too long to show'} its speaker and interrupts`; return; }
+    const why = answer.changed ? 'changed, and so isn’t shown with' : 'too long to show';
+    if (!answer.told) { $('told').textContent = `the run is ${why} its speaker and interrupts`; return; }
     const lost = view.lost ? `${counted(view.lost, 'key')} lost, ` : '';
-    $('told').textContent = `${lost}${counted(answer['all changes'], 'change')} of the speaker, ${counted(answer.interrupts.length, 'interrupt')}${answer['interrupts up to'] < answer.until ? ` up to clock ${number(answer['interrupts up to'])}` : ''}`;
+    const upTo = answer['interrupts up to'], some = upTo < answer.until ? ` up to clock ${number(upTo)}` : '';
+    const changes = counted(answer['all changes'], 'change'), them = counted(answer.interrupts.length, 'interrupt');
+    $('told').textContent = `${lost}${changes} of the speaker, ${them}${some}`;
   }, () => {});
 }
 /* What the speaker did in the clocks that are in sight, joined to what can be seen apart. */
@@ -58,21 +61,31 @@ function look_closer(times) {
 }
 export function draw_marks() {
   drawn = performance.now();
-  const canvas = $('marks'), ratio = window.devicePixelRatio || 1, width = canvas.clientWidth, pen = canvas.getContext('2d');
+  const canvas = $('marks'), ratio = window.devicePixelRatio || 1, width = canvas.clientWidth,
+    pen = canvas.getContext('2d');
   canvas.width = width * ratio; canvas.height = 20 * ratio;
   pen.scale(ratio, ratio);
-  const style = getComputedStyle(document.documentElement), colour = name => style.getPropertyValue(name), [low, end] = span();
+  const style = getComputedStyle(document.documentElement), colour = name => style.getPropertyValue(name),
+    [low, end] = span();
   const x = clock => 8 + (clock - low) / (end - low) * (width - 16);
   pen.fillStyle = colour('--edge');
   pen.fillRect(8, 19, width - 16, 1);
   if (marks) {
     pen.fillStyle = colour('--sound');
-    if (drawnSpeaker) for (const [from, until] of drawnSpeaker.stretches) if (until >= low && from <= end) pen.fillRect(x(from), 12, Math.max(x(until) - x(from), .5), 7);
+    if (drawnSpeaker)
+      for (const [from, until] of drawnSpeaker.stretches)
+        if (until >= low && from <= end) pen.fillRect(x(from), 12, Math.max(x(until) - x(from), .5), 7);
     pen.fillStyle = colour('--interrupt');
     for (const [clock] of marks.interrupts) if (clock >= low && clock <= end) pen.fillRect(x(clock), 2, 1.5, 9);
   }
   pen.fillStyle = colour('--stop');
-  for (const clock of met) if (clock >= low && clock <= end) { pen.beginPath(); pen.moveTo(x(clock) - 4, 0); pen.lineTo(x(clock) + 4, 0); pen.lineTo(x(clock), 8); pen.fill(); }
+  for (const clock of met) if (clock >= low && clock <= end) {
+    pen.beginPath();
+    pen.moveTo(x(clock) - 4, 0);
+    pen.lineTo(x(clock) + 4, 0);
+    pen.lineTo(x(clock), 8);
+    pen.fill();
+  }
 }
 async function drag() {
   while (wanted !== null) { const clock = wanted; wanted = null; await go_to(clock); }

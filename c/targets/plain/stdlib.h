@@ -1,0 +1,3 @@
+void *malloc(size_t size);
+void *realloc(void *block, size_t size);
+void free(void *block);

@@ -1,0 +1,4 @@
+pub mod ReadTexts
+pub mod Telling
+pub mod Unreadable
+pub mod Values

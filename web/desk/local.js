@@ -1,0 +1,189 @@
+/* How a page without a server asks: an engine in a Worker of its own, which is ended if it answers nothing for long.
+   Files are the system's, by the handles that a browser gives; drafts stay in the browser; and a link has all of a
+   program in itself. */
+import {run_text} from '../../tools/toolbox/desk/page/asking.js';
+export const isAlone = true;
+const PATIENCE = 30000, DRAFT = 'zebludor kept ', MOST_LINKED = 1 << 21, CONTEXT = 3;
+const TOO_LONG = 'the engine answered nothing for 30 s, and was ended';
+let worker = null, count = 0, waiting = new Map();
+
+/* The engine. */
+const octets_in = id => Uint8Array.from(atob(document.getElementById(id).textContent), it => it.charCodeAt(0));
+function begin_engine() {
+  const engine = document.getElementById('the-engine').textContent;
+  const place = URL.createObjectURL(new Blob([engine], {type: 'text/javascript'}));
+  worker = new Worker(place);
+  URL.revokeObjectURL(place);
+  worker.onmessage = ({data}) => {
+    const its = waiting.get(data.number);
+    if (!its) return;
+    waiting.delete(data.number);
+    clearTimeout(its.timer);
+    if (data.error === undefined) its.go(data.answer); else its.fail(new Error(data.error));
+  };
+  worker.onerror = event => end(event.message || 'the engine has ended');
+  worker.postMessage({library: octets_in('the-library'), has: octets_in('the-has')});
+}
+/* Ends the engine: who waits is told that the board is gone, and the next question begins another one. */
+function end(why) {
+  worker?.terminate();
+  worker = null;
+  for (const {go, timer} of waiting.values()) { clearTimeout(timer); go({gone: why}); }
+  waiting = new Map();
+}
+function engine_of(question) {
+  if (!worker) begin_engine();
+  const number = ++count;
+  return new Promise((go, fail) => {
+    waiting.set(number, {go, fail, timer: setTimeout(() => end(TOO_LONG), PATIENCE)});
+    worker.postMessage({number, question});
+  });
+}
+
+/* What is asked, by its word. */
+export async function answer_of(question) {
+  const own = ANSWERS[question.do];
+  return own ? own(question) : engine_of(question);
+}
+export function tell_last(question) { answer_of(question).catch(() => {}); }
+const ANSWERS = {
+  async hello(question) { return {...await engine_of(question), given: await given_now(), drafts: drafts()}; },
+  'keep draft': keep_draft,
+  'drop draft': async ({id}) => { localStorage.removeItem(DRAFT + id); return {}; },
+  async draft({id, source}) {
+    const draft = draft_at(id);
+    return draft ? {...draft, difference: difference(source, draft.source)} : {sorry: 'this draft is no longer there'};
+  },
+  keep,
+  changed,
+};
+
+/* Drafts: what isn't saved stays in the browser. */
+function draft_at(id) {
+  try { return JSON.parse(localStorage.getItem(DRAFT + id)); } catch { return null; }
+}
+async function keep_draft({do: _, base, at, drop, ...draft}) {
+  const before = draft_at(draft.id), isWhole = base === 0 && at === 0 && drop === 0;
+  if (!isWhole && before?.number !== base) return {again: before?.number ?? 0};
+  const kept = isWhole ? '' : before.source;
+  const source = kept.slice(0, at) + draft.source + kept.slice(at + drop), time = Date.now() / 1000;
+  try { localStorage.setItem(DRAFT + draft.id, JSON.stringify({...draft, source, time})); }
+  catch { return {sorry: 'the browser keeps no more drafts'}; }
+  return {};
+}
+function drafts() {
+  let ids = [];
+  try { ids = Object.keys(localStorage).filter(it => it.startsWith(DRAFT)); } catch { /* it keeps nothing here */ }
+  const them = ids.map(it => draft_at(it.slice(DRAFT.length))).filter(it => it && !it.given);
+  return them.sort((a, b) => b.time - a.time).map(it => ({...it, lines: it.source.split('\n').length}));
+}
+/* The lines that differ, as diff tells them, in one stretch. */
+function difference(before, after) {
+  const [a, b] = [before.split('\n'), after.split('\n')];
+  let first = 0, last = 0;
+  while (first < a.length && first < b.length && a[first] === b[first]) first++;
+  while (last < a.length - first && last < b.length - first && a[a.length - 1 - last] === b[b.length - 1 - last])
+    last++;
+  if (first === a.length && first === b.length) return [];
+  const low = Math.max(0, first - CONTEXT), same = it => ` ${it}`;
+  const [oldEnd, newEnd] = [a.length - last, b.length - last], tail = a.slice(oldEnd, oldEnd + CONTEXT).map(same);
+  const head = `@@ -${low + 1},${oldEnd + tail.length - low} +${low + 1},${newEnd + tail.length - low} @@`;
+  const [gone, come] = [a.slice(first, oldEnd).map(it => `-${it}`), b.slice(first, newEnd).map(it => `+${it}`)];
+  return ['--- this page', '+++ the draft', head, ...a.slice(low, first).map(same), ...gone, ...come, ...tail];
+}
+
+/* Files of the system, where the browser gives handles of them. */
+let handles = {source: null, run: null};
+export const has_pickers = () => typeof globalThis.showOpenFilePicker === 'function';
+async function read(handle) {
+  const file = await handle.getFile(), text = await file.text();
+  return {text, sum: `${file.lastModified} ${file.size}`};
+}
+/* Has the user choose a source, or a source and a run file; what then is given, or null. */
+export async function pick_files() {
+  const types =
+    [{description: 'Source, Intel HEX, run file', accept: {'text/plain': ['.asm', '.hex', '.json', '.txt']}}];
+  let them;
+  try { them = await showOpenFilePicker({multiple: true, types}); } catch { return null; }
+  const isRun = it => /\.json$/i.test(it.name), source = them.find(it => !isRun(it));
+  if (!source) throw new Error('a source or Intel HEX is wanted, maybe with its run file');
+  handles = {source, run: them.find(isRun) ?? null};
+  return given_now();
+}
+async function given_now() {
+  if (!handles.source) return null;
+  const source = await read(handles.source), run = handles.run && await read(handles.run), {name} = handles.source;
+  const fields = run ? JSON.parse(run.text) : {};
+  if (run && (typeof fields !== 'object' || Array.isArray(fields) || !fields))
+    throw new Error(`${handles.run.name} is no run file: it is no JSON object`);
+  const {defaults} = await engine_of({do: 'hello'});
+  return {
+    name, file: name, 'run file': run ? handles.run.name : null, source: source.text, run: {...defaults, ...fields},
+    hex: /\.hex$/i.test(name), sums: [source.sum, run ? run.sum : null], note: '', settled: {},
+  };
+}
+async function sums_now() {
+  return Promise.all([handles.source, handles.run].map(async it => it && (await read(it)).sum));
+}
+/* Writes a text to its file, unless another hand has changed it since it was read. */
+async function keep({source, run, sums, over}) {
+  const found = over ? {} : await changed({source, sums});
+  if (found.changed) return found;
+  const kept = [];
+  for (const [handle, text] of [[handles.source, source], [handles.run, run_text(run)]]) {
+    if (!handle) continue;
+    try {
+      const stream = await handle.createWritable();
+      await stream.write(text);
+      await stream.close();
+    } catch (error) {
+      return {sorry: `${handle.name} can't be written: ${error.message}`, kept, sums: await sums_now()};
+    }
+    kept.push(handle.name);
+  }
+  return {kept, sums: await sums_now()};
+}
+async function changed({source, sums}) {
+  let now;
+  try { now = await sums_now(); }
+  catch { return {changed: [handles.source.name], now: null, gone: true, difference: []}; }
+  const them = [handles.source, handles.run].filter((it, n) => it && now[n] !== sums[n]).map(it => it.name);
+  if (!them.length) return {};
+  return {changed: them, now, gone: false, difference: difference(source, (await read(handles.source)).text)};
+}
+
+/* Links: all that a page holds, as JSON, deflated, in what stands after the address' #, which no server is told. */
+const through = (octets, stream) => new Blob([octets]).stream().pipeThrough(stream).getReader();
+async function all_of(reader, most) {
+  const parts = [];
+  for (let length = 0, {value, done} = await reader.read(); !done; {value, done} = await reader.read()) {
+    parts.push(value);
+    length += value.length;
+    if (length > most) { reader.cancel(); throw new Error('the link has more than a program'); }
+  }
+  return new Uint8Array(await new Blob(parts).arrayBuffer());
+}
+export async function link_of(held) {
+  const octets = new TextEncoder().encode(JSON.stringify(held));
+  const packed = await all_of(through(octets, new CompressionStream('deflate-raw')), Infinity);
+  let text = '';
+  for (const octet of packed) text += String.fromCharCode(octet);
+  return `${location.href.split('#')[0]}#${btoa(text).replaceAll('+', '-').replaceAll('/', '_').replace(/=+$/, '')}`;
+}
+/* What the page's own link has: name, source, run file and stops; null without one. It is a stranger's, so each part is
+   looked at. */
+export async function linked() {
+  const text = location.hash.slice(1);
+  if (!text) return null;
+  let it;
+  try {
+    const octets = Uint8Array.from(atob(text.replaceAll('-', '+').replaceAll('_', '/')), sign => sign.charCodeAt(0));
+    it = JSON.parse(new TextDecoder().decode(await all_of(through(octets, new DecompressionStream('deflate-raw')),
+      MOST_LINKED)));
+  } catch (error) { throw new Error(`the link has no program: ${error.message}`); }
+  const isText = what => typeof what === 'string', isRun = typeof it?.run === 'object' && it.run !== null
+    && !Array.isArray(it.run);
+  const isFit = isText(it?.name) && isText(it.source) && isRun && Array.isArray(it.stops) && it.stops.every(isText);
+  if (!isFit || typeof it.hex !== 'boolean') throw new Error('the link has no program');
+  return {name: it.name.slice(0, 60), source: it.source, run: it.run, stops: it.stops.slice(0, 15), hex: it.hex};
+}
