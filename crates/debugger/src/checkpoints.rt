@@ -70,15 +70,15 @@ impl<A: Allocator> Checkpoints<A> {
         Some(&self.kept[place - 1])
     }
 
-    /// Keeps a copy of the board, as it runs, to go back from, if the latest one is far away in turns, the speaker's
-    /// changes aren't too many, and there is memory for it; `first` is the clock of the session's first board. Of nine
-    /// copies the one that would be missed least goes.
-    pub(crate) fn keep(&mut self, first: Clock, board: &Board)
+    /// Keeps a copy of the board, as it runs, to go back from, if the latest one, or the session's first board, is far
+    /// away in turns, the speaker's changes aren't too many, and there is memory for it. Of nine copies the one that would
+    /// be missed least goes.
+    pub(crate) fn keep(&mut self, first: &Board, board: &Board)
         ensures { AreKept self.old board.now self.new }
     {
         let now = board.clock().get();
         let place = place_after(&self.kept, now);
-        if !is_worth_keeping(&self.kept, place, board) {
+        if !is_worth_keeping(&self.kept, place, first, board) {
             return;
         }
         if self.kept.try_reserve(1).is_err() {
@@ -89,7 +89,7 @@ impl<A: Allocator> Checkpoints<A> {
         };
         drop(self.kept.insert(place, copy));
         if self.kept.len() > MOST {
-            let thinnest = thinnest(&self.kept, first.get(), now);
+            let thinnest = thinnest(&self.kept, first.clock().get(), now);
             drop(self.kept.remove(thinnest));
         }
     }
@@ -172,17 +172,15 @@ fn place_after(kept: &[Board], clock: u64) -> usize
 }
 
 /// Whether a copy of a board is worth its memory, at the index `place` of the list: its list of the speaker's changes
-/// isn't too long, and the copy before, if there is one, is far away in turns.
-fn is_worth_keeping(kept: &[Board], place: usize, board: &Board) -> bool
+/// isn't too long, and the copy before, or else the session's first board, is far away in turns.
+fn is_worth_keeping(kept: &[Board], place: usize, first: &Board, board: &Board) -> bool
     requires { place ≤ length kept.now }
 {
     if board.speaker_changes().len() > MOST_CHANGES {
         return false;
     }
-    if place == 0 {
-        return true;
-    }
-    FAR <= board.turns().saturating_sub(kept[place - 1].turns())
+    let before = if place == 0 { first } else { &kept[place - 1] };
+    FAR <= board.turns().saturating_sub(before.turns())
 }
 
 /// Returns the index of the copy to drop when there are too many: the last one if it stands after the present clock,

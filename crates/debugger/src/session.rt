@@ -162,7 +162,7 @@ impl<A: Allocator> Session<A> {
         match self.board.run_turn(within, end, notes, over_edges) {
             Ok(begun) => {
                 if self.board.turns().is_multiple_of(FAR) {
-                    self.checkpoints.keep(self.first.clock(), &self.board);
+                    self.checkpoints.keep(&self.first, &self.board);
                 }
                 Ok(begun)
             }
@@ -252,7 +252,7 @@ impl<A: Allocator> Session<A> {
         ensures first { self.new.first ≡ self.old.first }
     {
         let stopped = run(&mut self.board, count, &self.stops)?;
-        self.checkpoints.keep(self.first.clock(), &self.board);
+        self.checkpoints.keep(&self.first, &self.board);
         Ok(stopped)
     }
 
@@ -268,7 +268,7 @@ impl<A: Allocator> Session<A> {
         let mut free = Stops::new();
         free.push(Condition::Free);
         run(&mut self.board, left, &free)?;
-        self.checkpoints.keep(self.first.clock(), &self.board);
+        self.checkpoints.keep(&self.first, &self.board);
         Ok(Answer::Clock(self.board.clock()))
     }
 

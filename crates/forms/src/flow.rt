@@ -35,7 +35,7 @@ pub enum Flow {
 pub enum Target {
     /// The next instruction.
     Next,
-    /// So many bytes after the next instruction, where offsets wrap.
+    /// The place that lies this number of bytes after the next instruction; offsets wrap.
     Relative(u16),
     /// This segment and offset.
     Far(u16, u16),

@@ -19,7 +19,7 @@ pub enum StepClocks {
     Always(u16),
     /// The first if a branch is taken or an interrupt entered, else the second.
     Either(u16, u16),
-    /// These, and 4 for each of the places that CL counts.
+    /// A fixed number, and 4 for each of the places that CL counts.
     Counted(u16),
     /// The first once, and the second for each element that is repeated.
     Repeated(u16, u16),
