@@ -18,7 +18,6 @@ from typing import Any
 from tests.protocol import types
 from tests.support import SECONDS, SLOW, TOOLS, ToolCase, example, not_run, rooms_in
 
-from toolbox.effects import ends_with_call
 from toolbox.framing import Broken, Reader
 from toolbox.places import is_repeated, operation_of, value_number
 from toolbox.program import Files, Session, path
@@ -191,22 +190,6 @@ class Words(unittest.TestCase):
             {'seq': 1, 'type': 'event', 'event': 'output', 'body': {'output': '', 'group': 'middle'}},
         ):
             self.assertEqual(len(known.wrong_message(wrong)), 1, wrong)
-
-    def test_calls(self) -> None:
-        for octets, wanted in (
-            ('90E80000', True),
-            ('9090FFD0', True),
-            ('90FF5702', True),
-            ('FF970002', True),
-            ('FF160002', True),
-            ('FFFFFFFF', False),
-            ('9090FF17', True),
-            ('90909090', False),
-            ('90FF1702', False),
-            ('00000000', False),
-            ('9090FF16', False),
-        ):
-            self.assertEqual(ends_with_call(bytes.fromhex(octets)), wanted, octets)
 
     def test_messages(self) -> None:
         with tempfile.TemporaryFile() as file:

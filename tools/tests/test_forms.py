@@ -10,6 +10,7 @@ from typing import Iterator
 from parts.cases import cases_of
 from tests.support import ToolCase, example
 
+from toolbox import forms
 from toolbox.program import run
 
 # Bytes, and what they do at 0100:0000: where they lead and how they move SP; what they change; what they reach; their clocks by both
@@ -251,6 +252,65 @@ class Forms(ToolCase):
     def test_what_is_refused(self) -> None:
         lines = ['forms', 'forms F600:54', 'forms F600:54 0', 'forms F600:54 4097', 'forms F600:54 1 1', 'forms G 1', 'forms 100000 1', 'Forms F600:54 1']
         self.assertEqual(self.answers([*lines, 'forms 0:0 4096'])[: len(lines) + 1][:-1], ['fault 51 BadCommand'] * len(lines))
+
+
+class OfBytes(unittest.TestCase):
+    """What the tools know of bytes, wherever they stand."""
+
+    def test_places(self) -> None:
+        """As the 8086's manual has displacements: from behind the instruction on, in the same segment."""
+        for octets, wanted in (
+            ('EBFE', (0x10, 0xFFFF)),
+            ('7501', (0x10, 2)),
+            ('E8FDFF', (0x10, 0xFFFF)),
+            ('2EE90100', (0x10, 4)),
+            ('EA34127856', (0x5678, 0x1234)),
+            ('EA341200F0', (0xF000, 0x1234)),
+            ('EA00F0FFEF', (0xEFFF, 0xF000)),
+            ('E800F0', (0x10, 0xF002)),
+            ('FFE0', None),
+            ('90', None),
+            ('', None),
+        ):
+            self.assertEqual(forms.form_of(bytes.fromhex(octets)).target((0x10, 0xFFFF)), wanted, octets)
+        codes = ('C3', 'CF', 'FF2F', 'FFE0', 'FFD0', 'E80000', 'F4', '7400')
+        self.assertEqual([forms.form_of(bytes.fromhex(code)).goes_on for code in codes], [False] * 4 + [True] * 4)
+
+    def test_calls(self) -> None:
+        """Before a return address: near and far, with each displacement, and INT; nothing else."""
+        calls = '90E80000', '9090FFD0', '90FF5604', '90FF5702', 'FF970002', 'FF160002', 'FF160010', '9090FF17', '9A001000F0', '9090FF1F'
+        calls += 'FF1E0010', '9090CD21', 'E80000', '9A000000F0', 'FFD0', 'FF5E02', 'CD10', '2EFF1E0001'
+        others = ('FFFFFFFF', '90909090', '90FF1702', '00000000', '9090FF16', '9090FFDB', '909090E8', '909090CC', 'E800', 'FFE0', '90', '')
+        self.assertEqual([octets for octets in calls + others if forms.ends_with_call(bytes.fromhex(octets))], list(calls))
+
+    def test_many_at_once(self) -> None:
+        """Several instructions, a part of one, and bytes that are none, among others that are asked for with them; each alone; and more than
+        fit into ROM."""
+        wanted = {'B80500': 'next', '90C3': 'next', 'E8': 'nothing', '0F': 'nothing', '26F0': 'nothing', 'CD21': 'enter', 'F3A4': 'repeat'}
+        wanted |= {'5858585858585858': 'next', '2E' * 20: 'nothing'} | {f'B8{number:04X}': 'next' for number in range(4100)}
+        for at_once in (list(wanted), *([one] for one in list(wanted)[:9])):
+            found = forms.ask(map(bytes.fromhex, at_once))
+            self.assertEqual({octets.hex().upper(): form.does for octets, form in found.items()}, {octets: wanted[octets] for octets in at_once})
+
+    def test_what_is_told(self) -> None:
+        """Of PUSH, POP, MOV of SP and SS, ADD to SP, POPF, CLI, IRET, INT, INTO, DIV, RET with a number."""
+        for octets, words in (
+            ('50', (-2, True, False, False, False, None)),
+            ('59', (2, False, True, False, False, None)),
+            ('07', (2, False, False, False, False, None)),
+            ('BC0001', (None, False, False, True, False, None)),
+            ('8ED0', (0, False, False, True, False, None)),
+            ('83C404', (4, False, False, False, False, None)),
+            ('9D', (2, False, False, False, True, None)),
+            ('FA', (0, False, False, False, True, None)),
+            ('CF', (6, False, False, False, True, None)),
+            ('CD21', (-6, True, False, False, False, 0x21)),
+            ('CE', (-6, True, False, False, False, 4)),
+            ('F6F1', (-6, True, False, False, False, 0)),
+            ('C20400', (6, False, False, False, False, None)),
+        ):
+            form = forms.form_of(bytes.fromhex(octets))
+            self.assertEqual((form.sp, form.pushes, form.pops_register, form.loads_stack, form.turns_interrupts, form.type), words, octets)
 
 
 if __name__ == '__main__':

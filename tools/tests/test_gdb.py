@@ -18,8 +18,7 @@ from tests.support import SECONDS, SLOW, STORED, TOOLS, TOP, ToolCase, children,
 
 from toolbox.command import Sorry
 from toolbox.gdb import door
-from toolbox.gdb.elf import is_call, sleb, uleb
-from toolbox.effects import goes_on, target_of
+from toolbox.gdb.elf import sleb, uleb
 from toolbox.gdb.flow import outermost
 from toolbox.gdb.stub import NAMES
 from toolbox.gdb.wire import Gone, framed, unescaped
@@ -81,21 +80,6 @@ class Words(unittest.TestCase):
         for address, wanted in ((0xF0010, (0xF000, 0x10, True)), (0x504, (0x50, 4, True)), (0xFFFF2, (0xFFFF, 2, False)), (0xF0123, (0xF000, 0x123, False))):
             self.assertEqual(far_of_address(listing, address, 0xFFFF), wanted)
 
-    def test_what_calls(self) -> None:
-        for octets, wanted in (
-            ('E80000', True),
-            ('E800', False),
-            ('9A000000F0', True),
-            ('FFD0', True),
-            ('FF5E02', True),
-            ('FFE0', False),
-            ('CD10', True),
-            ('2EFF1E0001', True),
-            ('90', False),
-            ('', False),
-        ):
-            self.assertEqual(is_call(bytes.fromhex(octets)), wanted, octets)
-
 
 class Flow(ToolCase):
     """Code to which no call leads."""
@@ -110,21 +94,6 @@ class Flow(ToolCase):
         found = listing_of(Files(source, run))
         first = {address: line.number for address, line in found.at.items()}
         self.assertEqual(sorted(first[one] for one, _ in outermost(found)), [3, 4, 6, 7, 8, 9, 14, 15, 18])
-
-    def test_places(self) -> None:
-        """As the 8086's manual has displacements: from behind the instruction on, in the same segment."""
-        for octets, wanted in (
-            ('EBFE', (0x10, 0xFFFF)),
-            ('7501', (0x10, 2)),
-            ('E8FDFF', (0x10, 0xFFFF)),
-            ('2EE90100', (0x10, 4)),
-            ('EA34127856', (0x5678, 0x1234)),
-            ('FFE0', None),
-            ('90', None),
-            ('', None),
-        ):
-            self.assertEqual(target_of(bytes.fromhex(octets), (0x10, 0xFFFF)), wanted, octets)
-        self.assertEqual([goes_on(bytes.fromhex(code)) for code in ('C3', 'CF', 'FF2F', 'FFE0', 'FFD0', 'E80000', 'F4', '7400')], [False] * 4 + [True] * 4)
 
 
 class Client:

@@ -1,5 +1,5 @@
-"""The clocks that hover tells, against those that a run takes: of every row of the page's table, with each shape of operand, with prefixes
-and repeats, under both clock tables."""
+"""The clocks that hover tells, and those of the page, against those that a run takes: of every row of its table, with each shape of operand,
+with prefixes and repeats, under both clock tables."""
 from __future__ import annotations
 
 import json
@@ -8,9 +8,10 @@ import unittest
 from dataclasses import dataclass
 
 from tests.lsp_client import IT, Here
+from tests.page_clocks import cost_of, instruction_of
 from tests.support import ToolCase
 
-from toolbox.lsp.instructions import Row, instruction_of, rows
+from toolbox.lsp.instructions import Row, rows
 from toolbox.program import Files, Session
 
 # Shapes of memory, and where they are by the registers that are set before each line.
@@ -144,7 +145,9 @@ class Clocks(ToolCase):
                 falls = following == f'{after}'.split()[0]
                 text = re.search(rf'Clocks by {table}: (.*)', shown)
                 assert text, shown
-                self.assertEqual(self.expected(text[1].strip(), case.count, falls), clocks, (line, table, text[1]))
+                cost = f'{cost_of(found, table == "C2")}'
+                self.assertEqual(self.expected(cost, case.count, falls), clocks, (line, table, cost))
+                self.assertEqual(text[1].strip(), re.sub(r' \([^)]*\)', '', cost), (line, table))
         self.assertEqual([known for known in rows() if f'{known}' not in covered and known.names != ('HLT',)], [])
 
     def mnemonic(self, line: str) -> int:
@@ -153,7 +156,7 @@ class Clocks(ToolCase):
         return len(found[0]) if found else 0
 
     def expected(self, text: str, count: int, falls: bool) -> int:
-        """The sum that hover's text makes, with its bounds and parts held against it."""
+        """The sum that the page makes, with its bounds and parts held against it."""
         if taken := re.fullmatch(r'(\d+) if it (?:jumps|enters), else (\d+)', text):
             return int(taken[1 + falls])
         found = re.fullmatch(r'(\d+)(?: \+ (\d+) × (CL|elements), (\d+) to ([\d,]+))?(?: \((.*)\))?(?:; (\d+) more if it fails)?', text)

@@ -10,7 +10,6 @@ from tests.support import ToolCase, children, processor_seconds
 from tests.test_calls import Stepped
 
 from toolbox.dap.board import Machine
-from toolbox.effects import ends_with_call
 from toolbox.events import events
 from toolbox.listing import listing_of
 from toolbox.program import Files, ProbeSession, Session
@@ -237,26 +236,6 @@ class Out(ToolCase):
                 out, _ = self.called('dbg', machine.files.file, machine.files.run_file, given='to 60\nfinish\n')
                 self.assertIn(f"it didn't return{':' if why != 'far' else ''} {sentence}", out)
                 self.assertIn(f'clock {machine.clock}', out)
-
-
-class Bytes(unittest.TestCase):
-    """What stands before a return address."""
-
-    def test_calls(self) -> None:
-        """Near and far, with each displacement; nothing else."""
-        for octets, is_near, is_far in (
-            ('90 E8 00 10', True, False),
-            ('9A 00 10 00 F0', False, True),
-            ('90 90 FF D0', True, False),
-            ('90 FF 56 04', True, False),
-            ('FF 16 00 10', True, False),
-            ('90 90 FF 1F', False, True),
-            ('FF 1E 00 10', False, True),
-            ('90 90 FF DB', False, False),
-            ('90 90 90 90', False, False),
-        ):
-            code = bytes.fromhex(octets)
-            self.assertEqual((ends_with_call(code), ends_with_call(code, is_far=True)), (is_near, is_far), octets)
 
 
 if __name__ == '__main__':

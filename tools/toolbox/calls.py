@@ -6,8 +6,8 @@ from dataclasses import dataclass, field
 from typing import Iterator
 
 from toolbox.chips import Chips
-from toolbox.effects import Does, Effect, Far
 from toolbox.following import Follower, Frame, Mark, Marks, Port, Requests, Start, State, Tally, What, Wire, states_in
+from toolbox.forms import Far
 from toolbox.program import Files, ProbeSession, uninterrupted
 
 PIECE = 1_000_000  # clocks that are followed at once: an interrupt is seen after them
@@ -92,14 +92,14 @@ class Calls(Follower):
         else:
             super().follow(mark)
             if isinstance(what, Start):
-                self._turn(mark, what.effect)
+                self._turn(mark, what)
 
-    def _turn(self, mark: Mark, effect: Effect) -> None:
-        """Whether interrupts are on after an instruction."""
-        if effect.does is Does.CLEARS_IF or effect.does is Does.SETS_IF:
-            self.off.set(mark.clock, effect.does is Does.SETS_IF, mark.what)
-        elif mark.state and effect.does in (Does.LOADS, Does.LOADS_FLAGS, Does.RETURNS_WITH_FLAGS):
-            self.off.set(mark.clock, bool(mark.state.flags & INTERRUPT_FLAG), mark.what)
+    def _turn(self, mark: Mark, what: Start) -> None:
+        """Whether interrupts are on after an instruction. CLI and STI differ by their last bit."""
+        if mark.state and (what.form.loads_stack or what.is_open_flag):
+            self.off.set(mark.clock, bool(mark.state.flags & INTERRUPT_FLAG), what)
+        elif what.form.turns_interrupts and not what.is_open_flag:
+            self.off.set(mark.clock, bool(what.form.octets[-1] & 1), what)
 
     def called(self, frame: Frame, mark: Mark) -> None:
         """A call was followed."""

@@ -5,19 +5,12 @@ from dataclasses import dataclass
 from typing import Any, Iterator
 
 from toolbox.calls import Calls, Routine
-from toolbox.effects import Does, Far
 from toolbox.following import Entry, Line, Start, Tally, What
+from toolbox.forms import Far
 from toolbox.listing import Listing, code_of, physical
 
 Key = tuple['int | None', bool, Far]
-SHORT = {
-    Does.CLEARS_IF: 'CLI',
-    Does.SETS_IF: 'STI',
-    Does.RETURNS_WITH_FLAGS: 'IRET',
-    Does.LOADS_FLAGS: 'POPF',
-    Does.TRAPS: 'INT',
-    Does.MAY_TRAP: 'divide error or INTO',
-}
+SHORT = {'return': 'IRET', 'enter': 'INT', 'may-enter': 'divide error or INTO'}
 NUMBERS = f'{"least":>9} {"most":>9} {"mean":>11}'
 SINGLE_STEP = 1
 
@@ -188,7 +181,9 @@ class CallsTable:
             return f'the entry of interrupt {what.type:02X}'
         assert isinstance(what, Start)
         line = self.listing.at.get(physical(*what.place))
-        if line and what.octets[:8] == line.shown[: len(what.octets)]:
+        octets = what.form.octets
+        if line and octets[:8] == line.shown[: len(octets)]:
             return f'line {line.number} ({code_of(line.text).strip()})'
         label = self.listing.label_before(*what.place)
-        return f'{SHORT[what.effect.does]} at %04X:%04X{f" ({label})" if label else ""}' % what.place
+        name = SHORT.get(what.form.does) or ('POPF' if what.form.sp else ('CLI', 'STI')[octets[-1] & 1])
+        return f'{name} at %04X:%04X{f" ({label})" if label else ""}' % what.place

@@ -3,8 +3,8 @@ from __future__ import annotations
 
 from typing import Iterable, Iterator
 
-from toolbox.effects import Far
 from toolbox.following import begin_in
+from toolbox.forms import Far
 from toolbox.places import Event, event_of
 from toolbox.program import Files, ProbeSession
 from toolbox.report import registers_of

@@ -4,8 +4,8 @@ from __future__ import annotations
 import copy
 import re
 
-from toolbox.effects import Far
 from toolbox.following import Follower, Frame, Mark, Marks, Start, State, states_in
+from toolbox.forms import Far
 from toolbox.served_board import ServedBoard
 
 STACKED = 'starts entries'  # what calls and returns are followed by
@@ -85,5 +85,5 @@ class FollowedBoard(ServedBoard):
         offset, segment = int.from_bytes(octets[:2], 'little'), int.from_bytes(octets[2:], 'little')
         if isinstance(frame.what, Start):
             segment = segment if frame.pushed > 2 else frame.what.place[0]
-            offset = (frame.what.place[1] + len(frame.what.octets)) % 0x10000 if frame.is_lifted else offset
+            offset = (frame.what.place[1] + len(frame.what.form.octets)) % 0x10000 if frame.is_lifted else offset
         return segment, offset

@@ -28,7 +28,7 @@ from bisect import bisect_left
 from dataclasses import dataclass, field
 from typing import Iterable, NamedTuple, Sequence, TypeVar
 
-from toolbox.effects import POPS, Does, Effect, Far, effect_of, is_by_frame, signed
+from toolbox.forms import CALLING, Far, Form, far_in, form_of, is_by_frame, learn, signed
 from toolbox.listing import physical
 
 LEVELS = {'IR0': 0, 'IR1': 1}
@@ -54,11 +54,22 @@ def states_in(octets: bytes) -> list[State]:
 
 
 class Start(NamedTuple):
-    """An instruction begins that there is something to follow in."""
+    """An instruction begins that there is something to follow in, and whether its bytes leave open what SS and SP, or the flags, are
+    after it."""
 
     place: Far
-    octets: bytes
-    effect: Effect
+    form: Form
+    is_open_stack: bool
+    is_open_flag: bool
+
+    @staticmethod
+    def of(place: Far, form: Form) -> Start | Far:
+        """An instruction, or its place alone if there is nothing to follow."""
+        is_open = form.loads_stack or form.does == 'may-enter'
+        is_plain = form.does in PLAIN or form.does == 'jump' and form.to != 'register'
+        if is_plain and not (is_open or form.sp or form.turns_interrupts):
+            return place
+        return Start(place, form, is_open, form.turns_interrupts and form.sp != 0)
 
 
 class Entry(NamedTuple):
@@ -84,8 +95,7 @@ class Port(NamedTuple):
 
 What = Start | Entry | Wire | Port
 T = TypeVar('T')
-MOVING, FOR_STACK, RETURNING = (Does.PUSHES, Does.MOVES, Does.LOADS_FLAGS), (Does.LOADS, Does.MAY_TRAP), (Does.RETURNS, Does.RETURNS_WITH_FLAGS)
-LOADING, FOR_FLAGS, CALLING = (Does.LOADS, Does.SETS_SP), (Does.LOADS_FLAGS, Does.RETURNS_WITH_FLAGS), (Does.CALLS, Does.TRAPS)
+PLAIN = ('next', 'branch', 'halt', 'repeat', 'nothing')
 
 
 class Mark:
@@ -100,46 +110,42 @@ class Mark:
         self.state: State | None = None
 
     @property
-    def does(self) -> Does | None:
+    def does(self) -> str:
         """What an instruction does; an entry is as INT."""
-        return self.what.effect.does if type(self.what) is Start else Does.TRAPS if type(self.what) is Entry else None
+        return self.what.form.does if type(self.what) is Start else 'enter' if type(self.what) is Entry else ''
 
     def asks_for_stack(self) -> bool:
         """Whether SS and SP after it are wanted, which its bytes don't tell."""
-        return self.does in FOR_STACK
+        return type(self.what) is Start and self.what.is_open_stack
 
     def asks(self) -> bool:
         """Whether the registers after it are wanted: SS, SP and the flags, or where a call leads if an interrupt is
         entered there first."""
-        does = self.does
-        return does in FOR_STACK or does in FOR_FLAGS or does in CALLING and (self.next is None or self.next[1] is None)
+        if type(self.what) is Start and (self.what.is_open_stack or self.what.is_open_flag):
+            return True
+        return self.does in CALLING and (self.next is None or self.next[1] is None)
 
     def target(self) -> Far | None:
         """Where a call leads, if that is known."""
         return self.next[1] if self.next and self.next[1] else self.state.place if self.state else None
 
 
-def far_in(text: bytes) -> Far:
-    """A place SSSS:OOOO."""
-    return int(text[:4], 16), int(text[5:9], 16)
+def octets_in(rest: bytes) -> bytes:
+    """The bytes of a line of `starts`, of what it tells after its clock."""
+    return bytes.fromhex(rest[rest.rindex(b' ') + 1 :].decode('ascii'))
 
 
 def what_in(rest: bytes) -> What | Far | None:
     """What a line tells after its clock; a place if an instruction begins in which there is nothing to follow."""
     words = rest.split()
     if words[0] == b'start':
-        octets = bytes.fromhex(words[2].decode('ascii'))
-        effect = effect_of(octets)
-        return Start(far_in(words[1]), octets, effect) if effect else far_in(words[1])
+        return Start.of(far_in(words[1].decode('ascii')), form_of(octets_in(rest)))
     if words[0] == b'entry':
         return Entry(int(words[1], 16))
     if words[0] == b'wire':
         name = words[1].decode('ascii')
         return Wire(LEVELS[name], words[2] == b'1') if name in LEVELS else None
     return Port(int(words[1], 16), int(words[2], 16), words[0] == b'out') if words[0] in (b'in', b'out') else None
-
-
-NEW = Wire(-1, False)  # in place of a line that isn't known yet
 
 
 class Marks:
@@ -152,20 +158,17 @@ class Marks:
 
     def of(self, lines: list[bytes]) -> list[Mark]:
         """Those of the next lines, and of lines before that waited for what begins next."""
-        known, marks, waits = self._known, self._held, self._waits
-        first, get = 0, known.get
-        for line in lines:
-            cut = line.index(b' ')
-            what = get(line[cut:], NEW)
-            if what is NEW:
-                what = known[line[cut:]] = what_in(line[cut:])
+        rests = [line[line.index(b' ') :] for line in lines]
+        known, marks, waits, first = self._learnt(rests), self._held, self._waits, 0
+        for line, rest in zip(lines, rests):
+            what = known[rest]
             if type(what) is tuple:
                 if waits:
-                    waits.next, waits = (int(line[:cut]), what), None
+                    waits.next, waits = (int(line[: -len(rest)]), what), None
                 continue
             if what is None:
                 continue
-            mark = Mark(int(line[:cut]), what)
+            mark = Mark(int(line[: -len(rest)]), what)
             if type(what) is Start or type(what) is Entry:
                 if waits:
                     waits.next = mark.clock, what.place if type(what) is Start else None
@@ -173,6 +176,13 @@ class Marks:
             marks.append(mark)
         self._waits, self._held = waits, marks[first:] if waits else []
         return marks[:first] if waits else marks
+
+    def _learnt(self, rests: list[bytes]) -> dict[bytes, What | Far | None]:
+        """What lines tell after their clocks."""
+        new = set(rests) - self._known.keys()
+        learn(octets_in(rest) for rest in new if rest.startswith(b' start'))
+        self._known.update((rest, what_in(rest)) for rest in new)
+        return self._known
 
     def rest(self) -> list[Mark]:
         """Those after which nothing begins any more."""
@@ -208,7 +218,7 @@ class Frame:
     def __init__(self, mark: Mark, stack: Stack, moves: int) -> None:
         assert isinstance(mark.what, (Start, Entry))
         self.clock, self.what, self.target = mark.clock, mark.what, mark.target()
-        self.type = mark.what.effect.type if isinstance(mark.what, Start) else mark.what.type
+        self.type = mark.what.form.type if isinstance(mark.what, Start) else mark.what.type
         self.above, self.pushed = stack.level, -moves
         stack.move(mark.clock, moves)
         self.place, self.segment, self.level = stack.place, stack.segment, stack.level
@@ -279,29 +289,29 @@ class Follower:
         """The next mark."""
         what, self.ended = mark.what, None
         if type(what) is Start:
-            self._start(mark, what, what.effect)
+            self._start(mark, what.form)
         elif type(what) is Entry:
             self._call(mark, -OF_AN_INTERRUPT)
 
-    def _start(self, mark: Mark, what: Start, effect: Effect) -> None:
+    def _start(self, mark: Mark, form: Form) -> None:
         """An instruction."""
-        does, moves = effect.does, effect.moves
-        if does in MOVING:
-            if moves == 2 and what.octets[0] in POPS and self.nest and self.nest[-1].level == self.stack.level:
+        does, moves = form.does, form.sp or 0
+        if does in CALLING:
+            self._call(mark, moves)
+        elif does == 'return':
+            self._return(mark, moves)
+        elif does == 'jump':
+            self._jump()
+        elif does == 'may-enter':
+            if mark.state and signed(mark.state.pointer - self.stack.level) == moves:
+                self._call(mark, moves)
+        elif form.loads_stack:
+            if mark.state:
+                self._load(mark.clock, form.octets, mark.state.segment, mark.state.pointer)
+        elif moves:
+            if form.pops_register and self.nest and self.nest[-1].level == self.stack.level:
                 self.nest[-1].is_lifted = self.nest[-1].pushed == 2
             self.stack.move(mark.clock, moves)
-        elif does in CALLING:
-            self._call(mark, moves)
-        elif does in RETURNING:
-            self._return(mark, moves)
-        elif does is Does.JUMPS:
-            self._jump()
-        elif does is Does.SETS_SP:
-            self._load(mark.clock, what.octets, self.stack.segment, moves)
-        elif does is Does.LOADS and mark.state:
-            self._load(mark.clock, what.octets, mark.state.segment, mark.state.pointer)
-        elif does is Does.MAY_TRAP and mark.state and signed(mark.state.pointer - self.stack.level) == moves:
-            self._call(mark, moves)
 
     def _call(self, mark: Mark, moves: int) -> None:
         """A call, or an interrupt, whose return address is on the stack."""
@@ -371,9 +381,10 @@ class Out:
         follower.follow(mark)
         if frame and follower.ended is frame:
             return True
-        if does in RETURNING:
+        if does == 'return':
             return is_own and level >= self.intact and (frame is None or level > frame.level)
-        if does in LOADING and frame and is_own and stack.segment == segment and stack.level > frame.level:
+        is_load = type(mark.what) is Start and mark.what.form.loads_stack
+        if is_load and frame and is_own and stack.segment == segment and stack.level > frame.level:
             self.unsure = not self.is_own and not self.is_known
             return self.unsure or self.is_own
         if is_own and stack.level < level:

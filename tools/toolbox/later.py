@@ -2,7 +2,7 @@
 Reference Manuals)."""
 from __future__ import annotations
 
-from toolbox.effects import PREFIXES
+from toolbox.forms import PREFIXES
 
 CONDITIONS = 'O NO B NB Z NZ BE NBE S NS P NP L NL LE NLE'.split()
 BY_80186 = {0x60: 'PUSHA', 0x61: 'POPA', 0x62: 'BOUND', 0x68: 'PUSH of a number', 0x69: 'IMUL by a number', 0x6A: 'PUSH of a number'}

@@ -14,8 +14,8 @@ from toolbox.asking import Raw, Told
 from toolbox.chips import Chips, ends_before, of_chips
 from toolbox.command import Sorry, tool
 from toolbox.doubts import doubts
-from toolbox.effects import Does, effect_of, is_call, target_of
-from toolbox.following import CALLING, RETURNING, writer_in
+from toolbox.following import writer_in
+from toolbox.forms import CALLING, ends_of, ends_with_call, form_of, learn
 from toolbox.later import later
 from toolbox.listing import Line, Listing, code_of, listing_of, physical
 from toolbox.places import Event, event_of, line_at
@@ -29,7 +29,6 @@ from toolbox.walk import (
     COLOUR,
     COLOUR_END,
     DATA,
-    PUSHING,
     REACH,
     SERVICES,
     TEXT,
@@ -52,7 +51,7 @@ PORTS = {0x20, 0x21, 0x40, 0x41, 0x42, 0x60, 0x61, 0x62, 0x3B5, 0x3BA}  # those 
 VECTORS_END = 0x400
 BY_FORM = {0x04: 'SI', 0x05: 'DI', 0x07: 'BX'}
 LOADS_AL = {0xB0, 0xB8, 0xAC, 0xAD, 0xD7, 0xA0, 0xA1}
-DIVISIONS, STRINGS, DF = {0xF6, 0xF7, 0xD4}, {0xA4, 0xA5, 0xAA, 0xAB}, 0x400
+INTO, IRET, STRINGS, DF = 0xCE, 0xCF, {0xA4, 0xA5, 0xAA, 0xAB}, 0x400
 WITH_SERVICES = f'or let {tool("try")} --services put such calls into ROM (docs/services.md)'
 NO_BIOS = f'no BIOS is here; {WITH_SERVICES}'
 ADVICE = dict.fromkeys((0x11, 0x12, 0x13, 0x14, 0x15, 0x17, 0x18, 0x19, 0x1A), NO_BIOS) | {
@@ -190,18 +189,23 @@ def of_address_zero(run: Run, clock: int) -> list[Told]:
     kind = type_of(last)
     if kind is None:
         taken = 'a return takes the words pushed last, and zeros where nothing was pushed; HLT ends a program, IRET a handler'
-        return run.tell('to 0000:0000', last, after=clock, advice=taken if done_by(last) in RETURNING else GOES_ON)
-    what = 'has no quotient (the divisor is 0, or the quotient too large), which enters' if opcode(last) in DIVISIONS else 'enters'
+        return run.tell('to 0000:0000', last, after=clock, advice=taken if done_by(last) == 'return' else GOES_ON)
+    what = 'has no quotient (the divisor is 0, or the quotient too large), which enters' if is_division(last) else 'enters'
     place = f'{last.segment:04X}:{last.offset:04X}'
     does = f'at {place} interrupt {kind:02X} came' if last.entry is not None else f'{run.place(last)} {what} interrupt {kind:02X}'
     advice = ADVICE.get(kind, f'the address of a handler goes there: SEGMENT VECTORS AT 0, ORG {4 * kind:X}h, DW own,SEG own, ENDS')
     return run.tell('empty vector', last, after=clock, does=does, kind=kind, vector=4 * kind, advice=advice)
 
 
+def is_division(event: Event) -> bool:
+    """Whether an instruction enters interrupt 0 if it has no quotient."""
+    return done_by(event) == 'may-enter' and form_of(event.octets).type == 0
+
+
 def type_of(event: Event) -> int | None:
     """The type of the interrupt by which an event led to 0000:0000, if it was by one."""
-    effect, ends_at_zero = effect_of(event.octets), (event.offset + len(event.octets)) % 0x10000 == 0 and event.segment == 0
-    return event.entry if event.entry is not None or ends_at_zero else effect.type if effect else None
+    form, ends_at_zero = form_of(event.octets), (event.offset + len(event.octets)) % 0x10000 == 0 and event.segment == 0
+    return event.entry if event.entry is not None or ends_at_zero else form.type
 
 
 def is_zeros(run: Run, event: Event) -> bool:
@@ -256,7 +260,7 @@ def of_astray(run: Run) -> list[Told]:
     place = run.place(before)
     next_line = f'^{event.clock} start {to} ' if event.clock < run.report.clock else ' jammed$'
     span = min(event.clock, run.report.clock - 1) - before.clock + 1
-    advice = '' if before.entry is not None or done_by(before) in RETURNING else f'\nhint: {GOES_ON}'
+    advice = '' if before.entry is not None or done_by(before) == 'return' else f'\nhint: {GOES_ON}'
     how = f'{place} led to {what}' if is_jump else f'behind {place} came {what}'
     return run.tell('astray', before, how=how, span=span, next=Raw(next_line), advice=advice)
 
@@ -266,18 +270,22 @@ def suspicious(run: Run) -> Iterator[tuple[Event, Event]]:
     for part in run.parts[:1]:
         depth = 0
         for event, after in zip(part.events, part.events[1:]):
-            depth += event.entry is not None or opcode(event) in (0xCC, 0xCD, 0xCE)
-            if opcode(event) == 0xCF:
+            depth += done_by(event) == 'enter' or opcode(event) == INTO
+            if opcode(event) == IRET:
                 depth -= 1
                 if depth < 0 and line_at(run.listing, event) and run.is_own(event):
                     yield event, after
                     depth = 0
-    for event, after in run.steps:
-        if done_by(event) is not Does.RETURNS or after.entry is not None or not line_at(run.listing, event) or not run.is_own(event):
-            continue
-        octets = run.session.dump(physical(after.segment, (after.offset - 5) % 0x10000), 5)
-        if not is_call(octets):
-            yield event, after
+    returns = [step for step in run.steps if is_return(run, *step)]
+    before = [run.session.dump(physical(after.segment, (after.offset - 5) % 0x10000), 5) for _, after in returns]
+    learn(end for octets in before for end in ends_of(octets))
+    yield from (step for step, octets in zip(returns, before) if not ends_with_call(octets))
+
+
+def is_return(run: Run, event: Event, after: Event) -> bool:
+    """Whether an instruction of the source was a return but IRET, which no interrupt followed."""
+    is_one = done_by(event) == 'return' and opcode(event) != IRET
+    return is_one and after.entry is None and line_at(run.listing, event) is not None and run.is_own(event)
 
 
 def of_a_return(run: Run, event: Event, after: Event, ends_badly: bool) -> list[Told]:
@@ -293,13 +301,13 @@ def of_a_return(run: Run, event: Event, after: Event, ends_badly: bool) -> list[
     if by.entry is not None and code in (0xC3, 0xCB):
         return run.tell('return of an interrupt', event, kind=by.entry, **values)
     to = f'{after.segment:04X}:{after.offset:04X}'
-    return run.tell('pushed by', event, to=to, **values) if ends_badly and code != 0xCF and done_by(by) not in (*CALLING, Does.MAY_TRAP) else []
+    return run.tell('pushed by', event, to=to, **values) if ends_badly and code != IRET and done_by(by) not in (*CALLING, 'may-enter') else []
 
 
 def of_a_division(run: Run) -> list[Told]:
     """The division that ended a program."""
     events = run.parts[-1].events if run.parts else []
-    last = next((event for event in reversed(events) if opcode(event) in DIVISIONS and run.is_own(event)), None)
+    last = next((event for event in reversed(events) if is_division(event) and run.is_own(event)), None)
     return run.tell('division', last, span=1) if last else []
 
 
@@ -309,7 +317,7 @@ def of_an_early_end(run: Run) -> list[Told]:
     last = next((event for event in own if line_at(run.listing, event)), None)
     if not last or opcode(last) != 0xC3:
         return []
-    calls = {target_of(event.octets, (event.segment, event.offset)): event for event in run.firsts if opcode(event) == 0xE8}
+    calls = {target_of(event): event for event in run.firsts if opcode(event) == 0xE8}
     within = max((to for to in calls if to and to[0] == last.segment and to[1] <= last.offset), default=None)
     by = entered(run, within) if within else None
     if not within or not by:
@@ -337,7 +345,7 @@ def of_a_halt(run: Run) -> list[Told]:
     """A halt with interrupts off where one seems awaited: a jump back stands behind it, a handler's vector is set, and interrupts were
     never on."""
     registers, last = run.report.registers, run.trail[-1] if run.trail else None
-    if not is_for_good(run.report) or not last or opcode(last) != 0xF4 or not run.is_whole:
+    if not is_for_good(run.report) or not last or done_by(last) != 'halt' or not run.is_whole:
         return []
     code, vectors = run.session.dump(physical(registers['CS'], registers['IP']), 2), run.session.dump(0x20, 0x20)
     back = code[1] - 256 if len(code) == 2 and code[0] == 0xEB else 0
@@ -363,10 +371,11 @@ def of_code_in_the_stack(run: Run) -> list[Told]:
 def most_pushed(run: Run, clock: int) -> dict[str, object]:
     """Which line had pushed most often by a clock, how often, the row of `counts` that tells so, and what that may mean."""
     most, count, found = 'nothing', 0, ''
+    learn(line.shown for line in run.listing.at.values())
     for row in run.at(0).happenings(f'counts {clock + 1}'):
         place, times = row.split()[0], row.split()[-2]
         line = run.listing.at.get(physical(*(int(word, 16) for word in place.split(':')))) if ':' in place else None
-        if line and line.address and int(times) >= count and done_by(Event(0, *line.address, line.shown, '', None)) in PUSHING:
+        if line and int(times) >= count and (form := form_of(line.shown)).pushes and form.does != 'may-enter':
             most, count, found = f'line {line.number} ({code_of(line.text).strip()})', int(times), row
     advice = f'{most} is never undone: each PUSH has its POP, each CALL its RET' if count > FEW else 'SP begins too low: it begins at the end of its room'
     return {'most': most, 'times': f'{count:,}', 'row': found, 'perhaps': advice}
@@ -442,7 +451,7 @@ def is_left(run: Run, turn: list[Event], is_of_ports: bool) -> bool:
     if clock + A_SECOND > LAST_CLOCK:
         return False
     ways = {(event.segment, (event.offset + len(event.octets)) % 0x10000) for event in turn if is_conditional(event)}
-    ways |= {way for event in turn if is_conditional(event) for way in [target_of(event.octets, (event.segment, event.offset))] if way}
+    ways |= {way for event in turn if is_conditional(event) for way in [target_of(event)] if way}
     with ProbeSession(run.files) as session:
         session.go_to(clock)
         for command in (
@@ -460,9 +469,14 @@ def is_left(run: Run, turn: list[Event], is_of_ports: bool) -> bool:
         return False
 
 
+def target_of(event: Event) -> tuple[int, int] | None:
+    """The place that a jump or call has in its own bytes, if it is one."""
+    return form_of(event.octets).target((event.segment, event.offset))
+
+
 def is_conditional(event: Event) -> bool:
     """Whether an instruction jumps by a condition."""
-    return 0x70 <= opcode(event) < 0x80 or 0xE0 <= opcode(event) < 0xE4
+    return done_by(event) == 'branch'
 
 
 def of_a_round(run: Run, period: int) -> str | None:
@@ -539,7 +553,7 @@ def of_near_jumps(run: Run) -> Iterator[Told]:
     for event in run.firsts:
         found = re.search(r'\b(?:JMP|CALL)\s+([A-Za-z_]\w*)\s*$', code_of(line_of(run, event)), re.I) if opcode(event) in (0xE9, 0xE8) else None
         at = run.listing.label_of(found[1]) if found else None
-        to = target_of(event.octets, (event.segment, event.offset))
+        to = target_of(event)
         if found and at and to and physical(*at) != physical(*to):
             yield from run.tell('near jump', event, segment=event.segment, label=found[1], target=f'{at[0]:04X}:{at[1]:04X}')
 

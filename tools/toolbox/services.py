@@ -7,7 +7,7 @@ import functools
 import re
 import struct
 from dataclasses import dataclass
-from typing import Callable, Iterator, NamedTuple
+from typing import TYPE_CHECKING, Callable, Iterator, NamedTuple
 
 from toolbox import reading
 from toolbox.command import Sorry
@@ -15,7 +15,9 @@ from toolbox.listing import line_of, placed_labels
 from toolbox.program import TOP, Files, Session, answer_of, run
 from toolbox.runfile import read_run_file
 from toolbox.symbols import image_of
-from toolbox.walk import Talker
+
+if TYPE_CHECKING:
+    from toolbox.walk import Talker
 
 LEAST_RAM, MOST_RAM, SPAN = 144, 640, 0x10000
 KEPT = 0xFC00  # so many bytes of what was written; behind them stands the rest

@@ -9,7 +9,7 @@ from typing import TYPE_CHECKING, Callable, Collection, Iterable, Iterator, Type
 
 from toolbox.changes import Changes, Deed
 from toolbox.command import Sorry
-from toolbox.effects import Far
+from toolbox.forms import Far
 from toolbox.listing import physical
 from toolbox.places import Event, event_of
 from toolbox.faults import fault_in

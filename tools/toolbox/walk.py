@@ -11,7 +11,7 @@ from zebludor import Happening, happening_of
 
 from toolbox.asking import Raw, Told, ask
 from toolbox.command import handed_on
-from toolbox.effects import PREFIXES, Does, effect_of
+from toolbox.forms import PREFIXES, form_of, learn
 from toolbox.listing import Line, Listing, code_of, physical
 from toolbox.places import Event, event_of, line_at
 from toolbox.program import Files, ProbeSession, answer_of
@@ -27,7 +27,6 @@ WAKES = 0x300  # IF and TF
 ROM, TEXT, TEXT_END, SERVICES = 0xF0000, 0xB0000, 0xB0FFF, 0xF6000
 COLOUR, COLOUR_END = 0xB8000, 0xC0000
 DATA = ('DB', 'DW', 'DD')
-PUSHING = (Does.PUSHES, Does.CALLS, Does.TRAPS)
 
 
 class Talker(Protocol):
@@ -58,15 +57,14 @@ def opcode(event: Event) -> int:
     return next((octet for octet in event.octets if octet not in PREFIXES), -1) if event.entry is None else -1
 
 
-def done_by(event: Event) -> Does | None:
-    """What an instruction does to stack and flow; an entry is as INT."""
-    effect = effect_of(event.octets)
-    return Does.TRAPS if event.entry is not None else effect.does if effect else None
+def done_by(event: Event) -> str:
+    """What an instruction does, by the word of `forms`; an entry is as INT."""
+    return 'enter' if event.entry is not None else form_of(event.octets).does
 
 
 def has_pushed(event: Event) -> bool:
     """Whether what has written somewhere has pushed: by PUSH, CALL, INT, as an entry, or as one that INTO or a division entered."""
-    return done_by(event) in (*PUSHING, Does.MAY_TRAP)
+    return event.entry is not None or form_of(event.octets).pushes
 
 
 @dataclass
@@ -92,6 +90,7 @@ class Part:
                 part.writes.append((len(part.events) - 1, what.place, what.value))
             elif what.what == 'in':
                 part.reads.append((len(part.events) - 1, what.place, what.value))
+        learn(what.value for what in known.values() if what.what == 'start')
         return part
 
 

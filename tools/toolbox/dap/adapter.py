@@ -18,7 +18,7 @@ from toolbox.dap.sources import Sources, path_in
 from toolbox.dap.values import Disassembly, Expression, is_code
 from toolbox.dap.variables import Variables
 from toolbox.edits import Target, as_said, set_target, target_of, values_of
-from toolbox.effects import Far
+from toolbox.forms import Far
 from toolbox.framing import Broken, Read
 from toolbox.guests import Guest
 from toolbox.listing import Line, Listing, listing_of, physical

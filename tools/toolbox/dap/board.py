@@ -6,10 +6,10 @@ import time
 from typing import Callable, Collection, Iterator
 
 from toolbox.command import Sorry
-from toolbox.effects import Does, effect_of, signed
 from toolbox.events import clock_of
 from toolbox.followed import MOST_PIECE, STACKED, FollowedBoard
-from toolbox.following import CALLING, Follower, Out
+from toolbox.following import Follower, Out
+from toolbox.forms import CALLING, form_of, signed
 from toolbox.listing import Listing, physical
 from toolbox.places import Event, is_repeated
 from toolbox.program import Files
@@ -119,8 +119,8 @@ class Machine(FollowedBoard):
 
     def over(self, begun: Event) -> None:
         """Over all that an instruction or entry does which has just been made: what it calls, and its repeats."""
-        self.why, effect = 'returned', None if begun.entry is not None else effect_of(begun.octets)
-        if begun.entry is not None or effect and effect.does in (*CALLING, Does.MAY_TRAP):
+        self.why = 'returned'
+        if begun.entry is not None or form_of(begun.octets).does in (*CALLING, 'may-enter'):
             self._over_call(begun.clock)
         elif is_repeated(begun.text):
             self._over_repeats(begun)

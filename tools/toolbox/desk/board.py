@@ -18,7 +18,7 @@ from toolbox.data_labels import Datum, values_of
 from toolbox.desk.sound import MOST_SAMPLES, Speaker
 from toolbox.desk.work import Fields, Helpers, Job
 from toolbox.edits import assign
-from toolbox.effects import Far
+from toolbox.forms import Far
 from toolbox.guests import Guest
 from toolbox.lasts import bytes_at
 from toolbox.listing import labels_alone, listing_of, physical

@@ -6,7 +6,7 @@ import os
 import struct
 from dataclasses import dataclass, field
 
-from toolbox.effects import is_call
+from toolbox.forms import LONGEST_CALL, ends_of, ends_with_call, form_of, learn
 from toolbox.gdb.cfi import MEMORY, behind_prologue, counted, frames_of, memory_of, sleb, uleb
 from toolbox.gdb.variables import SHAPES, variables_of
 from toolbox.listing import Line, Listing, physical
@@ -15,6 +15,7 @@ MACHINE, EXECUTABLE, PROGBITS, SYMTAB, STRTAB, NOBITS = 3, 2, 1, 2, 3, 8
 # Of a file by GNU's compilers from 4.5 on gdb takes the rules for callers also at a RET, where it else expects 32 bits.
 PRODUCER = b'GNU Zebludor 4.5\x00'
 PROLOGUE_ROOM = 32
+OVERFLOW = 4  # the type that INTO enters
 ASSEMBLER = 0x8001  # DW_LANG_Mips_Assembler, the language of all assemblers in DWARF 3
 
 
@@ -107,16 +108,24 @@ class Table:
         return self.places[name]
 
 
+def is_call(octets: bytes) -> bool:
+    """Whether a line's bytes are a CALL, INT or INTO and nothing more."""
+    form = form_of(octets)
+    return form.octets == octets and (form.calls or form.type == OVERFLOW)
+
+
 def places_behind_calls(listing: Listing) -> set[int]:
     """Where calls return to. Of Intel HEX, which doesn't tell where an instruction begins, these are the labels before which one
     may stand."""
-    found = {address + len(line.shown) for address, line in listing.at.items() if is_call(line.shown) or line.shown in (b'\xCC', b'\xCE')}
+    before = dict[int, bytes]()
     for first, octets in listing.parts.items():
         for label in listing.labels.values():
             at = physical(*label) - first
-            if at <= len(octets) and is_call(octets[: max(at, 0)]):
-                found.add(first + at)
-    return found
+            if at <= len(octets):
+                before[first + at] = octets[max(at - LONGEST_CALL, 0) : max(at, 0)]
+    learn([*(line.shown for line in listing.at.values()), *(end for octets in before.values() for end in ends_of(octets))])
+    found = {address + len(line.shown) for address, line in listing.at.items() if is_call(line.shown)}
+    return found | {address for address, octets in before.items() if ends_with_call(octets)}
 
 
 def extents_of(listing: Listing) -> dict[str, tuple[int, int]]:

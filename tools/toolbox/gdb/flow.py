@@ -4,7 +4,7 @@ from __future__ import annotations
 
 from bisect import bisect_right
 
-from toolbox.effects import Does, effect_of, goes_on, target_of
+from toolbox.forms import form_of, learn
 from toolbox.listing import Line, Listing, physical
 
 RESET = 0xFFFF0
@@ -19,8 +19,9 @@ def reached(lines: dict[int, Line], order: list[int], begun: set[int]) -> set[in
             continue
         found.add(here)
         line, later = lines[here], bisect_right(order, here)
-        target = target_of(line.shown, line.address) if line.address and not is_call(line) else None
-        next_one = order[later : later + 1] if goes_on(line.shown) else []
+        form = form_of(line.shown)
+        target = form.target(line.address) if line.address and form.does != 'call' else None
+        next_one = order[later : later + 1] if form.goes_on else []
         waiting += [one for one in (*next_one, *([physical(*target)] if target else [])) if one in lines]
     return found
 
@@ -30,15 +31,11 @@ def outermost(listing: Listing) -> list[tuple[int, int]]:
     lines = {address: line for address, line in (*listing.modules.items(), *listing.at.items()) if line.shown}
     order = sorted(lines)
     parts = [octets[RESET - first :] for first, octets in listing.parts.items() if first <= RESET < first + len(octets)]
-    begin = target_of(parts[0], (0xFFFF, 0)) if parts else None
-    called = {physical(*one) for line in lines.values() if line.address and is_call(line) and (one := target_of(line.shown, line.address))}
+    learn([*(line.shown for line in lines.values()), *parts])
+    begin = form_of(parts[0]).target((0xFFFF, 0)) if parts else None
+    calls = ((form_of(line.shown), line.address) for line in lines.values() if line.address)
+    called = {physical(*one) for form, at in calls if form.does == 'call' and (one := form.target(at))}
     own = reached(lines, order, {RESET, *([physical(*begin)] if begin else [])}) - reached(lines, order, called)
     ends = dict(zip(order, [*order[1:], 1 << 20]))
     found = [(one, min(ends[one], one + max(8, len(lines[one].shown)))) for one in sorted(own)]
     return found if RESET in lines or not parts else [*found, (RESET, RESET + 5)]
-
-
-def is_call(line: Line) -> bool:
-    """Whether a line's instruction is a CALL."""
-    effect = effect_of(line.shown)
-    return effect is not None and effect.does is Does.CALLS

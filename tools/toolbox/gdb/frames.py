@@ -5,8 +5,8 @@ import re
 import struct
 from dataclasses import dataclass
 
-from toolbox.effects import Far, signed
 from toolbox.followed import FollowedBoard
+from toolbox.forms import Far, signed
 from toolbox.listing import physical
 
 RECORDS, RECORD, MOST_FRAMES = 0xF0000000, 16, 64  # where records stand, beyond memory, and a record's bytes

@@ -3,10 +3,11 @@ its chip."""
 from __future__ import annotations
 
 from toolbox import foreign
+from toolbox.forms import form_of, learn
+from toolbox.lsp import clocks
 from toolbox.lsp.asked import want
-from toolbox.lsp.clocks import cost_of
 from toolbox.lsp.documents import Document
-from toolbox.lsp.instructions import forms_of, instruction_of
+from toolbox.lsp.instructions import forms_of
 from toolbox.lsp.lines import LABEL, Token
 from toolbox.lsp.ports import ports, written
 from toolbox.lsp.source import Definition, number_in
@@ -55,11 +56,11 @@ def of_a_mnemonic(document: Document, line: int, token: Token) -> list[str]:
     forms = forms_of(token.text)
     paragraphs = [f'**{token.key}** {forms[0].does}'] if forms else []
     row = document.answers.rows.get(line)
-    found = instruction_of(document.answers.octets(line)) if row else None
-    if row and found:
+    form = form_of(document.answers.octets(line)) if row and forms else None
+    if form and form.octets:
         paragraphs.append(f'`{row}`{partly(document)}')
-        paragraphs += [f'Clocks by {name}: {cost_of(found, is_second)}' for name, is_second in (('C1', False), ('C2', True))]
-        paragraphs.append(f'Flags that change: {found.row.flags or "none"}')
+        paragraphs += [f'Clocks by C{table + 1}: {clocks.text_of(form, table)}' for table in (0, 1)]
+        paragraphs.append(f'Flags that change: {forms[0].flags or "none"}')
     return paragraphs
 
 
@@ -132,15 +133,20 @@ def inlay_hints(document: Document, asked: Fields) -> list[Fields]:
         return []
     span = want(asked, 'range', dict)
     first, last = (document.text.place(span.get(edge))[0] for edge in ('start', 'end'))
-    return [hint for line in range(first, last + 1) if (hint := hint_of(document, line))]
+    lines = [line for line in range(first, last + 1) if line in document.answers.rows]
+    learn(document.answers.octets(line) for line in lines if is_instruction(document, line))
+    return [hint_of(document, line) for line in lines]
 
 
-def hint_of(document: Document, line: int) -> Fields | None:
+def is_instruction(document: Document, line: int) -> bool:
+    """Whether a line has a mnemonic."""
+    statement = document.source.lines[line].statement
+    return bool(statement and statement.kind == 'mnemonic')
+
+
+def hint_of(document: Document, line: int) -> Fields:
     """A line's hint."""
-    row, parsed = document.answers.rows.get(line), document.source.lines[line]
-    if row is None:
-        return None
-    found = instruction_of(document.answers.octets(line)) if parsed.statement and parsed.statement.kind == 'mnemonic' else None
-    label = f'{row} {cost_of(found, False).short}' if found else str(row)
+    row, form = document.answers.rows[line], form_of(document.answers.octets(line)) if is_instruction(document, line) else None
+    label = f'{row} {clocks.short(form)}' if form and form.octets else str(row)
     hint = {'position': document.text.position(line, len(document.text.lines[line])), 'label': label, 'paddingLeft': True}
     return hint if document.answers.is_whole else hint | {'tooltip': WITHOUT}

@@ -1,5 +1,4 @@
-"""The table of instructions of docs/machine.md: each row's mnemonics, operands, bytes, clocks, effect and flags; and which row
-an instruction's bytes are of."""
+"""The table of instructions of docs/machine.md: each row's mnemonics, operands, bytes, clocks, effect and flags."""
 from __future__ import annotations
 
 import functools
@@ -8,11 +7,6 @@ from dataclasses import dataclass, replace
 
 from toolbox.command import read_text
 from toolbox.program import TOP
-
-PREFIXES = {0x26: 'ES:', 0x2E: 'CS:', 0x36: 'SS:', 0x3E: 'DS:', 0xF0: 'LOCK', 0xF2: 'REPNE', 0xF3: 'REP'}
-REPEATS = (0xF2, 0xF3)
-WAYS = {'+r': (1, 8), '+8s': (8, 4), '+n/8': (1, 8)}
-BYTES = re.compile(r'([0-9A-F]{2})h(\+r|\+8s|\+n/8|)(?:,? /(\d|[rs]|\(n mod 8\)))?')
 
 
 @dataclass(frozen=True)
@@ -27,33 +21,9 @@ class Row:
     flags: str
 
     @property
-    def has_place(self) -> bool:
-        """Whether a second byte mod, reg, r/m follows."""
-        return '/' in self.octets.replace('+n/8', '')
-
-    @property
     def kinds(self) -> list[str]:
         """Its operands, parted."""
         return self.operands.split(',') if self.operands else []
-
-
-@dataclass(frozen=True)
-class Instruction:
-    """The bytes of an instruction: its prefixes, its row, and mod, reg, r/m if there is one."""
-
-    prefixes: tuple[int, ...]
-    row: Row
-    place: int | None
-
-    @property
-    def is_memory(self) -> bool:
-        """Whether r/m is memory."""
-        return self.place is not None and self.place < 0xC0
-
-    @property
-    def is_repeated(self) -> bool:
-        """Whether it is a string instruction under a repeat prefix."""
-        return any(prefix in REPEATS for prefix in self.prefixes) and self.row.names[0][:4] in ('CMPS', 'LODS', 'MOVS', 'SCAS', 'STOS')
 
 
 def table(page: str, head: str) -> list[list[str]]:
@@ -122,34 +92,6 @@ def alternatives(row: Row) -> list[Row]:
         replace(row, names=(row.names[at],) if own else row.names, operands=given[at % len(given)], octets=octets)
         for at, octets in enumerate(parted(row.octets, count) if count > 1 else [row.octets])
     ]
-
-
-@functools.cache
-def by_opcode() -> dict[tuple[int, int | None], Row]:
-    """The rows by opcode, and by the digit of the second byte if that names one."""
-    found = dict[tuple[int, int | None], Row]()
-    for row in rows():
-        shape = BYTES.match(row.octets)
-        assert shape, row
-        step, count = WAYS.get(shape[2], (1, 1))
-        for number in range(count):
-            digit = int(shape[3]) if shape[3] and shape[3].isdigit() else None
-            found.setdefault((int(shape[1], 16) + step * number, digit), row)
-    return found
-
-
-def instruction_of(octets: bytes) -> Instruction | None:
-    """The instruction that these bytes begin with, or None."""
-    at = 0
-    while at < len(octets) and octets[at] in PREFIXES:
-        at += 1
-    prefixes, rest = tuple(octets[:at]), octets[at:]
-    if not rest:
-        return None
-    place = rest[1] if len(rest) > 1 else None
-    digit = place >> 3 & 7 if place is not None else None
-    row = by_opcode().get((rest[0], digit)) or by_opcode().get((rest[0], None))
-    return Instruction(prefixes, row, place if row.has_place else None) if row else None
 
 
 @functools.cache
