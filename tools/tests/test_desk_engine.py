@@ -293,7 +293,8 @@ class Following(unittest.TestCase):
         if not has_node():
             return
         files = sorted(glob.glob(f'{TOOLS}/tests/following/*.json'))
-        ran = subprocess.run(['node', f'{TOOLS}/tests/desk/following.mjs', *files], capture_output=True, text=True, check=True)
+        words, env = ['node', f'{TOOLS}/tests/desk/following.mjs', *files], os.environ | {'PCPROBE': path('pcprobe')}
+        ran = subprocess.run(words, env=env, capture_output=True, text=True, check=True)
         rows = [json.loads(line) for line in ran.stdout.splitlines()]
         self.assertGreater(len(rows), 20)
         self.assertEqual([row for row in rows if not row['is']], [])

@@ -1,7 +1,7 @@
 // The board as the desk moves it: by instructions, over calls and halts, and out of routines, forth and back; with
 // services or without.
-import {Follower, Out, asksForStack, isCalling, marksOf} from './following.mjs';
-import {effectOf, signed} from './effects.mjs';
+import {Follower, Out, asksForStack, marksOf} from './following.mjs';
+import {CALLING, formOf, signed} from './forms.mjs';
 import {NONE, SessionBoard, breakAt, eventOf, isAt, placeOf, registersOf} from './machine.mjs';
 import {leftAt, SIGNATURE, SIGNED} from './services.mjs';
 import {Sorry, far, hex, physical} from './session.mjs';
@@ -129,7 +129,7 @@ export class Machine extends SessionBoard {
 
   // The marks of lines that tell what led to here, with the registers that their bytes don't tell.
   marks(lines) {
-    const marks = marksOf(lines), here = this.clock;
+    const marks = marksOf(lines, this.library), here = this.clock;
     const asking = marks.filter(asksForStack);
     for (const mark of asking) {
       this.back(mark.clock + 1);
@@ -174,7 +174,7 @@ export class Machine extends SessionBoard {
     let offset = a + 256 * b, segment = c + 256 * d;
     if (!what.isEntry) {
       if (pushed <= 2) segment = what.place[0];
-      if (isLifted) offset = (what.place[1] + what.octets.length) & 0xffff;
+      if (isLifted) offset = (what.place[1] + what.form.octets.length) & 0xffff;
     }
     return [segment, offset];
   }
@@ -257,9 +257,8 @@ export class Machine extends SessionBoard {
   // Over all that an instruction or entry does which has just been made: what it calls, and its repeats.
   async overAll(begun) {
     this.why = 'returned';
-    const effect = begun.entry === null ? effectOf(begun.octets) : null;
-    if (begun.entry !== null || (effect && (isCalling(effect) || effect.does === 'may trap')))
-      await this.overCall(begun.clock);
+    const does = begun.entry === null ? formOf(this.library, begun.octets).does : 'enter';
+    if (CALLING.includes(does) || does === 'may-enter') await this.overCall(begun.clock);
     else if (/\bREP(NE)?\b.* /.test(begun.text)) await this.overRepeats(begun);
   }
 

@@ -1,42 +1,34 @@
 // Follows a run by the lines of the probe's events: which calls are under way, and which return ends which call.
-import {effectOf, isByFrame, signed} from './effects.mjs';
+import {CALLING, formOf, isByFrame, learn, signed} from './forms.mjs';
 import {bytesOf, physical} from './session.mjs';
 
 const OF_AN_INTERRUPT = 6; // bytes that it pushes
-const MOVING = ['pushes', 'moves', 'loads flags'], FOR_STACK = ['loads', 'may trap'];
-const LOADING = ['loads', 'sets SP'], RETURNING = ['returns', 'returns with flags'], CALLING = ['calls', 'traps'];
+const MOST_TOLD = 1 << 16;
 export const farIn = text => [parseInt(text.slice(0, 4), 16), parseInt(text.slice(5, 9), 16)];
-const isPop = octet => octet >= 0x58 && octet < 0x60;
-const known = new Map();
+const octetsIn = rest => bytesOf(rest.slice(rest.lastIndexOf(' ') + 1));
+const told = new Map();
 
-// What a line tells after its clock: a start in which there is something to follow, an entry, or a mere place.
-function whatIn(rest) {
-  let what = known.get(rest);
-  if (what) return what;
-  const [kind, place, digits] = rest.split(' ');
-  if (kind === 'entry') what = {isEntry: true, type: parseInt(place, 16), effect: {does: 'traps', moves: -6}};
-  else {
-    const octets = bytesOf(digits);
-    what = {place: farIn(place), octets, effect: effectOf(octets)};
-  }
-  if (known.size > 1 << 16) known.clear();
-  known.set(rest, what);
-  return what;
+// What a line tells after its clock: a start with its place, or an entry.
+function whatIn(rest, library) {
+  const [kind, place] = rest.split(' ');
+  if (kind === 'entry') return {isEntry: true, type: parseInt(place, 16), form: null};
+  return {place: farIn(place), form: formOf(library, octetsIn(rest))};
 }
 
 // The marks of lines of starts and entries: what there is to follow.
-export function marksOf(lines) {
-  const found = [];
-  for (const line of lines) {
-    const cut = line.indexOf(' '), what = whatIn(line.slice(cut + 1));
-    if (what.effect) found.push({clock: Number(line.slice(0, cut)), what, does: what.effect.does, state: null});
-  }
-  return found;
+export function marksOf(lines, library) {
+  if (told.size > MOST_TOLD) told.clear();
+  const rests = lines.map(line => line.slice(line.indexOf(' ') + 1));
+  const fresh = [...new Set(rests)].filter(rest => !told.has(rest));
+  learn(library, fresh.filter(rest => rest.startsWith('start')).map(octetsIn));
+  for (const rest of fresh) told.set(rest, whatIn(rest, library));
+  const marks = rests.map((rest, n) => ({clock: parseInt(lines[n], 10), what: told.get(rest), state: null}));
+  return marks.filter(({what}) => what.isEntry || what.form.isFollowed);
 }
+// What an instruction does; an entry is as INT.
+const doneBy = ({what}) => (what.isEntry ? 'enter' : what.form.does);
 // Whether SS and SP after a mark are wanted, which its bytes don't tell.
-export const asksForStack = mark => FOR_STACK.includes(mark.does);
-export const isReturning = mark => RETURNING.includes(mark.does);
-export const isCalling = effect => CALLING.includes(effect.does);
+export const asksForStack = ({what: {form}}) => Boolean(form && (form.loadsStack || form.does === 'may-enter'));
 
 // SS and SP. Of each segment SP is kept as a number that goes on below 0 and above 65,535.
 class Stack {
@@ -96,20 +88,22 @@ export class Follower {
   follow(mark) {
     this.ended = null;
     if (mark.what.isEntry) this.call(mark, -OF_AN_INTERRUPT);
-    else this.start(mark, mark.what.effect);
+    else this.start(mark, mark.what.form);
   }
 
-  start(mark, {does, moves}) {
-    const {stack, nest} = this, {octets} = mark.what, top = nest[nest.length - 1];
-    if (MOVING.includes(does)) {
-      if (moves === 2 && isPop(octets[0]) && top && top.level === stack.level) top.isLifted = top.pushed === 2;
-      stack.move(moves);
-    } else if (CALLING.includes(does)) this.call(mark, moves);
-    else if (RETURNING.includes(does)) this.return(mark, moves);
-    else if (does === 'jumps') this.jump();
-    else if (does === 'sets SP') this.load(octets, stack.segment, moves);
-    else if (does === 'loads' && mark.state) this.load(octets, mark.state.SS, mark.state.SP);
-    else if (does === 'may trap' && mark.state && signed(mark.state.SP - stack.level) === moves) this.call(mark, moves);
+  start(mark, {octets, does, sp, loadsStack, popsRegister}) {
+    const {stack, nest} = this, {state} = mark, top = nest[nest.length - 1];
+    if (CALLING.includes(does)) this.call(mark, sp);
+    else if (does === 'return') this.return(mark, sp);
+    else if (does === 'jump') this.jump();
+    else if (does === 'may-enter') {
+      if (state && signed(state.SP - stack.level) === sp) this.call(mark, sp);
+    } else if (loadsStack) {
+      if (state) this.load(octets, state.SS, state.SP);
+    } else {
+      if (popsRegister && top && top.level === stack.level) top.isLifted = top.pushed === 2;
+      stack.move(sp);
+    }
   }
 
   // A call, or an interrupt, whose return address is on the stack.
@@ -177,8 +171,8 @@ export class Out {
     const {follower, frame, isOwn} = this, {stack} = follower, {level, segment} = stack;
     follower.follow(mark);
     if (frame && follower.ended === frame) return true;
-    if (isReturning(mark)) return isOwn && level >= this.intact && (!frame || level > frame.level);
-    const isLoad = LOADING.includes(mark.does) && frame && isOwn;
+    if (doneBy(mark) === 'return') return isOwn && level >= this.intact && (!frame || level > frame.level);
+    const isLoad = mark.what.form?.loadsStack && frame && isOwn;
     if (isLoad && stack.segment === segment && stack.level > frame.level) {
       this.isUnsure = !this.isOwn && !this.isKnown;
       return this.isUnsure || this.isOwn;

@@ -214,7 +214,8 @@ function hexOfImage(image) {
     }
   return [...rows, record(0, 1, []), ''].join('\n');
 }
-function record(offset, kind, data) {
+// A record of Intel HEX.
+export function record(offset, kind, data) {
   const octets = [data.length, offset >> 8, offset & 0xff, kind, ...data], sum = octets.reduce((a, b) => a + b, 0);
   return `:${octets.map(it => hex(it, 2)).join('')}${hex(-sum & 0xff, 2)}`;
 }

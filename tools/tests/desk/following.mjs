@@ -1,9 +1,12 @@
-// node following.mjs FILE ..: answers the cases of following/ that ask for calls, as the desk's engine follows them, a line of JSON each.
+// node following.mjs FILE ..: answers the cases of following/ that ask for calls, as the desk's engine follows them, a line
+// of JSON each. What instructions do the program tells that PCPROBE names.
 import fs from 'node:fs';
 
 import {Follower, Out, asksForStack, marksOf} from '../../../web/desk/following.mjs';
+import {Native} from './native.mjs';
 
 const registersOf = words => Object.fromEntries(Object.entries(words).map(([name, digits]) => [name, parseInt(digits, 16)]));
+const library = new Native({pcprobe: process.env.PCPROBE});
 const isFollowed = line => / (start|entry) /.test(line);
 
 const ANSWERS = {
@@ -29,7 +32,7 @@ const ANSWERS = {
 for (const file of process.argv.slice(2)) {
   const given = JSON.parse(fs.readFileSync(file)), answer = ANSWERS[given.ask];
   if (!answer) continue;
-  const marks = marksOf(given.lines.filter(isFollowed));
+  const marks = marksOf(given.lines.filter(isFollowed), library);
   for (const mark of marks) if (asksForStack(mark)) mark.state = registersOf(given.states[String(mark.clock + 1)]);
   const found = answer({follower: new Follower(registersOf(given.state)), marks, begin: given.begin});
   console.log(JSON.stringify({file, is: JSON.stringify(found) === JSON.stringify(given.answer), found}));
