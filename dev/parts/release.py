@@ -1,5 +1,5 @@
-"""What a release has, what has to be there for it, and its archive, wheel, Debian package and Containerfile, whose bytes are the same
-whenever they are made of the same files."""
+"""What a release has, what has to be there for it, and its archive, wheel, Debian package, extension of VS Code and Containerfile, whose
+bytes are the same whenever they are made of the same files."""
 from __future__ import annotations
 
 import gzip
@@ -13,7 +13,7 @@ import tarfile
 import tempfile
 from typing import Iterator
 
-from parts import debian, wheel
+from parts import debian, vsix, wheel
 from parts.book import Book, text_of
 from parts.book_page import page_of
 from parts.definitions import Definitions
@@ -270,13 +270,14 @@ def archive(found: dict[str, tuple[bytes, bool]]) -> bytes:
 
 
 def make(folder: str, maintainer: str) -> list[tuple[str, str]]:
-    """Writes all four into a folder, or none of them; returns their paths and their SHA-256."""
+    """Writes all of them into a folder, or none of them; returns their paths and their SHA-256."""
     found, now = contents(), version()
     package = debian.name(now)
     made = {
         f'{name()}.tar.gz': archive(found),
         wheel.name(now): wheel.made(found, now),
         package: debian.made(found, now, maintainer),
+        vsix.name(now): vsix.made(found, now),
         'Containerfile': CONTAINER.format(version=now, package=package).encode(),
     }
     for short, octets in made.items():

@@ -30,9 +30,10 @@ class Client:
     """An editor, as far as the protocol goes. Where the protocol's types are installed, each message is held against them: what the
     adapter sends, and each request that it answers with success."""
 
-    def __init__(self, room: str) -> None:
+    def __init__(self, room: str, *words: str) -> None:
+        """With words, these start the adapter."""
         self.adapter = subprocess.Popen(
-            [sys.executable, '-S', f'{TOOLS}/dap'],
+            words or [sys.executable, '-S', f'{TOOLS}/dap'],
             stdin=subprocess.PIPE,
             stdout=subprocess.PIPE,
             stderr=subprocess.PIPE,

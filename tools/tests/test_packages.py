@@ -1,10 +1,11 @@
-"""The wheel and the Debian package of dev/release, installed and used: the wheel in a venv, the package in a folder, and in a bare
-Debian where ZEBLUDOR_CHROOT names one, as root; and the Containerfile."""
+"""The wheel, the Debian package and VS Code's extension of dev/release, installed and used: the wheel in a venv, the package in a folder, and
+in a bare Debian where ZEBLUDOR_CHROOT names one, as root; the extension as VS Code unpacks it; and the Containerfile."""
 from __future__ import annotations
 
 import email.parser
 import hashlib
 import io
+import json
 import os
 import re
 import shutil
@@ -17,13 +18,16 @@ import unittest
 import urllib.request
 import zipfile
 from typing import Any, Callable
+from xml.etree import ElementTree
 
 from parts import debian, release, wheel
-from tests.support import SECONDS, but_progress, is_there, not_run
+from tests.support import SECONDS, TOP, but_progress, is_there, not_run
+from tests.test_dap import Client
 from tests.test_release import MADE, PYTHON, RUN, Unpacked, shown_by_readme
 from toolbox import manual
 
-WHEEL, PACKAGE = MADE[1], MADE[2]
+WHEEL, PACKAGE, EXTENSION = MADE[1:4]
+SCHEMAS = {'manifest': '{http://schemas.microsoft.com/developer/vsx-schema/2011}', 'types': '{http://schemas.openxmlformats.org/package/2006/content-types}'}
 README = re.compile(r'^```\n\./pcboard run .*\n```\n\nprints\n\n```\n(.*?)^```', re.M | re.S)
 GDB = ('--batch', '-ex', 'stepi', '-ex', 'info registers ax')
 C = """#include <zebludor.h>
@@ -431,6 +435,59 @@ class Package(Installed):
         words = 'zebludor desk --no-open --port 8807 > /tmp/said & sleep 1; until grep -q http /tmp/said; do sleep 1; done; '
         fetch = 'import re, urllib.request; print(urllib.request.urlopen(re.search(r"http://\\S+", open("/tmp/said").read())[0]).status)'
         self.assertEqual(self.command('sh', '-c', f"{words} python3 -c '{fetch}'; kill -INT $!; kill $!; wait; rm /tmp/said"), '200\n')
+
+
+class Extension(Unpacked):
+    """VS Code's extension, in a folder of its own with the modes that VS Code gives its files."""
+
+    def extension(self) -> str:
+        """The folder to which it is unpacked."""
+        with zipfile.ZipFile(io.BytesIO(self.octets(EXTENSION))) as whole:
+            for entry in whole.infolist():
+                os.chmod(whole.extract(entry, f'{self.room}/installed'), entry.external_attr >> 16 & 0o777)
+        return f'{self.room}/installed/extension'
+
+    def test_its_manifest_and_its_types(self) -> None:
+        """It says what package.json says, and names each file's type, without which VS Code takes no extension."""
+        folder = self.extension()
+        with open(f'{folder}/package.json', encoding='utf-8') as file:
+            package = json.load(file)
+        root = ElementTree.parse(f'{folder}/../extension.vsixmanifest').getroot()
+        identity = root.find(f'.//{SCHEMAS["manifest"]}Identity')
+        assert identity is not None
+        self.assertEqual([identity.get(name) for name in ('Id', 'Version', 'Publisher')], [package[name] for name in ('name', 'version', 'publisher')])
+        self.assertEqual((package['version'], identity.get('TargetPlatform')), (release.version(), 'linux-x64'))
+        for asset in root.iter(f'{SCHEMAS["manifest"]}Asset'):
+            self.assertTrue(os.path.isfile(f'{folder}/../{asset.get("Path")}'))
+        types = ElementTree.parse(f'{folder}/../[Content_Types].xml').getroot()
+        endings = {each.get('Extension') for each in types.iter(f'{SCHEMAS["types"]}Default')}
+        parts = {each.get('PartName') for each in types.iter(f'{SCHEMAS["types"]}Override')}
+        paths = [os.path.relpath(f'{at}/{name}', f'{folder}/..') for at, _, names in os.walk(f'{folder}/..') for name in names]
+        self.assertEqual([path for path in paths if os.path.splitext(path)[1] not in endings and f'/{path}' not in parts], ['[Content_Types].xml'])
+
+    def test_the_debugger(self) -> None:
+        """F5 on a source, and on one with services."""
+        folder = self.extension()
+        for source in ('ticks.asm', 'books/hello.asm'):
+            client = Client(self.room, f'{folder}/dap')
+            self.addCleanup(client.watch.cancel)
+            self.addCleanup(client.end)
+            client.ask('initialize', adapterID='zebludor')
+            client.ask('launch', program=f'{folder}/zebludor/examples/{source}', stopOnEntry=True)
+            client.event('initialized')
+            client.ask('configurationDone')
+            client.event('stopped')
+            client.move('next')
+            self.assertTrue(client.ask('stackTrace', threadId=1)['stackFrames'][0]['source']['path'].endswith(source))
+
+    def test_the_language_server(self) -> None:
+        """By the client under node, with a stand-in for VS Code."""
+        if is_there('node', "VS Code's extension as it is installed", 'nodejs'):
+            words = ['node', f'{TOP}/tools/tests/vscode.js', f'{self.extension()}/extension.js']
+            done = subprocess.run(words, cwd=self.room, capture_output=True, text=True, check=False, timeout=SECONDS)
+            self.assertEqual((done.returncode, done.stderr), (0, ''))
+            self.assertEqual(json.loads(done.stdout)['refused'], 'mov is a word of the dialect, and no name')
+        not_run('the extension in VS Code, which is no package of Debian')
 
 
 class Container(Unpacked):

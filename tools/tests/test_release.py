@@ -13,7 +13,7 @@ import sys
 import tarfile
 import unittest
 
-from parts import debian, release, wheel
+from parts import debian, release, vsix, wheel
 from tests.repository import KIT, LOGIC, Repository
 from tests.support import SECONDS, TOP, but_progress, is_there, not_run
 from tests.test_pages import blocks, commands
@@ -26,7 +26,7 @@ VERDICT = 'logic=proved functions=1 sum=0123456789abcdef native=nat'
 LIBRARIES = ('zebludor_chips', 'zebludor_program')
 CRATES = {it: {'low', it} for it in ('pcboard', *LIBRARIES)} | {'pcprobe': {'low', 'probe', 'pcprobe'}, 'pcmasm': {'low', 'pcmasm'}}
 NAME = release.name()
-MADE = (f'{NAME}.tar.gz', wheel.name(release.version()), debian.name(release.version()), 'Containerfile')
+MADE = (f'{NAME}.tar.gz', *(each.name(release.version()) for each in (wheel, debian, vsix)), 'Containerfile')
 HAS_CC = is_there('cc', 'a release', 'gcc')  # without it none is made, and no case here is run
 NOBODY = 65534
 # A bench in C. What it prints of the gate's library docs/parts.md works out by hand; stand-ins leave the zeros in it.
@@ -176,7 +176,7 @@ class Unpacked(Repository):
         return paths[0]
 
     def octets(self, name: str) -> bytes:
-        """What one of the four holds, which are made once."""
+        """What one of them holds, which are made once."""
         if 'Containerfile' not in self.kept:
             room = os.path.dirname(self.archive())
             for short in MADE:
