@@ -6,7 +6,7 @@
  *   debug, session    FILE, RUN, typed lines, `hex` or nothing: what a session of pcboard or pcprobe replies; the status is its fault
  *   masm              names, lengths of eight bytes each, the bytes, the letters m for a map and x for any source
  *   limit             how many bytes its calls may hold from now on, in decimal, and three texts of no bytes */
-#include "../zebludor.h"
+#include "zebludor.h"
 
 #include <stdio.h>
 #include <stdlib.h>

@@ -1,7 +1,7 @@
 /* The chips' calls from C. Expected values were worked out by hand from the data sheets; docs/parts.md tells how. Exits
  * with 0, or prints what failed. `chips seconds` also tells how long calls take; `chips random N` gives N random chips to
  * every call. */
-#include "../zebludor.h"
+#include "zebludor.h"
 
 #include <stdio.h>
 #include <stdlib.h>

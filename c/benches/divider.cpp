@@ -1,6 +1,6 @@
 // Compares divider.v with the timer of either kind, tick by tick, at some counts; with the 8254 by its status too.
 // Exits with 1 at the first difference.
-#include "../zebludor.h"
+#include "zebludor.h"
 #include "Vdivider.h"
 
 #include <cstdio>

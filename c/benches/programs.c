@@ -1,7 +1,7 @@
 /* A program from C: `programs pcboard INPUT FILE RUN WORDS ..` prints what `pcboard WORDS ..` does of these bytes, and ends with its
  * status; FILE and RUN among the words name the two files, and a file of the name - is empty. Beside that each allocation is refused
  * in turn, and so is the memory of a thread that may hold little: the answer is then another, and all memory is given back. */
-#include "../zebludor.h"
+#include "zebludor.h"
 
 #include <stdio.h>
 #include <stdlib.h>

@@ -1,7 +1,7 @@
 /* Whole runs from C: `runs FILE RUN` prints the report, as `pcboard run FILE RUN` does; with a third word FILE is Intel
  * HEX. Exits with 0, or with 1 and a line on standard error as pcboard's, but for the fault's name. Beside that each
  * allocation is refused in turn: the run is then refused as a want of memory, and all memory is given back. */
-#include "../zebludor.h"
+#include "zebludor.h"
 
 #include <stdio.h>
 #include <stdlib.h>

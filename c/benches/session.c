@@ -2,7 +2,7 @@
  * the third word --hex FILE is Intel HEX, and with --debug the answers are those of `pcboard debug`. Exits with 0, or with 1 and a line on standard error as pcprobe's, but for the fault's name.
  * Beside each answer it asks for the text again, in too little room and in the very room; and at the end each allocation of a
  * session of its own is refused in turn: a refusal is told, all memory is given back, and no line is made twice. */
-#include "../zebludor.h"
+#include "zebludor.h"
 
 #include <stdio.h>
 #include <stdlib.h>

@@ -1,6 +1,6 @@
 // Compares timer.v with counter 0 of an 8253 by 20,000 random steps, in Verilator. Ends with status 1 at the first difference.
 // timer_icarus.v makes these steps too.
-#include "../zebludor.h"
+#include "zebludor.h"
 #include "Vtimer.h"
 
 #include <cstdio>

@@ -122,7 +122,7 @@ def programs(found: Files) -> Files:
 
 
 def library_files(found: Files) -> Files:
-    """The libraries for C, with what pkg-config reads."""
+    """The libraries for C, with what pkg-config and CMake read."""
     made: Files = {}
     for path, (octets, _) in found.items():
         short = os.path.basename(path)
@@ -131,6 +131,8 @@ def library_files(found: Files) -> Files:
         elif path.endswith('.pc'):
             heads = f'prefix=/usr\nlibdir=/{LIBRARIES}\nincludedir=/usr/include\n'
             made[f'{LIBRARIES}/pkgconfig/{short}'] = PACKAGE.sub(heads, octets.decode()).encode(), False
+        elif path.endswith('.cmake') and path.startswith('lib/'):
+            made[f'{LIBRARIES}/{path.removeprefix("lib/")}'] = octets, False
     return made
 
 
@@ -193,7 +195,8 @@ def ar_of(parts: dict[str, bytes]) -> bytes:
 
 def made(found: Files, version: str, maintainer: str) -> bytes:
     """The package of a release's files."""
-    kept = {path: each for path, each in found.items() if path not in ('SHA256SUMS', *PROGRAMS[1:]) and not path.endswith(('.a', '.pc'))} | programs(found)
+    elsewhere = ('SHA256SUMS', *PROGRAMS[1:], *(path for path in found if path.startswith('lib/') and path.endswith(('.a', '.pc', '.cmake'))))
+    kept = {path: each for path, each in found.items() if path not in elsewhere} | programs(found)
     files = {f'{ROOM}/{path}': (for_debian(octets), is_program) for path, (octets, is_program) in kept.items()}
     files |= library_files(found) | share_files(found, version, maintainer)
     size = sum(-(-len(octets) // 1024) for octets, _ in files.values())

@@ -10,13 +10,13 @@ import re
 import shutil
 import subprocess
 import tarfile
-import tempfile
 from typing import Iterator
 
-from parts import debian, vsix, wheel
+from parts import debian, libraries, vsix, wheel
 from parts.book import Book, text_of
 from parts.book_page import page_of
 from parts.definitions import Definitions
+from parts.libraries import LIBRARIES
 from toolbox import proved
 from toolbox.command import Sorry
 from toolbox.crates import TOP, Crates
@@ -28,23 +28,7 @@ STORED_FILES = tuple(f'stored/{program}' for program in PROGRAMS)
 FILES = ('CHANGELOG.md', 'CONTRIBUTING.md', 'SECURITY.md', 'LICENSE-APACHE', 'LICENSE-MIT', 'README.md', 'VERSION', *PROGRAMS, *STORED_FILES, 'stored/PROVED')
 FOLDERS = ('c', 'docs', 'editors', 'examples', 'python', 'services', 'tools')
 LEFT_OUT = ('tools/test', 'tools/tests', 'editors/grammar')  # which want the sources
-LIBRARIES = {
-    'zebludor_chips': 'timer, interrupt controller and parallel port of an IBM PC 5150',
-    'zebludor_program': 'an IBM PC 5150: runs, sessions, and the programs pcboard and pcprobe',
-}
-MEMORY = 'lib/libzebludor_memory.a'  # c/memory.c, by which what takes memory calls malloc, realloc and free
-TAKE_MEMORY = ('zebludor_program',)
 TIME = 315532800  # of every file: the first second of 1980, the earliest that other kinds of archives have too
-PACKAGE = """prefix=${{pcfiledir}}/../..
-libdir=${{prefix}}/lib
-includedir=${{prefix}}/c
-
-Name: {name}
-Description: {what}
-Version: {version}
-Cflags: -I${{includedir}}
-Libs: -L${{libdir}} {libraries}
-"""
 CONTAINER = """# Zebludor {version} for machines without Linux, as docs/install.md tells. In the folder that has it and {package}:
 #   docker build -f Containerfile -t zebludor .
 FROM docker.io/library/debian:bookworm-slim
@@ -151,44 +135,6 @@ def paths() -> list[str]:
     return [*FILES, *(path for path in inside if not is_left_out(path))]
 
 
-def shared(crate: str, archive: str) -> bytes:
-    """A static library as a shared one, which has nothing of the compiler's own files, names or times."""
-    name_of_it = f'lib{crate}.so'
-    whole = [f'-Wl,-soname,{name_of_it}', '-Wl,--build-id=none', '-Wl,--whole-archive', archive, '-Wl,--no-whole-archive', '-Wl,--no-undefined']
-    with tempfile.TemporaryDirectory() as room:
-        path, beside = f'{room}/{name_of_it}', f'{room}/memory.a'
-        if crate in TAKE_MEMORY:
-            with open(beside, 'wb') as to:
-                to.write(memory())
-            whole.append(beside)
-        made_by(['cc', '-shared', '-nostartfiles', '-s', '-o', path, *whole], f'shared library of {archive}')
-        with open(path, 'rb') as file:
-            return file.read()
-
-
-def memory() -> bytes:
-    """c/memory.c as a static library."""
-    with tempfile.TemporaryDirectory() as room:
-        path = f'{room}/{os.path.basename(MEMORY)}'
-        made_by(['cc', '-std=c11', '-O2', '-fPIC', '-c', '-o', f'{room}/memory.o', f'{TOP}/c/memory.c'], 'object of c/memory.c')
-        made_by(['ar', 'rcD', path, f'{room}/memory.o'], 'library of c/memory.c')
-        with open(path, 'rb') as file:
-            return file.read()
-
-
-def made_by(words: list[str], what: str) -> None:
-    """Has a compiler's command make something."""
-    done = subprocess.run(words, capture_output=True, text=True, check=False)
-    if done.returncode:
-        raise Sorry(f'{words[0]} makes no {what}: {done.stderr.strip()[-500:]}')
-
-
-def package(crate: str) -> str:
-    """What pkg-config reads of a library. The static one is named, since its shared one stands beside it."""
-    libraries = f'-l:lib{crate}.a' + (f' -l:{os.path.basename(MEMORY)}' if crate in TAKE_MEMORY else '')
-    return PACKAGE.format(name=crate, what=LIBRARIES[crate], version=version(), libraries=libraries)
-
-
 def verdicts_of(crates: Crates) -> str:
     """The text RELEASE: the version, and a text as PROVED of all that was built, by its path."""
     stored = proved.read(STORED)
@@ -207,22 +153,17 @@ def contents() -> dict[str, tuple[bytes, bool]]:
     """All files of a release by their paths: what each holds, and whether it may be started."""
     crates = Crates()
     found: dict[str, tuple[bytes, bool]] = {}
-    taken = {each: f'{TOP}/{each}' for each in paths()}
-    taken |= {f'lib/lib{library}.a': archive_of(crates, library) for library in LIBRARIES}
-    for path, source in taken.items():
-        with open(source, 'rb') as file:
-            found[path] = file.read(), not path.startswith('lib/') and os.access(source, os.X_OK)
+    for path in paths():
+        with open(f'{TOP}/{path}', 'rb') as file:
+            found[path] = file.read(), os.access(f'{TOP}/{path}', os.X_OK)
+    made = libraries.made({crate: archive_of(crates, crate) for crate in LIBRARIES}, version())
+    found |= {f'lib/{path}': (octets, False) for path, octets in made.items()}
     for path, (octets, _) in found.items():
         if path.endswith('.md'):
             found[path] = linked(path, octets.decode(), found).encode(), False
-    for crate in LIBRARIES:
-        found[f'lib/lib{crate}.so'] = shared(crate, archive_of(crates, crate)), False
-    found[MEMORY] = memory(), False
     found['RELEASE'] = verdicts_of(crates).encode(), False
     book = Book(Definitions(), ['program'])
     found['docs/book.html'], found['docs/book.txt'] = (page_of(book).encode(), False), (text_of(book).encode(), False)
-    for crate in LIBRARIES:
-        found[f'lib/pkgconfig/{crate}.pc'] = package(crate).encode(), False
     sums = (f'{hashlib.sha256(octets).hexdigest()}  {path}\n' for path, (octets, _) in sorted(found.items()))
     found['SHA256SUMS'] = ''.join(sums).encode(), False
     return found

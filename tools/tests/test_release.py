@@ -270,6 +270,11 @@ class Release(Unpacked):
             'lib/libzebludor_chips.so',
             'lib/libzebludor_program.so',
             'lib/pkgconfig/zebludor_program.pc',
+            'lib/cmake/zebludor/zebludor-config.cmake',
+            'lib/libzebludor_dpi.so',
+            'lib/zebludor.vpi',
+            'c/verilog/zebludor.sv',
+            'c/zebludor-sys/Cargo.toml',
             'editors/emacs.el',
         ):
             self.assertIn(f'{NAME}/{path}', names)

@@ -1,0 +1,12 @@
+# Which versions find_package(zebludor VERSION) takes: this one, and earlier ones with the same first two numbers.
+set(PACKAGE_VERSION "0.0.0")
+string(REGEX MATCH "^[0-9]+\\.[0-9]+" _zebludor_own "${PACKAGE_VERSION}")
+string(REGEX MATCH "^[0-9]+\\.[0-9]+" _zebludor_wanted "${PACKAGE_FIND_VERSION}")
+if(PACKAGE_FIND_VERSION VERSION_GREATER PACKAGE_VERSION OR (_zebludor_wanted AND NOT _zebludor_wanted STREQUAL _zebludor_own))
+  set(PACKAGE_VERSION_COMPATIBLE FALSE)
+else()
+  set(PACKAGE_VERSION_COMPATIBLE TRUE)
+  if(PACKAGE_FIND_VERSION STREQUAL PACKAGE_VERSION)
+    set(PACKAGE_VERSION_EXACT TRUE)
+  endif()
+endif()
