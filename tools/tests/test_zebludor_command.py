@@ -8,7 +8,7 @@ import subprocess
 import unittest
 
 from tests.support import EXAMPLES, TOOLS, TOP, ToolCase, is_there
-from toolbox import manual
+from toolbox import completions, manual
 from toolbox.command import STARTED
 
 HELLO = f'{EXAMPLES}/hello.asm', f'{EXAMPLES}/hello.json'
@@ -239,6 +239,12 @@ class Completion(Command):
             self.assertEqual({each.partition('\t')[0] for each in said}, options, before)
         self.assertEqual([each.partition('\t')[0] for each in self.offered(words, 'zebludor tr')], ['trace', 'try'])
         self.assertEqual([each.partition('\t')[0] for each in self.offered(words, 'zebludor runfile --timer ')], ['8253', '8254'])
+
+    def test_each_option_says_what_it_is_for(self) -> None:
+        """In fish, which shows nothing else."""
+        lines = completions.fish().splitlines()
+        self.assertGreater(len(lines), 200)
+        self.assertEqual([line for line in lines if line.endswith("-d ''")], [])
 
     def test_it_needs_no_environment(self) -> None:
         """And leaves none behind."""
