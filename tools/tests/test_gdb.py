@@ -31,6 +31,43 @@ GDB = shutil.which('gdb')
 LONG = '{"version":1,"ram":64,"sw1":0,"sw2":0,"budget":1000000000000,"keys":[]}'
 RUN = '{"version":1,"ram":64,"sw1":0,"sw2":0,"budget":100000,"keys":[]}'
 BUSY = 'again:  INC AX\n        JMP SHORT again'
+# A handler that calls a routine, every 65,536 clocks; what it interrupts was called just before, and that one's caller at the beginning.
+HANDLED = """        XOR AX,AX
+        MOV SS,AX
+        MOV DS,AX
+        MOV SP,1000h
+        MOV AL,13h
+        OUT 20h,AL
+        MOV AL,8
+        OUT 21h,AL
+        MOV AL,1
+        OUT 21h,AL
+        MOV AL,0FEh
+        OUT 21h,AL
+        MOV AL,34h
+        OUT 43h,AL
+        MOV AL,0
+        OUT 40h,AL
+        MOV AL,40h
+        OUT 40h,AL
+        MOV WORD [20h],handler
+        MOV WORD [22h],SEG handler
+        CALL whole
+        HLT
+whole:  STI
+again:  CALL waits
+        INC WORD [500h]
+        JMP SHORT again
+waits:  HLT
+        RET
+handler: PUSH AX
+        CALL key
+        MOV AL,20h
+        OUT 20h,AL
+        POP AX
+        IRET
+key:    INC WORD [502h]
+        RET"""
 CALLS = """        MOV SP,400h
         CALL near
         CALL far_on
@@ -919,6 +956,26 @@ class Gdb(ToolCase):
         for wanted in ('#0  idle () at ticks.asm:38\n', 'Initial frame selected; you cannot go up', 'not meaningful in the outermost frame') if GDB else ():
             self.assertIn(wanted, answer)
         self.assertNotIn('corrupt', answer)
+
+    def test_out_of_a_handler(self) -> None:
+        """`up` and `finish` lead out of a handler and what it has called; a caller of long ago, which nothing shows any more, is told as
+        unknown, and nothing is run up to it."""
+        if not GDB:
+            return
+        files = self.program(HANDLED, 10_000_000)
+        typed = ('monitor to 5000000', 'break key', 'continue', *['up'] * 3, 'backtrace', 'frame 0', *['finish'] * 3, 'backtrace', 'finish', 'advance waits')
+        printed = self.gdb(files, *typed)
+        frames = [('key', 'key:'), ('handler', '        CALL key'), ('waits', 'waits:'), ('again', 'again:')]
+        with open(files[0], encoding='ascii') as file:
+            lines = file.read().splitlines()
+        numbers = [next(at for at, line in enumerate(lines, 1) if line.startswith(begin)) for _, begin in frames]
+        shown = [f'#{at}  {"" if not at else "0x[0-9a-f]{8} in "}{name} \\(\\) at it.asm:{numbers[at]}\n' for at, (name, _) in enumerate(frames)]
+        self.assertRegex(printed, f'{"".join(shown)}#4  0x[0-9a-f]{{8}} in unknown caller \\(\\)\n')
+        self.assertRegex(printed, r'\n#0  again \(\) at it.asm:\d+\n#1  0x[0-9a-f]{8} in unknown caller \(\)\n(?!#)')
+        self.assertEqual(printed.count("the caller isn't known, so nothing can be run up to it"), 1)
+        stops = [int(one) for one in re.findall(r'^(\d+)\t', printed, re.M)]
+        self.assertEqual(stops[-4:], [numbers[1] + 1, numbers[2] + 1, numbers[3] + 1, numbers[2]])
+        self.assertNotIn('corrupt', printed)
 
 
 if __name__ == '__main__':

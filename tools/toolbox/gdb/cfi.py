@@ -6,13 +6,12 @@ from __future__ import annotations
 import struct
 
 from toolbox.gdb.flow import outermost
-from toolbox.gdb.frames import RECORDS
+from toolbox.gdb.frames import MEMORY, NOWHERE, RECORDS
 from toolbox.listing import Listing
 
-MEMORY = 1 << 20
 # DWARF's numbers of registers on the i386, and what its expressions and rules are made of.
 ESP, EBP, EIP, CS, SS, RECORD = 4, 5, 8, 41, 42, 38
-ZERO, FOUR, LEFT, PLUS, TIMES, EQUAL, AT, WORD_AT = b'\x30', b'\x34', b'\x24', b'\x22', b'\x1E', b'\x29', b'\x06', b'\x94\x02'
+FOUR, LEFT, PLUS, AT, WORD_AT = b'\x34', b'\x24', b'\x22', b'\x06', b'\x94\x02'
 BREG, BREGX = 0x70, b'\x92'
 FURTHER, SAME, CFA_AT, CFA_IS, VALUE_IS = b'\x04', b'\x08', b'\x0C', b'\x0F', b'\x16'
 NO_CALLER = b'\x07' + bytes([EIP])  # where a frame goes on is undefined
@@ -67,9 +66,9 @@ def recorded(at: int) -> bytes:
 
 
 def by_record() -> bytes:
-    """The rule by the record. With none, which is 0, the caller is the same frame, with which gdb ends."""
-    stack, here = bytes([BREG + ESP, 0]), (bytes([BREG + EIP, 0]), register(RECORD), ZERO, EQUAL, TIMES)
-    next_one = value_is(EIP, recorded(8), *here, PLUS) + value_is(RECORD, recorded(12))
+    """The rule by the record."""
+    stack = bytes([BREG + ESP, 0])
+    next_one = value_is(EIP, recorded(8)) + value_is(RECORD, recorded(12))
     return CFA_IS + expression(stack, recorded(0), PLUS) + value_is(ESP, stack, recorded(4), PLUS) + next_one
 
 
@@ -128,4 +127,4 @@ def frames_of(listing: Listing, routines: list[tuple[int, int]]) -> bytes:
         if first < end:
             entries += counted(struct.pack('<III', 0, first, end - first) + rules)
         here = end
-    return entries
+    return entries + counted(struct.pack('<III', 0, MEMORY, NOWHERE + 1 - MEMORY) + NO_CALLER)

@@ -7,7 +7,8 @@ import struct
 from dataclasses import dataclass, field
 
 from toolbox.forms import LONGEST_CALL, ends_of, ends_with_call, form_of, learn
-from toolbox.gdb.cfi import MEMORY, behind_prologue, counted, frames_of, memory_of, sleb, uleb
+from toolbox.gdb.cfi import behind_prologue, counted, frames_of, memory_of, sleb, uleb
+from toolbox.gdb.frames import MEMORY, NOWHERE
 from toolbox.gdb.variables import SHAPES, variables_of
 from toolbox.listing import Line, Listing, physical
 
@@ -16,6 +17,7 @@ MACHINE, EXECUTABLE, PROGBITS, SYMTAB, STRTAB, NOBITS = 3, 2, 1, 2, 3, 8
 PRODUCER = b'GNU Zebludor 4.5\x00'
 PROLOGUE_ROOM = 32
 OVERFLOW = 4  # the type that INTO enters
+CALLER = 'unknown caller'  # no label has a blank in it
 ASSEMBLER = 0x8001  # DW_LANG_Mips_Assembler, the language of all assemblers in DWARF 3
 
 
@@ -153,7 +155,7 @@ def without_bytes(listing: Listing) -> set[str]:
 def symbols_of(extents: dict[str, tuple[int, int]]) -> tuple[bytes, bytes]:
     """`.symtab` and `.strtab`. All labels are as those of code, for what is data may be that, too: so one can stop there."""
     names, rows = Table(), bytes(16)
-    for name, (address, end) in extents.items():
+    for name, (address, end) in (extents | {CALLER: (MEMORY, NOWHERE + 1)}).items():
         rows += struct.pack('<IIIBBH', names.place(name), address, end - address, 0x12, 0, 1)
     return rows, names.octets
 
@@ -178,7 +180,7 @@ def elf_of(listing: Listing, paths: dict[str, str]) -> bytes:
     abbreviation, unit = unit_of(next(iter(paths.values())), extents, listing, list(paths))
     symbols, names = symbols_of(extents)
     sections = [
-        Section('.text', NOBITS, flags=6, size=MEMORY),
+        Section('.text', NOBITS, flags=6, size=NOWHERE + 1),
         Section('.debug_abbrev', PROGBITS, abbreviation),
         Section('.debug_info', PROGBITS, unit),
         Section('.debug_line', PROGBITS, lines_of(listing, paths)),

@@ -1,5 +1,6 @@
-"""Within gdb: hands the conditions of watchpoints to the board, for which gdb has no packet. Beside each of them stands a breakpoint of its
-own that nobody sees, beyond memory, with the same condition: of those gdb hands the condition over. Its place says whose it is."""
+"""Within gdb: `finish` is refused if no caller is known, and the conditions of watchpoints are handed to the board, for which gdb has no
+packet. Beside each of them stands a breakpoint of its own that nobody sees, beyond memory, with the same condition: of those gdb hands the
+condition over. Its place says whose it is."""
 from __future__ import annotations
 
 import re
@@ -10,6 +11,7 @@ except ImportError:  # outside of gdb, where tools/gdb asks for this file's plac
     gdb = None
 
 ROW, FIRST, ROWS, MEMORY = 1 << 20, 0x100, 0xD00, 1 << 20
+WANTED = 'zebludor-caller'  # the command that is made before each `finish`
 # What stands in one place as long as the program runs.
 FIXED = re.compile(
     r"-l(ocation)?\s+.*|[\w.'?@]+(\[\d+\])*|\*\s*\([^()]*\*\s*\)\s*\(?\s*(&\s*\w+|0x[0-9a-f]+|\d+)\s*\)?|\{[^{}]*\}\s*(&\s*\w+|0x[0-9a-f]+|\d+)", re.I
@@ -79,4 +81,14 @@ class Handed:
 
 
 if gdb:
+
+    class Wanted(gdb.Command):
+        """Refuses if nothing shows to what the selected frame returns."""
+
+        def invoke(self, *_):
+            caller = gdb.selected_frame().older()
+            if caller is not None and caller.pc() >= MEMORY:
+                raise gdb.GdbError("the caller isn't known, so nothing can be run up to it")
+
+    Wanted(WANTED, gdb.COMMAND_RUNNING)
     Handed()
