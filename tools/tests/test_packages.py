@@ -308,7 +308,16 @@ class Package(Installed):
             'doc/zebludor/examples',
         ):
             self.assertIn(f'./usr/share/{path}', names)
-        for path in ('include/zebludor.h', 'lib/python3/dist-packages/zebludor.py'):
+        for path in (
+            'include/zebludor.h',
+            'lib/python3/dist-packages/zebludor.py',
+            'lib/x86_64-linux-gnu/cmake/zebludor/zebludor-config.cmake',
+            'lib/x86_64-linux-gnu/libzebludor_dpi.a',
+            'lib/x86_64-linux-gnu/pkgconfig/zebludor_dpi.pc',
+            'lib/zebludor/c/verilog/zebludor.sv',
+            'lib/zebludor/c/zebludor-sys/build.rs',
+            'lib/zebludor/lib/zebludor.vpi',
+        ):
             self.assertIn(f'./usr/{path}', names)
         pages = {each.rpartition('/')[2] for each in names if '/man1/' in each}
         self.assertEqual(pages, {f'{each}.1.gz' for each in ('pcboard', 'pcprobe', 'pcmasm', 'zebludor', *(f'zebludor-{each}' for each in manual.names()))})
