@@ -124,7 +124,7 @@ def uncommitted() -> list[str]:
 def is_left_out(path: str) -> bool:
     """Whether a path is of no release."""
     parts = path.split('/')
-    return any(part.startswith('.') or part in ('__pycache__', 'out') for part in parts) or any(
+    return any(part.startswith('.') or part in ('__pycache__', 'out', 'target') for part in parts) or any(
         path == left_out or path.startswith(f'{left_out}/') for left_out in LEFT_OUT
     )
 
