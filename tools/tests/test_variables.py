@@ -261,6 +261,18 @@ class Programs:
                 found += [word(one.name, at * one.size + part, new >> 8 * part & 0xFFFF) for part in range(0, one.size, 2)]
         return found
 
+    def masm(self) -> tuple[str, list[Made]]:
+        """A source of MASM's."""
+        alike = [[self.chance.randrange(256)] if self.chance.random() < 0.3 else None for _ in range(self.count)]
+        made = [self.made(f'v{number}', self.chance.choice((1, 2, 4)), begins_at=value) for number, value in enumerate(alike)]
+        data = list[str]()
+        for one, value in zip(made, alike):
+            values = f'{len(one.before)} DUP({value[0]})' if value else ','.join(map(str, one.before))
+            data.append(f'{one.name} D{" BW D"[one.size]} {values}')
+        code = [line for one in made for line in self.writes(one, 'MOV WORD PTR {}[{}],{}'.format, 'MOV BYTE PTR {}[{}],{}'.format)]
+        head = ['.MODEL SMALL', '.STACK 100h', '.DATA', *data, '.CODE', 'main PROC', 'MOV AX,@DATA', 'MOV DS,AX', 'begin:']
+        return '\n'.join([*head, *code, 'done:', 'MOV AX,4C00h', 'INT 21h', 'main ENDP', 'END main']) + '\n', made
+
     def nasm(self) -> tuple[str, list[Made]]:
         """A source of NASM's: what is in RAM begins as 0."""
         made = [self.made(f'v{number}', self.chance.choice((1, 2, 4)), begins_at=[0]) for number in range(self.count)]
@@ -374,6 +386,11 @@ class Random(ToolCase):
     def test_the_dialect(self) -> None:
         text, made = Programs(self.seed(), self.COUNT).dialect()
         self.each((self.file('it.asm', text), self.file('run.json', RUN)), made, ('start', 'done'))
+
+    def test_masm(self) -> None:
+        """By the translation's listing, over the services; values that are alike stand there once, with DUP."""
+        text, made = Programs(self.seed(), self.COUNT).masm()
+        self.each((self.file('it.asm', text), self.file('run.json', RUN.replace('64', '640').replace('20000', '200000'))), made, ('begin', 'done'))
 
     def test_nasm(self) -> None:
         """By NASM's listing."""
