@@ -102,7 +102,7 @@ class Installed(Unpacked):
                 browser = urllib.request.build_opener(urllib.request.HTTPCookieProcessor())
                 with browser.open(address[0], timeout=SECONDS) as page:
                     self.assertIn(b'<html', page.read())
-                with browser.open(f'{address[0]}asking.js', timeout=SECONDS) as module:
+                with browser.open(f'{address[0]}served.js', timeout=SECONDS) as module:
                     self.assertIn(b'start zebludor desk again', module.read())
             finally:
                 process.send_signal(signal.SIGINT)
