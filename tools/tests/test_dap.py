@@ -32,14 +32,7 @@ class Client:
 
     def __init__(self, room: str, *words: str) -> None:
         """With words, these start the adapter."""
-        self.adapter = subprocess.Popen(
-            words or [sys.executable, '-S', f'{TOOLS}/dap'],
-            stdin=subprocess.PIPE,
-            stdout=subprocess.PIPE,
-            stderr=subprocess.PIPE,
-            cwd=room,
-            env=os.environ | {'XDG_RUNTIME_DIR': room},
-        )
+        self.adapter = self.started(room, *words)
         self.count, self.events, self.requests = 0, list[Fields](), dict[int, Fields]()
         self.is_held = True  # whether requests are; none is that is wrong on purpose
         assert self.adapter.stdout
@@ -47,6 +40,17 @@ class Client:
         self.watch = threading.Timer(SECONDS, self.adapter.kill)
         self.watch.daemon = True  # a test that fails doesn't wait for it
         self.watch.start()
+
+    def started(self, room: str, *words: str) -> Any:
+        """The adapter, a process."""
+        return subprocess.Popen(
+            words or [sys.executable, '-S', f'{TOOLS}/dap'],
+            stdin=subprocess.PIPE,
+            stdout=subprocess.PIPE,
+            stderr=subprocess.PIPE,
+            cwd=room,
+            env=os.environ | {'XDG_RUNTIME_DIR': room},
+        )
 
     def raw(self, octets: bytes) -> None:
         """Sends bytes."""

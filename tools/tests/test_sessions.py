@@ -1,17 +1,24 @@
 """Random sessions of tools/dbg, an editor's adapter, tools/gdb and zebludor.py, and what tools/moments and tools/trace measure: each
 command is answered again by fresh runs of pcprobe from power-on, with none of the code that follows calls for the tools.
 
-python3 -m tests.test_sessions COUNT [SEED] in tools/: so many of each, from a seed on"""
+python3 -m tests.test_sessions COUNT [SEED] in tools/: so many of each, from a seed on; what the tools start Python for is done there by
+threads"""
 from __future__ import annotations
 
+import contextlib
+import io
+import os
 import random
 import re
+import socket
 import struct
 import subprocess
 import sys
 import traceback
 import unittest
-from dataclasses import dataclass
+from dataclasses import dataclass, replace
+from typing import Iterator
+from unittest import mock
 
 from tests import test_dap, test_gdb
 from tests.support import ToolCase
@@ -19,8 +26,16 @@ from tests.test_calls import program
 from tests.test_dap import Client as Editor
 
 import zebludor
+from toolbox import moments
+from toolbox.dap.adapter import Adapter
+from toolbox.framing import reading, writing
+from toolbox.gdb.board import Board
+from toolbox.gdb.stub import NAMES, Stub
+from toolbox.gdb.wire import Wire
+from toolbox.listing import listing_of
 from toolbox.program import Files, path
 from toolbox.runfile import DEFAULTS, read_run_file, text_of
+from toolbox.threads import begin
 
 # A routine within another, whose address it drops.
 DROPPING = 'whole:  NOP\n        CALL part\n        NOP\n        RET\npart:   NOP\n        ADD SP,2\n        RET\n'
@@ -67,13 +82,15 @@ class Truth:
         """The clock to which commands lead."""
         return int(self.ask(*commands)[-1].split()[-1])
 
-    def registers(self, clock: int) -> list[str]:
-        """The registers at a clock."""
-        return self.ask(f'go {clock}', 'regs')[1:3]
+    def registers(self, clocks: set[int], *questions: str) -> dict[int, list[str]]:
+        """The registers at clocks, and what else is asked there, by one run that goes on from each of them to the next."""
+        there = sorted(clocks)
+        text = '\n'.join(self.ask(*(f'go {b - a}\n' + '\n'.join(('regs', *questions)) for a, b in zip([0, *there], there))))
+        return dict(zip(there, (each.splitlines() for each in re.split(r'^clock \d+\n', text, flags=re.M)[1:])))
 
     def bytes(self, clock: int, address: int, count: int) -> bytes:
         """Memory at a clock."""
-        return b''.join(bytes.fromhex(line.partition(':')[2]) for line in self.ask(f'go {clock}', f'dump {address:X} {count}')[1:])
+        return octets_of(self.ask(f'go {clock}', f'dump {address:X} {count}')[1:])
 
     def _follow(self, number: int, code: bytes) -> None:
         """Notes a call, or what ends calls."""
@@ -190,8 +207,96 @@ class Truth:
         return next((at for line in reversed(lines) if (at := int(line.split()[0]) + 1) < clock), None)
 
 
+def octets_of(dump: list[str]) -> bytes:
+    """The bytes of a dump's lines."""
+    return b''.join(bytes.fromhex(line.partition(':')[2]) for line in dump)
+
+
+class NearAdapter:
+    """An adapter in a thread, with what the tests ask of a process."""
+
+    def __init__(self, room: str) -> None:
+        (given, asked), (answers, to) = os.pipe(), os.pipe()
+        self.stdin, self.stdout, self.stderr = open(asked, 'wb'), open(answers, 'rb'), io.BytesIO()  # pylint: disable=consider-using-with
+
+        def serve() -> None:
+            messages = reading(given)
+            with open(given, 'rb'), open(to, 'wb'):
+                Adapter(messages, writing(to), room).serve()
+                while messages.get() is not None:
+                    pass  # a file is closed only when nobody reads it any more
+
+        self.thread = begin(serve)
+
+    def kill(self) -> None:
+        """A thread can't be ended; the client's limit of time ends nothing."""
+
+    def wait(self) -> int:
+        """Waits for its end."""
+        self.thread.join()
+        return 0
+
+
+class NearEditor(Editor):
+    """An editor whose adapter is in this process."""
+
+    def started(self, room: str, *words: str) -> NearAdapter:
+        return NearAdapter(room)
+
+
+class NearClient(test_gdb.Client):
+    """A client of gdb's protocol whose server is a thread of this process."""
+
+    def __init__(self, files: Files) -> None:
+        self.socket, served = socket.socketpair()
+        self.held, self.shown = b'', ''
+
+        def serve() -> None:
+            board = Board(files, BUDGET)
+            try:
+                Stub(Wire(served), board, listing_of(files)).serve()
+            finally:
+                board.close()
+                served.close()
+
+        self.thread = begin(serve)
+
+    def close(self) -> None:
+        super().close()
+        self.thread.join()
+
+
+def frames_of(records: bytes, stack: int) -> list[int]:
+    """Where the frames end that gdb is told, but for the outermost one, by records and SP."""
+    ends = list[int]()
+    for end, back_by, _, number in struct.iter_unpack('<iiII', records[: len(records) // 16 * 16]):
+        ends.append((stack + end) % 0x10000)
+        stack = (stack + back_by) % 0x10000
+        if number <= 16 * len(ends):
+            break
+    return ends[:-1]
+
+
+class NearWorker:
+    """What tries moments, in this process."""
+
+    def __init__(self, of: tuple[moments.Plan, str]) -> None:
+        self.plan, self.room = of
+
+    def ask(self, numbers: list[int]) -> Iterator[int]:
+        """When the place begins, of each of these."""
+        for number in numbers:
+            files = replace(self.plan.files_of(number, self.room), run_file=f'{self.room}/it.json')
+            yield moments.clocks_of(self.plan, files, number, self.plan.asked.place or '')
+
+    def end(self) -> None:
+        """Nothing is under way."""
+
+
 class Sessions(ToolCase):
     """A session of each kind."""
+
+    is_near = False  # whether threads stand for processes of Python
 
     def setUp(self) -> None:
         super().setUp()
@@ -214,7 +319,7 @@ class Sessions(ToolCase):
     def dbg(self, seed: int) -> None:
         """A session of tools/dbg."""
         truth, dice = self.truth(seed)
-        clock, commands, wanted, top = 0, list[str](), list[str](), 0x500 + truth.calls[0].slot
+        clock, commands, clocks, by, top = 0, list[str](), list[int](), dict[int, str](), 0x500 + truth.calls[0].slot
         hard = truth.hard()
         for _ in range(COMMANDS):
             to = dice.randrange(300, CLOCKS - 500)
@@ -236,8 +341,11 @@ class Sessions(ToolCase):
                 command, there = 'to', to
             clock = there
             commands += [{'to': f'to {clock}', 'go': 'go 40', 'last write': f'last write {top:05X}'}.get(command, command), 'regs']
-            by = [f'by clock {[each for each in truth.clocks if each < clock][-1]}'] if command == 'last write' else []
-            wanted += [f'clock {clock}', *by, *truth.registers(clock)]
+            if command == 'last write':
+                by[len(clocks)] = f'by clock {[each for each in truth.clocks if each < clock][-1]}'
+            clocks.append(clock)
+        registers = truth.registers(set(clocks))
+        wanted = [line for at, each in enumerate(clocks) for line in (f'clock {each}', *([by[at]] if at in by else []), *registers[each])]
         wanted += [f'clock {clock}', truth.lost(clock)]
         out = self.called('dbg', truth.files.file, truth.files.run_file, given='\n'.join([*commands, 'state', '']))[0]
         self.asked += [command.split()[0] for command in commands]
@@ -247,7 +355,7 @@ class Sessions(ToolCase):
     def editor(self, seed: int) -> None:
         """A session of an editor."""
         truth, dice = self.truth(seed)
-        client = Editor(self.room)
+        client = (NearEditor if self.is_near else Editor)(self.room)
         client.launch(truth.files.file, run=truth.files.run_file, stopOnEntry=True)
         client.event('stopped')
         clock, said, hard = 0, list[tuple[str, int]](), truth.hard()
@@ -276,8 +384,8 @@ class Sessions(ToolCase):
     def debugger(self, seed: int) -> None:
         """A session of gdb's protocol: registers, and where the frames end that gdb is told."""
         truth, dice = self.truth(seed)
-        client, said = self.served.client(truth.files.file, truth.files.run_file), list[str]()
-        clock = 0
+        client = NearClient(truth.files) if self.is_near else self.served.client(truth.files.file, truth.files.run_file)
+        said, clock, seen = list[str](), 0, list[tuple[int, list[int]]]()
         for _ in range(COMMANDS):
             command = dice.choice(('monitor', 's', 's', 'bs', 'monitor')) if clock else 'monitor'
             said.append(command)
@@ -294,30 +402,26 @@ class Sessions(ToolCase):
                 steps = [truth.clock(f'go {clock}', *['step'] * count) for count in (1, 2)]
                 self.assertIn(there, (*steps, *truth.clocks, *truth.end(clock)), (seed, said))
                 clock = there
-            lines = truth.registers(clock)
-            self.assertEqual(client.registers()[:14], test_gdb.told_as(lines), (seed, said))
-            stack, ends = zebludor.registers_of(lines)['SP'], list[int]()
-            records = bytes.fromhex(client.ask('mf0000010,400'))
-            for end, back_by, _, number in struct.iter_unpack('<iiII', records[: len(records) // 16 * 16]):
-                ends.append((stack + end) % 0x10000)
-                stack = (stack + back_by) % 0x10000
-                if number <= 16 * len(ends):
-                    break
-            self.assertEqual(ends[:-1], [call.slot % 0x10000 for call in truth.under_way(clock)], (seed, said))
+            there = client.registers()[:14]
+            seen.append((clock, there))
+            stack = there[NAMES.index('SP')] - 16 * there[NAMES.index('SS')]
+            ends = frames_of(bytes.fromhex(client.ask('mf0000010,400')), stack)
+            self.assertEqual(ends, [call.slot % 0x10000 for call in truth.under_way(clock)], (seed, said))
         client.ask('k')
         client.close()
+        registers = truth.registers({clock for clock, _ in seen})
+        self.assertEqual([there for _, there in seen], [test_gdb.told_as(registers[clock]) for clock, _ in seen], (seed, said))
 
     def python(self, seed: int) -> None:
         """A session of zebludor.py."""
         truth, dice = self.truth(seed)
         fields = read_run_file(truth.files.run_file)
-        said, clock = list[str](), 0
+        said, clock, seen = list[str](), 0, list[tuple[int, dict[str, int], bytes]]()
         with open(truth.files.file, encoding='ascii') as file, zebludor.Session(file.read(), probe=True, **fields) as session:
             for _ in range(COMMANDS):
                 command, count = dice.choice(('go', 'step', 'back', 'back_step', 'events')), dice.randrange(1, 90)
                 command = 'go' if clock < 200 else 'back' if clock > CLOCKS - 500 else command
                 said.append(f'{command} {count}')
-                before = clock
                 if command in ('go', 'back'):
                     clock += count if command == 'go' else -count
                     getattr(session, command)(count)
@@ -329,15 +433,20 @@ class Sessions(ToolCase):
                 else:
                     clock = truth.clock(f'go {clock}', command.replace('_', ' '))
                     getattr(session, command)()
-                self.assertEqual((session.clock, session.registers), (clock, zebludor.registers_of(truth.registers(clock))), (seed, said, before))
-                self.assertEqual(session.dump(0x8C0, 64), truth.bytes(clock, 0x8C0, 64), (seed, said))
+                self.assertEqual(session.clock, clock, (seed, said))
+                seen.append((clock, session.registers, session.dump(0x8C0, 64)))
+        lines = truth.registers({clock for clock, *_ in seen}, 'dump 008C0 64')
+        wanted = [(clock, zebludor.registers_of(lines[clock][:2]), octets_of(lines[clock][2:])) for clock, *_ in seen]
+        self.assertEqual(seen, wanted, (seed, said))
 
     def measures(self, seed: int) -> None:
         """How long a key keeps a place away, by tools/moments, and how long the timer's requests wait, by tools/trace."""
         truth, dice = self.truth(seed)
         run = self.file('short.json', text_of(read_run_file(truth.files.run_file) | {'budget': CLOCKS}))
         place, first = dice.choice([each for each in truth.places if each]), dice.choice(truth.near_halts() or range(300, CLOCKS - 900))
-        out = self.called('moments', '--measure', place, truth.files.file, run, '--key', '1E', '--at', f'{first}..{first + 5}', '--jobs', '1')[0]
+        words = ['--measure', place, truth.files.file, run, '--key', '1E', '--at', f'{first}..{first + 5}', '--jobs', '1']
+        with self.near_workers() if self.is_near else contextlib.nullcontext():
+            out = self.called('moments', *words)[0]
         came = [clocks for stamp in range(first, first + 5) if (clocks := truth.begun(place, stamp)) is not None]
         found = re.findall(r'(\d+) came to|^(?:least|most) (\d+) ', out, re.M)
         self.assertEqual([int(a or b) for a, b in found], [len(came), *([min(came), max(came)] if came else [])], (seed, place, first))
@@ -350,6 +459,13 @@ class Sessions(ToolCase):
         shown = [int(stood[1] or 1), int(stood[2]), int(stood[3] or stood[2])] if stood else []
         self.assertEqual(shown, [len(fell), min(fell), max(fell)] if fell else [], seed)
         self.asked += ['came'] * bool(came) + ['taken'] * bool(taken) + ['fell'] * bool(fell)
+
+    @staticmethod
+    @contextlib.contextmanager
+    def near_workers() -> Iterator[None]:
+        """Moments are tried in this process."""
+        with mock.patch.object(moments.Plan, 'words', lambda *of: of), mock.patch.object(moments, 'Worker', NearWorker):
+            yield
 
     def test_dbg(self) -> None:
         for seed in range(IN_THE_GATE):
@@ -375,7 +491,7 @@ class Sessions(ToolCase):
 
     def many(self, count: int, first: int) -> int:
         """So many of each kind, by hand; returns how many differ, each of which is told. Beside other work an adapter may need an hour."""
-        differ, test_dap.SECONDS = 0, 3600
+        differ, test_dap.SECONDS, test_gdb.SECONDS, self.is_near = 0, 3600, 3600, True
         for done, seed in enumerate(range(first, first + count), 1):
             for ask in (self.dbg, self.editor, self.debugger, self.python, self.measures):
                 try:
