@@ -20,7 +20,7 @@ from toolbox.symbols import image_of
 
 FIRST, LAST = 50_000, 5_000  # the clocks that are looked at
 REACH = 100_000_000  # so many clocks are made again, and of a longer run all
-MOST_STARTS, SAMPLE = 5_000_000, 1_000_000  # if about so few instructions begin after them, by those that do in so many clocks
+MOST_STARTS, SAMPLE = 3_000_000, 1_000_000  # if about so few instructions begin after them, by those that do in so many clocks
 OFTEN = 64  # so many times an instruction is looked at
 LONG, LONGEST = 1000, 2_000_000  # no instruction takes so many clocks, and no repeated one
 WAKES = 0x300  # IF and TF
