@@ -659,8 +659,11 @@ class Dialogue:
         count = min(count, MEMORY - address)
         while len(found) < count:
             part = min(4096, count - len(found))
-            for line in self.many(f'dump {address + len(found):X} {part}'):
-                found += bytes.fromhex(line.partition(':')[2])
+            lines = self.many(f'dump {address + len(found):X} {part}')
+            fault = fault_in(lines[0])
+            if fault:
+                raise fault
+            found += b''.join(bytes.fromhex(line.partition(':')[2]) for line in lines)
         return found
 
 

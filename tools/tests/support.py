@@ -242,7 +242,7 @@ class ToolCase(unittest.TestCase):
         self.assertNotRegex(ran.stderr, f'Traceback|{MISTAKE}')
         return ran.stdout, but_progress(ran.stderr)
 
-    def called(self, name: str, *words: str, given: str = '', status: int = 0) -> tuple[str, str]:
+    def called(self, name: str, *words: str, given: str = '', status: int | None = 0) -> tuple[str, str]:
         """As `tool`, in this process: a start of Python less for each of many calls."""
         from toolbox import foreign
         from toolbox.command import Sorry, refuse, status_of
@@ -261,7 +261,8 @@ class ToolCase(unittest.TestCase):
             sys.argv, sys.stdin = held
             for sign, handler in handlers.items():
                 signal.signal(sign, handler)
-        self.assertEqual(came, status, err.getvalue() or out.getvalue())
+        if status is not None:
+            self.assertEqual(came, status, err.getvalue() or out.getvalue())
         return out.getvalue(), but_progress(err.getvalue())
 
     def pcboard(self, *words: str, given: str = '') -> subprocess.CompletedProcess[str]:

@@ -15,6 +15,7 @@ import subprocess
 import sys
 import tempfile
 import unittest
+import warnings
 from typing import Any, Callable
 from unittest import mock
 
@@ -34,6 +35,7 @@ from toolbox.moments import Worker
 from toolbox.program import Files, ProbeSession, path
 from toolbox.runfile import DEFAULTS
 from toolbox.threads import STACK, begin
+import zebludor
 
 # In place of a program: it refuses the first command of a name, and hands on all else, as what the tools ask to know where an answer
 # ends. Each answer is known to be whole by what is asked behind it.
@@ -111,6 +113,21 @@ start:  MOV AX,50h
 {RESET}"""
 
 
+# With services: it waits for a key, prints, and ends.
+SERVED = "SEGMENT MAIN AT 100h\n        ORG 100h\nstart:  MOV AH,0\n        INT 16h\n        MOV DL,'A'\n        MOV AH,2\n        INT 21h\n        INT 20h\nENDS\n"
+CHANGES = 'go 300\nAX = 5\n[B0000] = 41h\nundo\nregs\nundo\nback\nif AX > 2\n'
+# What Python asks of a session.
+ASKED: tuple[Callable[[zebludor.Session], Any], ...] = (
+    lambda it: (it.stop_at(0xF600, 0x58), it.stop_at_byte(0xB0000, 0x41), it.stop_at_sound(), it.stop_at_halt(), it.watch(0x400), it.stop_when('entries')),
+    lambda it: (it.go(2000), it.step(), it.back_step(), it.back(100), it.back_to_stop(), it.clock),
+    lambda it: (it.registers, it.screen(), it.dump(0x400, 4), it.trail()),
+    lambda it: (it.key(0x1E), it.events(200, 'starts', 'keys')),
+    lambda it: (it.set('AX', 5), it.set(0x600, b'\x90\xC3'), it.registers, it.undo()),
+    lambda it: it.call((0, 0x600), memory={0x600: b'\x40\xC3'}, ax=4),
+    lambda it: (it.registers, it.dump(0x600, 2)),
+)
+
+
 class Broken(ToolCase):
     """Tools over programs that refuse something once."""
 
@@ -179,6 +196,40 @@ class Broken(ToolCase):
         jam = self.file('jam.asm', JAM)
         for words in (['why', 'run', mute, example('ticks')[1]], ['try', jam]):
             self.each_of(lambda those=words: self.said_by(those))  # type: ignore[misc]
+
+    def test_what_else_asks(self) -> None:
+        """Tools that ask at a run's end, of programs with services, over moments, and by zebludor.py; and what changes the board."""
+        source, run = example('ticks')
+        page, served = self.file('it.page', PAGE), self.file('served.asm', SERVED)
+        key = ['--key', '1E', '--at', '100..102']
+        for words, given in (
+            (['picture', '--of', source, run, '--ansi'], ''),
+            (['moments', '--stop', 'tick', source, run, *key, '--pair', '9E', '50'], ''),
+            (['moments', page, source, run, *key, '--jobs', '1'], ''),
+            (['try', served, '--keys', 'a'], ''),
+            (['why', 'run', served], ''),
+            (['trace', '--calls', served], ''),
+            (['trace', '--lcov', 'it.lcov', source, run], ''),
+            (['dbg', source, run], CHANGES),
+        ):
+            with warnings.catch_warnings():
+                warnings.simplefilter('ignore', ResourceWarning)  # of processes that try moments, which are ended as they are
+                self.each_of(lambda: ''.join(self.called(words[0], *words[1:], given=given, status=None)))  # pylint: disable=cell-var-from-loop
+
+    def test_zebludor(self) -> None:
+        """A session of Python: each call is refused in a sentence, or answered."""
+
+        def work() -> str:
+            said = list[Any]()
+            with open(example('ticks')[0], encoding='ascii') as file, zebludor.Session(file.read(), probe=True, budget=9000) as session:
+                for ask in ASKED:
+                    try:
+                        said.append(ask(session))
+                    except zebludor.Fault as fault:
+                        said.append(str(fault))
+            return repr(said)
+
+        self.each_of(work)
 
     @staticmethod
     def said_by(words: list[str]) -> str:

@@ -8,7 +8,7 @@ from dataclasses import dataclass, replace
 from typing import Iterator
 
 from toolbox.listing import physical
-from toolbox.program import Files, Session
+from toolbox.program import Files, ProbeSession, Session
 from toolbox.report import registers_of
 from toolbox.services import address_of
 
@@ -37,13 +37,13 @@ class Asked:
 def doubtful(files: Files, end: int) -> Iterator[Asked]:
     """Those among the first calls before a clock that ask for what isn't there."""
     kinds = {address_of(label): kind for label, kind in KINDS.items()}
-    with Session(files) as session:
+    with ProbeSession(files) as session:
         for place in kinds:
             session.stop('break {:X}:{:X}'.format(*place))
         for _ in range(MOST_CALLS):
             if session.clock >= end or not session.go(end - session.clock).startswith('stop'):
                 return
-            registers = registers_of(session.many('regs'))
+            registers = registers_of(session.answers(['regs']))
             frame = session.dump(physical(registers['SS'], registers['BP']), FRAME.size)
             dx, ds, ip, cs = FRAME.unpack(frame)
             place = cs, ip - 2 & 0xFFFF

@@ -1,6 +1,7 @@
 """What a run's calls and interrupts come to: how long each took, how much stack, and how long interrupts were off."""
 from __future__ import annotations
 
+import contextlib
 from bisect import bisect_left
 from dataclasses import dataclass, field
 from typing import Iterator
@@ -161,19 +162,20 @@ class Following:
     """A run that is followed, piece by piece. `calls` is what it came to, whole after `end`."""
 
     def __init__(self, files: Files, first: int) -> None:
-        self._events, self._states = ProbeSession(files), ProbeSession(files)
-        self._events.go_to(first)
-        self._marks = Marks()
-        self.clock = first
-        (state,) = states_in(self._states.registers_at([first]))
-        self.calls = Calls(first, state, Chips(self._states.answers(['chips'])))
+        with contextlib.ExitStack() as begun:
+            self._events, self._states = (begun.enter_context(ProbeSession(files)) for _ in range(2))
+            self._events.go_to(first)
+            self._marks = Marks()
+            self.clock = first
+            (state,) = states_in(self._states.registers_at([first]))
+            self.calls = Calls(first, state, Chips(self._states.answers(['chips'])))
+            self._begun = begun.pop_all()  # what a refusal up to here has closed
 
     def __enter__(self) -> Following:
         return self
 
     def __exit__(self, *_: object) -> None:
-        for each in (self._events, self._states):
-            each.close()
+        self._begun.close()
 
     def run(self, end: int) -> Iterator[int]:
         """Follows the clocks up to the end, and tells how far it has come."""

@@ -67,7 +67,7 @@ def first_start(session: ProbeSession, place: Far, end: int) -> int | None:
             return found
         length = 1 if lines else min(2 * length, LONGEST)
         # a stop is met at later clocks alone, and the place may be reached at this one
-        if lines and not stands_at(session, place) and not session.unrefused(session.go(end - session.clock)).startswith('stop'):
+        if lines and not stands_at(session, place) and not session.go(end - session.clock).startswith('stop'):
             break
     return None
 

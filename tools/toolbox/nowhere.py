@@ -153,7 +153,7 @@ def last_change(run: Run, condition: str, before: int | None = None) -> Event | 
     with ProbeSession(run.files) as session:
         session.go_to(run.report.clock if before is None else before)
         session.stop(condition)
-        last = writer_in(session.answers(['trail'])) if session.one('back stop').startswith('stop') else None
+        last = writer_in(session.answers(['trail'])) if session.back_to_stop() else None
         return event_of(last) if last else None
 
 
@@ -334,7 +334,7 @@ def entered(run: Run, place: tuple[int, int]) -> Event | None:
     with ProbeSession(run.files) as session:
         session.go_to(run.end)
         session.stop('break %X:%X' % place)
-        session.one('back stop')
+        session.back_to_stop()
         end = session.clock
         session.go_to(max(0, end - A_TICK))
         events = Part.of(session.lines(end - session.clock, 'starts')).events
@@ -459,11 +459,11 @@ def is_left(run: Run, turn: list[Event], is_of_ports: bool) -> bool:
             f'key {SPACE + 0x80:X} {clock + 20_000}',
             *('break %X:%X' % way for way in sorted(ways - places)[:15]),
         ):
-            session.one(command)
+            session.stop(command)
         if run.report.registers['FL'] & IF:
             session.stop('when entries')
         while session.go(clock + A_SECOND - session.clock).startswith('stop'):
-            registers = registers_of(session.many('regs'))
+            registers = registers_of(session.answers(['regs']))
             if not (is_of_ports and run.mark and physical(registers['CS'], registers['IP']) >= SERVICES):
                 return True
         return False
@@ -482,10 +482,10 @@ def is_conditional(event: Event) -> bool:
 def of_a_round(run: Run, period: int) -> str | None:
     """The first line of registers at the run's end, if a round later all are what they are then."""
     session = run.at(run.report.clock)
-    session.one('step')
+    session.unrefused(session.one('step'))
     first = session.answers(['regs'])
     for _ in range(period):
-        session.one('step')
+        session.unrefused(session.one('step'))
     return first[0] if session.answers(['regs']) == first else None
 
 

@@ -156,17 +156,30 @@ class Session(zebludor.Dialogue):
     def unrefused(answer: str) -> str:
         """An answer that isn't a refusal."""
         if answer.startswith('fault'):
-            raise Sorry(f'the debugger refuses: {answer}')
+            raise Refusal(f'the debugger refuses: {answer}')
         return answer
 
     def meets(self, condition: str, clocks: int) -> bool:
         """Whether a run of so many clocks at most ends at a stop that is added."""
         self.stop(condition)
-        return self.unrefused(self.go(clocks)).startswith('stop')
+        return self.go(clocks).startswith('stop')
 
     def go(self, clocks: int) -> str:
         """Goes on by so many clocks at most."""
-        return self.one(f'go {clocks}')
+        return self.unrefused(self.one(f'go {clocks}'))
+
+    def back_to_stop(self) -> bool:
+        """Goes back to the last earlier clock at which a stop held, or stays where none did, and tells which."""
+        answer = self.one('back stop')
+        return answer != BEFORE_START and self.unrefused(answer).startswith('stop')
+
+    def dump(self, address: int, count: int) -> bytes:
+        """Bytes from a physical address on."""
+        try:
+            return super().dump(address, count)
+        except zebludor.Fault as fault:
+            self.unrefused(str(fault))
+            raise
 
     def go_to(self, clock: int) -> None:
         """Goes to this clock, back or on, past every stop."""

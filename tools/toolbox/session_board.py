@@ -13,7 +13,7 @@ from toolbox.forms import Far
 from toolbox.listing import physical
 from toolbox.places import Event, event_of
 from toolbox.faults import fault_in
-from toolbox.program import BEFORE_START, LAST_CLOCK, Files, ProbeSession
+from toolbox.program import BEFORE_START, LAST_CLOCK, Files, ProbeSession, Refusal
 from toolbox.report import registers_of
 from toolbox.runfile import add_keys
 from toolbox.watches import changed, watched_by
@@ -143,7 +143,7 @@ class SessionBoard:
         """What the session answers, unless its process has ended."""
         try:
             return ask()
-        except Paused:
+        except (Paused, Refusal):
             raise
         except (Sorry, OSError) as error:
             raise Gone(f"the board's process has ended: {error}") from None
@@ -435,7 +435,7 @@ class SessionBoard:
     def _run_a_piece(self, session: ProbeSession, end: int) -> str:
         """What answers a piece of a run, at most to this clock. The next one is as long as suits."""
         begun = time.monotonic()
-        answer = refused(self._talk(lambda: session.go(min(self._piece, end - session.clock))))
+        answer = self._talk(lambda: session.go(min(self._piece, end - session.clock)))
         if not answer.startswith('stop'):
             self._piece = paced(self._piece, time.monotonic() - begun)
         return answer
