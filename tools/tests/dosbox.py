@@ -20,9 +20,9 @@ from tests.support import EXAMPLES, SECONDS, STORED, not_run
 
 from toolbox.command import Sorry
 from toolbox.guests import Guest, compiled
+from toolbox.listing import image_of
 from toolbox.program import answer_of
 from toolbox.scancodes import SIGNS
-from toolbox.symbols import image_of
 
 BOOKS, KEPT = f'{EXAMPLES}/books', f'{STORED}/books.json'
 COMPILERS = {'.nasm': 'nasm', '.c': 'bcc'}

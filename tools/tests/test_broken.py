@@ -377,7 +377,7 @@ class NoThread(ToolCase):
     def test_sessions_of_threads(self) -> None:
         """A session that needs the thread which starts processes says so, and another one is begun later."""
         files = Files(*example('ticks'))
-        with mock.patch.object(starting, '_STARTERS', []), mock.patch('threading.active_count', return_value=2):
+        with mock.patch.object(starting, '_STARTERS', []), mock.patch('toolbox.program.is_alone', return_value=False):
             with mock.patch.object(mmap, 'mmap', side_effect=OSError(errno.ENOMEM, os.strerror(errno.ENOMEM))):
                 self.assertRaisesRegex(OSError, self.SENTENCE.strip(), ProbeSession, files)
             with ProbeSession(files) as session:

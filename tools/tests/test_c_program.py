@@ -15,9 +15,9 @@ from tests.test_dap import Client
 from tests.test_editors import MODE_CLIENT, batch, has_dap_mode
 from tests.test_gdb import GDB
 
-from toolbox.listing import parts_of
+from toolbox.listing import image_of, parts_of
 from toolbox.program import Files, Session
-from toolbox.symbols import image_of, symbols_of
+from toolbox.symbols import symbols_of
 
 PROGRAM, EMACS = f'{STORED}/c', f'{TOP}/editors/emacs.el'
 HEX, MAP = f'{PROGRAM}/sums.hex', f'{PROGRAM}/sums.map'

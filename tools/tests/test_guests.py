@@ -15,8 +15,8 @@ from tests.support import TOOLS, TOP, ToolCase, example, is_there
 
 from toolbox import guests, loading, program, services
 from toolbox.command import Sorry
+from toolbox.listing import image_of
 from toolbox.runfile import DEFAULTS, text_of
-from toolbox.symbols import image_of
 
 # MOV DX,0109h; MOV AH,9; INT 21h; INT 20h; 'Hello, tail: $'
 HELLO = bytes.fromhex('BA0B01B409CD21CD209090') + b'Hello$'

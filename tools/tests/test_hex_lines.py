@@ -13,8 +13,9 @@ from tests.test_dap import Client
 from tests.test_symbols import NASM, ROM, hex_of
 
 from toolbox.command import Sorry
+from toolbox.listing import image_of
 from toolbox.places import far_of
-from toolbox.symbols import image_of, symbols_of
+from toolbox.symbols import symbols_of
 
 RUN = '{"version":1,"ram":64,"sw1":0,"sw2":0,"budget":20000,"keys":[]}'
 TO_START = ':02000002FFFFFE\n:05000000EA000000F021\n:00000001FF\n'  # the far jump to F000:0000, where the processor begins

@@ -10,11 +10,12 @@ from tests.support import EXAMPLES, ToolCase, example, is_there
 
 from toolbox.command import Sorry
 from toolbox.dap.values import LONGEST
+from toolbox.listing import image_of
 from toolbox.places import event_of, far_of
 from toolbox.program import Files as Built, ProbeSession
 from toolbox.runfile import DEFAULTS, text_of
 from toolbox.session_board import NONE, SessionBoard
-from toolbox.symbols import image_of, symbols_of
+from toolbox.symbols import symbols_of
 
 ROM = 'B800B0 8EC0 EBFE 68656C6C6F2C2062696720776F726C64 00 90 90 F4'
 NASM = """     1                                          bits 16

@@ -6,7 +6,6 @@ import functools
 import json
 import os
 import re
-import shlex
 from typing import Any, NamedTuple
 
 from toolbox.command import Sorry
@@ -83,6 +82,8 @@ def how(one: Told, shown: Files) -> list[str]:
     """How a sentence was asked for: the command that a user can give on these files, and its answers; of a guess that it is one."""
     if not one.commands:
         return ['  (a guess: nothing was asked)']
+    import shlex  # which few ask for
+
     words = ['./pcprobe', *(['--hex'] if shown.is_hex else []), shown.file, shown.run_file]
     text = '\\n'.join(one.commands)
     answers = one.answers if len(one.answers) <= MOST_SHOWN else (*one.answers[: MOST_SHOWN // 2], '..', *one.answers[-MOST_SHOWN // 2 :])

@@ -13,7 +13,7 @@ import time
 from typing import Callable, Iterator
 
 from toolbox import reading
-from toolbox.threads import begin
+from toolbox.threads import TELLER, begin
 from toolbox.writing import write_whole
 
 HINT_STATUS, UNREADABLE_STATUS = 2, 3
@@ -99,7 +99,7 @@ def waiting(what: str, seconds: float = 2) -> Iterator[Callable[[str], None]]:
     def say(how_far: str) -> None:
         far[0] = f': {how_far}'
 
-    teller = begin(tell)
+    teller = begin(tell, TELLER)
     try:
         yield say
     finally:

@@ -13,13 +13,13 @@ from toolbox import limits, program, reading
 from toolbox.command import handed_on, tool, waiting
 from toolbox.faults import Fault, fault_in
 from toolbox.hints import hint_of
+from toolbox.listing import image_of
 from toolbox.messages import TWICE_DEFINED, first_definition
 from toolbox.asking import how
 from toolbox.nowhere import told_of_run
 from toolbox.report import Report
 from toolbox.runfile import CHOICES, DEFAULTS, FIRST_CHOICES
 from toolbox.shown import LONGEST_LINE, bounded, clipped
-from toolbox.symbols import image_of
 
 FIRST_LOST = 0xA0000
 RANGES: dict[str, tuple[int, Optional[int]]] = FIELD_RANGES | {'budget': (0, None)}  # of a larger one another fault tells

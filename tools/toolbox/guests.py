@@ -6,7 +6,6 @@ import argparse
 import contextlib
 import os
 import re
-import shutil
 import subprocess
 import sys
 import tempfile
@@ -21,7 +20,6 @@ from toolbox.runfile import DEFAULTS, read_run_file, text_of, with_run_file
 from toolbox.scancodes import BARE, Stroke, stamped
 from toolbox.services import MOST_RAM, TYPING, is_served
 from toolbox.shown import bounded
-from toolbox.symbols import symbols_of
 
 BINARIES = ('.com', '.exe', '.bin')
 COMPILERS = {'nasm': ('nasm', 'nasm'), 'bcc': ('bcc', 'bcc elks-libc')}  # the command, and Debian's packages
@@ -194,6 +192,8 @@ def compiled(guest: Guest, room: str) -> str:
         'nasm': ['-f', 'bin', f'-I{folder}/', '-l', f'{made}.lst', '-o', f'{made}.com', guest.file],
         'bcc': ['-Md', '-C-t', '-A-l', f'-A{made}.lst', '-M', f'-I{folder}', '-o', f'{made}.com', guest.file],
     }[guest.language]
+    import shutil  # and below symbols: what takes long to load, and few programs need
+
     install = f'install it (Debian: apt-get install {package})'
     if not shutil.which(command):
         raise Sorry(f"{command} isn't there; {install}")
@@ -214,6 +214,8 @@ def compiled(guest: Guest, room: str) -> str:
 def with_lines(guest: Guest, found: Loaded, made: str) -> Loaded:
     """A program with the lines and labels that its assembler tells, if they fit: they are counted from where the
     program begins, but for an .EXE program, of which they don't tell where its parts stand."""
+    from toolbox.symbols import symbols_of
+
     place = found.rows[0].split()[0]
     symbols = f'{made}.map@{place[:4]}' if guest.language == 'bcc' else f'{made}.lst@{place}'
     try:

@@ -13,7 +13,7 @@ from toolbox.program import Files, answer_of, given_text
 if TYPE_CHECKING:
     from toolbox.data_labels import Datum
 
-ADDRESS_COLUMNS = 28
+MEMORY, ADDRESS_COLUMNS = 1 << 20, 28
 PLACED = re.compile(r'([0-9A-F]{4}):([0-9A-F]{4}) ((?:[0-9A-F]{2})*)\+? ')
 PROBE_NAME = 'PROBE_OF_LABELS'
 REMADE = re.compile(r'_([A-P])([A-P])')
@@ -21,7 +21,7 @@ REMADE = re.compile(r'_([A-P])([A-P])')
 
 def physical(segment: int, offset: int) -> int:
     """The 20-bit address of an offset in a segment."""
-    return (16 * segment + offset) % (1 << 20)
+    return (16 * segment + offset) % MEMORY
 
 
 class Line(NamedTuple):
@@ -180,6 +180,19 @@ def probed(source: str, names: list[str]) -> dict[str, tuple[int, int]]:
     return {}
 
 
+def image_of(text: str) -> dict[int, int]:
+    """The bytes of an Intel HEX text. Whether it is one, the program judges."""
+    found, base = dict[int, int](), 0
+    for record in re.findall(r'^:([0-9A-Fa-f]{10,}) *\r?$', text, re.M):
+        octets = bytes.fromhex(record[: len(record) // 2 * 2])
+        at, kind, data = int.from_bytes(octets[1:3], 'big'), octets[3], octets[4:-1]
+        if kind == 0:
+            found.update(((base + at + place) % MEMORY, octet) for place, octet in enumerate(data))
+        elif kind in (2, 4):
+            base = int.from_bytes(data, 'big') << (4 if kind == 2 else 16)
+    return found
+
+
 def parts_of(image: dict[int, int]) -> dict[int, bytes]:
     """The parts of memory that these bytes fill, each as long as it goes."""
     found, end = dict[int, bytearray](), -1
@@ -194,7 +207,7 @@ def parts_of(image: dict[int, int]) -> dict[int, bytes]:
 def listing_of(files: Files) -> Listing:
     """The listing of a source; of Intel HEX, which has no lines, that of its symbols' file, or an empty one."""
     if files.is_hex:
-        from toolbox.symbols import image_of, symbols_of  # which stand on this module
+        from toolbox.symbols import symbols_of  # which stands on this module
 
         image = image_of(read_text(files.file))
         return replace(symbols_of(files.symbols, image, files.source) if files.symbols else Listing(), parts=parts_of(image))
@@ -214,8 +227,7 @@ def listing_of(files: Files) -> Listing:
 
 def data_of_source(files: Files, listing: Listing) -> list[Datum]:
     """The labels of data of a source of the board's dialect."""
-    from toolbox.data_labels import data_of  # which stand on this module
-    from toolbox.symbols import image_of
+    from toolbox.data_labels import data_of  # which stands on this module
 
     return data_of(listing, lambda: image_of(answer_of(['asm', '--', handed_on(files.file)])), is_loaded=False)
 

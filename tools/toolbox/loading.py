@@ -8,10 +8,9 @@ from dataclasses import dataclass
 
 from toolbox import services
 from toolbox.command import Sorry, handed_on, tool
-from toolbox.listing import label_row, line_of, parts_of, physical
+from toolbox.listing import image_of, label_row, line_of, parts_of, physical
 from toolbox.program import TOP, answer_of
 from toolbox.services import LEAST_RAM, MOST_RAM, SPAN
-from toolbox.symbols import image_of
 
 PSP, ENVIRONMENT = 0x100, 0xE0  # paragraphs; a header of a paragraph stands before each
 ROOM_BEFORE = PSP - ENVIRONMENT + 1

@@ -5,11 +5,10 @@ import re
 from dataclasses import dataclass, replace
 
 from toolbox.command import Sorry, write_text
-from toolbox.listing import listing_of
+from toolbox.listing import image_of, listing_of
 from toolbox.loading import hex_of
 from toolbox.places import address_of
 from toolbox.program import Files
-from toolbox.symbols import image_of
 
 
 @dataclass(frozen=True)

@@ -14,6 +14,7 @@ import zebludor
 from zebludor import LAST_CLOCK, TOP, Ran, Unfit, is_hex_name, limit_memory, limited
 
 from toolbox.command import UNREADABLE_STATUS, Sorry, Unreadable, handed_on, read_bytes, tool, write_bytes
+from toolbox.threads import is_alone
 
 __all__ = [
     'BEFORE_START',
@@ -128,7 +129,7 @@ class Session(zebludor.Dialogue):
 
     def started(self, words: list[str], **how: Any) -> subprocess.Popen[bytes]:
         """Its process. One that a thread starts, as the desk's do, ends with this one, however that ends."""
-        if threading.active_count() == 1:
+        if is_alone():
             return super().started(words, **how)
         from toolbox.starting import started  # which a copy of the launcher's own modules doesn't have
 

@@ -11,10 +11,9 @@ from typing import TYPE_CHECKING, Callable, Iterator, NamedTuple
 
 from toolbox import reading
 from toolbox.command import Sorry
-from toolbox.listing import line_of, placed_labels
+from toolbox.listing import image_of, line_of, placed_labels
 from toolbox.program import TOP, Files, Session, answer_of, run
 from toolbox.runfile import read_run_file
-from toolbox.symbols import image_of
 
 if TYPE_CHECKING:
     from toolbox.walk import Talker

@@ -12,9 +12,8 @@ from toolbox import nasm_data
 from toolbox.command import Sorry, read_text
 from toolbox.data_labels import data_of
 from toolbox.hex_lines import PLACED, of_places, with_modules, with_source
-from toolbox.listing import Line, Listing, line_of, physical, placed_labels
+from toolbox.listing import MEMORY, Line, Listing, line_of, physical, placed_labels
 
-MEMORY = 1 << 20
 RAM = r'(?:,ram=([0-9A-Fa-f]{1,4}))?'
 PLACE = rf'(?:@([0-9A-Fa-f]{{1,4}})(?::([0-9A-Fa-f]{{1,4}}))?)?{RAM}$'
 WHERE = 'FILE@SEGMENT or FILE@SEGMENT:OFFSET tells where its first byte stands; it is F000:0000 where nothing is said'
@@ -29,19 +28,6 @@ FAR_LABEL = re.compile(r'([0-9A-Fa-f]{1,4}):([0-9A-Fa-f]{1,4}) +(\S+)')
 FLAT_LABEL = re.compile(
     r'(?P<nm>[0-9A-Fa-f]+) (?P<type>[A-Za-z]) (?P<of_nm>\S+)|' r'\S+ +(?P<of_ld86>\S+) +(?P<part>[0-9A-Fa-f]) +(?P<ld86>[0-9A-Fa-f]{8})(?![^\n]* a\b)( .*)?'
 )
-
-
-def image_of(text: str) -> dict[int, int]:
-    """The bytes of an Intel HEX text. Whether it is one, the program judges."""
-    found, base = dict[int, int](), 0
-    for record in re.findall(r'^:([0-9A-Fa-f]{10,}) *\r?$', text, re.M):
-        octets = bytes.fromhex(record[: len(record) // 2 * 2])
-        at, kind, data = int.from_bytes(octets[1:3], 'big'), octets[3], octets[4:-1]
-        if kind == 0:
-            found.update(((base + at + place) % MEMORY, octet) for place, octet in enumerate(data))
-        elif kind in (2, 4):
-            base = int.from_bytes(data, 'big') << (4 if kind == 2 else 16)
-    return found
 
 
 def path_of(given: str) -> str:

@@ -6,6 +6,7 @@ import threading
 from typing import Callable
 
 STACK = 1 << 23  # bytes of addresses that a thread's stack has, if nobody says how many
+TELLER = 'teller'  # the name of one that tells how far the first thread is, and starts nothing
 
 
 def want() -> None:
@@ -19,10 +20,15 @@ def want() -> None:
         raise refused(error.strerror) from None
 
 
-def begin(work: Callable[[], None]) -> threading.Thread:
+def is_alone() -> bool:
+    """Whether the first thread is the only one, but for tellers."""
+    return all(each is threading.main_thread() or each.name == TELLER for each in threading.enumerate())
+
+
+def begin(work: Callable[[], None], name: str | None = None) -> threading.Thread:
     """Has a thread of its own do some work; OSError if none can be had."""
     want()
-    thread = threading.Thread(target=work, daemon=True)
+    thread = threading.Thread(target=work, daemon=True, name=name)
     try:
         thread.start()
     except RuntimeError as error:

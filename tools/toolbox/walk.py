@@ -12,11 +12,10 @@ from zebludor import Happening, happening_of
 from toolbox.asking import Raw, Told, ask
 from toolbox.command import handed_on
 from toolbox.forms import PREFIXES, form_of, learn
-from toolbox.listing import Line, Listing, code_of, physical
+from toolbox.listing import Line, Listing, code_of, image_of, physical
 from toolbox.places import Event, event_of, line_at
 from toolbox.program import Files, ProbeSession, answer_of
 from toolbox.report import A_SECOND, Report, registers_of
-from toolbox.symbols import image_of
 
 FIRST, LAST = 50_000, 5_000  # the clocks that are looked at
 REACH = 100_000_000  # so many clocks are made again, and of a longer run all

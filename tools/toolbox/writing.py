@@ -5,11 +5,9 @@ from __future__ import annotations
 import contextlib
 import errno
 import fcntl
-import hashlib
 import json
 import mmap
 import os
-import secrets
 import stat
 from typing import Callable
 
@@ -142,7 +140,7 @@ def _opened(path: str, how: int, mode: int) -> int:
 def _place_beside(target: str) -> str:
     """A name beside a file, always the same one, so that what a killed writer has left there goes. While that is in use, or where
     anybody may make files, another one."""
-    folder, fresh = os.path.dirname(target), f'.{secrets.token_hex(8)}.new'
+    folder, fresh = os.path.dirname(target), f'.{os.urandom(8).hex()}.new'
     if os.stat(folder).st_mode & stat.S_IWOTH:
         return os.path.join(folder, fresh)
     _remove_beside(target)
@@ -151,8 +149,15 @@ def _place_beside(target: str) -> str:
 
 def _name_beside(target: str) -> str:
     """That name."""
-    mine = hashlib.sha256(f'{os.geteuid()} {target}'.encode('utf-8', 'surrogateescape')).hexdigest()[:16]
+    mine = _sum_of(f'{os.geteuid()} {target}'.encode('utf-8', 'surrogateescape'))[:16]
     return os.path.join(os.path.dirname(target), f'.{mine}.new')
+
+
+def _sum_of(octets: bytes) -> str:
+    """The SHA-256 of bytes."""
+    import hashlib  # which takes long to load, and whoever only reads doesn't need
+
+    return hashlib.sha256(octets).hexdigest()
 
 
 def _remove_beside(target: str) -> None:
@@ -256,7 +261,7 @@ def _kept_for(target: str) -> str:
     """Where both contents of a file lie while it is written in place."""
     from toolbox.command import state_folder  # which stands on this module
 
-    return os.path.join(state_folder(), 'unfinished', f'{hashlib.sha256(os.fsencode(target)).hexdigest()}.json')
+    return os.path.join(state_folder(), 'unfinished', f'{_sum_of(os.fsencode(target))}.json')
 
 
 def is_unfinished(path: str) -> bool:

@@ -20,13 +20,13 @@ from toolbox.desk.http import Refused
 from toolbox.desk.pages import examples, files_of, grammar, page_of
 from toolbox.desk.work import Fields
 from toolbox.faults import fault_in
+from toolbox.listing import image_of
 from toolbox.messages import messages
 from toolbox.program import LAST_CLOCK, Files
 from toolbox.runfile import DEFAULTS
 from toolbox.scancodes import stamped, strokes_of
 from toolbox.services import TYPING
 from toolbox.session_board import Gone
-from toolbox.symbols import image_of
 
 if TYPE_CHECKING:
     from toolbox.desk.language import Language

@@ -11,10 +11,9 @@ from toolbox import services
 from toolbox.command import Sorry
 from toolbox.every import Copy, refused_in
 from toolbox.faults import Fault
-from toolbox.listing import ADDRESS_COLUMNS, line_of, physical, probed
+from toolbox.listing import ADDRESS_COLUMNS, image_of, line_of, physical, probed
 from toolbox.lsp.source import Source
 from toolbox.program import given_text
-from toolbox.symbols import image_of
 
 MOST_REFUSED, MOST_SECONDS, LONGEST_INSTRUCTION = 101, 1.0, 15
 
