@@ -13,14 +13,13 @@ from typing import Iterator
 
 from toolbox import reading
 from toolbox.command import Sorry, Unreadable, read_bytes
-from toolbox.listing import Listing, label_row, line_of, own_name, placed_labels
+from toolbox.listing import DIALECT, Listing, label_row, line_of, own_name, placed_labels
 from toolbox.program import TOP, Ran, given_text, run
 from toolbox.shown import LONGEST_LINE, bounded, clipped
 
 MADE = re.compile(r'[.?]+\d+')  # a label that pcmasm makes, of @@, of LOCAL, or of $
 OWN = f'{TOP}/services/masm'  # what programs may include that their own folder hasn't
 MOST_INCLUDED = 64
-DIALECT = re.compile(rb'^[ \t]*(?:\w+[ \t]*:[ \t]*)?SEGMENT[ \t]+\w+[ \t]+AT\b', re.I | re.M)  # no other assembler's
 PLACE = re.compile(r'([^\n]*):(\d+):[ \t](.*)')
 WANTED = re.compile(r'includes (.*), which isn\'t given')
 AS_OWN = "taken as one of the board's own dialect"

@@ -10,16 +10,19 @@ import subprocess
 import sys
 import tempfile
 from dataclasses import dataclass, replace
-from typing import Any, Iterator
+from typing import TYPE_CHECKING, Any, Iterator
 
-from toolbox import disk, foreign, loading
+from toolbox import reading
 from toolbox.command import SYMBOLS, Sorry, handed_on, read_bytes, write_bytes
-from toolbox.loading import Loaded, check_ram
+from toolbox.listing import DIALECT
 from toolbox.program import LAST_CLOCK, Files, Refusal, answer_of, is_hex_name, limited
 from toolbox.runfile import DEFAULTS, read_run_file, text_of, with_run_file
 from toolbox.scancodes import BARE, Stroke, stamped
 from toolbox.services import MOST_RAM, TYPING, is_served
 from toolbox.shown import bounded
+
+if TYPE_CHECKING:
+    from toolbox.loading import Loaded
 
 BINARIES = ('.com', '.exe', '.bin')
 COMPILERS = {'nasm': ('nasm', 'nasm'), 'bcc': ('bcc', 'bcc elks-libc')}  # the command, and Debian's packages
@@ -115,11 +118,22 @@ def words_of(given: argparse.Namespace) -> list[str]:
     return words + [f'--file={path}' for path in given.files or []]
 
 
+def is_masm(path: str) -> bool:
+    """Whether what stands in a file shows that it is a source of MASM. What reads other assemblers' is loaded, as whatever makes a program
+    ready, only for who needs it: it takes a tenth of a tool's start."""
+    with contextlib.suppress(OSError):
+        if DIALECT.search(reading.read_whole(path)):
+            return False
+    from toolbox import foreign
+
+    return foreign.is_masm(path)
+
+
 def looked_at(guest: Guest) -> Guest:
     """A source as its look tells, if no word does: one of MASM, or with services, or none of these."""
     if guest.is_bare or not guest.is_source:
         return guest
-    if guest.language != OWN and foreign.is_masm(guest.file):
+    if guest.language != OWN and is_masm(guest.file):
         return replace(guest, language='masm', is_seen=True)
     if guest.is_served:
         return guest
@@ -142,6 +156,8 @@ def asked(given: argparse.Namespace) -> tuple[Guest, Files]:
 
 def loaded(guest: Guest, ram: int, room: str) -> Loaded:
     """The program with the services in memory."""
+    from toolbox import loading
+
     if guest.language == 'masm':
         return translated(guest, ram, room)
     if guest.language in COMPILERS:
@@ -154,6 +170,8 @@ def loaded(guest: Guest, ram: int, room: str) -> Loaded:
 
 def translated(guest: Guest, ram: int, room: str) -> Loaded:
     """A source of MASM, with the rows of its own lines and names."""
+    from toolbox import foreign, loading
+
     translation = foreign.translation_of(guest.file, home=guest.home)
     path = os.path.join(tempfile.mkdtemp(dir=room), os.path.basename(guest.file))
     write_bytes(path, translation.text.encode('ascii', 'replace'))
@@ -168,6 +186,8 @@ def translated(guest: Guest, ram: int, room: str) -> Loaded:
 
 def of_bytes(guest: Guest, octets: bytes, ram: int, kind: str) -> Loaded:
     """A program of bytes. One that begins with MZ is an .EXE program, whatever its name, as for DOS."""
+    from toolbox import loading
+
     args, name = guest.args or '', guest.file
     if octets[:2] in (b'MZ', b'ZM') and kind != '.bin':
         return loading.exe(name, octets, args, ram)
@@ -214,6 +234,7 @@ def compiled(guest: Guest, room: str) -> str:
 def with_lines(guest: Guest, found: Loaded, made: str) -> Loaded:
     """A program with the lines and labels that its assembler tells, if they fit: they are counted from where the
     program begins, but for an .EXE program, of which they don't tell where its parts stand."""
+    from toolbox import foreign
     from toolbox.symbols import symbols_of
 
     place = found.rows[0].split()[0]
@@ -238,12 +259,16 @@ def fields_for(guest: Guest, run_file: str | None, more: Fields | None = None, u
     if not run_file and fields['keys'] and 'budget' not in (more or {}):
         fields['budget'] = min(max(fields['budget'], 2 * fields['keys'][-1][0]), LAST_CLOCK)
     if guest.is_one:
+        from toolbox.loading import check_ram
+
         check_ram(fields['ram'], run_file or guest.file)
     return fields
 
 
 def written(guest: Guest, fields: Fields, room: str) -> Files:
     """The program as Intel HEX, its run file and its symbols, in a folder."""
+    from toolbox import disk
+
     found = disk.beside(loaded(guest, fields['ram'], room), guest.file, guest.files, fields['ram'])
     stem = os.path.join(room, os.path.splitext(os.path.basename(guest.file))[0] or 'it')
     texts = {'hex': found.hex, 'json': text_of(fields), 'symbols': '\n'.join(found.rows) + '\n'}
@@ -280,17 +305,24 @@ def with_own_lines(files: Files) -> Iterator[Files]:
         yield (made_with(guest, fields_for(guest, None), room) if guest.language else None) or files
 
 
+def tell_of(guest: Guest) -> None:
+    """Tells once how a program is taken, and what pcmasm notes of it."""
+    from toolbox import foreign
+
+    if guest.language == 'masm':
+        foreign.tell(foreign.translation_of(guest.file, home=guest.home))
+    if guest.is_seen:
+        foreign.say_once(said_of(guest, guest.file))
+
+
 @contextlib.contextmanager
 def prepared(guest: Guest, files: Files, more: Fields | None = None) -> Iterator[Files]:
     """The files that a tool runs: `files` themselves, or what is made of them where they need the services; then `more` has fields
     that stand before RUN's. RUN may be missing (empty). A source that the program refuses stays what it is."""
     with tempfile.TemporaryDirectory(prefix='zebludor-') as room:
         made = made_with(guest, fields_for(guest, files.run_file or None, more), room) if guest.is_one else None
-        if made and guest.language == 'masm':
-            foreign.tell(foreign.translation_of(guest.file, home=guest.home))
-        if made and guest.is_seen:
-            foreign.say_once(said_of(guest, guest.file))
         if made:
+            tell_of(guest)
             yield replace(made, symbols=files.symbols, source=None) if files.symbols else made
             return
         with with_run_file(files) as found:
@@ -299,6 +331,8 @@ def prepared(guest: Guest, files: Files, more: Fields | None = None) -> Iterator
 
 def made_with(guest: Guest, fields: Fields, room: str) -> Files | None:
     """What is made in a folder of a program with services, or None of a source that the program refuses, as it then does by itself."""
+    from toolbox.loading import check_ram
+
     check_ram(fields['ram'], guest.file)
     try:
         return written(guest, fields, room)

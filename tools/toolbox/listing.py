@@ -16,6 +16,7 @@ if TYPE_CHECKING:
 MEMORY, ADDRESS_COLUMNS = 1 << 20, 28
 PLACED = re.compile(r'([0-9A-F]{4}):([0-9A-F]{4}) ((?:[0-9A-F]{2})*)\+? ')
 PROBE_NAME = 'PROBE_OF_LABELS'
+DIALECT = re.compile(rb'^[ \t]*(?:\w+[ \t]*:[ \t]*)?SEGMENT[ \t]+\w+[ \t]+AT\b', re.I | re.M)  # no other assembler's
 REMADE = re.compile(r'_([A-P])([A-P])')
 
 
