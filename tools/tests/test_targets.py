@@ -223,7 +223,7 @@ class Targets(ToolCase):
         """What dev/build keeps of the library, made into its files once more, in another folder."""
         crates, others = Crates(), f'{self.room}/others'
         kept = f'{building.STAGE}/modules/{proved.LIBRARY}'
-        if not os.path.isfile(f'{kept}/{stamp(crates, proved.LIBRARY, {})}'):
+        if not (shutil.which('rt') and os.path.isfile(f'{kept}/{stamp(crates, proved.LIBRARY, {})}')):
             not_run(f'the bytes of zebludor.wasm; dev/build {proved.LIBRARY} --target wasm keeps what they are made of')
             return
         os.mkdir(others)
