@@ -849,7 +849,9 @@ class Gate(ToolCase):
         """By the same kit of the same sources. A stored program that is older than the sources is told, and no failure."""
         stored = proved.read(f'{TOP}/stored')
         assert stored
-        self.assertEqual(sorted(stored.made), sorted(NAMES), 'stored/PROVED tells of others than the stored programs')
+        self.assertEqual(sorted(stored.made), sorted((*NAMES, *proved.LIBRARY_FILES)), 'stored/PROVED tells of others than the stored files')
+        for name in proved.LIBRARY_FILES:
+            self.assertTrue(stored.of(f'{TOP}/stored/{name}'), f"stored/{name} isn't the one that stored/PROVED tells of")
         for name in NAMES:
             self.compare(name, stored)
 
