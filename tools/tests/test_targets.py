@@ -100,7 +100,7 @@ class InOneProcess(ToolCase):
             return None
         to, found = f'{self.room}/answers{ENDINGS.get(target, "")}', f'-Wl,-rpath,{os.path.dirname(file)}'
         linked = [found] if target == 'shared' else ['-static', f'{TOP}/c/memory.c']
-        subprocess.run([compiler, '-O2', '-o', to, f'{TOP}/c/benches/answers.c', *linked, file], check=True)
+        subprocess.run([compiler, '-O2', f'-I{TOP}/c', '-o', to, f'{TOP}/c/benches/answers.c', *linked, file], check=True)
         return Answerer([*([runner] if runner else []), to])
 
     def answerers(self) -> Iterator[tuple[str, Answerer]]:
