@@ -37,7 +37,7 @@ typedef struct text {
     size_t length;
 } text;
 
-static text input, file, run, all, out, err;
+static text input, file, run, all, out, err, whole;
 
 static int read_text(text *to, const char *path) {
     if (strcmp(path, "-") == 0) return 1;
@@ -55,15 +55,22 @@ static zebludor_ended run_it(int is_probe, size_t room) {
     return ended;
 }
 
-/* With each allocation refused in turn the program says so, or ends with 3: it doesn't end well, and gives all back. */
+/* Whether a session has told of a refusal in a reply, or was refused a copy to go back from alone, without which it replies as before. */
+static int replies_truthfully(zebludor_ended ended) {
+    out.bytes[ended.out] = 0;
+    return strstr((char *)out.bytes, "fault 53 Memory") || (ended.out == whole.length && memcmp(out.bytes, whole.bytes, whole.length) == 0);
+}
+
+/* With each allocation refused in turn the program says so, or ends with 3; it gives all back. */
 static int refuses_truthfully(int is_probe, long allocations) {
     for (long at = 0; at < allocations; at++) {
         long before = held;
         asked = 0, refuse_at = at;
-        zebludor_ended ended = run_it(is_probe, sizeof out.bytes);
+        zebludor_ended ended = run_it(is_probe, sizeof out.bytes - 1);
         refuse_at = -1;
         int is_told = ended.status == 1 && ended.err < sizeof err.bytes && (err.bytes[ended.err] = 0, strstr((char *)err.bytes, " Memory"));
-        if ((ended.status != 3 && !is_told) || held != before) {
+        int is_replied = is_probe && ended.status == 0 && replies_truthfully(ended);
+        if ((ended.status != 3 && !is_told && !is_replied) || held != before) {
             fprintf(stderr, "allocation %ld refused: status %d, %ld blocks kept\n", at, ended.status, held - before);
             return 0;
         }
@@ -93,6 +100,7 @@ int main(int count, char **words) {
     fwrite(out.bytes, 1, ended.out, stdout);
     fwrite(err.bytes, 1, ended.err, stderr);
     if (ended.status != 0) return ended.status;
+    memcpy(whole.bytes, out.bytes, whole.length = ended.out);
 
     /* too little room: nothing is written, and the length is told; the very room: nothing is written after it */
     memset(out.bytes, 0xA5, sizeof out.bytes);
