@@ -4,7 +4,7 @@ use Rattle.std.proofs.Common.{List, [], ◌∷◌, ◌++◌, length, take, drop,
 use Rattle.std.specs.Prelude.{All, nat_le}
 use Rattle.std.proofs.lemmas.Bool.Decides.{nat_tests}
 use Rattle.board_types.specs.declared.keys.StampedKey.{StampedKey}
-use Rattle.events_laws.specs.WithKey.{inserted}
+use Rattle.events.specs.WithKey.{inserted}
 
 not_later : (stamp other : ℕ) → other < stamp + 1 → nat_le other stamp ≡ true
 not_later stamp other early = grind (arith, nat_tests, early)

@@ -1,7 +1,7 @@
 //! Keys that are typed while a board stands at a clock.
 ghost use Rattle.std.specs.Prelude.{◌≡◌, ◌+◌, ◌++◌, IfOk, OnOk};
 ghost use Rattle.std.specs.Result.{IfErr};
-ghost use Rattle.events_laws.specs.WithKey.{inserted};
+ghost use Rattle.events.specs.WithKey.{inserted};
 
 use crate::arrivals::{count_before, so_far};
 use crate::board::Board;

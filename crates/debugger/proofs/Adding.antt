@@ -15,8 +15,8 @@ use Rattle.board_plain.specs.declared.trail.TrailEntry.{TrailEntry}
 use Rattle.debugger_meaning.specs.SessionInvariant.{IsSession}
 use Rattle.debugger_meaning.specs.Stands.{SessionState, Shown, shown_of, Stands, StandsAfter, StandsAt}
 use Rattle.debugger.specs.CopiesWithKey.{board_with, HasKey, HaveKey}
-use Rattle.events_laws.specs.WithKey.{inserted, with_key}
-use Rattle.events_laws.proofs.KeyToCome.{changes_stay, entries_stay, key_waits}
+use Rattle.events.specs.WithKey.{inserted, with_key}
+use Rattle.events.proofs.KeyToCome.{changes_stay, entries_stay, key_waits}
 
 abbrev shown_with : Shown → StampedKey → Shown
 shown_with first key = record first { plain = with_key first.plain key }

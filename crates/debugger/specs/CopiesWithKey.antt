@@ -4,7 +4,7 @@ use Rattle.std.specs.Prelude.{ℕ, ◌≡◌, ◌<◌, List, All, Contains}
 use Rattle.board_types.specs.declared.keys.StampedKey.{StampedKey}
 use Rattle.board_plain.specs.Board.{BoardState}
 use Rattle.board_plain.specs.Plain.{clock_of}
-use Rattle.events_laws.specs.WithKey.{with_key}
+use Rattle.events.specs.WithKey.{with_key}
 
 abbrev pub board_with : BoardState → StampedKey → BoardState
 board_with board key = record board { plain = with_key board.plain key }

@@ -140,7 +140,7 @@ fn give_key<A: Allocator>(boards: &mut Vec<Board, A>, alloc: Global, key: &Stamp
 
 /// Gives a typed key to a kept copy, if that stands before its stamp and there is memory for its keys. Returns whether
 /// it did; else the copy has to go.
-#[tactic(auto, unfolding(events_laws::specs::WithKey::with_key))]
+#[tactic(auto, unfolding(events::specs::WithKey::with_key))]
 fn takes_key(board: &mut Board, alloc: Global, key: &StampedKey) -> bool
     ensures early { IsTrue result → clock_of board.old.plain < key.now.stamp }
     ensures key { IsTrue result → board.new ≡ board_with board.old key.now }

@@ -3,7 +3,7 @@ ghost use Rattle.std.specs.Prelude.{◌≡◌, ◌<◌, IfOk, OnErr, OnOk, None}
 ghost use Rattle.std.specs.Result.{IfErr};
 ghost use Rattle.board_plain.specs.Plain.{clock_of};
 ghost use Rattle.debugger_meaning.specs.Stands.{Stands};
-ghost use Rattle.events_laws.specs.WithKey.{inserted, with_key};
+ghost use Rattle.events.specs.WithKey.{inserted, with_key};
 
 use crate::session::Session;
 use board::board::Board;

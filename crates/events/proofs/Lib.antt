@@ -1,3 +1,12 @@
 pub mod Noted
 pub mod Few
 pub mod Queue
+mod Parts
+pub mod Told
+pub mod Keyed
+pub mod KeyToCome
+pub mod Turning
+pub mod Dating
+pub mod Rising
+pub mod KeyPlaces
+pub mod Reaching

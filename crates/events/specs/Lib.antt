@@ -2,3 +2,9 @@ pub mod Noting
 pub mod Accesses
 pub mod Events
 pub mod EventLaws
+pub mod ClockLaws
+pub mod LevelLaws
+pub mod OrderLaws
+pub mod PortLaws
+pub mod WithKey
+pub mod KeyLaws

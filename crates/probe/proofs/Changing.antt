@@ -18,8 +18,8 @@ use Rattle.events.specs.declared.event.Event.{Event}
 use Rattle.events.specs.declared.event.Event.TheVariants.{Began, Became, Keyed, Reached, Wired}
 use Rattle.events.specs.Accesses.{accesses_next}
 use Rattle.events.specs.Events.{events_in, events_next}
-use Rattle.events_laws.specs.ClockLaws.{byte_after, written_by}
-use Rattle.events_laws.proofs.Told.{byte_of_clock, written_next}
+use Rattle.events.specs.ClockLaws.{byte_after, written_by}
+use Rattle.events.proofs.Told.{byte_of_clock, written_next}
 use Rattle.wiring.specs.Ports.{is_writable}
 use Rattle.probe.specs.declared.bytes.Copied.{Copied}
 use Rattle.probe.specs.Met.{AreRenewed, HasRoom, IsCopy, IsOneRenewed, differs_from, differs_copied, copied_at, one_differs, write_differs, writes_to}

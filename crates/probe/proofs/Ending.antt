@@ -5,8 +5,8 @@ use Rattle.board_types.proofs.Iterate.{iterate_add}
 use Rattle.board_types.specs.declared.keys.StampedKey.{StampedKey}
 use Rattle.board_plain.specs.declared.stop.Stop.{Stop as End}
 use Rattle.board_plain.specs.Plain.{Plain, after_clock, after_clocks, clock_of}
-use Rattle.events_laws.proofs.KeyToCome.{key_waits}
-use Rattle.events_laws.specs.WithKey.{with_key}
+use Rattle.events.proofs.KeyToCome.{key_waits}
+use Rattle.events.specs.WithKey.{with_key}
 use Rattle.probe.specs.declared.moments.Second.{Second}
 use Rattle.probe.specs.declared.moments.Trial.{Trial}
 use Rattle.probe.specs.Moments.{key_tried, second_tried, with_second, with_tried}

@@ -13,7 +13,7 @@ use Rattle.board_plain.specs.declared.stop.Stop.{Stop as End}
 use Rattle.debugger_meaning.specs.declared.answer.Answer.{Answer}
 use Rattle.debugger_meaning.specs.Session.{told_of}
 use Rattle.debugger_meaning.specs.Stands.{SessionState}
-use Rattle.events_laws.specs.WithKey.{with_key}
+use Rattle.events.specs.WithKey.{with_key}
 use Rattle.probe.specs.declared.moments.Ends.{Ends}
 use Rattle.probe.specs.declared.moments.Moments.{Moments}
 use Rattle.probe.specs.declared.moments.Second.{Second}

@@ -19,8 +19,8 @@ use Rattle.events.specs.declared.event.Wire.{Wire}
 use Rattle.events.specs.declared.event.Wire.TheVariants.{Out0, Out2, Ir0, Ir1, Int, Speaker}
 use Rattle.events.specs.Accesses.{accesses_next}
 use Rattle.events.specs.Events.{all_wires, chips_reached, codes_next, events_next, key_events, level_of, state_events, unwired_next, wire_event}
-use Rattle.events_laws.proofs.KeyToCome.{key_waits}
-use Rattle.events_laws.specs.WithKey.{inserted, with_key}
+use Rattle.events.proofs.KeyToCome.{key_waits}
+use Rattle.events.specs.WithKey.{inserted, with_key}
 use Rattle.probe.specs.declared.kinds.Kind.{Kind}
 use Rattle.probe.specs.declared.stops.Stop.{Stop}
 use Rattle.probe.specs.declared.stops.Stop.TheVariants.{Standing, When, Changes}

@@ -13,7 +13,7 @@ use Rattle.debugger_meaning.specs.Session.{AnswersLine}
 use Rattle.debugger_meaning.specs.Stands.{SessionState, Shown, shown_of, StandsAfter, StandsAt}
 use Rattle.debugger_meaning.proofs.Standing.{stands_early, stands_later, stands_none}
 use Rattle.std.proofs.lemmas.List.Sums.{fold-append}
-use Rattle.events_laws.specs.WithKey.{with_key}
+use Rattle.events.specs.WithKey.{with_key}
 use Rattle.debugger_meaning.proofs.Walking.{same_first, same_state, StandsFrom, still_stands}
 use Rattle.debugger.proofs.Adding.{stands_after_with}
 use Rattle.probe.specs.declared.inquiry.Inquiry.{Inquiry}

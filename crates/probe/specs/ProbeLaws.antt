@@ -15,7 +15,7 @@ use Rattle.debugger_meaning.specs.declared.fault.DebugFault.{DebugFault}
 use Rattle.debugger_meaning.specs.Commands.{command_of}
 use Rattle.debugger_meaning.specs.Session.{AnswersLine}
 use Rattle.debugger_meaning.specs.Stands.{Shown, shown_of, StandsAfter}
-use Rattle.events_laws.specs.WithKey.{with_key}
+use Rattle.events.specs.WithKey.{with_key}
 use Rattle.probe.specs.declared.inquiry.Inquiry.{Inquiry}
 use Rattle.probe.specs.declared.inquiry.Inquiry.TheVariants.{Key}
 use Rattle.probe.specs.declared.stops.Request.{Request}

@@ -13,7 +13,7 @@ use Rattle.debugger_meaning.specs.declared.fault.DebugFault.TheVariants.{BadScan
 use Rattle.debugger_meaning.specs.declared.fault.DebugFault.TheVariants.{TooManyStops, Memory, BeforeStart, NoCell}
 use Rattle.debugger_meaning.specs.Session.{IsText}
 use Rattle.debugger_meaning.specs.Stands.{SessionState}
-use Rattle.events_laws.specs.WithKey.{with_key}
+use Rattle.events.specs.WithKey.{with_key}
 
 -- the key that is typed at a clock: it is stamped with the next one, if no stamp is given
 abbrev pub stamp_of : ℕ → Option ℕ → ℕ

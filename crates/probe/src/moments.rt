@@ -6,7 +6,7 @@ ghost use Rattle.std.specs.String.{string_bytes};
 ghost use Rattle.board_plain.specs.Plain.{Plain, clock_of};
 ghost use Rattle.debugger_meaning.specs.SessionInvariant.{LacksMemory};
 ghost use Rattle.debugger_meaning.specs.Stands.{session_about};
-ghost use Rattle.events_laws.specs.WithKey.{with_key};
+ghost use Rattle.events.specs.WithKey.{with_key};
 ghost use Rattle.probe.specs.Looked.{RanToStop};
 ghost use Rattle.probe.specs.Moments.{AnswersTrial, AreRanges, CanBeTried, CannotBeTried, moments_line, names_keys, span_of, with_tried};
 ghost use Rattle.probe.specs.Requests.{IsRising};

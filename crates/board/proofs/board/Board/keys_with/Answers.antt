@@ -4,7 +4,7 @@ use Rattle.board_types.specs.declared.keys.StampedKey.{StampedKey}
 use Rattle.board.specs.Arrivals.{Awaits}
 use Rattle.board_plain.specs.Board.{BoardState}
 use Rattle.board.specs.declared.board.Board.TheInside.{Inside}
-use Rattle.events_laws.specs.WithKey.{inserted}
+use Rattle.events.specs.WithKey.{inserted}
 use Rattle.board.proofs.Inserting.{inserted_at}
 use Rattle.board.proofs.board.Board.keys_with.Goals as goal
 

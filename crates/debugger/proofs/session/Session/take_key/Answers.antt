@@ -4,7 +4,7 @@ use Rattle.debugger_meaning.specs.SessionInvariant.{IsSession}
 use Rattle.debugger_meaning.specs.Stands.{SessionState, Stands, shown_of}
 use Rattle.debugger.specs.CopiesWithKey.{board_with}
 use Rattle.debugger.proofs.Adding.{made_with, session_with}
-use Rattle.events_laws.specs.WithKey.{with_key}
+use Rattle.events.specs.WithKey.{with_key}
 use Rattle.debugger.proofs.session.Session.take_key.Goals as goal
 
 pub invariant_of-self : goal.invariant_of-self

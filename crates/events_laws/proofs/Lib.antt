@@ -1,4 +1,0 @@
-mod Parts
-pub mod Told
-pub mod Keyed
-pub mod KeyToCome

@@ -1,3 +1,0 @@
-pub mod ClockLaws
-pub mod WithKey
-pub mod KeyLaws
