@@ -6,6 +6,7 @@ pub mod Told
 pub mod Keyed
 pub mod KeyToCome
 pub mod Turning
+mod Settled
 pub mod Dating
 pub mod Rising
 pub mod KeyPlaces

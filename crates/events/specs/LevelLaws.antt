@@ -1,10 +1,16 @@
 -- The wires and the processor's state over time, by their events.
 -- Laws: claims above the definitions, each proved as the contract of a function.
-use Rattle.std.specs.Prelude.{ℕ, ◌≡◌, IsTrue, Bool, true, false, not, ◌&&◌, if◌then◌else◌, List, [], ◌∷◌, fold}
+use Rattle.std.specs.Prelude.{ℕ, ◌≡◌, ◌↔◌, IsTrue, Bool, true, false, not, ◌&&◌, if◌then◌else◌, List, [], ◌∷◌, fold}
+use Rattle.std.specs.Prelude.{is_some}
 use Rattle.std.specs.Bool.{beq}
 use Rattle.std.specs.List.{flat_map}
+use Rattle.board_types.specs.Bits.{has_bit}
+use Rattle.board_types.specs.LineLevel.{is_high}
 use Rattle.board_types.specs.declared.state.State.{State}
-use Rattle.board_plain.specs.Plain.{Plain, after_clocks, state_of}
+use Rattle.pic8259.specs.Levels.{contains}
+use Rattle.ppi8255.specs.Ppi.{lines_b}
+use Rattle.board_plain.specs.BoardLaws.{MayTakeRequest, TakesRequest, WiresHold}
+use Rattle.board_plain.specs.Plain.{Plain, after_clocks, speaker_level, state_of}
 use Rattle.events.specs.declared.event.Event.{Event}
 use Rattle.events.specs.declared.event.Event.TheVariants.{Became, Wired}
 use Rattle.events.specs.declared.event.Wire.{Wire}
@@ -55,3 +61,17 @@ WiresAlternate =
 abbrev pub StatesAreTold : Type 0
 StatesAreTold =
     (s : Plain) (n : ℕ) → state_of (after_clocks s n) ≡ newest (state_of s) (flat_map brought_by (events_in s n))
+
+-- What each level is once the wires have settled, by what stands at the wire's other end: OUT0 is what the controller
+-- has on its line 0, and IR0 what counter 0 puts out; IR1 is high while a code is in the latch; INT is what a processor
+-- that may take a request is asked by; the speaker is high with OUT2 and line 1 of port B.
+pub record AreSettled (s : Plain) : Type 0 where
+  pub out_0 : level_of s Out0 ≡ contains s.chips.pic.high 0
+  pub out_2 : has_bit (lines_b s.chips.ppi) 1 ≡ true → level_of s Out2 ≡ is_high (speaker_level s)
+  pub ir_0 : level_of s Ir0 ≡ is_high s.chips.pit.counter_0.out
+  pub ir_1 : level_of s Ir1 ≡ is_some s.chips.keyboard.latch
+  pub int : MayTakeRequest s → (TakesRequest s ↔ IsTrue (level_of s Int))
+  pub speaker : level_of s Speaker ≡ (has_bit (lines_b s.chips.ppi) 1 && is_high s.chips.pit.counter_2.out)
+
+abbrev pub LevelsAreTold : Type 0
+LevelsAreTold = (s : Plain) → WiresHold s.chips → AreSettled s

@@ -45,8 +45,8 @@ clocks_at (e ∷ es) = clock_at e ∷ clocks_at es
 abbrev pub ClocksNeverFall : Type 0
 ClocksNeverFall = (s : Plain) (n : ℕ) → IsTrue (rises_from (clock_of s) (clocks_at (events_in s n)))
 
--- an event's place within a clock: what begins, the accesses, the new state, the codes that come, the one that moves into
--- the latch, and the wires, each in its place
+-- an event's place within a clock: what begins, the accesses, the new state, the codes that come, the one that moves
+-- into the latch, and the wires, each in its place
 abbrev pub place_of_key : KeyEvent → ℕ
 place_of_key Arrives = 3
 place_of_key IsLost = 3

@@ -1,6 +1,6 @@
 //! What holds of the events of a plain board's clocks.
 ghost use Rattle.events.specs.KeyLaws.{KeyStandsInOrder, KeyToComeWaits, KeyWasThere, ListsStay};
-ghost use Rattle.events.specs.LevelLaws.{StatesAreTold, WiresAlternate, WiresAreTold};
+ghost use Rattle.events.specs.LevelLaws.{LevelsAreTold, StatesAreTold, WiresAlternate, WiresAreTold};
 ghost use Rattle.events.specs.OrderLaws.{ClocksAreTold, ClocksNeverFall, OrderIsTold};
 ghost use Rattle.events.specs.PortLaws.{AccessesAreTold};
 ghost use Rattle.events.specs.ClockLaws.{CodesAreTold, LossesAreTold, MemoryIsWritten, QueueIsTold, SpeakerIsTold, TrailIsTold};
@@ -39,10 +39,12 @@ pub fn accesses_are_told()
 {}
 
 /// The level of each wire after some clocks is the one before them, turned by each of the wire's events to the level that
-/// the event says, and each of them turns it: a list of wires misses no change, and none is told twice.
+/// the event says, and each of them turns it: a list of wires misses no change, and none is told twice. And each level is
+/// what the wire's other end has, once the wires have settled, as they have at every clock of every board.
 pub fn wires_are_told()
     ensures levels { WiresAreTold }
     ensures turns { WiresAlternate }
+    ensures settled { LevelsAreTold }
 {}
 
 /// The processor's state after some clocks is the one that the last event of it says: a list of states misses no halt,

@@ -18,14 +18,14 @@ use Rattle.debugger_meaning.specs.Back.{GoesBackTo, RefusesBackTo}
 use Rattle.debugger_meaning.specs.Commands.{command_of}
 use Rattle.debugger_meaning.specs.Session.{Answers, AnswersLine, AnswersStop, Goes, RefusesGo}
 use Rattle.debugger_meaning.specs.Stands.{SessionState}
-use Rattle.probe.specs.declared.inquiry.Inquiry.{Inquiry}
-use Rattle.probe.specs.declared.stops.Stop.{Stop}
-use Rattle.probe.specs.declared.stops.Stop.TheVariants.{Standing}
-use Rattle.probe.specs.Inquiry.{inquiry_of}
+use Rattle.probe_texts.specs.declared.inquiry.Inquiry.{Inquiry}
+use Rattle.probe_texts.specs.declared.stops.Stop.{Stop}
+use Rattle.probe_texts.specs.declared.stops.Stop.TheVariants.{Standing}
+use Rattle.probe_texts.specs.Inquiry.{inquiry_of}
 use Rattle.probe.specs.ProbeLaws.{AnswersAsDebugger, OnlyStand}
 use Rattle.probe.specs.Probe.{AddsStop, AnswersUnless, conditions_of, GoesBackToStop, GoesOn}
 use Rattle.probe.specs.Probe.{ProbeState, RefusesBackToStop, RefusesGoing, RefusesStop, session_of}
-use Rattle.probe.specs.Requests.{request_by, request_in, request_of, request_with, stop_of, trial_of}
+use Rattle.probe_texts.specs.Requests.{request_by, request_in, request_of, request_with, stop_of, trial_of}
 use Rattle.probe.specs.InquirySession.{AnswersOr}
 use Rattle.probe.specs.ProbeStops.{IsEndOf, met_from, NoneMet}
 use Rattle.probe.proofs.Probes.{conditions_more}

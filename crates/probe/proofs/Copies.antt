@@ -8,15 +8,14 @@ use Rattle.board_plain.specs.Plain.{Plain, after_clock}
 use Rattle.events.specs.declared.access.Access.{Access}
 use Rattle.events.specs.Accesses.{accesses_next}
 use Rattle.probe.specs.declared.bytes.Copied.{Copied}
-use Rattle.probe.specs.declared.stops.Stop.{Stop}
-use Rattle.probe.specs.declared.stops.Stop.TheVariants.{Standing, When, Changes}
+use Rattle.probe_texts.specs.declared.stops.Stop.{Stop}
+use Rattle.probe_texts.specs.declared.stops.Stop.TheVariants.{Standing, When, Changes}
 use Rattle.probe.specs.declared.watched.Watched.{Watched}
-use Rattle.probe.specs.Met.{AreRenewed, asked_by, asks_keys, asks_wires, HasRoom, IsCopy, IsCovered}
+use Rattle.probe.specs.Met.{AreRenewed, HasRoom, IsCopy, IsCovered}
 use Rattle.std.specs.List.{list_all}
 use Rattle.std.proofs.lemmas.List.Folds.{list_all-map}
-use Rattle.probe.specs.Requests.{is_standing}
-use Rattle.probe.proofs.Places.{any_of_each}
-use Rattle.probe.specs.Watched.{all_standing, AreCopies, asked_of, IsWatched, KeepsStops, StaysCopied, stops_of}
+use Rattle.probe_texts.specs.Requests.{is_standing}
+use Rattle.probe.specs.Watched.{all_standing, AreCopies, IsWatched, KeepsStops, StaysCopied, stops_of}
 use Rattle.probe.proofs.Changing.{copy_renewed}
 
 -- a copy of the same bytes covers the same stops
@@ -99,14 +98,6 @@ renewed_more i accesses t old now new d within renewed so_far = λ s are at copi
 pub renewed_all : (i : ℕ) (accesses : List Access) (t : Plain) (old now : List Watched)
     → length now ≤ i → IsRenewedTo i accesses t old now → StaysCopied accesses t old now
 renewed_all i accesses t old now past so_far = λ s are at copies. copies_all now i t past (so_far s are at copies).0
-
--- what all have to look at is what the stops have to look at
-
-pub asked_is : (watches : List Watched) → asked_of watches ≡ asked_by (stops_of watches)
-asked_is watches = λ i. record {
-  wires = sym (any_of_each asks_wires (λ (w : Watched). w.stop) watches) i;
-  keys = sym (any_of_each asks_keys (λ (w : Watched). w.stop) watches) i;
-}
 
 pub standing_is : (watches : List Watched) → list_all is_standing (stops_of watches) ≡ all_standing watches
 standing_is watches = list_all-map is_standing (λ (w : Watched). w.stop) watches

@@ -7,8 +7,7 @@ use Rattle.std.specs.Option.{option_to_list, IsSome, SomeIff}
 use Rattle.std.specs.Result.{is_err}
 use Rattle.board.specs.declared.one_turn.Begun.{Begun}
 use Rattle.board.specs.OneTurn.{begun_in, begun_of, IsOneTurn}
-use Rattle.board_plain.proofs.Runs.{ran_none, runs_join}
-use Rattle.board_plain.specs.Board.{Ran}
+use Rattle.board_plain.specs.Board.{BoardState, Ran}
 use Rattle.board_plain.specs.Plain.{Plain, after_clock, after_clocks, clock_of}
 use Rattle.board_plain.specs.Trail.{trail_in, trail_next}
 use Rattle.board_types.proofs.Iterate.{gathered_add, gathered_zero}
@@ -16,8 +15,7 @@ use Rattle.debugger_meaning.specs.declared.fault.DebugFault.{DebugFault}
 use Rattle.debugger_meaning.specs.declared.fault.DebugFault.TheVariants.{Memory}
 use Rattle.debugger_meaning.specs.Stands.{SessionState}
 use Rattle.probe.specs.declared.counts.Counts.{Counts}
-use Rattle.probe.specs.Counted.{IsCounted}
-use Rattle.probe.specs.Counts.{counts_of, counts_text}
+use Rattle.probe.specs.Counted.{HasCountedAll}
 use Rattle.probe.specs.Making.{RefusesMaking}
 use Rattle.probe.specs.Tallied.{HasCounted, IsBefore}
 
@@ -41,16 +39,10 @@ begun_on p k s t begun at is =
     ∙ map-append begun_of (trail_in s p) (trail_in (after_clocks s p) k)
     ∙ ap (λ xs. begun_in s p ++ xs) (ap (λ q. begun_in q k) (sym at) ∙ is)
 
-pub none_counted : (end : ℕ) (s : SessionState) (c : Counts) → length s.board.trail ≤ 32 → clock_of s.board.plain ≤ end
-    → HasCounted [] c → ((clock : ℕ) → IsBefore clock c) → c.first ≡ clock_of s.board.plain → IsCounted end s s c
-none_counted end s c few within noted before from = record {
-  passed = 0;
-  ran = ran_none s.board few;
-  stops = refl;
-  first = refl;
-  within = within;
-  noted = subst (λ xs. HasCounted xs c) (sym (ap (map begun_of) (gathered_zero after_clock trail_next s.board.plain))) noted;
-  before = before (clock_of s.board.plain);
+pub none_counted : (s : Plain) (c : Counts) → HasCounted [] c → ((clock : ℕ) → IsBefore clock c) → c.first ≡ clock_of s → HasCountedAll s 0 c
+none_counted s c noted before from = record {
+  noted = subst (λ xs. HasCounted xs c) (sym (ap (map begun_of) (gathered_zero after_clock trail_next s))) noted;
+  before = before (clock_of s + 0);
   started = omega (arith, from);
 }
 
@@ -68,53 +60,24 @@ before_later clock later c less before = record {
 }
 
 -- what begins in a turn comes after what began before it
-pub begins_after : {edges : Bool} (end clock : ℕ) (s t u : SessionState) (c : Counts) (begun : Option Begun)
-    → IsCounted end s t c → IsOneTurn edges end end t.board u.board begun → IfSome begun (λ b. IsBefore b.clock c)
-begins_after end clock s t u c begun counted turn = if_some begun turn.clock (λ b is. subst (λ n. IsBefore n c) (sym is) counted.before)
+pub begins_after : {edges : Bool} (within end n : ℕ) (s : Plain) (t u : BoardState) (c : Counts) (begun : Option Begun)
+    → HasCountedAll s n c → clock_of t.plain ≡ clock_of s + n → IsOneTurn edges within end t u begun → IfSome begun (λ b. IsBefore b.clock c)
+begins_after within end n s t u c begun counted at turn = if_some begun turn.clock (λ b is. subst (λ k. IsBefore k c) (sym (is ∙ at)) counted.before)
 
-pub more_counted : {edges : Bool} (end : ℕ) (s t u : SessionState) (c d : Counts) (begun : Option Begun)
-    → IsCounted end s t c → IsOneTurn edges end end t.board u.board begun → u.stops ≡ t.stops
-    → u.first ≡ t.first → ((all : List Begun) → HasCounted all c → HasCounted (all ++ option_to_list begun) d)
+pub more_counted : {edges : Bool} (within end n : ℕ) (s : Plain) (t u : BoardState) (c d : Counts) (begun : Option Begun)
+    → HasCountedAll s n c → t.plain ≡ after_clocks s n → clock_of t.plain ≡ clock_of s + n → (turn : IsOneTurn edges within end t u begun)
+    → ((all : List Begun) → HasCounted all c → HasCounted (all ++ option_to_list begun) d)
     → ((clock : ℕ) → IfSome begun (λ b. b.clock < clock) → IsBefore clock c → IsBefore clock d)
-    → ((start : ℕ) → IfSome begun (λ b. start ≤ b.clock) → start ≤ c.first → start ≤ d.first) → IsCounted end s u d
-more_counted end s t u c d begun counted turn stops first notes before starts =
-    let n : ℕ = counted.passed in
+    → ((start : ℕ) → IfSome begun (λ b. start ≤ b.clock) → start ≤ c.first → start ≤ d.first) → HasCountedAll s (n + turn.passed) d
+more_counted within end n s t u c d begun counted is at turn notes before starts =
     let k : ℕ = turn.passed in
-    let clock = turn.ran.clock in
-    let so_far = counted.ran.clock in
     let some = turn.some in
-    let within = turn.before_end in
     record {
-      passed = n + k;
-      ran = runs_join n k s.board t.board u.board counted.ran turn.ran;
-      stops = stops ∙ counted.stops;
-      first = first ∙ counted.first;
-      within = omega (arith, clock, within);
-      noted = subst (λ xs. HasCounted xs d)
-          (sym (begun_on n k s.board.plain t.board.plain (option_to_list begun) counted.ran.plain turn.begins)) (notes _ counted.noted);
-      before = before (clock_of u.board.plain) (if_some begun turn.clock (λ b is. omega (arith, is, clock, some)))
-          (before_later (clock_of t.board.plain) (clock_of u.board.plain) c (omega (arith, clock)) counted.before);
-      started = starts (clock_of s.board.plain) (if_some begun turn.clock (λ b is. omega (arith, is, so_far))) counted.started;
+      noted = subst (λ xs. HasCounted xs d) (sym (begun_on n k s t.plain (option_to_list begun) is turn.begins)) (notes _ counted.noted);
+      before = before (clock_of s + (n + k)) (if_some begun turn.clock (λ b is. omega (arith, is, at, some)))
+          (before_later (clock_of s + n) (clock_of s + (n + k)) c (omega arith) counted.before);
+      started = starts (clock_of s) (if_some begun turn.clock (λ b is. omega (arith, is, at))) counted.started;
     }
-
--- all clocks have passed
-
-pub all_counted : (end n : ℕ) (s t : SessionState) (c : Counts)
-    → (counted : IsCounted end s t c) → end ≡ clock_of s.board.plain + n → end ≤ clock_of t.board.plain → counted.passed ≡ n
-all_counted end n s t c counted is past =
-    let clock = counted.ran.clock in
-    let within = counted.within in omega (arith, clock, within, is, past)
-
-pub few_passed : (end n : ℕ) (s t : SessionState) (c : Counts) → (counted : IsCounted end s t c) → end ≡ clock_of s.board.plain + n → counted.passed ≤ n
-few_passed end n s t c counted is =
-    let clock = counted.ran.clock in
-    let within = counted.within in omega (arith, clock, within, is)
-
-pub text_counted : (end n : ℕ) (s t : SessionState) (c : Counts) (text : List ℕ) → (counted : IsCounted end s t c) → end ≡ clock_of s.board.plain + n
-    → end ≤ clock_of t.board.plain → text ≡ counts_of (begun_in s.board.plain counted.passed) (clock_of s.board.plain) end → text ≡ counts_text s.board.plain n
-unfolding counts_text
-text_counted end n s t c text counted is past told =
-    told ∙ (λ i. counts_of (begun_in s.board.plain (all_counted end n s t c counted is past i)) (clock_of s.board.plain) (is i))
 
 -- what is known of some values
 

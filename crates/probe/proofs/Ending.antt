@@ -7,10 +7,10 @@ use Rattle.board_plain.specs.declared.stop.Stop.{Stop as End}
 use Rattle.board_plain.specs.Plain.{Plain, after_clock, after_clocks, clock_of}
 use Rattle.events.proofs.KeyToCome.{key_waits}
 use Rattle.events.specs.WithKey.{with_key}
-use Rattle.probe.specs.declared.moments.Second.{Second}
-use Rattle.probe.specs.declared.moments.Trial.{Trial}
+use Rattle.probe_texts.specs.declared.moments_text.Second.{Second}
+use Rattle.probe_texts.specs.declared.moments_text.Trial.{Trial}
 use Rattle.probe.specs.Moments.{key_tried, second_tried, with_second, with_tried}
-use Rattle.probe.specs.declared.stops.Stop.{Stop}
+use Rattle.probe_texts.specs.declared.stops.Stop.{Stop}
 use Rattle.probe.specs.ProbeStops.{EndsAt, IsEndOf, meeting, meeting_at, NoneMet}
 use Rattle.probe.proofs.Waiting.{clock_same, meeting_waits, none_waited, none_waits}
 use Rattle.probe.proofs.Meeting.{met_on, none_on}

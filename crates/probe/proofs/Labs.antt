@@ -18,12 +18,12 @@ use Rattle.debugger_meaning.specs.declared.fault.DebugFault.{DebugFault}
 use Rattle.debugger_meaning.specs.declared.fault.DebugFault.TheVariants.{BadScan, StampsFall, ClockLimit, BadCommand, TooManyStops, Memory, BeforeStart, NoCell}
 use Rattle.debugger_meaning.specs.Stands.{SessionState, Shown, shown_of, Stands, StandsAfter}
 use Rattle.debugger_meaning.proofs.Standing.{few_of, stands_none}
-use Rattle.probe.specs.declared.wishes.Edit.{Edit}
-use Rattle.probe.specs.declared.wishes.Edit.TheVariants as edits
-use Rattle.probe.specs.declared.wishes.Wish.{Wish}
-use Rattle.probe.specs.declared.wishes.Wish.TheVariants.{Set, Undo}
-use Rattle.probe.specs.Requests.{request_of}
-use Rattle.probe.specs.Wishes.{wish_of}
+use Rattle.probe_texts.specs.declared.wishes.Edit.{Edit}
+use Rattle.probe_texts.specs.declared.wishes.Edit.TheVariants as edits
+use Rattle.probe_texts.specs.declared.wishes.Wish.{Wish}
+use Rattle.probe_texts.specs.declared.wishes.Wish.TheVariants.{Set, Undo}
+use Rattle.probe_texts.specs.Requests.{request_of}
+use Rattle.probe_texts.specs.Wishes.{wish_of}
 use Rattle.probe.proofs.Walking.{answered}
 use Rattle.probe.specs.Lab.{AnswersUnlessWished, AnswersWish, belongs, earlier_with, edited, lab_about, LabState}
 use Rattle.probe.specs.Lab.{left_by, RefusesSet, Sets, shown_edited, takes_edit, Undoes, with_bytes}

@@ -1,15 +1,12 @@
-mod Listing
-mod Telling
-pub mod Registers
-pub mod Loading
+mod Turns
 mod Rows
 pub mod AddingUp
 pub mod Counting
-pub mod Signalling
+pub mod Made
+mod Lines
 pub mod Numbers
 pub mod Tallying
 mod Standing
-mod Happening
 mod Changing
 mod Copies
 mod Places

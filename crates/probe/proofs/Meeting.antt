@@ -1,9 +1,8 @@
 -- A turn in which a stop is looked for, and the search so far.
 use Rattle.std.proofs.Common.{◌≡◌, ◌≢◌, ℕ, zero, suc, ◌+◌, ◌-◌, ◌<◌, ◌≤◌, ◌^◌, Bool, true, false, cond, not, inl, inr, List}
 use Rattle.std.proofs.Common.{[], ◌∷◌, ◌++◌, length, map, get_or, Option, None, Some, refl, sym, ap, ◌∙◌, subst, arith}
-use Rattle.std.specs.Prelude.{◌⊎◌, ◌||◌, All, IsTrue, is_some}
+use Rattle.std.specs.Prelude.{◌⊎◌, ◌||◌, All, IsTrue, filter, fold, is_some}
 use Rattle.std.specs.List.{list_any, position_from}
-use Rattle.std.specs.Option.{option_to_list}
 use Rattle.std.proofs.lemmas.Bool.{cases_lt}
 use Rattle.std.proofs.lemmas.List.Elements.{All-head, All-tail, All-weaker}
 use Rattle.board_types.proofs.Iterate.{iterate_add, iterate_more, iterate_zero}
@@ -12,100 +11,133 @@ use Rattle.board_plain.specs.Board.{BoardState, Ran}
 use Rattle.board_plain.specs.declared.stop.Condition.{Condition}
 use Rattle.board_plain.specs.Plain.{Plain, after_clock, after_clocks, byte_of, clock_of}
 use Rattle.board_plain.specs.Stops.{holding, holds}
-use Rattle.board_plain.specs.Trail.{trail_in, trail_next}
+use Rattle.board_plain.specs.Trail.{trail_next}
 use Rattle.board.specs.declared.one_turn.Begun.{Begun}
-use Rattle.board.specs.OneTurn.{begun_of, HaveSameWires, IsOneTurn}
+use Rattle.board.specs.OneTurn.{HaveSameWires, IsOneTurn}
 use Rattle.board.specs.HeldBack.{IsHeldBack}
 use Rattle.board.proofs.Ticking.{first_clock, first_seen}
 use Rattle.debugger_meaning.specs.Stands.{SessionState}
 use Rattle.events.specs.declared.access.Access.{Access}
+use Rattle.events.specs.declared.event.Event.{Event}
+use Rattle.events.specs.declared.event.Event.TheVariants.{Began, Reached}
 use Rattle.events.specs.Accesses.{accesses_next}
-use Rattle.events.specs.Events.{events_next, unwired_next, wire_events}
+use Rattle.events.specs.Events.{events_next, unwired_next}
 use Rattle.probe.specs.declared.bytes.Copied.{Copied}
-use Rattle.probe.specs.declared.event_lines.Asked.{Asked}
-use Rattle.probe.specs.declared.event_lines.Seen.{Seen}
-use Rattle.probe.specs.declared.kinds.Kind.{Kind}
-use Rattle.probe.specs.declared.stops.Stop.{Stop}
-use Rattle.probe.specs.declared.stops.Stop.TheVariants.{Standing, When, Changes}
+use Rattle.probe.specs.declared.seen.Seen.{Seen}
+use Rattle.probe.specs.declared.seen.Turn.{Turn}
 use Rattle.probe.specs.declared.watched.Watched.{Watched}
-use Rattle.probe.specs.Listed.{is_listed, lists_keys, lists_wires}
 use Rattle.probe.specs.Looked.{HasEnded, LooksOn, RanShort, RanToStop}
-use Rattle.probe.specs.Met.{asked_by, asks_keys, asks_wires, IsCopy, IsCovered, is_met, is_stop_met, met, writes_to}
+use Rattle.probe.specs.Met.{asked_by, asked_with_stop, IsCopy, IsCovered, is_met, is_stop_met, met, writes_to}
 use Rattle.probe.specs.ProbeStops.{happens, meeting, meeting_at, meets, NoneMet, standing, stands}
-use Rattle.probe.specs.ListedEvents.{seen_of}
+use Rattle.probe.specs.Seen.{asked_in, IsMade, seen_of}
 use Rattle.probe.specs.Watched.{AreCopies, IsWatched, KeepsStops, stops_of}
 use Rattle.probe.proofs.Changing.{byte_stays, changes_seen, copy_renewed, nothing_changes}
-use Rattle.probe.proofs.Happening.{happens_seen, no_access, nothing_happens}
+use Rattle.probe.proofs.Turns.{quiet_clock, same_levels, seen_clock}
+use Rattle.probe_texts.specs.declared.asked.Asked.{Asked}
+use Rattle.probe_texts.specs.declared.stops.Stop.{Stop}
+use Rattle.probe_texts.specs.declared.stops.Stop.TheVariants.{Standing, When, Changes}
+use Rattle.probe_texts.specs.Asked.{asks, nothing_asked}
+use Rattle.probe_texts.specs.Listed.{is_listed}
+use Rattle.probe_texts.proofs.Asking.{any_asked, asked_grows, either, first_or, unless}
 
--- what some stops together have to look at
+-- a clock in which nothing happens makes no access
 
-or_left : (a b : Bool) → IsTrue a → IsTrue (a || b)
+no_access_by : (xs : List Event) (clock : ℕ) (accesses : List Access) (zs : List Event) → xs ++ (map (Reached clock) accesses ++ zs) ≡ [] → accesses ≡ []
+no_access_by [] clock [] zs none = refl
+no_access_by [] clock (a ∷ more) zs none = absurd (cc)
+no_access_by (x ∷ xs) clock accesses zs none = absurd (cc)
+
+no_access : (s : Plain) → unwired_next s ≡ [] → accesses_next s ≡ []
+unfolding unwired_next
+no_access s none = no_access_by (map Began (trail_next s)) (clock_of s) (accesses_next s) _ none
+
+or_left : (a b : Bool) → a ≡ true → (a || b) ≡ true
 or_left true b is = refl
 or_left false b is = let never : false ≡ true = is in absurd (cc)
 
-or_right : (a b : Bool) → IsTrue b → IsTrue (a || b)
+or_right : (a b : Bool) → b ≡ true → (a || b) ≡ true
 or_right true b is = refl
 or_right false b is = is
 
--- a stop that looks at no more than is looked at
-abbrev AsksFor : Asked → Stop → Type 0
-AsksFor asked stop = (IsTrue (asks_wires stop) → IsTrue asked.wires) × (IsTrue (asks_keys stop) → IsTrue asked.keys)
+-- what some stops together wait for
+
+abbrev waits_for : Event → Stop → Bool
+waits_for e (Standing condition) = false
+waits_for e (When kinds) = is_listed kinds.items e
+waits_for e (Changes address count) = false
+
+stop_grows : (a : Asked) (stop : Stop) (e : Event) → (asks a e || waits_for e stop) ≡ true → asks (asked_with_stop a stop) e ≡ true
+stop_grows a (Standing condition) e is = unless (asks a e) is
+stop_grows a (When kinds) e is = asked_grows a kinds.items e is
+stop_grows a (Changes address count) e is = unless (asks a e) is
+
+stops_grow : (a : Asked) (stops : List Stop) (e : Event) → (asks a e || list_any (waits_for e) stops) ≡ true
+    → asks (fold asked_with_stop a stops) e ≡ true
+stops_grow a [] e is = unless (asks a e) is
+stops_grow a (x ∷ xs) e is =
+    stops_grow (asked_with_stop a x) xs e (first_or (asks a e || waits_for e x) (asks (asked_with_stop a x) e) (list_any (waits_for e) xs)
+    (stop_grows a x e) (either (asks a e) (waits_for e x) (list_any (waits_for e) xs) is))
+
+-- all events for which they wait are asked for
+abbrev AskFor : Asked → List Stop → Type 0
+AskFor asked stops = (e : Event) → list_any (waits_for e) stops ≡ true → asks asked e ≡ true
+
+all_asked : (stops : List Stop) → AskFor (asked_by stops) stops
+all_asked stops e is = stops_grow nothing_asked stops e (or_right (asks nothing_asked e) (list_any (waits_for e) stops) is)
 
 -- a clock, stop by stop
 
-meets_seen : (stop : Stop) (copied : Copied) (asked : Asked) (s : Plain) (begun : Option Begun)
-    → map begun_of (trail_next s) ≡ option_to_list begun → AsksFor asked stop → IsCopy copied s → IsCovered copied stop
-    → meets stop s (after_clock s) ≡ is_stop_met stop copied (seen_of asked s) begun (accesses_next s) (after_clock s)
+meets_seen : (stop : Stop) (copied : Copied) (asked : Asked) (s : Plain) → ((e : Event) → waits_for e stop ≡ true → asks asked e ≡ true)
+    → IsCopy copied s → IsCovered copied stop
+    → meets stop s (after_clock s) ≡ is_stop_met stop copied (filter (asks asked) (events_next s)) (accesses_next s) (after_clock s)
 unfolding meets
-meets_seen (Standing condition) copied asked s begun begins asks copy covered = refl
-meets_seen (When kinds) copied asked s begun begins asks copy covered = happens_seen kinds.items asked s begun begins asks.0 asks.1
-meets_seen (Changes address count) copied asked s begun begins asks copy covered = changes_seen address count copied s copy covered.0 covered.1
+meets_seen (Standing condition) copied asked s waits copy covered = refl
+meets_seen (When kinds) copied asked s waits copy covered = sym (any_asked (is_listed kinds.items) (asks asked) waits (events_next s))
+meets_seen (Changes address count) copied asked s waits copy covered = changes_seen address count copied s copy covered.0 covered.1
 
-all_seen : (watches : List Watched) (i : ℕ) (asked : Asked) (s : Plain) (begun : Option Begun) → map begun_of (trail_next s) ≡ option_to_list begun
-    → (IsTrue (list_any asks_wires (stops_of watches)) → IsTrue asked.wires)
-    → (IsTrue (list_any asks_keys (stops_of watches)) → IsTrue asked.keys) → AreCopies watches s → All IsWatched watches
+all_seen : (watches : List Watched) (i : ℕ) (asked : Asked) (s : Plain) → AskFor asked (stops_of watches) → AreCopies watches s → All IsWatched watches
     → position_from (λ stop. meets stop s (after_clock s)) i (stops_of watches)
-    ≡ position_from (λ watched. is_met watched (seen_of asked s) begun (accesses_next s) (after_clock s)) i watches
-all_seen [] i asked s begun begins wires keys copies watched = refl
-all_seen (x ∷ xs) i asked s begun begins wires keys copies watched =
-    let here = meets_seen x.stop x.copied asked s begun begins (
-      λ is. wires (or_left (asks_wires x.stop) (list_any asks_wires (stops_of xs)) is),
-      λ is. keys (or_left (asks_keys x.stop) (list_any asks_keys (stops_of xs)) is),
-    )
+    ≡ position_from (λ watched. is_met watched (filter (asks asked) (events_next s)) (accesses_next s) (after_clock s)) i watches
+all_seen [] i asked s waits copies watched = refl
+all_seen (x ∷ xs) i asked s waits copies watched =
+    let here = meets_seen x.stop x.copied asked s (λ e is. waits e (or_left (waits_for e x.stop) (list_any (waits_for e) (stops_of xs)) is))
     (All-head (λ (w : Watched). IsCopy w.copied s) x xs copies) (All-head IsWatched x xs watched).covered in
-    let rest = all_seen xs (i + 1) asked s begun begins (λ is. wires (or_right (asks_wires x.stop) (list_any asks_wires (stops_of xs)) is))
-    (λ is. keys (or_right (asks_keys x.stop) (list_any asks_keys (stops_of xs)) is))
+    let rest = all_seen xs (i + 1) asked s (λ e is. waits e (or_right (waits_for e x.stop) (list_any (waits_for e) (stops_of xs)) is))
     (All-tail (λ (w : Watched). IsCopy w.copied s) x xs copies) (All-tail IsWatched x xs watched) in
     λ j. cond (here j) (Some i) (rest j)
 
-clock_met : (watches : List Watched) (s : Plain) (begun : Option Begun)
-    → map begun_of (trail_next s) ≡ option_to_list begun → AreCopies watches s → All IsWatched watches
-    → meeting (stops_of watches) s (after_clock s) ≡ met watches (seen_of (asked_by (stops_of watches)) s) begun (accesses_next s) (after_clock s)
+clock_met : (watches : List Watched) (asked : Asked) (s : Plain) → asked ≡ asked_by (stops_of watches) → AreCopies watches s → All IsWatched watches
+    → meeting (stops_of watches) s (after_clock s) ≡ met watches (asked_in asked s 1) (accesses_next s) (after_clock s)
 unfolding meeting met
-clock_met watches s begun begins copies watched = all_seen watches 1 (asked_by (stops_of watches)) s begun begins (λ is. is) (λ is. is) copies watched
+clock_met watches asked s is copies watched =
+    all_seen watches 1 (asked_by (stops_of watches)) s (all_asked (stops_of watches)) copies watched
+    ∙ ap (λ (es : List Event). position_from (λ (w : Watched). is_met w es (accesses_next s) (after_clock s)) 1 watches)
+    (ap (λ a. filter (asks a) (events_next s)) (sym is) ∙ ap (filter (asks asked)) (sym (first_seen events_next s)))
 
 -- a clock in which nothing happens: only conditions are met
 
-stands_still : (stop : Stop) (wires : Bool) (s : Plain) → (IsTrue (asks_wires stop) → IsTrue wires) → unwired_next s ≡ []
-    → (IsTrue wires → HaveSameWires s (after_clock s)) → meets stop s (after_clock s) ≡ stands stop (after_clock s)
+stands_still : (stop : Stop) (asked : Asked) (s : Plain) → ((e : Event) → waits_for e stop ≡ true → asks asked e ≡ true) → unwired_next s ≡ []
+    → (IsTrue asked.wires → HaveSameWires s (after_clock s)) → meets stop s (after_clock s) ≡ stands stop (after_clock s)
 unfolding meets stands
-stands_still (Standing condition) wires s asks quiet same = refl
-stands_still (When kinds) wires s asks quiet same = nothing_happens kinds.items s quiet (λ is. same (asks is))
-stands_still (Changes address count) wires s asks quiet same = nothing_changes address count s (no_access s quiet)
+stands_still (Standing condition) asked s waits quiet same = refl
+stands_still (When kinds) asked s waits quiet same =
+    sym (any_asked (is_listed kinds.items) (asks asked) waits (events_next s))
+    ∙ ap (list_any (is_listed kinds.items)) (quiet_clock asked s quiet (λ is. same_levels s (after_clock s) (same is)))
+stands_still (Changes address count) asked s waits quiet same = nothing_changes address count s (no_access s quiet)
 
-all_still : (stops : List Stop) (i : ℕ) (wires : Bool) (s : Plain)
-    → (IsTrue (list_any asks_wires stops) → IsTrue wires) → unwired_next s ≡ [] → (IsTrue wires → HaveSameWires s (after_clock s))
+all_still : (stops : List Stop) (i : ℕ) (asked : Asked) (s : Plain)
+    → AskFor asked stops → unwired_next s ≡ [] → (IsTrue asked.wires → HaveSameWires s (after_clock s))
     → position_from (λ stop. meets stop s (after_clock s)) i stops ≡ position_from (λ stop. stands stop (after_clock s)) i stops
-all_still [] i wires s asks quiet same = refl
-all_still (x ∷ xs) i wires s asks quiet same =
-    let here = stands_still x wires s (λ is. asks (or_left (asks_wires x) (list_any asks_wires xs) is)) quiet same in
-    let rest = all_still xs (i + 1) wires s (λ is. asks (or_right (asks_wires x) (list_any asks_wires xs) is)) quiet same in
+all_still [] i asked s waits quiet same = refl
+all_still (x ∷ xs) i asked s waits quiet same =
+    let here = stands_still x asked s (λ e is. waits e (or_left (waits_for e x) (list_any (waits_for e) xs) is)) quiet same in
+    let rest = all_still xs (i + 1) asked s (λ e is. waits e (or_right (waits_for e x) (list_any (waits_for e) xs) is)) quiet same in
     λ j. cond (here j) (Some i) (rest j)
 
-clock_still : (stops : List Stop) (s : Plain) → unwired_next s ≡ [] → (IsTrue (list_any asks_wires stops) → HaveSameWires s (after_clock s))
+clock_still : (stops : List Stop) (s : Plain) → unwired_next s ≡ [] → (IsTrue (asked_by stops).wires → HaveSameWires s (after_clock s))
     → meeting stops s (after_clock s) ≡ standing stops (after_clock s)
 unfolding meeting standing
-clock_still stops s quiet same = all_still stops 1 (list_any asks_wires stops) s (λ is. is) quiet same
+clock_still stops s quiet same = all_still stops 1 (asked_by stops) s (all_asked stops) quiet same
 
 -- what holds as a condition is what the board's conditions say
 
@@ -191,7 +223,7 @@ same_then s t u first second = record {
 -- each clock of a leap is still
 record Stills (stops : List Stop) (n : ℕ) (s : Plain) : Type 0 where
   quiet : (j : ℕ) → j < n → unwired_next (after_clocks s j) ≡ []
-  wires : (j : ℕ) → j < n → IsTrue (list_any asks_wires stops) → HaveSameWires (after_clocks s j) (after_clock (after_clocks s j))
+  wires : (j : ℕ) → j < n → IsTrue (asked_by stops).wires → HaveSameWires (after_clocks s j) (after_clock (after_clocks s j))
 
 wires_from : (s : Plain) (n j : ℕ) → 1 < n → HaveSameWires s (after_clock s) → ((i : ℕ) → 1 ≤ i → i ≤ n → HaveSameWires (after_clock s) (after_clocks s i))
     → j < n → j ≡ 0 ⊎ (1 ≤ j) → HaveSameWires (after_clocks s j) (after_clock (after_clocks s j))
@@ -210,14 +242,14 @@ quiet_from : (s : Plain) (n j : ℕ) → unwired_next s ≡ [] → ((i : ℕ) �
 quiet_from s n j first later within (inl none) = ap unwired_next (ap (after_clocks s) none ∙ iterate_zero after_clock s) ∙ first
 quiet_from s n j first later within (inr some) = later j some within
 
-stills : (stops : List Stop) (next end : ℕ) (t u : BoardState) (begun : Option Begun) → next ≡ clock_of t.plain + 1
-    → (turn : IsOneTurn (not (list_any asks_wires stops)) next end t u begun) → 1 < turn.passed → Stills stops turn.passed t.plain
-stills stops next end t u begun at turn more =
+stills : (stops : List Stop) (asked : Asked) (next end : ℕ) (t u : BoardState) (begun : Option Begun) → asked ≡ asked_by stops → next ≡ clock_of t.plain + 1
+    → (turn : IsOneTurn (not asked.wires) next end t u begun) → 1 < turn.passed → Stills stops turn.passed t.plain
+stills stops asked next end t u begun same at turn more =
     let still = turn.leap (omega (arith, at, more)) in record {
       quiet = λ j within. quiet_from t.plain turn.passed j still.quiet turn.quiet within (zero_or j);
-      wires = λ j within asked.
-          wires_from t.plain turn.passed j more (still.wires (not_edges (list_any asks_wires stops) asked))
-          (turn.wires (not_edges (list_any asks_wires stops) asked)) within (zero_or j);
+      wires = λ j within wires.
+          let is : IsTrue asked.wires = ap (λ (a : Asked). a.wires) same ∙ wires in
+          wires_from t.plain turn.passed j more (still.wires (not_edges asked.wires is)) (turn.wires (not_edges asked.wires is)) within (zero_or j);
     }
 
 -- at each clock of a still leap the stop that holds as a condition is met
@@ -247,23 +279,31 @@ copies_stay stops n s still watches copies =
     (λ w copy k within. copy k within ∙ sym (bytes_stay stops n n s (w.copied.first + k) still (omega arith))) watches copies
 
 -- what a turn's end shows
-pub record Told (t u : BoardState) (begun : Option Begun) (old new : List Watched) (number : Option ℕ) : Type 0 where
-  pub clock : clock_of u.plain ≡ clock_of t.plain + 1 → LooksOn (seen_of (asked_by (stops_of old)) t.plain) begun (accesses_next t.plain) u.plain old new number
-  pub leap : clock_of t.plain + 1 < clock_of u.plain → number ≡ standing (stops_of old) u.plain
-  pub copied : clock_of t.plain + 1 < clock_of u.plain → new ≡ old
+pub record Told (turn : Turn) (accesses : List Access) (t u : BoardState) (old new : List Watched) (number : Option ℕ) : Type 0 where
+  pub made : IsMade turn t u
+  pub within : made.within ≡ clock_of t.plain + 1
+  pub asked : turn.asked ≡ asked_by (stops_of old)
+  pub noted : accesses ≡ accesses_next t.plain
+  pub clock : clock_of u.plain ≡ turn.before.clock + 1 → LooksOn turn accesses u old new number
+  pub leap : turn.before.clock + 1 < clock_of u.plain → number ≡ standing (stops_of old) u.plain
+  pub copied : turn.before.clock + 1 < clock_of u.plain → new ≡ old
 
-turned_once : (next end : ℕ) (t u : BoardState) (begun : Option Begun) (old new : List Watched) (number : Option ℕ)
-    → (turn : IsOneTurn (not (list_any asks_wires (stops_of old))) next end t u begun) → AreCopies old t.plain
-    → All IsWatched old → Told t u begun old new number → turn.passed ≤ 1 → Turned (stops_of old) t u new number
-turned_once next end t u begun old new number turn copies watched told few =
+pub starts_at : (turn : Turn) (t u : BoardState) → IsMade turn t u → turn.before.clock ≡ clock_of t.plain
+starts_at turn t u made = ap (λ (b : Seen). b.clock) made.before ∙ seen_clock turn.asked t.plain
+
+turned_once : (turn : Turn) (accesses : List Access) (t u : BoardState) (old new : List Watched) (number : Option ℕ)
+    → (told : Told turn accesses t u old new number) → AreCopies old t.plain → All IsWatched old → told.made.one.passed ≤ 1
+    → Turned (stops_of old) t u new number
+turned_once turn accesses t u old new number told copies watched few =
     let s : Plain = t.plain in
-    let some = turn.some in
-    let one : turn.passed ≡ 1 = omega (arith, few, some) in
-    let ran : Ran 1 t u = subst (λ n. Ran n t u) one turn.ran in
+    let one = told.made.one in
+    let some = one.some in
+    let once : one.passed ≡ 1 = omega (arith, few, some) in
+    let ran : Ran 1 t u = subst (λ n. Ran n t u) once one.ran in
     let here : u.plain ≡ after_clock s = ran.plain ∙ first_clock s in
-    let looked = told.clock ran.clock in
-    let begins : map begun_of (trail_next s) ≡ option_to_list begun =
-    ap (map begun_of) (sym (first_seen trail_next s)) ∙ ap (λ n. map begun_of (trail_in s n)) (sym one) ∙ turn.begins in
+    let start = starts_at turn t u told.made in
+    let clock = ran.clock in
+    let looked = told.clock (omega (arith, clock, start)) in
     record {
       passed = 1;
       some = omega arith;
@@ -271,49 +311,72 @@ turned_once next end t u begun old new number turn copies watched told few =
       between = λ j least most. absurd (omega (arith, least, most));
       there =
           (λ i. meeting (stops_of old) (iterate_zero after_clock s i) (first_clock s i))
-          ∙ clock_met old s begun begins copies watched
-          ∙ ap (met old (seen_of (asked_by (stops_of old)) s) begun (accesses_next s)) (sym here)
-          ∙ sym looked.number_is;
-      copies = looked.copied s refl here copies;
+          ∙ clock_met old turn.asked s told.asked copies watched
+          ∙ (λ i. met old (asked_in turn.asked s (sym once i)) (sym told.noted i) (sym here i))
+          ∙ sym (looked.number_is t told.made told.noted);
+      copies = looked.copied s told.noted here copies;
     }
 
-turned_far : (next end : ℕ) (t u : BoardState) (begun : Option Begun) (old new : List Watched) (number : Option ℕ)
-    → next ≡ clock_of t.plain + 1 → (turn : IsOneTurn (not (list_any asks_wires (stops_of old))) next end t u begun)
-    → AreCopies old t.plain → Told t u begun old new number → 1 < turn.passed → Turned (stops_of old) t u new number
-turned_far next end t u begun old new number at turn copies told more =
+turned_far : (turn : Turn) (accesses : List Access) (t u : BoardState) (old new : List Watched) (number : Option ℕ)
+    → (told : Told turn accesses t u old new number) → AreCopies old t.plain → 1 < told.made.one.passed → Turned (stops_of old) t u new number
+turned_far turn accesses t u old new number told copies more =
     let s : Plain = t.plain in
-    let n : ℕ = turn.passed in
+    let one = told.made.one in
+    let n : ℕ = one.passed in
     let stops : List Stop = stops_of old in
-    let still = stills stops next end t u begun at turn more in
-    let clock = turn.ran.clock in
-    let far : clock_of s + 1 < clock_of u.plain = omega (arith, clock, more) in
+    let at = told.within in
+    let still = stills stops turn.asked told.made.within told.made.end t u turn.begun told.asked at one more in
+    let clock = one.ran.clock in
+    let start = starts_at turn t u told.made in
+    let far : turn.before.clock + 1 < clock_of u.plain = omega (arith, clock, more, start) in
     record {
       passed = n;
-      some = turn.some;
-      ran = turn.ran;
+      some = one.some;
+      ran = one.ran;
       between = λ j least most.
           still_met stops n j s still least (omega (arith, most))
-          ∙ stand_alike stops s (after_clocks s j) (λ conditions. (turn.leap (omega (arith, at, more))).conditions conditions j most);
-      there = still_met stops n n s still turn.some (omega arith) ∙ ap (standing stops) (sym turn.ran.plain) ∙ sym (told.leap far);
-      copies = subst (λ ws. AreCopies ws u.plain) (sym (told.copied far)) (subst (AreCopies old) (sym turn.ran.plain) (copies_stay stops n s still old copies));
+          ∙ stand_alike stops s (after_clocks s j) (λ conditions. (one.leap (omega (arith, at, more))).conditions conditions j most);
+      there = still_met stops n n s still one.some (omega arith) ∙ ap (standing stops) (sym one.ran.plain) ∙ sym (told.leap far);
+      copies = subst (λ ws. AreCopies ws u.plain) (sym (told.copied far)) (subst (AreCopies old) (sym one.ran.plain) (copies_stay stops n s still old copies));
     }
 
-turned_of : (next end : ℕ) (t u : BoardState) (begun : Option Begun) (old new : List Watched) (number : Option ℕ)
-    → next ≡ clock_of t.plain + 1 → IsOneTurn (not (list_any asks_wires (stops_of old))) next end t u begun
-    → AreCopies old t.plain → All IsWatched old → Told t u begun old new number → Turned (stops_of old) t u new number
-turned_of next end t u begun old new number at turn copies watched told =
-    elim (cases_lt turn.passed 2) [
-      | inl once ↦ turned_once next end t u begun old new number turn copies watched told (omega (arith, once))
-      | inr far ↦ turned_far next end t u begun old new number at turn copies told (omega (arith, far))
+turned_of : (turn : Turn) (accesses : List Access) (t u : BoardState) (old new : List Watched) (number : Option ℕ)
+    → Told turn accesses t u old new number → AreCopies old t.plain → All IsWatched old → Turned (stops_of old) t u new number
+turned_of turn accesses t u old new number told copies watched =
+    elim (cases_lt told.made.one.passed 2) [
+      | inl once ↦ turned_once turn accesses t u old new number told copies watched (omega (arith, once))
+      | inr far ↦ turned_far turn accesses t u old new number told copies (omega (arith, far))
     ]
 
-turned : (stops : List Stop) (next end : ℕ) (t u : BoardState) (begun : Option Begun) (old new : List Watched) (number : Option ℕ)
-    → stops_of old ≡ stops → next ≡ clock_of t.plain + 1 → IsOneTurn (not (list_any asks_wires stops)) next end t u begun
-    → AreCopies old t.plain → All IsWatched old → Told t u begun old new number → Turned stops t u new number
-turned stops next end t u begun old new number are at turn copies watched told =
-    subst (λ xs. Turned xs t u new number) are
-    (turned_of next end t u begun old new number at
-    (subst (λ xs. IsOneTurn (not (list_any asks_wires xs)) next end t u begun) (sym are) turn) copies watched told)
+-- a turn of a search, by what was seen, noted and found
+pub turned : (stops : List Stop) (turn : Turn) (accesses : List Access) (t u : BoardState) (old new : List Watched) (number : Option ℕ)
+    → stops_of old ≡ stops → Told turn accesses t u old new number → AreCopies old t.plain → All IsWatched old → Turned stops t u new number
+turned stops turn accesses t u old new number are told copies watched =
+    subst (λ xs. Turned xs t u new number) are (turned_of turn accesses t u old new number told copies watched)
+
+-- a turn that a run has made, by what was seen, noted and found
+pub told_of : (stops : List Stop) (turn : Turn) (accesses : List Access) (t u b : BoardState) (next to : ℕ) (old new : List Watched) (number : Option ℕ)
+    → stops_of old ≡ stops → turn.asked ≡ asked_by stops → turn.before ≡ seen_of turn.asked t.plain → turn.after ≡ seen_of turn.asked b.plain
+    → b ≡ u → accesses ≡ accesses_next t.plain → next ≡ turn.before.clock + 1 → IsOneTurn (not turn.asked.wires) next to t u turn.begun
+    → (clock_of b.plain ≡ turn.before.clock + 1 → LooksOn turn accesses b old new number)
+    → (turn.before.clock + 1 < clock_of b.plain → number ≡ standing (stops_of old) b.plain)
+    → (turn.before.clock + 1 < clock_of b.plain → new ≡ old) → Told turn accesses t u old new number
+told_of stops turn accesses t u b next to old new number are asked before after here noted at one looks leap copied =
+    subst (λ (v : BoardState). Told turn accesses t v old new number) here (record {
+      made = record {
+        within = next;
+        end = to;
+        one = subst (λ (v : BoardState). IsOneTurn (not turn.asked.wires) next to t v turn.begun) (sym here) one;
+        before = before;
+        after = after;
+      };
+      within = at ∙ ap (λ n. n + 1) (ap (λ (x : Seen). x.clock) before ∙ seen_clock turn.asked t.plain);
+      asked = asked ∙ ap asked_by (sym are);
+      noted = noted;
+      clock = looks;
+      leap = leap;
+      copied = copied;
+    })
 
 -- a run so far that has met no stop
 
@@ -459,43 +522,6 @@ met_none_more stops end s t u old new None none so_far turn first within stay sa
     met_more stops end s t u old new so_far turn first within stay same keeps
 met_none_more stops end s t u old new (Some number) none so_far turn first within stay same keeps = let never : true ≡ false = none in absurd (cc)
 
-pub seen_clock : (asked : Asked) (s : Plain) → (seen_of asked s).clock ≡ clock_of s
-unfolding seen_of
-seen_clock asked s = refl
-
-told_by : (asked : Asked) (t u p b : BoardState) (before : Seen) (begun : Option Begun) (noted : List Access) (old new : List Watched) (number : Option ℕ)
-    → asked ≡ asked_by (stops_of old) → before ≡ seen_of asked p.plain → p ≡ t → noted ≡ accesses_next t.plain
-    → b ≡ u → (clock_of b.plain ≡ before.clock + 1 → LooksOn before begun noted b.plain old new number)
-    → (before.clock + 1 < clock_of b.plain → number ≡ standing (stops_of old) b.plain)
-    → (before.clock + 1 < clock_of b.plain → new ≡ old) → Told t u begun old new number
-told_by asked t u p b before begun noted old new number is_asked seen at are here looks leap copied =
-    let start : before.clock ≡ clock_of t.plain = ap (λ (x : Seen). x.clock) seen ∙ seen_clock asked p.plain ∙ ap (λ (x : BoardState). clock_of x.plain) at in
-    let end : clock_of b.plain ≡ clock_of u.plain = ap (λ (x : BoardState). clock_of x.plain) here in
-    let is_seen : before ≡ seen_of (asked_by (stops_of old)) t.plain =
-    seen ∙ ap (λ (x : BoardState). seen_of asked x.plain) at ∙ ap (λ a. seen_of a t.plain) is_asked in
-    record {
-      clock = λ once.
-          subst (λ (x : Seen). LooksOn x begun (accesses_next t.plain) u.plain old new number) is_seen
-          (subst (λ xs. LooksOn before begun xs u.plain old new number) are
-          (subst (λ (x : BoardState). LooksOn before begun noted x.plain old new number) here (looks (omega (arith, once, start, end)))));
-      leap = λ far. leap (omega (arith, far, start, end)) ∙ ap (λ (x : BoardState). standing (stops_of old) x.plain) here;
-      copied = λ far. copied (omega (arith, far, start, end));
-    }
-
--- a turn of a search, by what was seen, noted and found
-pub turned_by : (stops : List Stop) (asked : Asked) (next end : ℕ) (t u p b : BoardState)
-    (before : Seen) (begun : Option Begun) (noted : List Access) (old new : List Watched) (number : Option ℕ)
-    → stops_of old ≡ stops → asked ≡ asked_by stops → before ≡ seen_of asked p.plain → p ≡ t → noted ≡ accesses_next t.plain
-    → b ≡ u → next ≡ before.clock + 1 → IsOneTurn (not asked.wires) next end t u begun → AreCopies old t.plain
-    → All IsWatched old → (clock_of b.plain ≡ before.clock + 1 → LooksOn before begun noted b.plain old new number)
-    → (before.clock + 1 < clock_of b.plain → number ≡ standing (stops_of old) b.plain)
-    → (before.clock + 1 < clock_of b.plain → new ≡ old) → Turned stops t u new number
-turned_by stops asked next end t u p b before begun noted old new number same is_asked seen at are here next_is one copies watched looks leap copied =
-    let start : before.clock ≡ clock_of t.plain = ap (λ (x : Seen). x.clock) seen ∙ seen_clock asked p.plain ∙ ap (λ (x : BoardState). clock_of x.plain) at in
-    turned stops next end t u begun old new number same (next_is ∙ ap (λ n. n + 1) start)
-    (subst (λ (b : Bool). IsOneTurn (not b) next end t u begun) (ap (λ (a : Asked). a.wires) is_asked) one) copies watched
-    (told_by asked t u p b before begun noted old new number (is_asked ∙ ap asked_by (sym same)) seen at are here looks leap copied)
-
 -- a turn from a run's start is one clock
 pub first_once : (stops : List Stop) (to : ℕ) (t u : BoardState) (new : List Watched) (number : Option ℕ)
     → (turn : Turned stops t u new number) → clock_of u.plain ≤ to → to ≡ clock_of t.plain + 1 → turn.passed ≡ 1
@@ -504,26 +530,26 @@ first_once stops to t u new number turn within is =
     let clock = turn.ran.clock in omega (arith, some, clock, within, is)
 
 -- the next turn of a run that has met no stop: from the run's start it is one clock
-pub looks_on : (stops : List Stop) (asked : Asked) (next to end start : ℕ) (s t u : SessionState) (p b : BoardState)
-    (before : Seen) (begun : Option Begun) (noted : List Access) (old new : List Watched) (number : Option ℕ)
-    → (so_far : Met stops end s t old) → asked ≡ asked_by stops → before ≡ seen_of asked p.plain → p ≡ t.board
-    → noted ≡ accesses_next t.board.plain → b ≡ u.board → next ≡ before.clock + 1 → IsOneTurn (not asked.wires) next to t.board u.board begun
-    → (clock_of b.plain ≡ before.clock + 1 → LooksOn before begun noted b.plain old new number)
-    → (before.clock + 1 < clock_of b.plain → number ≡ standing (stops_of old) b.plain) → (before.clock + 1 < clock_of b.plain → new ≡ old)
-    → start ≡ clock_of s.board.plain → (before.clock ≡ start → to ≡ before.clock + 1) → to ≤ end
-    → (turn : Turned stops t.board u.board new number) × ((so_far.passed ≡ 0 → turn.passed ≡ 1) × (clock_of u.board.plain ≤ end))
-looks_on stops asked next to end start s t u p b before begun noted old new number
-    so_far is_asked seen at are here next_is one looks leap copied from first within =
-    let here_is : before.clock ≡ clock_of t.board.plain =
-    ap (λ (x : Seen). x.clock) seen ∙ seen_clock asked p.plain ∙ ap (λ (x : BoardState). clock_of x.plain) at in
-    let turn = turned_by stops asked next to t.board u.board p b before begun noted old new number
-    so_far.stops_are is_asked seen at are here next_is one so_far.copies so_far.watched looks leap copied in
+pub looks_on : (stops : List Stop) (turn : Turn) (accesses : List Access) (next to end start : ℕ) (s t u : SessionState) (b : BoardState)
+    (old new : List Watched) (number : Option ℕ) → (so_far : Met stops end s t old) → turn.asked ≡ asked_by stops
+    → turn.before ≡ seen_of turn.asked t.board.plain → turn.after ≡ seen_of turn.asked b.plain → b ≡ u.board
+    → accesses ≡ accesses_next t.board.plain → next ≡ turn.before.clock + 1 → IsOneTurn (not turn.asked.wires) next to t.board u.board turn.begun
+    → (clock_of b.plain ≡ turn.before.clock + 1 → LooksOn turn accesses b old new number)
+    → (turn.before.clock + 1 < clock_of b.plain → number ≡ standing (stops_of old) b.plain) → (turn.before.clock + 1 < clock_of b.plain → new ≡ old)
+    → start ≡ clock_of s.board.plain → (turn.before.clock ≡ start → to ≡ turn.before.clock + 1) → to ≤ end
+    → (there : Turned stops t.board u.board new number) × ((so_far.passed ≡ 0 → there.passed ≡ 1) × (clock_of u.board.plain ≤ end))
+looks_on stops turn accesses next to end start s t u b old new number
+    so_far asked before after here noted at one looks leap copied from first within =
+    let here_is : turn.before.clock ≡ clock_of t.board.plain = ap (λ (x : Seen). x.clock) before ∙ seen_clock turn.asked t.board.plain in
+    let there = turned stops turn accesses t.board u.board old new number so_far.stops_are
+    (told_of stops turn accesses t.board u.board b next to old new number so_far.stops_are asked before after here noted at one looks leap copied)
+    so_far.copies so_far.watched in
     let before_end = one.before_end in
     let clock = one.ran.clock in
     let gone = so_far.ran.clock in (
-      turn,
+      there,
       (
-        (λ none. first_once stops to t.board u.board new number turn (omega (arith, before_end, clock))
+        (λ none. first_once stops to t.board u.board new number there (omega (arith, before_end, clock))
             (first (omega (arith, here_is, gone, none, from)) ∙ ap (λ n. n + 1) here_is)),
         omega (arith, before_end, clock, within),
       ),

@@ -8,10 +8,10 @@ use Rattle.std.proofs.lemmas.Bool.Decides.{nat_tests}
 use Rattle.std.proofs.lemmas.List.Sums.{sum_by-cons}
 use Rattle.board_plain.specs.declared.stop.Stop.{Stop as End}
 use Rattle.board_plain.specs.Plain.{Plain}
-use Rattle.probe.specs.declared.moments.Ends.{Ends}
-use Rattle.probe.specs.declared.moments.Moments.{Moments}
-use Rattle.probe.specs.declared.moments.Trial.{Trial}
-use Rattle.probe.specs.declared.stops.Stop.{Stop}
+use Rattle.probe_texts.specs.declared.moments_text.Ends.{Ends}
+use Rattle.probe_texts.specs.declared.moments_text.Moments.{Moments}
+use Rattle.probe_texts.specs.declared.moments_text.Trial.{Trial}
+use Rattle.probe_texts.specs.declared.stops.Stop.{Stop}
 use Rattle.probe.specs.Moments.{AreAlike, AreRanges, DiffersNext, EndsWith, IsAmong, IsReached, stop_number, with_tried}
 use Rattle.probe.specs.MomentLaws.{EachMomentOnce, OneListOfRanges, PastTheEndAlike, stands_in}
 use Rattle.probe.proofs.Ending.{one_end, past_tried, past_tried_back}

@@ -12,16 +12,16 @@ use Rattle.debugger_meaning.specs.Back.{GoesBack, GoesBackTo, RefusesBack, Refus
 use Rattle.debugger_meaning.specs.Commands.{command_of}
 use Rattle.debugger_meaning.specs.Session.{Answers, AnswersLine, Goes, RefusesGo, RefusesStep}
 use Rattle.debugger_meaning.specs.Stands.{SessionState}
-use Rattle.probe.specs.declared.inquiry.Inquiry.{Inquiry}
-use Rattle.probe.specs.declared.inquiry.Inquiry.TheVariants as inquiries
-use Rattle.probe.specs.declared.stops.Request.{Request}
-use Rattle.probe.specs.declared.stops.Request.TheVariants.{Add, Go, BackStop}
-use Rattle.probe.specs.declared.moments.Trial.{Trial}
-use Rattle.probe.specs.declared.stops.Stop.{Stop}
-use Rattle.probe.specs.Inquiry.{inquiry_of}
+use Rattle.probe_texts.specs.declared.inquiry.Inquiry.{Inquiry}
+use Rattle.probe_texts.specs.declared.inquiry.Inquiry.TheVariants as inquiries
+use Rattle.probe_texts.specs.declared.stops.Request.{Request}
+use Rattle.probe_texts.specs.declared.stops.Request.TheVariants.{Add, Go, BackStop}
+use Rattle.probe_texts.specs.declared.moments_text.Trial.{Trial}
+use Rattle.probe_texts.specs.declared.stops.Stop.{Stop}
+use Rattle.probe_texts.specs.Inquiry.{inquiry_of}
 use Rattle.probe.specs.Making.{AnswersMaking, RefusesMaking}
 use Rattle.probe.specs.Probe.{AnswersUnless, conditions_of}
-use Rattle.probe.specs.Requests.{request_by, request_of, request_with, stop_of, trial_of}
+use Rattle.probe_texts.specs.Requests.{request_by, request_of, request_with, stop_of, trial_of}
 use Rattle.probe.specs.InquirySession.{AnswersInquiry, AnswersOr, AnswersProbe}
 
 abbrev same : SessionState → SessionState → Type 0

@@ -1,7 +1,6 @@
 -- The first place of a list at which a test passes.
 use Rattle.std.proofs.Common.{◌≡◌, ℕ, zero, suc, ◌+◌, ◌<◌, Bool, true, false, cond, inl, inr, List, []}
 use Rattle.std.proofs.Common.{◌∷◌, length, map, get_or, Option, Some, None, refl, ap, ◌∙◌, subst, arith}
-use Rattle.std.specs.Prelude.{◌||◌}
 use Rattle.std.specs.List.{list_any, position_from}
 use Rattle.std.proofs.lemmas.Bool.{cases_lt}
 
@@ -39,7 +38,3 @@ below_also t n xs e size before here k d within =
 pub of_each : {K L : Type 0} (t : L → Bool) (f : K → L) (i : ℕ) (xs : List K) → position_from t i (map f xs) ≡ position_from (λ x. t (f x)) i xs
 of_each t f i [] = refl
 of_each t f i (x ∷ xs) = ap (λ rest. cond (t (f x)) (Some i) rest) (of_each t f (i + 1) xs)
-
-pub any_of_each : {K L : Type 0} (t : L → Bool) (f : K → L) (xs : List K) → list_any t (map f xs) ≡ list_any (λ x. t (f x)) xs
-any_of_each t f [] = refl
-any_of_each t f (x ∷ xs) = ap (λ (b : Bool). t (f x) || b) (any_of_each t f xs)

@@ -16,11 +16,11 @@ use Rattle.debugger_meaning.specs.declared.fault.DebugFault.TheVariants.{BadScan
 use Rattle.debugger_meaning.specs.Back.{GoesBack, GoesBackTo, RefusesBack, RefusesBackTo}
 use Rattle.debugger_meaning.specs.Session.{AnswersStop, FindsNoMemory, Goes, RefusesGo, told_of}
 use Rattle.debugger_meaning.specs.Stands.{SessionState, Shown, shown_of, StandsAt}
-use Rattle.probe.specs.declared.stops.Stop.{Stop}
-use Rattle.probe.specs.declared.stops.Stop.TheVariants.{Standing, When, Changes}
+use Rattle.probe_texts.specs.declared.stops.Stop.{Stop}
+use Rattle.probe_texts.specs.declared.stops.Stop.TheVariants.{Standing, When, Changes}
 use Rattle.probe.specs.Looked.{answer_at, FindsNoStop, HasEnded, RanShort, RanToStop, ShortOfMemory, with_number}
 use Rattle.probe.specs.Probe.{AddsStop, conditions_of, gone_by, GoesBackToStop, GoesOn, ProbeState, RefusesBackToStop, RefusesGoing, session_of, StopsShort}
-use Rattle.probe.specs.Requests.{is_standing}
+use Rattle.probe_texts.specs.Requests.{is_standing}
 use Rattle.probe.specs.ProbeStops.{EndsAt, IsEndOf, meeting_at, met_from, MetLast, NoneMet, NoneMetFrom}
 use Rattle.std.proofs.lemmas.List.{length-map, map-append}
 use Rattle.std.proofs.lemmas.List.Elements.{All-push}

@@ -7,10 +7,10 @@ use Rattle.std.proofs.lemmas.Bool.{cases_lt}
 use Rattle.std.proofs.lemmas.Bool.Decides.{nat_tests}
 use Rattle.board_plain.specs.declared.stop.Stop.{Stop as End}
 use Rattle.board_plain.specs.Plain.{Plain}
-use Rattle.probe.specs.declared.moments.Ends.{Ends}
-use Rattle.probe.specs.declared.moments.Moments.{Moments}
-use Rattle.probe.specs.declared.moments.Trial.{Trial}
-use Rattle.probe.specs.declared.stops.Stop.{Stop}
+use Rattle.probe_texts.specs.declared.moments_text.Ends.{Ends}
+use Rattle.probe_texts.specs.declared.moments_text.Moments.{Moments}
+use Rattle.probe_texts.specs.declared.moments_text.Trial.{Trial}
+use Rattle.probe_texts.specs.declared.stops.Stop.{Stop}
 use Rattle.probe.specs.Moments.{AreAlike, AreRanges, DiffersNext, EndsWith, IsAmong, IsReached, stop_number}
 use Rattle.probe.specs.Tried.{added, ends_of, ends_with, joined, moments_of, wider}
 

@@ -3,9 +3,11 @@
 use Rattle.std.proofs.Common.{◌≡◌, List, [], ◌∷◌, ◌++◌, None, Some, refl, true, false}
 use Rattle.std.specs.Prelude.{codes}
 use Rattle.board.specs.declared.one_turn.Begun.{Begun}
-use Rattle.probe.specs.declared.signals.Levels.{Levels}
 use Rattle.probe.specs.Counts.{count_line, lines_of, next_clock, numbers_of, place_name, place_of, type_name, type_of}
-use Rattle.probe.specs.Signalled.{change_line, changes_between}
+use Rattle.events.specs.declared.event.Event.TheVariants.{Wired}
+use Rattle.events.specs.declared.event.Wire.TheVariants.{Out0, Int}
+use Rattle.probe_texts.specs.declared.telling.Levels.{Levels}
+use Rattle.probe_texts.specs.Told.{wires_between}
 
 abbrev run : List Begun
 run =
@@ -36,7 +38,5 @@ type_lines = refl
 abbrev low : Levels
 low = record { out_0 = false; out_2 = false; ir_0 = false; ir_1 = false; int = false; speaker = false }
 
-raised : changes_between 96 low (record low { out_0 = true; int = true })
-    ≡ change_line (codes "OUT0") 96 false true ++ (change_line (codes "INT") 96 false true ++ [])
-unfolding changes_between
+raised : wires_between 96 low (record low { out_0 = true; int = true }) ≡ Wired 96 Out0 true ∷ Wired 96 Int true ∷ []
 raised = refl

@@ -9,7 +9,7 @@ use Rattle.board_plain.proofs.Runs.{ran_none, runs_join}
 use Rattle.board_plain.specs.Board.{BoardState, Ran}
 use Rattle.board_plain.specs.Plain.{Plain, after_clock, after_clocks, clock_of}
 use Rattle.debugger_meaning.specs.Stands.{gone, SessionState, StandsAfter}
-use Rattle.probe.specs.declared.stops.Stop.{Stop}
+use Rattle.probe_texts.specs.declared.stops.Stop.{Stop}
 use Rattle.probe.specs.declared.watched.Watched.{Watched}
 use Rattle.board.specs.Found.{found_at}
 use Rattle.probe.specs.Looked.{from_of, FoundLast, IsFoundIn, met_after, NoneAfter}

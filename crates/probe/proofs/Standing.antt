@@ -6,8 +6,8 @@ use Rattle.board_plain.specs.declared.stop.Condition.{Condition}
 use Rattle.board_plain.specs.declared.stop.Stop.{Stop as End}
 use Rattle.board_plain.specs.Plain.{Plain, after_clock, after_clocks}
 use Rattle.board_plain.specs.Stops.{holding, holds, IsStopOf, NoStop, StopsAt}
-use Rattle.probe.specs.declared.stops.Stop.{Stop}
-use Rattle.probe.specs.declared.stops.Stop.TheVariants.{Standing}
+use Rattle.probe_texts.specs.declared.stops.Stop.{Stop}
+use Rattle.probe_texts.specs.declared.stops.Stop.TheVariants.{Standing}
 use Rattle.probe.specs.ProbeLaws.{StandingEndsAlike, StandingMetAlike}
 use Rattle.probe.specs.ProbeStops.{EndsAt, IsEndOf, meeting, meeting_at, meets, NoneMet, standing, stands}
 

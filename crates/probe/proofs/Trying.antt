@@ -14,17 +14,18 @@ use Rattle.debugger_meaning.specs.declared.answer.Answer.{Answer}
 use Rattle.debugger_meaning.specs.Session.{told_of}
 use Rattle.debugger_meaning.specs.Stands.{SessionState}
 use Rattle.events.specs.WithKey.{with_key}
-use Rattle.probe.specs.declared.moments.Ends.{Ends}
-use Rattle.probe.specs.declared.moments.Moments.{Moments}
-use Rattle.probe.specs.declared.moments.Second.{Second}
-use Rattle.probe.specs.declared.moments.Trial.{Trial}
+use Rattle.probe_texts.specs.declared.moments_text.Ends.{Ends}
+use Rattle.probe_texts.specs.declared.moments_text.Moments.{Moments}
+use Rattle.probe_texts.specs.declared.moments_text.Second.{Second}
+use Rattle.probe_texts.specs.declared.moments_text.Trial.{Trial}
 use Rattle.probe.specs.MomentLaws.{IsAnswerOf, MomentsAreRuns, TakesSecond}
 use Rattle.probe.specs.Moments.{AreAlike, AreRanges, IsAmong, key_tried, second_tried, with_second, with_tried}
 use Rattle.probe.specs.Probe.{conditions_of, session_of}
-use Rattle.probe.specs.ProbeStops.{HasBytes, IsEndOf, NoneMet}
+use Rattle.probe.specs.ProbeStops.{IsEndOf, NoneMet}
+use Rattle.probe_texts.specs.Requests.{HasBytes}
 use Rattle.board_plain.specs.Plain.{Plain, after_clock, after_clocks, clock_of}
-use Rattle.probe.specs.declared.stops.Stop.{Stop}
-use Rattle.probe.specs.declared.stops.Stop.TheVariants.{Standing, When, Changes}
+use Rattle.probe_texts.specs.declared.stops.Stop.{Stop}
+use Rattle.probe_texts.specs.declared.stops.Stop.TheVariants.{Standing, When, Changes}
 use Rattle.board_types.proofs.Iterate.{iterate_add, iterate_zero}
 use Rattle.probe.specs.declared.watched.Watched.{Watched}
 use Rattle.probe.specs.Tried.{added, RunsTo, Tried, TriedNext, TriedSoFar}

@@ -21,10 +21,10 @@ use Rattle.events.specs.Accesses.{accesses_next}
 use Rattle.events.specs.Events.{all_wires, chips_reached, codes_next, events_next, key_events, level_of, state_events, unwired_next, wire_event}
 use Rattle.events.proofs.KeyToCome.{key_waits}
 use Rattle.events.specs.WithKey.{inserted, with_key}
-use Rattle.probe.specs.declared.kinds.Kind.{Kind}
-use Rattle.probe.specs.declared.stops.Stop.{Stop}
-use Rattle.probe.specs.declared.stops.Stop.TheVariants.{Standing, When, Changes}
-use Rattle.probe.specs.Listed.{is_listed}
+use Rattle.probe_texts.specs.declared.kinds.Kind.{Kind}
+use Rattle.probe_texts.specs.declared.stops.Stop.{Stop}
+use Rattle.probe_texts.specs.declared.stops.Stop.TheVariants.{Standing, When, Changes}
+use Rattle.probe_texts.specs.Listed.{is_listed}
 use Rattle.probe.specs.ProbeStops.{any_differs, happens, meeting, meeting_at, meets, NoneMet}
 
 -- the codes of other clocks are the same

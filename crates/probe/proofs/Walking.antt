@@ -16,16 +16,16 @@ use Rattle.std.proofs.lemmas.List.Sums.{fold-append}
 use Rattle.events.specs.WithKey.{with_key}
 use Rattle.debugger_meaning.proofs.Walking.{same_first, same_state, StandsFrom, still_stands}
 use Rattle.debugger.proofs.Adding.{stands_after_with}
-use Rattle.probe.specs.declared.inquiry.Inquiry.{Inquiry}
-use Rattle.probe.specs.declared.inquiry.Inquiry.TheVariants as inquiries
-use Rattle.probe.specs.declared.stops.Request.{Request}
-use Rattle.probe.specs.declared.stops.Request.TheVariants.{Add, Go, BackStop, Try}
-use Rattle.probe.specs.declared.stops.Stop.{Stop}
-use Rattle.probe.specs.Inquiry.{inquiry_of}
+use Rattle.probe_texts.specs.declared.inquiry.Inquiry.{Inquiry}
+use Rattle.probe_texts.specs.declared.inquiry.Inquiry.TheVariants as inquiries
+use Rattle.probe_texts.specs.declared.stops.Request.{Request}
+use Rattle.probe_texts.specs.declared.stops.Request.TheVariants.{Add, Go, BackStop, Try}
+use Rattle.probe_texts.specs.declared.stops.Stop.{Stop}
+use Rattle.probe_texts.specs.Inquiry.{inquiry_of}
 use Rattle.probe.specs.ProbeLaws.{key_typed, ProbesStand, shown_with, Walk}
 use Rattle.probe.specs.Making.{AnswersMaking, RefusesMaking}
 use Rattle.probe.specs.Probe.{AnswersRequest, AnswersUnless, probe_about, ProbeState, RefusesBackToStop, RefusesGoing, RefusesStop, session_of}
-use Rattle.probe.specs.Requests.{request_of}
+use Rattle.probe_texts.specs.Requests.{request_of}
 use Rattle.probe.specs.InquirySession.{AnswersInquiry, AnswersOr}
 use Rattle.probe.specs.Typed.{Takes}
 

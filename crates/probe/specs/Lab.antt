@@ -14,12 +14,12 @@ use Rattle.debugger_meaning.specs.declared.fault.DebugFault.{DebugFault}
 use Rattle.debugger_meaning.specs.declared.fault.DebugFault.TheVariants.{BadScan, StampsFall, ClockLimit, BadCommand}
 use Rattle.debugger_meaning.specs.declared.fault.DebugFault.TheVariants.{TooManyStops, Memory, BeforeStart, NoCell}
 use Rattle.debugger_meaning.specs.Stands.{SessionState, Shown, shown_of}
-use Rattle.probe.specs.declared.wishes.Edit.{Edit}
-use Rattle.probe.specs.declared.wishes.Edit.TheVariants as edits
-use Rattle.probe.specs.declared.wishes.Wish.{Wish}
-use Rattle.probe.specs.declared.wishes.Wish.TheVariants.{Set, Undo}
+use Rattle.probe_texts.specs.declared.wishes.Edit.{Edit}
+use Rattle.probe_texts.specs.declared.wishes.Edit.TheVariants as edits
+use Rattle.probe_texts.specs.declared.wishes.Wish.{Wish}
+use Rattle.probe_texts.specs.declared.wishes.Wish.TheVariants.{Set, Undo}
 use Rattle.probe.specs.Probe.{AnswersStopping, probe_about, ProbeState}
-use Rattle.probe.specs.Wishes.{wish_of}
+use Rattle.probe_texts.specs.Wishes.{wish_of}
 
 -- the probe as it is, and the sessions before its last changes, the oldest first
 pub record LabState : Type 0 where

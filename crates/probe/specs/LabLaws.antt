@@ -6,7 +6,7 @@ use Rattle.debugger_meaning.specs.Back.{GoesBack}
 use Rattle.debugger_meaning.specs.declared.fault.DebugFault.{DebugFault}
 use Rattle.debugger_meaning.specs.Stands.{SessionState, Stands, StandsAfter}
 use Rattle.board_plain.specs.Board.{BoardState}
-use Rattle.probe.specs.declared.wishes.Edit.{Edit}
+use Rattle.probe_texts.specs.declared.wishes.Edit.{Edit}
 use Rattle.probe.specs.Lab.{AnswersLab, belongs, lab_about, LabState, Sets, Undoes}
 use Rattle.probe.specs.Probe.{probe_about, session_of}
 

@@ -5,7 +5,6 @@ use Rattle.std.specs.Prelude.{ℕ, ◌≡◌, ◌≢◌, ◌+◌, ◌-◌, ◌<�
 use Rattle.std.specs.Prelude.{List, Option, None, Some, Result, Ok, Err}
 use Rattle.board_plain.specs.Board.{BoardState, Ran}
 use Rattle.board_plain.specs.Plain.{Plain, after_clock, clock_of, speaker_level}
-use Rattle.board.specs.declared.one_turn.Begun.{Begun}
 use Rattle.debugger_meaning.specs.declared.answer.Answer.{Answer}
 use Rattle.debugger_meaning.specs.declared.answer.Answer.TheVariants as answers
 use Rattle.debugger_meaning.specs.declared.fault.DebugFault.{DebugFault}
@@ -13,18 +12,21 @@ use Rattle.debugger_meaning.specs.declared.fault.DebugFault.TheVariants.{BadScan
 use Rattle.debugger_meaning.specs.declared.fault.DebugFault.TheVariants.{TooManyStops, Memory, BeforeStart, NoCell}
 use Rattle.debugger_meaning.specs.Stands.{SessionState}
 use Rattle.events.specs.declared.access.Access.{Access}
-use Rattle.probe.specs.declared.event_lines.Seen.{Seen}
-use Rattle.probe.specs.declared.stops.Stop.{Stop}
+use Rattle.events.specs.Accesses.{accesses_next}
+use Rattle.probe.specs.declared.seen.Turn.{Turn}
+use Rattle.probe_texts.specs.declared.stops.Stop.{Stop}
 use Rattle.probe.specs.declared.watched.Watched.{Watched}
 use Rattle.probe.specs.Met.{met}
 use Rattle.probe.specs.ProbeStops.{meeting_at, NoneMet, NoneMetFrom, standing}
+use Rattle.probe.specs.Seen.{IsMade, asked_in}
 use Rattle.probe.specs.Watched.{StaysCopied}
 
--- a clock is looked at
-pub record LooksOn (before : Seen) (begun : Option Begun) (accesses : List Access) (t : Plain) (old new : List Watched)
+-- the end of a turn of one clock is looked at
+pub record LooksOn (turn : Turn) (accesses : List Access) (board : BoardState) (old new : List Watched)
     (number : Option ℕ) : Type 0 where
-  pub number_is : number ≡ met old before begun accesses t
-  pub copied : StaysCopied accesses t old new
+  pub number_is : (before : BoardState) → (made : IsMade turn before board) → accesses ≡ accesses_next before.plain
+      → number ≡ met old (asked_in turn.asked before.plain made.one.passed) accesses board.plain
+  pub copied : StaysCopied accesses board.plain old new
 
 -- how a run has ended after `passed` clocks: at the clock `end`, or at a stop
 abbrev pub HasEnded : List Stop → ℕ → ℕ → Plain → Option ℕ → Type 0

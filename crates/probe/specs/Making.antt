@@ -43,3 +43,11 @@ RefusesMaking n old new NoCell = ⊥
 
 abbrev pub AnswersMaking : ℕ → List ℕ → SessionState → Result Answer DebugFault → SessionState → Type 0
 AnswersMaking n text old result new = MatchResult result (Makes n text old new) (RefusesMaking n old new)
+
+-- n clocks have passed, up to the clock `end`
+pub record HasMade (n : ℕ) (old new : SessionState) (end : ℕ) : Type 0 where
+  pub within : clock_of old.board.plain + n ≤ 2 ^ 40
+  pub ran : Ran n old.board new.board
+  pub stops : new.stops ≡ old.stops
+  pub first : new.first ≡ old.first
+  pub end_is : end ≡ clock_of old.board.plain + n

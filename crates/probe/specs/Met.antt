@@ -1,27 +1,21 @@
 -- Which stop is met at a clock, by what happened in the clock that led to it.
 -- For proofs alone: no public contract rests on it.
 use Rattle.std.proofs.Common.{get_or}
-use Rattle.std.specs.Prelude.{ℕ, ◌≡◌, ◌+◌, ◌-◌, ◌<◌, ◌==◌, ◌≤◌, ◌^◌, ◌⊎◌, Bool, true, false, not, ◌&&◌, ◌||◌}
-use Rattle.std.specs.Prelude.{nat_eq, nat_le, nat_lt, if◌then◌else◌, List, Option, None, Some, length, slice_get}
-use Rattle.std.specs.Bool.{beq}
+use Rattle.std.specs.Prelude.{ℕ, ◌≡◌, ◌+◌, ◌-◌, ◌<◌, ◌==◌, ◌≤◌, ◌^◌, ◌⊎◌, Bool, true, false, not, ◌&&◌}
+use Rattle.std.specs.Prelude.{nat_le, nat_lt, if◌then◌else◌, List, Option, None, Some, fold, length, slice_get}
 use Rattle.std.specs.List.{list_any, position_from}
-use Rattle.board.specs.declared.one_turn.Begun.{Begun}
-use Rattle.board_plain.specs.Plain.{Plain, byte_of, codes_at, state_of}
+use Rattle.board_plain.specs.Plain.{Plain, byte_of}
 use Rattle.board_plain.specs.Stops.{holds}
 use Rattle.events.specs.declared.access.Access.{Access}
+use Rattle.events.specs.declared.event.Event.{Event}
 use Rattle.events.specs.declared.access.Access.TheVariants.{Write, In, Out}
-use Rattle.events.specs.Events.{is_same_state}
 use Rattle.probe.specs.declared.bytes.Copied.{Copied}
-use Rattle.probe.specs.declared.event_lines.Asked.{Asked}
-use Rattle.probe.specs.declared.event_lines.Seen.{Seen}
-use Rattle.probe.specs.declared.kinds.Kind.{Kind}
-use Rattle.probe.specs.declared.kinds.Kind.TheVariants.{Starts, Entries, Writes, Ports, Keys, Wires, States}
-use Rattle.probe.specs.declared.signals.Levels.{Levels}
-use Rattle.probe.specs.declared.stops.Stop.{Stop}
-use Rattle.probe.specs.declared.stops.Stop.TheVariants.{Standing, When, Changes}
+use Rattle.probe_texts.specs.declared.stops.Stop.{Stop}
+use Rattle.probe_texts.specs.declared.stops.Stop.TheVariants.{Standing, When, Changes}
 use Rattle.probe.specs.declared.watched.Watched.{Watched}
-use Rattle.probe.specs.Listed.{lists_access, lists_keys, lists_states, lists_wires}
-use Rattle.probe.specs.Signalled.{levels_of}
+use Rattle.probe_texts.specs.declared.asked.Asked.{Asked}
+use Rattle.probe_texts.specs.Asked.{asked_with, nothing_asked}
+use Rattle.probe_texts.specs.Listed.{is_listed}
 
 -- the copy of the byte at an address, if there is one
 abbrev pub copied_at : ℕ → List ℕ → ℕ → Option ℕ
@@ -96,74 +90,24 @@ write_differs address count copied t (Out port byte) = false
 abbrev pub one_differs : ℕ → ℕ → List Access → Copied → Plain → Bool
 one_differs address count accesses copied t = list_any (write_differs address count copied t) accesses
 
--- the kind lists instructions that begin, or interrupts that are entered
-abbrev pub is_starts : Kind → Bool
-is_starts Starts = true
-is_starts _ = false
+-- a stop is met at the end of a turn in which these events happened and these accesses were made
+abbrev pub is_stop_met : Stop → Copied → List Event → List Access → Plain → Bool
+is_stop_met (Standing condition) copied events accesses t = holds condition t
+is_stop_met (When kinds) copied events accesses t = list_any (is_listed kinds.items) events
+is_stop_met (Changes address count) copied events accesses t = one_differs address count accesses copied t
 
-abbrev pub is_entries : Kind → Bool
-is_entries Entries = true
-is_entries _ = false
-
-abbrev pub lists_type : List Kind → Option ℕ → Bool
-lists_type kinds None = list_any is_starts kinds
-lists_type kinds (Some type) = list_any is_entries kinds
-
-abbrev pub lists_entered : List Kind → Option Begun → Bool
-lists_entered kinds None = false
-lists_entered kinds (Some begun) = lists_type kinds begun.entered
-
--- some kinds list one of these accesses
-abbrev pub lists_some : List Kind → List Access → Bool
-lists_some kinds accesses = list_any (λ access. list_any (λ kind. lists_access kind access) kinds) accesses
-
--- a code has arrived, or one fewer waits
-abbrev pub keys_moved : ℕ → List ℕ → ℕ → Bool
-keys_moved before codes after = not (nat_eq (length codes) 0) || nat_eq (after + 1) before
-
--- no wire has taken another level
-abbrev pub same_levels : Levels → Levels → Bool
-same_levels a b =
-    ((((beq a.out_0 b.out_0 && beq a.out_2 b.out_2) && beq a.ir_0 b.ir_0) && beq a.ir_1 b.ir_1) && beq a.int b.int)
-    && beq a.speaker b.speaker
-
-abbrev pub wires_moved : Option Levels → Levels → Bool
-wires_moved None after = false
-wires_moved (Some before) after = not (same_levels before after)
-
--- an event of these kinds has happened in the clock that led to t: `before` was seen before it, and in it this began
--- and these accesses were made
-abbrev pub happened : List Kind → Seen → Option Begun → List Access → Plain → Bool
-happened kinds before begun accesses t =
-    (((lists_entered kinds begun || lists_some kinds accesses)
-    || (list_any lists_states kinds && not (is_same_state before.state (state_of t))))
-    || (list_any lists_keys kinds
-    && keys_moved before.waiting (codes_at t.keys (before.clock + 1)) (length t.chips.keyboard.waiting)))
-    || (list_any lists_wires kinds && wires_moved before.levels (levels_of t))
-
-abbrev pub is_stop_met : Stop → Copied → Seen → Option Begun → List Access → Plain → Bool
-is_stop_met (Standing condition) copied before begun accesses t = holds condition t
-is_stop_met (When kinds) copied before begun accesses t = happened kinds.items before begun accesses t
-is_stop_met (Changes address count) copied before begun accesses t = one_differs address count accesses copied t
-
-abbrev pub is_met : Watched → Seen → Option Begun → List Access → Plain → Bool
-is_met watched before begun accesses t = is_stop_met watched.stop watched.copied before begun accesses t
+abbrev pub is_met : Watched → List Event → List Access → Plain → Bool
+is_met watched events accesses t = is_stop_met watched.stop watched.copied events accesses t
 
 -- the least number, from 1, of a stop that is met
-unfoldable pub met : List Watched → Seen → Option Begun → List Access → Plain → Option ℕ
-met watches before begun accesses t = position_from (λ watched. is_met watched before begun accesses t) 1 watches
+unfoldable pub met : List Watched → List Event → List Access → Plain → Option ℕ
+met watches events accesses t = position_from (λ watched. is_met watched events accesses t) 1 watches
 
--- a stop has to look at the wires, or at the keys
-abbrev pub asks_wires : Stop → Bool
-asks_wires (Standing condition) = false
-asks_wires (When kinds) = list_any lists_wires kinds.items
-asks_wires (Changes address count) = false
+-- what some stops have to look for
+abbrev pub asked_with_stop : Asked → Stop → Asked
+asked_with_stop asked (Standing condition) = asked
+asked_with_stop asked (When kinds) = asked_with asked kinds.items
+asked_with_stop asked (Changes address count) = asked
 
-abbrev pub asks_keys : Stop → Bool
-asks_keys (Standing condition) = false
-asks_keys (When kinds) = list_any lists_keys kinds.items
-asks_keys (Changes address count) = false
-
--- what some stops have to look at
 abbrev pub asked_by : List Stop → Asked
-asked_by stops = record { wires = list_any asks_wires stops; keys = list_any asks_keys stops }
+asked_by stops = fold asked_with_stop nothing_asked stops

@@ -7,11 +7,11 @@ use Rattle.board_plain.specs.Plain.{Plain, clock_of}
 use Rattle.debugger_meaning.specs.declared.answer.Answer.{Answer}
 use Rattle.debugger_meaning.specs.declared.answer.Answer.TheVariants.{Stop, Clock, StopAt, Text}
 use Rattle.debugger_meaning.specs.Stands.{SessionState}
-use Rattle.probe.specs.declared.moments.Ends.{Ends}
-use Rattle.probe.specs.declared.moments.Moments.{Moments}
-use Rattle.probe.specs.declared.moments.Second.{Second}
-use Rattle.probe.specs.declared.moments.Trial.{Trial}
-use Rattle.probe.specs.declared.stops.Stop.{Stop as ProbeStop}
+use Rattle.probe_texts.specs.declared.moments_text.Ends.{Ends}
+use Rattle.probe_texts.specs.declared.moments_text.Moments.{Moments}
+use Rattle.probe_texts.specs.declared.moments_text.Second.{Second}
+use Rattle.probe_texts.specs.declared.moments_text.Trial.{Trial}
+use Rattle.probe_texts.specs.declared.stops.Stop.{Stop as ProbeStop}
 use Rattle.probe.specs.Moments.{AreRanges, EndsWith, key_tried, second_tried}
 use Rattle.probe.specs.Probe.{GoesOn, ProbeState, session_of}
 use Rattle.probe.specs.ProbeStops.{IsEndOf}

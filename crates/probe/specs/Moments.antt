@@ -1,8 +1,7 @@
 -- How a run ends with one more key, or two, for each clock at which the first could come.
 -- To be believed by callers of this crate: the headline does not rest on it.
 use Rattle.std.specs.Prelude.{ℕ, ◌≡◌, ◌≢◌, ◌+◌, ◌<◌, ◌≤◌, ◌^◌, ◌⊎◌, Bool, true, ◌&&◌, IsTrue, List, [], ◌∷◌}
-use Rattle.std.specs.Prelude.{◌++◌, codes, Option, None, Some, IfSome, Result, MatchResult}
-use Rattle.std.specs.Fmt.{decimal}
+use Rattle.std.specs.Prelude.{Option, None, Some, IfSome, Result, MatchResult}
 use Rattle.std.specs.List.{flat_map}
 use Rattle.std.specs.Option.{option_map}
 use Rattle.board_types.specs.Keys.{names_key}
@@ -15,12 +14,13 @@ use Rattle.debugger_meaning.specs.declared.fault.DebugFault.TheVariants.{BadScan
 use Rattle.debugger_meaning.specs.declared.fault.DebugFault.TheVariants.{TooManyStops, Memory, BeforeStart, NoCell}
 use Rattle.debugger_meaning.specs.Session.{IsText}
 use Rattle.events.specs.WithKey.{with_key}
-use Rattle.probe.specs.declared.moments.Ends.{Ends}
-use Rattle.probe.specs.declared.moments.Moments.{Moments}
-use Rattle.probe.specs.declared.moments.Second.{Second}
-use Rattle.probe.specs.declared.moments.Trial.{Trial}
-use Rattle.probe.specs.declared.stops.Stop.{Stop}
+use Rattle.probe_texts.specs.declared.moments_text.Ends.{Ends}
+use Rattle.probe_texts.specs.declared.moments_text.Moments.{Moments}
+use Rattle.probe_texts.specs.declared.moments_text.Second.{Second}
+use Rattle.probe_texts.specs.declared.moments_text.Trial.{Trial}
+use Rattle.probe_texts.specs.declared.stops.Stop.{Stop}
 use Rattle.probe.specs.ProbeStops.{IsEndOf}
+use Rattle.probe_texts.specs.MomentsText.{moments_line}
 
 -- the key, if it comes at this clock
 abbrev pub key_tried : Trial → ℕ → StampedKey
@@ -79,16 +79,6 @@ AreRanges stops s trial first last [] = last < first
 AreRanges stops s trial first last (m ∷ ms) =
     (m.first ≡ first)
     × ((m.last ≤ last) × (AreAlike stops s trial m × (DiffersNext m ms × AreRanges stops s trial (m.last + 1) last ms)))
-
--- how runs end, in a line: `1 97 stop 1 1 97`, `98 200 none`
-abbrev pub ends_text : Option Ends → List ℕ
-ends_text None = codes " none\n"
-ends_text (Some ends) =
-    codes " stop " ++ (decimal ends.number
-    ++ (codes " " ++ (decimal ends.least ++ (codes " " ++ (decimal ends.greatest ++ codes "\n")))))
-
-unfoldable pub moments_line : Moments → List ℕ
-moments_line m = decimal m.first ++ (codes " " ++ (decimal m.last ++ ends_text m.ends))
 
 -- how many clocks after the first key the last one comes
 abbrev pub span_of : Option Second → ℕ

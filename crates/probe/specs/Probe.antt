@@ -14,12 +14,12 @@ use Rattle.debugger_meaning.specs.declared.fault.DebugFault.TheVariants.{BadScan
 use Rattle.debugger_meaning.specs.declared.fault.DebugFault.TheVariants.{TooManyStops, Memory, BeforeStart, NoCell}
 use Rattle.debugger_meaning.specs.Session.{told_of}
 use Rattle.debugger_meaning.specs.Stands.{SessionState, Shown, shown_of, StandsAt}
-use Rattle.probe.specs.declared.stops.Request.{Request}
-use Rattle.probe.specs.declared.stops.Request.TheVariants.{Add, Go, BackStop, Try}
-use Rattle.probe.specs.declared.stops.Stop.{Stop}
-use Rattle.probe.specs.declared.stops.Stop.TheVariants.{Standing, When, Changes}
+use Rattle.probe_texts.specs.declared.stops.Request.{Request}
+use Rattle.probe_texts.specs.declared.stops.Request.TheVariants.{Add, Go, BackStop, Try}
+use Rattle.probe_texts.specs.declared.stops.Stop.{Stop}
+use Rattle.probe_texts.specs.declared.stops.Stop.TheVariants.{Standing, When, Changes}
 use Rattle.probe.specs.Moments.{AnswersTrial}
-use Rattle.probe.specs.Requests.{asks_changes, request_of}
+use Rattle.probe_texts.specs.Requests.{asks_changes, request_of}
 use Rattle.probe.specs.InquirySession.{AnswersProbe}
 use Rattle.probe.specs.ProbeStops.{IsEndOf, MetLast, NoneMet, NoneMetFrom}
 

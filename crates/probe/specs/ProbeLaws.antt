@@ -16,14 +16,14 @@ use Rattle.debugger_meaning.specs.Commands.{command_of}
 use Rattle.debugger_meaning.specs.Session.{AnswersLine}
 use Rattle.debugger_meaning.specs.Stands.{Shown, shown_of, StandsAfter}
 use Rattle.events.specs.WithKey.{with_key}
-use Rattle.probe.specs.declared.inquiry.Inquiry.{Inquiry}
-use Rattle.probe.specs.declared.inquiry.Inquiry.TheVariants.{Key}
-use Rattle.probe.specs.declared.stops.Request.{Request}
-use Rattle.probe.specs.declared.stops.Stop.TheVariants.{Standing}
+use Rattle.probe_texts.specs.declared.inquiry.Inquiry.{Inquiry}
+use Rattle.probe_texts.specs.declared.inquiry.Inquiry.TheVariants.{Key}
+use Rattle.probe_texts.specs.declared.stops.Request.{Request}
+use Rattle.probe_texts.specs.declared.stops.Stop.TheVariants.{Standing}
 use Rattle.probe.specs.Counts.{clocks_from, is_number, next_clock, numbers_of, place_of, type_of}
-use Rattle.probe.specs.Inquiry.{inquiry_of}
+use Rattle.probe_texts.specs.Inquiry.{inquiry_of}
 use Rattle.probe.specs.Probe.{AnswersStopping, conditions_of, probe_about, ProbeState, session_of}
-use Rattle.probe.specs.Requests.{request_of, stop_of, trial_of}
+use Rattle.probe_texts.specs.Requests.{request_of, stop_of, trial_of}
 use Rattle.probe.specs.ProbeStops.{IsEndOf, met_from}
 use Rattle.probe.specs.Typed.{typed_key}
 

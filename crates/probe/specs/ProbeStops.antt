@@ -5,18 +5,12 @@ use Rattle.std.proofs.Common.{zero, suc}
 use Rattle.std.specs.List.{list_any, position_from, range_with_len}
 use Rattle.board_plain.specs.declared.stop.Stop.{Stop as End}
 use Rattle.board_plain.specs.Plain.{Plain, after_clocks, byte_of, clock_of}
-use Rattle.board_plain.specs.Stops.{HasAddress, holds}
+use Rattle.board_plain.specs.Stops.{holds}
 use Rattle.events.specs.Events.{events_next}
-use Rattle.probe.specs.declared.kinds.Kind.{Kind}
-use Rattle.probe.specs.declared.stops.Stop.{Stop}
-use Rattle.probe.specs.declared.stops.Stop.TheVariants.{Standing, When, Changes}
-use Rattle.probe.specs.Listed.{is_listed}
-
--- the bytes for which a stop waits have addresses, and are few
-abbrev pub HasBytes : Stop → Type 0
-HasBytes (Standing condition) = HasAddress condition
-HasBytes (When kinds) = Unit {0}
-HasBytes (Changes address count) = (1 ≤ count) × ((count ≤ 65536) × (address + count ≤ 2 ^ 20))
+use Rattle.probe_texts.specs.declared.kinds.Kind.{Kind}
+use Rattle.probe_texts.specs.declared.stops.Stop.{Stop}
+use Rattle.probe_texts.specs.declared.stops.Stop.TheVariants.{Standing, When, Changes}
+use Rattle.probe_texts.specs.Listed.{is_listed}
 
 -- an event of these kinds happens in the next clock
 abbrev pub happens : List Kind → Plain → Bool

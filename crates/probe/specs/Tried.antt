@@ -5,10 +5,10 @@ use Rattle.std.specs.Prelude.{min, max, if◌then◌else◌, List, [], ◌∷◌
 use Rattle.board_plain.specs.declared.stop.Stop.{Stop as End}
 use Rattle.board_plain.specs.Plain.{Plain, after_clocks, clock_of}
 use Rattle.board_plain.specs.Stops.{run_length}
-use Rattle.probe.specs.declared.moments.Ends.{Ends}
-use Rattle.probe.specs.declared.moments.Moments.{Moments}
-use Rattle.probe.specs.declared.moments.Trial.{Trial}
-use Rattle.probe.specs.declared.stops.Stop.{Stop}
+use Rattle.probe_texts.specs.declared.moments_text.Ends.{Ends}
+use Rattle.probe_texts.specs.declared.moments_text.Moments.{Moments}
+use Rattle.probe_texts.specs.declared.moments_text.Trial.{Trial}
+use Rattle.probe_texts.specs.declared.stops.Stop.{Stop}
 use Rattle.probe.specs.declared.watched.Watched.{Watched}
 use Rattle.probe.specs.Moments.{AreRanges}
 use Rattle.probe.specs.ProbeStops.{IsEndOf, NoneMet}

@@ -1,18 +1,17 @@
 -- Stops, each with a copy of the bytes whose changes it waits for.
 -- To be believed by callers of this crate: the headline does not rest on it.
 use Rattle.std.specs.Prelude.{◌≡◌, All, Bool, List, map}
-use Rattle.std.specs.List.{list_all, list_any}
+use Rattle.std.specs.List.{list_all}
 use Rattle.board_plain.specs.Plain.{Plain, after_clock}
 use Rattle.debugger_meaning.specs.Stands.{SessionState}
 use Rattle.events.specs.declared.access.Access.{Access}
 use Rattle.events.specs.Accesses.{accesses_next}
-use Rattle.probe.specs.declared.event_lines.Asked.{Asked}
-use Rattle.probe.specs.declared.stops.Stop.{Stop}
+use Rattle.probe_texts.specs.declared.asked.Asked.{Asked}
+use Rattle.probe_texts.specs.declared.stops.Stop.{Stop}
 use Rattle.probe.specs.declared.watched.Watched.{Watched}
-use Rattle.probe.specs.Met.{asks_keys, asks_wires, HasRoom, IsCopy, IsCovered}
+use Rattle.probe.specs.Met.{asked_by, HasRoom, IsCopy, IsCovered}
 use Rattle.probe.specs.Probe.{conditions_of}
-use Rattle.probe.specs.Requests.{is_standing}
-use Rattle.probe.specs.ProbeStops.{HasBytes}
+use Rattle.probe_texts.specs.Requests.{HasBytes, is_standing}
 
 -- the stops without their copies
 abbrev pub stops_of : List Watched → List Stop
@@ -22,12 +21,9 @@ stops_of watches = map (λ (watched : Watched). watched.stop) watches
 abbrev pub all_standing : List Watched → Bool
 all_standing watches = list_all (λ (watched : Watched). is_standing watched.stop) watches
 
--- what the stops have to look at
+-- what the stops have to look for
 abbrev pub asked_of : List Watched → Asked
-asked_of watches = record {
-  wires = list_any (λ (watched : Watched). asks_wires watched.stop) watches;
-  keys = list_any (λ (watched : Watched). asks_keys watched.stop) watches;
-}
+asked_of watches = asked_by (stops_of watches)
 
 -- the copy has all bytes for which the stop waits, and these have addresses
 pub record IsWatched (watched : Watched) : Type 0 where

@@ -1,12 +1,11 @@
 //! A copy of the bytes whose changes a stop waits for, as they were at a board's clock.
 ghost use Rattle.std.specs.Prelude.{◌≡◌, ◌<◌, ◌^◌, IfOk, IsTrue, OnErr, length};
 ghost use Rattle.probe.specs.Met.{AreRenewed, HasRoom, IsCopy, IsCovered, IsOneRenewed, IsRecopied, differs_copied};
-ghost use Rattle.probe.specs.Requests.{asks_changes};
-ghost use Rattle.probe.specs.ProbeStops.{HasBytes};
+ghost use Rattle.probe_texts.specs.Requests.{HasBytes, asks_changes};
 
-use crate::stops::Stop;
 use board::board::Board;
 use events::access::Access;
+use probe_texts::stops::Stop;
 use std::alloc::{AllocError, Global};
 
 /// A copy of the bytes from an address on, as they were a clock ago: by it a stop on changes sees whether a written

@@ -8,11 +8,15 @@ ghost use Rattle.std.specs.String.{string_bytes};
 ghost use Rattle.board.specs.declared.one_turn.Begun.{Begun};
 ghost use Rattle.board.specs.OneTurn.{begun_in};
 ghost use Rattle.board_plain.specs.Plain.{clock_of};
+ghost use Rattle.probe.specs.Counted.{HasCountedAll};
 ghost use Rattle.probe.specs.Counts.{count_line, counts_of, counts_text, next_clock};
 ghost use Rattle.probe.specs.Making.{AnswersMaking};
+ghost use Rattle.probe_texts.specs.Asked.{nothing_asked};
 ghost use Rattle.probe.specs.Tallied.{AreBelow, HasCounted, HasTallied, IsBefore, name_of, one_more, tally_line};
 
-use crate::making::lacking;
+use crate::making::{Visitor, make, shown};
+use crate::seen::Turn;
+use board::board::Board;
 use board::one_turn::Begun;
 use board_types::clock::Clock;
 use board_types::digits::{HexByte, HexWord};
@@ -20,6 +24,7 @@ use debugger::session::Session;
 use debugger_meaning::answer::Answer;
 use debugger_meaning::fault::DebugFault;
 use execute_noted::notes::Unnoted;
+use probe_texts::asked::Asked;
 use std::alloc::{AllocError, Global};
 use std::collections::BTreeMap;
 use std::fmt;
@@ -225,9 +230,28 @@ fn push_line(text: &mut String, name: Name, tally: Tally) -> Result<(), AllocErr
     write!(text, "{name} {count} {clocks}\n")
 }
 
+impl Visitor<Unnoted> for Counts {
+    ghost Manner = { ℕ };
+
+    ghost manner = { λ c. 0 };
+
+    ghost asks = { λ m. nothing_asked };
+
+    ghost saw = { λ c s n. HasCountedAll s n c };
+
+    /// Asks for no events: what begins in a turn is known without.
+    fn asked(&self) -> Asked {
+        Asked::nothing()
+    }
+
+    /// Notes what began in a turn.
+    fn see(&mut self, turn: &Turn, _notes: &Unnoted, _board: &Board) -> Result<(), AllocError> {
+        self.note(turn.begun)
+    }
+}
+
 /// Answers the inquiry `counts`: runs for `count` clocks, whatever the stops are, and answers what began how often and
-/// the clocks from it. Refused as `ClockLimit`, with nothing changed, if it would go past the last clock, and as
-/// `Memory`, with the clock that was reached, if there is none.
+/// the clocks from it. Refused as `make` says.
 pub(crate) fn tell_counts(
     session: &mut Session,
     alloc: Global,
@@ -236,19 +260,7 @@ pub(crate) fn tell_counts(
     ensures { AnswersMaking count (counts_text session.old.board.plain count) session.old result session.new }
 {
     let start = session.board().clock();
-    if Clock::LAST - start.get() < count {
-        return Err(DebugFault::ClockLimit);
-    }
-    let end = Clock::new(start.get() + count).unwrap();
     let mut counts = Counts::new(alloc, start);
-    'turns: while session.board().clock() < end {
-        let begun = session.run_turn(end, end, &mut Unnoted, true)?;
-        if counts.note(begun).is_err() {
-            return Err(lacking(session));
-        }
-    }
-    match counts.text(alloc, start, end) {
-        Ok(text) => Ok(Answer::Text(text)),
-        Err(_) => Err(lacking(session)),
-    }
+    let end = make(session, count, &mut Unnoted, &mut counts)?;
+    shown(session, counts.text(alloc, start, end))
 }

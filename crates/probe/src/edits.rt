@@ -3,9 +3,9 @@ ghost use Rattle.std.specs.Prelude.{◌≡◌, ◌+◌, ◌≤◌, ◌^◌, leng
 ghost use Rattle.board_plain.specs.Plain.{clock_of};
 ghost use Rattle.debugger_meaning.specs.Stands.{shown_of};
 ghost use Rattle.probe.specs.Lab.{edited, have_cells, takes_edit, with_bytes};
-ghost use Rattle.probe.specs.Wishes.{HasPlaces};
+ghost use Rattle.probe_texts.specs.Wishes.{HasPlaces};
 
-use crate::wishes::Edit;
+use probe_texts::wishes::Edit;
 use board::board::Board;
 use board_plain::change::Change;
 use debugger::session::Session;

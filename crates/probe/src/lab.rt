@@ -6,10 +6,10 @@ ghost use Rattle.board_plain.specs.Trail.{last};
 ghost use Rattle.debugger_meaning.specs.Stands.{Stands};
 ghost use Rattle.probe.specs.Lab.{AnswersLab, belongs, earlier_with, HasNone, lab_about, RefusesSet, Sets, Undoes};
 ghost use Rattle.probe.specs.Probe.{session_of};
-ghost use Rattle.probe.specs.Wishes.{HasPlaces};
+ghost use Rattle.probe_texts.specs.Wishes.{HasPlaces};
 
 use crate::probe::Probe;
-use crate::wishes::{Edit, Wish, read_wish};
+use probe_texts::wishes::{Edit, Wish, read_wish};
 use board::board::Board;
 use debugger::session::Session;
 use debugger_meaning::answer::Answer;

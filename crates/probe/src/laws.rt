@@ -1,5 +1,4 @@
-//! What holds of counts, of stops, of probes and of what `chips` prints, by the definitions alone.
-ghost use Rattle.probe.specs.ChipLaws.{LoadsAsTold};
+//! What holds of counts, of stops and of probes, by the definitions alone.
 ghost use Rattle.probe.specs.LabLaws.{ChangeBegins, LabsStand, NoWayBackBefore, UndoGoesBack};
 ghost use Rattle.probe.specs.MomentLaws.{EachMomentOnce, MomentsAreRuns, OneListOfRanges, PastTheEndAlike};
 ghost use Rattle.probe.specs.ProbeLaws.{AnswersAsDebugger, CountsAddUp, ProbesStand, StandingEndsAlike, StandingMetAlike};
@@ -40,11 +39,6 @@ pub fn each_moment_stands_once()
 pub fn moments_are_runs()
     ensures runs { MomentsAreRuns }
     ensures past_the_end { PastTheEndAlike }
-{}
-
-/// The next tick of a counter loads its newest count if the line of `chips` says `load 1`, and else it doesn't.
-pub fn loads_as_told()
-    ensures { LoadsAsTold }
 {}
 
 /// A change of the board begins a probe about the changed board, before which no way back leads, with the stops that it

@@ -5,93 +5,69 @@ ghost use Rattle.board.specs.Found.{found_at};
 ghost use Rattle.board_plain.specs.Plain.{clock_of};
 ghost use Rattle.debugger_meaning.specs.SessionInvariant.{LacksMemory};
 ghost use Rattle.probe.specs.Looked.{IsFoundIn, LooksOn, RanToStop, ShortOfMemory};
-ghost use Rattle.probe.specs.Met.{asks_keys, asks_wires};
+ghost use Rattle.probe.specs.Met.{asked_with_stop};
 ghost use Rattle.probe.specs.ProbeStops.{standing};
+ghost use Rattle.probe.specs.Seen.{IsLooked};
 ghost use Rattle.probe.specs.Watched.{asked_of, IsWatched, KeepsStops, stops_of};
 
-use crate::event_lines::{Asked, Seen, lists_keys, lists_wires, seen_of};
 use crate::making::lacking;
 use crate::met::{met, standing};
-use crate::stops::Stop;
+use crate::seen::{Turn, seen_of};
 use crate::watched::{Watched, copy_bytes, renew_bytes};
 use board::board::Board;
-use board::one_turn::Begun;
 use board_types::clock::Clock;
 use debugger::session::Session;
 use debugger_meaning::fault::DebugFault;
 use events::access::Access;
 use execute_noted::notes::Accesses;
+use probe_texts::asked::Asked;
+use probe_texts::stops::Stop;
 
 /// Returns the least number of a stop that is met at the end of a turn of the board, in a run or a search, and brings
 /// copies of bytes up to date. The turn was one clock, or a leap in which nothing happened.
 pub(crate) fn found(
     watches: &mut [Watched],
-    before: Seen,
-    begun: &Option<Begun>,
+    turn: &Turn,
     accesses: &[Access],
     board: &Board,
 ) -> Option<usize>
     requires within { All IsWatched watches.old }
-    requires room { before.waiting ≤ 16 }
-    requires limit { before.clock < 2 ^ 40 }
-    requires later { before.clock < clock_of board.now.plain }
+    requires few { length board.now.trail ≤ 32 }
+    requires looked { IsLooked turn.now board.now }
     ensures keeps { KeepsStops watches.old watches.new }
-    ensures clock { clock_of board.now.plain ≡ before.clock + 1
-        → LooksOn before begun.now accesses.now board.now.plain watches.old watches.new result }
-    ensures leap { before.clock + 1 < clock_of board.now.plain
+    ensures clock { clock_of board.now.plain ≡ turn.now.before.clock + 1
+        → LooksOn turn.now accesses.now board.now watches.old watches.new result }
+    ensures leap { turn.now.before.clock + 1 < clock_of board.now.plain
         → result ≡ standing (stops_of watches.old) board.now.plain }
-    ensures copied { before.clock + 1 < clock_of board.now.plain → watches.new ≡ watches.old }
+    ensures copied { turn.now.before.clock + 1 < clock_of board.now.plain → watches.new ≡ watches.old }
 {
-    if board.clock().get() != before.clock + 1 {
+    if board.clock().get() != turn.before.clock + 1 {
         return standing(watches, board);
     }
-    let number = met(watches, before, begun, accesses, board);
+    let number = met(watches, turn, accesses, board);
     renew_bytes(watches, accesses, board);
     number
 }
 
-/// Tells which parts of a board these stops have to look at before and after each turn: reading wires and keys takes
-/// time, and a run that needn't see the wires leaps further.
+/// Tells which events these stops have to look for: seeing some of them takes time, and a run that needn't see the wires
+/// leaps further.
 pub(crate) fn asked_by(watches: &[Watched]) -> Asked
     ensures { result ≡ asked_of watches.now }
 {
-    Asked {
-        wires: ask_wires(watches),
-        keys: ask_keys(watches),
+    let mut asked = Asked::nothing();
+    for watched in watches {
+        asked = asked_with(asked, &watched.stop);
     }
+    asked
 }
 
-/// Whether one of these stops has to look at the wires at each turn.
-fn ask_wires(watches: &[Watched]) -> bool
-    ensures { result ≡ (asked_of watches.now).wires }
-{
-    watches.iter().any(|watched| asks_wires(&watched.stop))
-}
-
-/// Whether one of these stops has to look at the keys at each turn.
-fn ask_keys(watches: &[Watched]) -> bool
-    ensures { result ≡ (asked_of watches.now).keys }
-{
-    watches.iter().any(|watched| asks_keys(&watched.stop))
-}
-
-/// Whether a stop waits for changes of wires, so that a run has to look at them at each turn.
-fn asks_wires(stop: &Stop) -> bool
-    ensures { result ≡ asks_wires stop.now }
+/// Adds the events for which a stop waits to those that are looked for.
+fn asked_with(asked: Asked, stop: &Stop) -> Asked
+    ensures { result ≡ asked_with_stop asked stop.now }
 {
     match stop {
-        Stop::When(kinds) => lists_wires(kinds.as_slice()),
-        Stop::Standing(_) | Stop::Changes(..) => false,
-    }
-}
-
-/// Whether a stop waits for what becomes of keys' codes, so that a run has to look at them at each turn.
-fn asks_keys(stop: &Stop) -> bool
-    ensures { result ≡ asks_keys stop.now }
-{
-    match stop {
-        Stop::When(kinds) => lists_keys(kinds.as_slice()),
-        Stop::Standing(_) | Stop::Changes(..) => false,
+        Stop::When(kinds) => asked.with_kinds(kinds.as_slice()),
+        Stop::Standing(_) | Stop::Changes(..) => asked,
     }
 }
 
@@ -137,18 +113,25 @@ pub(crate) fn run_to_stop(
     let asked = asked_by(watches);
     let mut accesses = Accesses::new();
     let start = session.board().clock().get();
+    let mut before = seen_of(session.board(), asked);
     'turns: while session.board().clock() < end {
-        let before = seen_of(session.board(), asked);
         let to = turn_end(before.clock, start, end);
         let next = next_clock(before.clock, to);
         let Ok(begun) = session.run_turn(next, to, &mut accesses, !asked.wires) else {
             return Err(lacking(session));
         };
-        let noted = accesses.as_slice();
-        let number = found(watches, before, &begun, noted, session.board());
+        let after = seen_of(session.board(), asked);
+        let turn = Turn {
+            asked,
+            before,
+            begun,
+            after,
+        };
+        let number = found(watches, &turn, accesses.as_slice(), session.board());
         if number.is_some() {
             return Ok(number);
         }
+        before = after;
     }
     Ok(None)
 }
@@ -175,18 +158,25 @@ pub(crate) fn last_met(
     let mut accesses = Accesses::new();
     let mut here = standing(watches, board);
     let mut last = found_first(is_first, here, board.clock());
+    let mut before = seen_of(board, asked);
     'turns: while board.clock() < to {
-        let before = seen_of(board, asked);
         let next = next_clock(before.clock, to);
         let Ok(begun) = board.run_turn(next, to, &mut accesses, !asked.wires) else {
             return Err(DebugFault::Memory(None));
         };
+        let after = seen_of(board, asked);
+        let turn = Turn {
+            asked,
+            before,
+            begun,
+            after,
+        };
         let clock = board.clock();
         let before_end = found_before(last, here, before.clock, clock);
-        let noted = accesses.as_slice();
-        let number = found(watches, before, &begun, noted, board);
+        let number = found(watches, &turn, accesses.as_slice(), board);
         last = found_at(before_end, number, clock);
         here = standing_now(number, watches, board);
+        before = after;
     }
     Ok(last)
 }

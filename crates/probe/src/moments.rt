@@ -2,20 +2,19 @@
 ghost use Rattle.std.specs.Prelude.{ℕ, ◌≡◌, ◌+◌, ◌-◌, ◌<◌, ◌≤◌, ◌^◌, ◌++◌, ◌∷◌, [], All, IfOk, MatchResult, OnOk, true, length, min, max, nat_le};
 ghost use Rattle.std.specs.List.{flat_map};
 ghost use Rattle.std.specs.Result.{IfErr};
-ghost use Rattle.std.specs.String.{string_bytes};
 ghost use Rattle.board_plain.specs.Plain.{Plain, clock_of};
 ghost use Rattle.debugger_meaning.specs.SessionInvariant.{LacksMemory};
 ghost use Rattle.debugger_meaning.specs.Stands.{session_about};
 ghost use Rattle.events.specs.WithKey.{with_key};
 ghost use Rattle.probe.specs.Looked.{RanToStop};
-ghost use Rattle.probe.specs.Moments.{AnswersTrial, AreRanges, CanBeTried, CannotBeTried, moments_line, names_keys, span_of, with_tried};
-ghost use Rattle.probe.specs.Requests.{IsRising};
+ghost use Rattle.probe.specs.Moments.{AnswersTrial, AreRanges, CanBeTried, CannotBeTried, names_keys, span_of, with_tried};
+ghost use Rattle.probe_texts.specs.Requests.{IsRising};
 ghost use Rattle.probe.specs.ProbeStops.{IsEndOf};
 ghost use Rattle.probe.specs.Tried.{RunsTo, TriedNext, TriedSoFar, added, ends_of, ends_with, joined, moments_of};
 ghost use Rattle.probe.specs.Watched.{IsWatched, KeepsStops, all_standing, stops_of};
 
-use crate::event_lines::seen_of;
 use crate::looking::{asked_by, found, next_clock, turn_end};
+use crate::seen::{Turn, seen_of};
 use crate::watched::{Watched, all_stand, conditions_of, copy_bytes};
 use board::board::Board;
 use board_plain::stop::{Stop, Stopped};
@@ -24,41 +23,8 @@ use board_types::keys::{StampedKey, is_scan_code};
 use debugger_meaning::answer::Answer;
 use debugger_meaning::fault::DebugFault;
 use execute_noted::notes::Accesses;
+use probe_texts::moments_text::{Ends, Moments, Second, Trial, moments_text};
 use std::alloc::{AllocError, Global};
-
-/// What a line `moments` asks: a key's code that is tried at each clock from the first to the last, in runs of `count`
-/// clocks from the board's present one; alone, or with a second key.
-#[derive(Clone, Copy, Debug, PartialEq, Eq)]
-pub struct Trial {
-    pub code: u8,
-    pub first: u64,
-    pub last: u64,
-    pub count: u64,
-    pub second: Option<Second>,
-}
-
-/// A trial's second key, which comes so many clocks after the first; if 0, at the same clock, after it.
-#[derive(Clone, Copy, Debug, PartialEq, Eq)]
-pub struct Second {
-    pub code: u8,
-    pub after: u64,
-}
-
-/// The stop at which some runs end, and the least and the greatest clock at which they do.
-#[derive(Clone, Copy, Debug, PartialEq, Eq)]
-pub struct Ends {
-    pub number: usize,
-    pub least: Clock,
-    pub greatest: Clock,
-}
-
-/// Neighbouring clocks of a key with which runs end at one stop, or at none.
-#[derive(Clone, Copy, Debug, PartialEq, Eq)]
-pub struct Moments {
-    pub first: u64,
-    pub last: u64,
-    pub ends: Option<Ends>,
-}
 
 /// Answers the line `moments`: how runs from the board's clock end with the trial's keys, for each clock of the first.
 /// Refused in this order: as `ClockLimit` if the last clock of a key, or the end of the run, is past the last clock there
@@ -295,18 +261,25 @@ fn run_board(
     let asked = asked_by(watches);
     let mut accesses = Accesses::new();
     let start = board.clock().get();
+    let mut before = seen_of(board, asked);
     'turns: while board.clock() < end {
-        let before = seen_of(board, asked);
         let to = turn_end(before.clock, start, end);
         let next = next_clock(before.clock, to);
         let Ok(begun) = board.run_turn(next, to, &mut accesses, !asked.wires) else {
             return Err(DebugFault::Memory(None));
         };
-        let noted = accesses.as_slice();
-        let number = found(watches, before, &begun, noted, board);
+        let after = seen_of(board, asked);
+        let turn = Turn {
+            asked,
+            before,
+            begun,
+            after,
+        };
+        let number = found(watches, &turn, accesses.as_slice(), board);
         if number.is_some() {
             return Ok(number);
         }
+        before = after;
     }
     Ok(None)
 }
@@ -445,34 +418,4 @@ fn later(a: Clock, b: Clock) -> Clock
     ensures { result ≡ max a b }
 {
     if a <= b { b } else { a }
-}
-
-/// Returns the answer to `moments`: a line for each range.
-fn moments_text(alloc: Global, ranges: &[Moments]) -> Result<String, AllocError>
-    ensures { IfOk result (λ text. string_bytes text ≡ flat_map moments_line ranges.now) }
-{
-    let mut text = String::new(alloc);
-    for range in ranges {
-        push_line(&mut text, range)?;
-    }
-    Ok(text)
-}
-
-/// Adds the line of a range: its first and last clock of the key, and the stop with the least and the greatest clock at
-/// which its runs end, or `none`.
-#[tactic(auto, unfolding(crate::specs::Moments::moments_line))]
-fn push_line(text: &mut String, range: &Moments) -> Result<(), AllocError>
-    ensures { OnOk result (string_bytes text.new ≡ string_bytes text.old ++ moments_line range.now) }
-{
-    let first = range.first;
-    let last = range.last;
-    match &range.ends {
-        None => write!(text, "{first} {last} none\n"),
-        Some(ends) => {
-            let number = ends.number;
-            let least = ends.least.get();
-            let greatest = ends.greatest.get();
-            write!(text, "{first} {last} stop {number} {least} {greatest}\n")
-        }
-    }
 }

@@ -1,23 +1,24 @@
 //! A session that answers inquiries.
 ghost use Rattle.std.specs.Prelude.{◌≡◌};
-ghost use Rattle.probe.specs.ChipsText.{chips_text};
-ghost use Rattle.probe.specs.FormLines.{forms_text};
-ghost use Rattle.probe.specs.Listing.{list_text};
+ghost use Rattle.probe_texts.specs.ChipsText.{chips_text};
+ghost use Rattle.probe_texts.specs.FormLines.{forms_text};
+ghost use Rattle.probe_texts.specs.Listing.{list_text};
 ghost use Rattle.probe.specs.InquirySession.{AnswersInquiry, AnswersProbe};
+ghost use Rattle.board_plain.specs.Plain.{byte_of};
 ghost use Rattle.debugger_meaning.specs.Session.{Shows};
 ghost use Rattle.debugger_meaning.specs.Stands.{Stands};
 
-use crate::chips_text::chips_text;
+use crate::board_bytes::BoardBytes;
+use crate::chips::chips_text;
 use crate::counts::tell_counts;
-use crate::event_lines::tell_events;
-use crate::forms_text::forms_text;
-use crate::inquiry::{Inquiry, Place, read_inquiry};
-use crate::list_text::list_text;
-use crate::signals::tell_signals;
+use crate::event_lines::{tell_events, tell_signals};
 use crate::typed::type_key;
 use debugger::session::Session;
 use debugger_meaning::answer::Answer;
 use debugger_meaning::fault::DebugFault;
+use probe_texts::forms_text::forms_text;
+use probe_texts::inquiry::{Inquiry, Place, read_inquiry};
+use probe_texts::list_text::list_text;
 use std::alloc::Global;
 
 /// Answers a typed line: an inquiry here, and any other line as the debugger's session does. `chips`, `list` and `forms`
@@ -60,14 +61,14 @@ fn chips(session: &Session, alloc: Global) -> Result<Answer, DebugFault>
 
 /// Answers the inquiry `list`: `count` instructions from a place in memory on.
 fn list(session: &Session, alloc: Global, place: Place, count: u16) -> Result<Answer, DebugFault>
-    ensures { Shows (list_text session.now.board.plain place.segment place.offset count) result }
+    ensures { Shows (list_text (byte_of session.now.board.plain) place.segment place.offset count) result }
 {
-    Ok(Answer::Text(list_text(alloc, session.board(), place, count)?))
+    Ok(Answer::Text(list_text(alloc, &BoardBytes(session.board()), place, count)?))
 }
 
 /// Answers the inquiry `forms`: what `count` instructions from a place in memory on do.
 fn forms(session: &Session, alloc: Global, place: Place, count: u16) -> Result<Answer, DebugFault>
-    ensures { Shows (forms_text session.now.board.plain place.segment place.offset count) result }
+    ensures { Shows (forms_text (byte_of session.now.board.plain) place.segment place.offset count) result }
 {
-    Ok(Answer::Text(forms_text(alloc, session.board(), place, count)?))
+    Ok(Answer::Text(forms_text(alloc, &BoardBytes(session.board()), place, count)?))
 }

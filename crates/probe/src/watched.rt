@@ -1,16 +1,15 @@
 //! Stops, each with a copy of the bytes whose changes it waits for.
 ghost use Rattle.std.specs.Prelude.{◌≡◌, ◌≤◌, All, IfOk, IsTrue, OnErr, length};
 ghost use Rattle.probe.specs.Probe.{conditions_of};
-ghost use Rattle.probe.specs.Requests.{asks_changes};
-ghost use Rattle.probe.specs.ProbeStops.{HasBytes};
+ghost use Rattle.probe_texts.specs.Requests.{HasBytes, asks_changes};
 ghost use Rattle.probe.specs.Watched.{all_standing, AreCopies, IsWatched, KeepsStops, StaysCopied, stops_of};
 
 use crate::bytes::Copied;
-use crate::stops::{Stop, is_standing};
 use arrayvec::ArrayVec;
 use board::board::Board;
 use board_plain::stop::Stops as Conditions;
 use events::access::Access;
+use probe_texts::stops::{Stop, is_standing};
 use std::alloc::{AllocError, Global};
 use std::default::MadeWith;
 

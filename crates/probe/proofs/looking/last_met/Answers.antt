@@ -1,27 +1,31 @@
-use Rattle.std.proofs.Common.{◌≡◌, ◌≤◌, ◌<◌, ◌+◌, ◌-◌, Bool, not, refl, sym, ap, ◌∙◌, subst, arith}
+use Rattle.std.proofs.Common.{◌≡◌, ◌≤◌, ◌<◌, ◌-◌, refl, sym, ap, ◌∙◌, subst, arith}
 use Rattle.std.proofs.lemmas.Map.Keys.{ge_from_not_lt}
 use Rattle.board_plain.specs.Board.{BoardState}
 use Rattle.board_plain.specs.Plain.{clock_of}
 use Rattle.board.specs.Found.{found_at}
-use Rattle.probe.specs.declared.event_lines.Asked.{Asked}
-use Rattle.probe.specs.declared.event_lines.Seen.{Seen}
+use Rattle.probe.specs.declared.seen.Seen.{Seen}
+use Rattle.probe.specs.declared.seen.Turn.{Turn}
 use Rattle.probe.specs.Met.{asked_by}
 use Rattle.probe.specs.ProbeStops.{standing}
 use Rattle.probe.specs.Watched.{stops_of}
-use Rattle.probe.proofs.Copies.{asked_is}
 use Rattle.probe.proofs.Searching.{last_all, last_more, last_none, LastSoFar, none_here}
-use Rattle.probe.proofs.Meeting.{seen_clock, Turned, turned_by}
+use Rattle.probe.proofs.Meeting.{told_of, Turned, turned}
+use Rattle.probe.proofs.Trying.{trail_stays}
+use Rattle.probe.proofs.Turns.{looked_of, seen_clock}
 use Rattle.probe.proofs.looking.last_met.Goals as goal
 
 pub turns-init : goal.turns-init
-turns-init c =
-    last_none (stops_of c.args.watches.now) c.args.is_first c.args.to c.clock.result c.args.board.now
-    c.copy_bytes.new.watches c.standing-here.result c.found_first-last.result c.requires.few c.requires.from
-    (c.standing-here.ensures ∙ ap (λ xs. standing xs c.args.board.now.plain) c.copy_bytes.ensures.keeps.stops) c.clock.ensures
-    c.found_first-last.ensures c.copy_bytes.ensures.keeps.stops c.copy_bytes.ensures.copies c.copy_bytes.ensures.keeps.watched
+turns-init c = record {
+  so_far = last_none (stops_of c.args.watches.now) c.args.is_first c.args.to c.clock.result c.args.board.now
+      c.copy_bytes.new.watches c.standing-here.result c.found_first-last.result c.requires.few c.requires.from
+      (c.standing-here.ensures ∙ ap (λ xs. standing xs c.args.board.now.plain) c.copy_bytes.ensures.keeps.stops) c.clock.ensures
+      c.found_first-last.ensures c.copy_bytes.ensures.keeps.stops c.copy_bytes.ensures.copies c.copy_bytes.ensures.keeps.watched;
+  before = c.seen_of-before.ensures.seen;
+  room = c.seen_of-before.ensures.room;
+}
 
 pub found-number-requires-clause-within : goal.found-number-requires-clause-within
-found-number-requires-clause-within c = c.turns.invariant.watched
+found-number-requires-clause-within c = c.turns.invariant.so_far.watched
 
 pub standing_now-here-requires-clause-within : goal.standing_now-here-requires-clause-within
 standing_now-here-requires-clause-within c = c.found-number.ensures.keeps.watched
@@ -33,18 +37,19 @@ standing_now-here-requires-clause-none c = λ none.
     let stops = stops_of c.args.watches.now in
     let old = c.turns.watches in
     let new = c.found-number.new.watches in
-    let so_far = c.turns.invariant in
+    let so_far = c.turns.invariant.so_far in
     let one = c.in-Ok.ensures.ok in
-    let copied = c.copy_bytes.new.watches in
-    let asked : c.asked_by-asked.result ≡ asked_by stops = c.asked_by-asked.ensures ∙ asked_is copied ∙ ap asked_by c.copy_bytes.ensures.keeps.stops in
+    let made : Turn = record { asked = c.asked_by-asked.result; before = c.turns.before; begun = c.in-Ok.begun; after = c.seen_of-after.result } in
     let turn =
-    turned_by stops c.asked_by-asked.result c.next_clock-next.result c.args.to t u t u c.seen_of-before.result c.in-Ok.begun c.as_slice-noted.result.now
-    old new c.found-number.result so_far.stops_are asked c.seen_of-before.ensures.seen refl (c.as_slice-noted.ensures.value ∙ c.in-Ok.ensures.noted) refl
-    c.next_clock-next.ensures one so_far.copies so_far.watched c.found-number.ensures.clock c.found-number.ensures.leap c.found-number.ensures.copied in
+    turned stops made c.as_slice.result.now t u old new c.found-number.result so_far.stops_are
+    (told_of stops made c.as_slice.result.now t u u c.next_clock-next.result c.args.to old new c.found-number.result so_far.stops_are
+    (c.asked_by-asked.ensures ∙ ap asked_by c.copy_bytes.ensures.keeps.stops) c.turns.invariant.before c.seen_of-after.ensures.seen refl
+    (c.as_slice.ensures.value ∙ c.in-Ok.ensures.noted) c.next_clock-next.ensures one
+    c.found-number.ensures.clock c.found-number.ensures.leap c.found-number.ensures.copied) so_far.copies so_far.watched in
     ap (λ xs. standing xs u.plain) (c.found-number.ensures.keeps.stops ∙ so_far.stops_are) ∙ none_here stops t u new (subst (Turned stops t u new) none turn)
 
 pub returns-in_default-clause-keeps : goal.returns-in_default-clause-keeps
-returns-in_default-clause-keeps c = record { stops = c.turns.invariant.stops_are; watched = c.turns.invariant.watched }
+returns-in_default-clause-keeps c = record { stops = c.turns.invariant.so_far.stops_are; watched = c.turns.invariant.so_far.watched }
 
 pub turns-preserved : goal.turns-preserved
 turns-preserved c =
@@ -54,16 +59,17 @@ turns-preserved c =
     let stops = stops_of c.args.watches.now in
     let old = c.turns.watches in
     let new = c.found-number.new.watches in
-    let so_far = c.turns.invariant in
+    let so_far = c.turns.invariant.so_far in
     let one = c.in-Ok.ensures.ok in
-    let copied = c.copy_bytes.new.watches in
-    let asked : c.asked_by-asked.result ≡ asked_by stops = c.asked_by-asked.ensures ∙ asked_is copied ∙ ap asked_by c.copy_bytes.ensures.keeps.stops in
-    let start : c.seen_of-before.result.clock ≡ clock_of t.plain =
-    ap (λ (x : Seen). x.clock) c.seen_of-before.ensures.seen ∙ seen_clock c.asked_by-asked.result t.plain in
+    let made : Turn = record { asked = c.asked_by-asked.result; before = c.turns.before; begun = c.in-Ok.begun; after = c.seen_of-after.result } in
     let turn =
-    turned_by stops c.asked_by-asked.result c.next_clock-next.result c.args.to t u t u c.seen_of-before.result c.in-Ok.begun c.as_slice-noted.result.now
-    old new c.found-number.result so_far.stops_are asked c.seen_of-before.ensures.seen refl (c.as_slice-noted.ensures.value ∙ c.in-Ok.ensures.noted) refl
-    c.next_clock-next.ensures one so_far.copies so_far.watched c.found-number.ensures.clock c.found-number.ensures.leap c.found-number.ensures.copied in
+    turned stops made c.as_slice.result.now t u old new c.found-number.result so_far.stops_are
+    (told_of stops made c.as_slice.result.now t u u c.next_clock-next.result c.args.to old new c.found-number.result so_far.stops_are
+    (c.asked_by-asked.ensures ∙ ap asked_by c.copy_bytes.ensures.keeps.stops) c.turns.invariant.before c.seen_of-after.ensures.seen refl
+    (c.as_slice.ensures.value ∙ c.in-Ok.ensures.noted) c.next_clock-next.ensures one
+    c.found-number.ensures.clock c.found-number.ensures.leap c.found-number.ensures.copied) so_far.copies so_far.watched in
+    let start : c.turns.before.clock ≡ clock_of t.plain =
+    ap (λ (x : Seen). x.clock) c.turns.invariant.before ∙ seen_clock c.asked_by-asked.result t.plain in
     let before_end = one.before_end in
     let clock = one.ran.clock in
     let passed = turn.ran.clock in
@@ -74,16 +80,31 @@ turns-preserved c =
     c.found_before-before_end.ensures.once (omega (arith, start, is, passed, end)) in
     let now : c.standing_now-here.result ≡ standing stops u.plain =
     c.standing_now-here.ensures ∙ ap (λ xs. standing xs u.plain) (c.found-number.ensures.keeps.stops ∙ so_far.stops_are) in
-    subst (LastSoFar stops c.args.is_first c.args.to s u new c.standing_now-here.result) (sym c.found_at-last.ensures)
-    (last_more stops c.args.is_first c.args.to s t u old new c.turns.here c.found-number.result
-    c.standing_now-here.result c.turns.last c.found_before-before_end.result c.clock-clock.result so_far turn far once end
-    (omega (arith, before_end, clock)) now c.found-number.ensures.keeps)
+    record {
+      so_far = subst (LastSoFar stops c.args.is_first c.args.to s u new c.standing_now-here.result) (sym c.found_at-last.ensures)
+          (last_more stops c.args.is_first c.args.to s t u old new c.turns.here c.found-number.result
+          c.standing_now-here.result c.turns.last c.found_before-before_end.result c.clock-clock.result so_far turn far once end
+          (omega (arith, before_end, clock)) now c.found-number.ensures.keeps);
+      before = c.seen_of-after.ensures.seen;
+      room = c.seen_of-after.ensures.room;
+    }
 
 pub returns-clause-found : goal.returns-clause-found
 returns-clause-found c =
     let late : c.args.to ≤ c.clock-in-turns.result = ge_from_not_lt c.clock-in-turns.result c.args.to (sym c.lt.ensures ∙ c.turns-test.false) in
     last_all (stops_of c.args.watches.now) c.args.is_first c.args.to c.args.board.now c.turns.board
-    c.turns.watches c.turns.here c.turns.last c.turns.invariant (omega (arith, late, c.clock-in-turns.ensures))
+    c.turns.watches c.turns.here c.turns.last c.turns.invariant.so_far (omega (arith, late, c.clock-in-turns.ensures))
 
 pub returns-clause-keeps : goal.returns-clause-keeps
-returns-clause-keeps c = record { stops = c.turns.invariant.stops_are; watched = c.turns.invariant.watched }
+returns-clause-keeps c = record { stops = c.turns.invariant.so_far.stops_are; watched = c.turns.invariant.so_far.watched }
+
+pub found-number-requires-clause-few : goal.found-number-requires-clause-few
+found-number-requires-clause-few c =
+    trail_stays c.in-Ok.ensures.ok.passed c.turns.board c.run_turn.new.self c.in-Ok.ensures.ok.ran
+
+pub found-number-requires-clause-looked : goal.found-number-requires-clause-looked
+found-number-requires-clause-looked c =
+    let turn : Turn = record { asked = c.asked_by-asked.result; before = c.turns.before; begun = c.in-Ok.begun; after = c.seen_of-after.result } in
+    looked_of turn c.turns.board c.run_turn.new.self c.run_turn.new.self c.next_clock-next.result c.args.to
+    c.turns.invariant.before c.turns.invariant.room c.seen_of-after.ensures.room
+    (omega (arith, c.next_clock-next.ensures, c.next_clock-next.type_inv)) refl c.in-Ok.ensures.ok

@@ -1,12 +1,17 @@
--- What has been met last is known.
-use Rattle.std.proofs.Common.{◌-◌}
+-- What has been met last is known, and what is to be seen before the next turn.
+use Rattle.std.proofs.Common.{◌≡◌, ◌≤◌, ◌-◌}
 use Rattle.board_plain.specs.Plain.{clock_of}
+use Rattle.probe.specs.Seen.{seen_of}
 use Rattle.probe.specs.Watched.{stops_of}
 use Rattle.probe.proofs.Searching.{LastSoFar}
 use Rattle.probe.proofs.looking.last_met.Given as goal
 
 abbrev pub invariant-turns : goal.invariant-turns
-invariant-turns l = LastSoFar (stops_of l.fn.watches) l.is_first l.to l.fn.board l.board l.watches l.here l.last
+invariant-turns l = record {
+  so_far : LastSoFar (stops_of l.fn.watches) l.is_first l.to l.fn.board l.board l.watches l.here l.last;
+  before : l.before ≡ seen_of l.asked l.board.plain;
+  room : l.before.waiting ≤ 16;
+}
 
 abbrev pub decreases-turns : goal.decreases-turns
 decreases-turns l = l.to - clock_of l.board.plain

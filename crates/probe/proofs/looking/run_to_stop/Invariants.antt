@@ -1,12 +1,17 @@
--- No stop has been met.
-use Rattle.std.proofs.Common.{◌-◌}
+-- No stop has been met, and what is to be seen before the next turn is known.
+use Rattle.std.proofs.Common.{◌≡◌, ◌≤◌, ◌-◌}
 use Rattle.board_plain.specs.Plain.{clock_of}
+use Rattle.probe.specs.Seen.{seen_of}
 use Rattle.probe.specs.Watched.{stops_of}
 use Rattle.probe.proofs.Meeting.{Met}
 use Rattle.probe.proofs.looking.run_to_stop.Given as goal
 
 abbrev pub invariant-turns : goal.invariant-turns
-invariant-turns l = Met (stops_of l.fn.watches) l.end l.fn.session l.session l.watches
+invariant-turns l = record {
+  met : Met (stops_of l.fn.watches) l.end l.fn.session l.session l.watches;
+  before : l.before ≡ seen_of l.asked l.session.board.plain;
+  room : l.before.waiting ≤ 16;
+}
 
 abbrev pub decreases-turns : goal.decreases-turns
 decreases-turns l = l.end - clock_of l.session.board.plain

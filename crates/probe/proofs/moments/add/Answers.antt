@@ -1,7 +1,7 @@
 -- Only the last range is looked at.
 use Rattle.std.proofs.Common.{◌≡◌, List, ◌++◌, ap, sym, subst, ◌∙◌}
 use Rattle.std.specs.Prelude.{OnOk}
-use Rattle.probe.specs.declared.moments.Moments.{Moments}
+use Rattle.probe_texts.specs.declared.moments_text.Moments.{Moments}
 use Rattle.probe.specs.Tried.{added, ends_with, joined}
 use Rattle.probe.proofs.Ranges.{added_at_end}
 use Rattle.probe.proofs.moments.add.Goals as goal

@@ -1,7 +1,7 @@
 -- Each clock is tried, up to the last one or until all ranges are known.
 use Rattle.std.proofs.Common.{◌≡◌, ◌-◌, ◌≤◌, Bool, List, refl, subst, sym, arith}
 use Rattle.board_plain.specs.Plain.{clock_of}
-use Rattle.probe.specs.declared.moments.Moments.{Moments}
+use Rattle.probe_texts.specs.declared.moments_text.Moments.{Moments}
 use Rattle.probe.specs.Moments.{AreRanges}
 use Rattle.probe.specs.Tried.{Tried, TriedNext}
 use Rattle.probe.specs.Watched.{stops_of}

@@ -1,5 +1,5 @@
 use Rattle.std.proofs.Common.{◌≡◌, ◌++◌, [], ◌∷◌, sym, subst}
-use Rattle.probe.specs.declared.stops.Stop.{Stop}
+use Rattle.probe_texts.specs.declared.stops.Stop.{Stop}
 use Rattle.probe.specs.Probe.{conditions_of}
 use Rattle.probe.proofs.Probes.{condition_added}
 use Rattle.probe.proofs.probe.add_condition.Goals as goal

@@ -2,7 +2,7 @@ use Rattle.std.proofs.Common.{◌≡◌, ◌<◌, ◌≤◌, false, length, refl
 use Rattle.std.specs.Prelude.{◌==◌}
 use Rattle.std.proofs.lemmas.Bool.Decides.{nat_tests}
 use Rattle.std.proofs.lemmas.List.{length-map}
-use Rattle.probe.specs.declared.stops.Stop.{Stop}
+use Rattle.probe_texts.specs.declared.stops.Stop.{Stop}
 use Rattle.probe.specs.declared.watched.Watched.{Watched}
 use Rattle.probe.specs.Probe.{AddsStop, ProbeState}
 use Rattle.probe.proofs.probe.Probe.add.Goals as goal

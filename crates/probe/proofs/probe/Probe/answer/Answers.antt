@@ -1,6 +1,6 @@
 use Rattle.std.proofs.Common.{◌≡◌, None, sym, ap, ◌∙◌, subst}
 use Rattle.probe.specs.Probe.{AnswersUnless, ProbeState}
-use Rattle.probe.specs.Requests.{request_of}
+use Rattle.probe_texts.specs.Requests.{request_of}
 use Rattle.probe.specs.Watched.{stops_of}
 use Rattle.probe.proofs.Passing.{passes_on, stops_stay}
 use Rattle.probe.proofs.Probes.{probe_of}

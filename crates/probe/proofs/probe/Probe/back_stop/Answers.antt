@@ -4,7 +4,7 @@ use Rattle.std.specs.List.{list_all}
 use Rattle.debugger_meaning.specs.declared.answer.Answer.TheVariants as answers
 use Rattle.probe.specs.Probe.{gone_by, GoesBackToStop, ProbeState, RefusesBackToStop, session_of}
 use Rattle.probe.specs.ProbeStops.{MetLast}
-use Rattle.probe.specs.Requests.{is_standing}
+use Rattle.probe_texts.specs.Requests.{is_standing}
 use Rattle.probe.specs.Watched.{all_standing, stops_of}
 use Rattle.probe.proofs.Copies.{standing_is}
 use Rattle.probe.proofs.Passing.{back_to_keep}

@@ -5,7 +5,7 @@ use Rattle.arrayvec.specs.ArrayVec.{with_items}
 use Rattle.board_plain.specs.Board.{BoardState}
 use Rattle.board_plain.specs.Plain.{clock_of}
 use Rattle.probe.specs.Probe.{GoesOn, ProbeState, RefusesGoing}
-use Rattle.probe.specs.Requests.{is_standing}
+use Rattle.probe_texts.specs.Requests.{is_standing}
 use Rattle.probe.specs.Watched.{all_standing, IsWatched, stops_of}
 use Rattle.probe.specs.Looked.{answer_at}
 use Rattle.probe.proofs.Copies.{standing_is}

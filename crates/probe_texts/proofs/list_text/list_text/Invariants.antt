@@ -1,0 +1,13 @@
+use Rattle.std.proofs.Common.{◌≡◌}
+use Rattle.std.specs.String.{string_bytes}
+use Rattle.board_types.specs.Iterate.{gathered, iterate}
+use Rattle.probe_texts.specs.Listing.{list_line, offset_listed_next}
+use Rattle.probe_texts.proofs.list_text.list_text.Given as goal
+
+-- the lines so far, and the offset at which the next begins
+abbrev pub invariant-loop : goal.invariant-loop
+invariant-loop g l = record {
+  text : string_bytes l.text ≡ gathered (offset_listed_next (g.B.Bytes.byte_at l.memory) l.segment)
+      (list_line (g.B.Bytes.byte_at l.memory) l.segment) l.counter l.fn.place.offset;
+  offset : l.offset ≡ iterate (offset_listed_next (g.B.Bytes.byte_at l.memory) l.segment) l.counter l.fn.place.offset;
+}

@@ -1,0 +1,16 @@
+pub mod Shown
+pub mod Controller
+pub mod CounterText
+pub mod ChipsText
+pub mod Kinds
+pub mod Listed
+pub mod Asked
+pub mod Told
+pub mod Signals
+pub mod Requests
+pub mod Wishes
+pub mod Inquiry
+pub mod Listing
+pub mod FormLines
+pub mod MomentsText
+pub mod ChipLaws

@@ -1,0 +1,49 @@
+-- What stands in memory as instructions, as text.
+-- To be believed by callers of this crate: the headline does not rest on it.
+use Rattle.std.specs.Prelude.{ℕ, List, ◌++◌, codes, map}
+use Rattle.std.specs.List.{flat_map, range_with_len}
+use Rattle.board_types.specs.Address.{offset_after, physical}
+use Rattle.board_types.specs.Digits.{hex_byte_text, hex_word}
+use Rattle.board_types.specs.Iterate.{gathered}
+use Rattle.decode.specs.declared.decoding.Decoding.{Decoding as Decoded}
+use Rattle.decode.specs.declared.decoding.Decoding.TheVariants.{Found, NoRow}
+use Rattle.decode.specs.Decoding.{code_at, decoded_from}
+use Rattle.disassembler.specs.Text.{instr_text}
+
+-- what is decoded at a place, by the byte at each address
+abbrev pub stands_at : (ℕ → ℕ) → ℕ → ℕ → Decoded
+stands_at bytes segment offset = decoded_from (code_at bytes segment offset)
+
+-- how many bytes a line lists: an instruction's, or the one that begins none
+abbrev pub size_listed : Decoded → ℕ
+size_listed (Found i size) = size
+size_listed NoRow = 1
+
+-- the bytes that a line lists; offsets wrap at 65,536
+abbrev pub bytes_listed : (ℕ → ℕ) → ℕ → ℕ → ℕ → List ℕ
+bytes_listed bytes segment offset size =
+    map (λ k. bytes (physical segment (offset_after offset k))) (range_with_len 0 size)
+
+-- an instruction, or a byte
+abbrev pub text_listed : Decoded → ℕ → ℕ → List ℕ
+text_listed (Found i size) offset byte = instr_text i offset
+text_listed NoRow offset byte = codes "DB 0" ++ (hex_byte_text byte ++ codes "h")
+
+-- a line of the listing: `F000:0013 B008 MOV AL,008h`, `F000:0017 0F DB 00Fh`
+abbrev pub line_of : (ℕ → ℕ) → ℕ → ℕ → Decoded → List ℕ
+line_of bytes segment offset stands =
+    hex_word segment ++ (codes ":" ++ (hex_word offset ++ (codes " "
+    ++ (flat_map hex_byte_text (bytes_listed bytes segment offset (size_listed stands))
+    ++ (codes " " ++ (text_listed stands offset (bytes (physical segment offset)) ++ codes "\n"))))))
+
+unfoldable pub list_line : (ℕ → ℕ) → ℕ → ℕ → List ℕ
+list_line bytes segment offset = line_of bytes segment offset (stands_at bytes segment offset)
+
+-- the offset at which the next line begins
+unfoldable pub offset_listed_next : (ℕ → ℕ) → ℕ → ℕ → ℕ
+offset_listed_next bytes segment offset = offset_after offset (size_listed (stands_at bytes segment offset))
+
+-- `count` lines from a place on
+abbrev pub list_text : (ℕ → ℕ) → ℕ → ℕ → ℕ → List ℕ
+list_text bytes segment offset count =
+    gathered (offset_listed_next bytes segment) (list_line bytes segment) count offset
