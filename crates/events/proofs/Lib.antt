@@ -11,3 +11,4 @@ pub mod Dating
 pub mod Rising
 pub mod KeyPlaces
 pub mod Reaching
+mod Shadows

@@ -6,5 +6,6 @@ pub mod ClockLaws
 pub mod LevelLaws
 pub mod OrderLaws
 pub mod PortLaws
+pub mod ShadowLaws
 pub mod WithKey
 pub mod KeyLaws

@@ -3,6 +3,7 @@ ghost use Rattle.events.specs.KeyLaws.{KeyStandsInOrder, KeyToComeWaits, KeyWasT
 ghost use Rattle.events.specs.LevelLaws.{LevelsAreTold, StatesAreTold, WiresAlternate, WiresAreTold};
 ghost use Rattle.events.specs.OrderLaws.{ClocksAreTold, ClocksNeverFall, OrderIsTold};
 ghost use Rattle.events.specs.PortLaws.{AccessesAreTold};
+ghost use Rattle.events.specs.ShadowLaws.{ShadowsChangeNothing};
 ghost use Rattle.events.specs.ClockLaws.{CodesAreTold, LossesAreTold, MemoryIsWritten, QueueIsTold, SpeakerIsTold, TrailIsTold};
 
 /// Memory after some clocks is memory before them with the bytes of their write events, in order, put wherever an
@@ -77,4 +78,10 @@ pub fn key_to_come_waits()
 /// A typed key stands after all keys that aren't stamped later, and before all that are.
 pub fn key_stands_in_order()
     ensures { KeyStandsInOrder }
+{}
+
+/// Two boards with IF 0 that differ only in whether requests are kept off differ in nothing else later, so what an
+/// interrupt's entry keeps off changes no run.
+pub fn shadows_change_nothing()
+    ensures { ShadowsChangeNothing }
 {}

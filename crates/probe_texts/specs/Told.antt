@@ -1,5 +1,5 @@
 -- The events of a clock, by what is seen before it and after it.
--- For proofs alone: no public contract rests on it.
+-- To be believed by callers of this crate: the headline does not rest on it.
 use Rattle.std.specs.Prelude.{ℕ, ◌+◌, ◌==◌, nat_lt, Bool, if◌then◌else◌, List, [], ◌∷◌, ◌++◌}
 use Rattle.std.specs.Prelude.{filter, map, Option, None, Some}
 use Rattle.std.specs.Bool.{beq}
