@@ -57,7 +57,8 @@ stands_by k ks key first false is rises rest =
       parts = refl;
       there = ap (λ b. if b then k ∷ inserted ks key else key ∷ k ∷ ks) is;
       before = refl;
-      after = and_so (nat_lt key.stamp k.stamp) (list_all (later_than key.stamp) ks) (less key.stamp k.stamp here) (all_later key.stamp k.stamp ks here parts.1);
+      after = and_so (nat_lt key.stamp k.stamp) (list_all (later_than key.stamp) ks) (less key.stamp k.stamp here)
+          (all_later key.stamp k.stamp ks here parts.1);
     }
 
 pub stands_in_order : KeyStandsInOrder

@@ -41,7 +41,8 @@ join : (f : Event → ℕ) (low mid high : ℕ) (xs ys : List Event) → Rises f
 join f low mid high [] ys first second = lower f low mid high ys first second
 join f low mid high (x ∷ xs) ys first second = (first.0, join f (f x) mid high xs ys first.1 second)
 
-each_at : {X : Type 0} (f : Event → ℕ) (low at : ℕ) (event : X → Event) → ((x : X) → f (event x) ≡ at) → low ≤ at → (xs : List X) → Rises f low at (map event xs)
+each_at : {X : Type 0} (f : Event → ℕ) (low at : ℕ) (event : X → Event) → ((x : X) → f (event x) ≡ at) → low ≤ at
+    → (xs : List X) → Rises f low at (map event xs)
 each_at f low at event is less [] = less
 each_at f low at event is less (x ∷ xs) =
     let here = is x in (omega (arith, here, less), subst (λ n. Rises f n at (map event xs)) (sym here) (each_at f at at event is (omega arith) xs))

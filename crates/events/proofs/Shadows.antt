@@ -106,7 +106,8 @@ again_alike bus a b p s (Some r) off = iterating_alike bus a b (after_fetch p r.
 
 -- a step
 
-repeat_by : {S : Type 0} (bus : BusMeaning S) (a b : Shadow) (p : CpuState) (s : S) (r : Repeating) (none first : ℕ) (empty : Bool) → is_enabled p.registers ≡ false
+repeat_by : {S : Type 0} (bus : BusMeaning S) (a b : Shadow) (p : CpuState) (s : S) (r : Repeating) (none first : ℕ) (empty : Bool)
+    → is_enabled p.registers ≡ false
     → Alike a b (if empty then step_result (with_end (shadowed p a) p.registers p.state NoShadow) s none else after_iterating bus (shadowed p a) s r first)
     (if empty then step_result (with_end (shadowed p b) p.registers p.state NoShadow) s none else after_iterating bus (shadowed p b) s r first)
 repeat_by bus a b p s r none first true off = inl refl

@@ -20,7 +20,7 @@ use Rattle.events.specs.declared.event.Wire.{Wire}
 use Rattle.events.specs.declared.event.Wire.TheVariants.{Out0, Out2, Ir0, Ir1, Int, Speaker}
 use Rattle.events.specs.Accesses.{accesses_next}
 use Rattle.events.specs.Events.{all_wires, chips_reached, code_latched, codes_next, events_next, is_same_state, level_of, wire_event}
-use Rattle.events.specs.LevelLaws.{alternates, brought_by, is_wire, newest, StatesAreTold, turned_by, WiresAlternate, WiresAreTold}
+use Rattle.events.specs.LevelLaws.{alternates, became_by, is_wire, newest, StatesAreTold, turned_by, WiresAlternate, WiresAreTold}
 use Rattle.events.proofs.Parts.{joined, none_arrives, none_if, none_in, none_latched, none_wired, told_in, wired_of}
 use Rattle.events.proofs.Told.{keeps_state, latched_next}
 
@@ -134,39 +134,39 @@ wires_alternate s n wire =
 
 -- the processor's state
 
-abbrev brought : State → State → List State
-brought before after = if is_same_state before after then [] else after ∷ []
+abbrev became : State → State → List State
+became before after = if is_same_state before after then [] else after ∷ []
 
-abbrev brought_next : Plain → List State
-brought_next s = brought (state_of s) (state_of (after_clock s))
+abbrev became_next : Plain → List State
+became_next s = became (state_of s) (state_of (after_clock s))
 
-one_brought : (clock : ℕ) (state : State) (same : Bool) → flat_map brought_by (if same then [] else Became clock state ∷ []) ≡ (if same then [] else state ∷ [])
-one_brought clock state true = refl
-one_brought clock state false = refl
+one_became : (clock : ℕ) (state : State) (same : Bool) → flat_map became_by (if same then [] else Became clock state ∷ []) ≡ (if same then [] else state ∷ [])
+one_became clock state true = refl
+one_became clock state false = refl
 
-brought_of_clock : (s : Plain) → flat_map brought_by (events_next s) ≡ brought_next s
-brought_of_clock s =
-    joined brought_by s [] [] (brought_next s) [] [] []
-    (none_in brought_by Began (λ entry. refl) (trail_next s))
-    (none_in brought_by (Reached (clock_of s)) (λ access. refl) (accesses_next s))
-    (one_brought (clock_of s) (state_of (after_clock s)) (keeps_state s))
-    (none_arrives brought_by (λ clock what code. refl) (clock_of s + 1) (chips_reached s).keyboard (codes_next s))
-    (none_latched brought_by (λ clock code. refl) (clock_of s + 1) (latched_next s))
-    (none_wired brought_by (λ clock wire level. refl) (clock_of s + 1) s (after_clock s) all_wires)
-    ∙ append-nil (brought_next s ++ []) ∙ append-nil (brought_next s)
+became_of_clock : (s : Plain) → flat_map became_by (events_next s) ≡ became_next s
+became_of_clock s =
+    joined became_by s [] [] (became_next s) [] [] []
+    (none_in became_by Began (λ entry. refl) (trail_next s))
+    (none_in became_by (Reached (clock_of s)) (λ access. refl) (accesses_next s))
+    (one_became (clock_of s) (state_of (after_clock s)) (keeps_state s))
+    (none_arrives became_by (λ clock what code. refl) (clock_of s + 1) (chips_reached s).keyboard (codes_next s))
+    (none_latched became_by (λ clock code. refl) (clock_of s + 1) (latched_next s))
+    (none_wired became_by (λ clock wire level. refl) (clock_of s + 1) s (after_clock s) all_wires)
+    ∙ append-nil (became_next s ++ []) ∙ append-nil (became_next s)
 
-newest_brought : (before after : State) → newest before (brought before after) ≡ after
-newest_brought Running Running = refl
-newest_brought Running Halted = refl
-newest_brought Running Jammed = refl
-newest_brought Halted Running = refl
-newest_brought Halted Halted = refl
-newest_brought Halted Jammed = refl
-newest_brought Jammed Running = refl
-newest_brought Jammed Halted = refl
-newest_brought Jammed Jammed = refl
+newest_became : (before after : State) → newest before (became before after) ≡ after
+newest_became Running Running = refl
+newest_became Running Halted = refl
+newest_became Running Jammed = refl
+newest_became Halted Running = refl
+newest_became Halted Halted = refl
+newest_became Halted Jammed = refl
+newest_became Jammed Running = refl
+newest_became Jammed Halted = refl
+newest_became Jammed Jammed = refl
 
 pub states_are_told : StatesAreTold
 states_are_told s n =
-    sym (ap (newest (state_of s)) (told_in brought_by brought_next brought_of_clock s n)
-    ∙ newest_in state_of brought_next (λ p. newest_brought (state_of p) (state_of (after_clock p))) s n)
+    sym (ap (newest (state_of s)) (told_in became_by became_next became_of_clock s n)
+    ∙ newest_in state_of became_next (λ p. newest_became (state_of p) (state_of (after_clock p))) s n)

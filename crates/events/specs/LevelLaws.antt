@@ -33,9 +33,9 @@ turned_by wire (Wired _ other level) = if is_wire wire other then level ∷ [] e
 turned_by wire _ = []
 
 -- the state to which an event brings the processor
-abbrev pub brought_by : Event → List State
-brought_by (Became _ state) = state ∷ []
-brought_by _ = []
+abbrev pub became_by : Event → List State
+became_by (Became _ state) = state ∷ []
+became_by _ = []
 
 -- the newest of some values, or the one before them
 abbrev pub newest : {A : Type 0} → A → List A → A
@@ -60,7 +60,7 @@ WiresAlternate =
 -- the processor's state is that of its last event
 abbrev pub StatesAreTold : Type 0
 StatesAreTold =
-    (s : Plain) (n : ℕ) → state_of (after_clocks s n) ≡ newest (state_of s) (flat_map brought_by (events_in s n))
+    (s : Plain) (n : ℕ) → state_of (after_clocks s n) ≡ newest (state_of s) (flat_map became_by (events_in s n))
 
 -- What each level is once the wires have settled, by what stands at the wire's other end: OUT0 is what the controller
 -- has on its line 0, and IR0 what counter 0 puts out; IR1 is high while a code is in the latch; INT is what a processor

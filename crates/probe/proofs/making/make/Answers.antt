@@ -43,7 +43,8 @@ see-requires-clause-looked g c =
     ends_at c.new.result c.unwrap-end.result c.get-2.result c.clock-start.result (clock_of s.board.plain) c.args.count _ c.new.ensures
     c.unwrap-end.ensures c.get-2.ensures.value start in
     let limit : clock_of s.board.plain + c.args.count ≤ 2 ^ 40 = omega (arith, c.if-get-count.false, c.get.ensures.value, start) in
-    let from : turn.before.clock ≡ clock_of t.board.plain = ap (λ (x : Seen). x.clock) c.turns.invariant.before ∙ seen_clock c.asked-asked.result t.board.plain in
+    let from : turn.before.clock ≡ clock_of t.board.plain =
+    ap (λ (x : Seen). x.clock) c.turns.invariant.before ∙ seen_clock c.asked-asked.result t.board.plain in
     let some = one.some in
     let within = one.before_end in
     looked_of turn t.board u.board b c.unwrap-end.result c.unwrap-end.result c.turns.invariant.before c.turns.invariant.room c.seen_of-after.ensures.room

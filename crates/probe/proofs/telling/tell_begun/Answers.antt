@@ -12,7 +12,7 @@ returns-in_default-clause-told g c = λ before entries events are ends heard.
 pub returns-then-not-type_asked-clause-told : goal.returns-then-not-type_asked-clause-told
 returns-then-not-type_asked-clause-told g c = λ before entries events are ends heard.
     let no : type_asked c.args.asked c.in-Some.begun.entered ≡ false =
-    (let is = c.type_asked.ensures in let unasked = c.if-not-type_asked.true in cc) in
+    (let is = c.type_asked.ensures in let never_asked = c.if-not-type_asked.true in cc) in
     none_heard (g.L.Listener.has) _ events _ (one_seen c.args.asked entries c.in-Some.begun false no (are ∙ ap option_to_list c.in-Some.is)) heard
 
 pub returns-in-Some-last_entry-clause-told : goal.returns-in-Some-last_entry-clause-told
