@@ -47,8 +47,7 @@ makes n text s t (Err fault) is = refuses_making n s t fault is
 
 inquires : (inquiry : Inquiry) (s t : SessionState) (result : Result Answer DebugFault) → AnswersInquiry inquiry s result t → same s t
 inquires inquiries.Chips s t result is = unchanged s t is.1
-inquires (inquiries.List place count) s t result is = unchanged s t is.1
-inquires (inquiries.Forms place count) s t result is = unchanged s t is.1
+inquires (inquiries.List lines place count) s t result is = unchanged s t is.1
 inquires (inquiries.Counts n) s t result is = makes n _ s t result is
 inquires (inquiries.Signals n) s t result is = makes n _ s t result is
 inquires (inquiries.Events n kinds) s t result is = makes n _ s t result is

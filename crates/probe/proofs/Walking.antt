@@ -75,8 +75,7 @@ takes first key s t answer at is = (
 inquires : (first : Shown) (inquiry : Inquiry) (s t : SessionState) (result : Result Answer DebugFault)
     → StandsFrom first s → AnswersInquiry inquiry s result t → Leads first (key_typed None (Some inquiry) (clock_of s.board.plain) result) t
 inquires first inquiries.Chips s t result at is = no_keys first t (same_state first s t at is.1)
-inquires first (inquiries.List place count) s t result at is = no_keys first t (same_state first s t at is.1)
-inquires first (inquiries.Forms place count) s t result at is = no_keys first t (same_state first s t at is.1)
+inquires first (inquiries.List lines place count) s t result at is = no_keys first t (same_state first s t at is.1)
 inquires first (inquiries.Counts n) s t result at is = no_keys first t (makes first n _ s t result at is)
 inquires first (inquiries.Signals n) s t result at is = no_keys first t (makes first n _ s t result at is)
 inquires first (inquiries.Events n kinds) s t result at is = no_keys first t (makes first n _ s t result at is)

@@ -8,14 +8,13 @@ use Rattle.debugger_meaning.specs.Commands.{command_of}
 use Rattle.debugger_meaning.specs.Session.{AnswersLine, Shows}
 use Rattle.debugger_meaning.specs.Stands.{SessionState}
 use Rattle.probe_texts.specs.declared.inquiry.Inquiry.{Inquiry}
-use Rattle.probe_texts.specs.declared.inquiry.Inquiry.TheVariants.{Chips, List as Listing, Forms, Counts}
+use Rattle.probe_texts.specs.declared.inquiry.Inquiry.TheVariants.{Chips, List as Listing, Counts}
 use Rattle.probe_texts.specs.declared.inquiry.Inquiry.TheVariants.{Signals, Events, Key}
 use Rattle.probe_texts.specs.ChipsText.{chips_text}
 use Rattle.probe.specs.Counts.{counts_text}
-use Rattle.probe_texts.specs.FormLines.{forms_text}
+use Rattle.probe_texts.specs.FormLines.{lines_text}
 use Rattle.probe_texts.specs.Inquiry.{inquiry_of}
 use Rattle.probe_texts.specs.Listed.{events_text}
-use Rattle.probe_texts.specs.Listing.{list_text}
 use Rattle.probe.specs.Making.{AnswersMaking}
 use Rattle.probe_texts.specs.Signals.{signals_text}
 use Rattle.probe.specs.Typed.{AnswersKey}
@@ -24,10 +23,8 @@ use Rattle.probe.specs.Typed.{AnswersKey}
 -- is shown; or a key is taken
 abbrev pub AnswersInquiry : Inquiry → SessionState → Result Answer DebugFault → SessionState → Type 0
 AnswersInquiry Chips old result new = Shows (chips_text old.board.plain) result × (new ≡ old)
-AnswersInquiry (Listing place count) old result new =
-    Shows (list_text (byte_of old.board.plain) place.segment place.offset count) result × (new ≡ old)
-AnswersInquiry (Forms place count) old result new =
-    Shows (forms_text (byte_of old.board.plain) place.segment place.offset count) result × (new ≡ old)
+AnswersInquiry (Listing lines place count) old result new =
+    Shows (lines_text lines (byte_of old.board.plain) place.segment place.offset count) result × (new ≡ old)
 AnswersInquiry (Counts n) old result new = AnswersMaking n (counts_text old.board.plain n) old result new
 AnswersInquiry (Signals n) old result new = AnswersMaking n (signals_text old.board.plain n) old result new
 AnswersInquiry (Events n kinds) old result new =

@@ -1,8 +1,7 @@
 //! A session that answers inquiries.
 ghost use Rattle.std.specs.Prelude.{◌≡◌};
 ghost use Rattle.probe_texts.specs.ChipsText.{chips_text};
-ghost use Rattle.probe_texts.specs.FormLines.{forms_text};
-ghost use Rattle.probe_texts.specs.Listing.{list_text};
+ghost use Rattle.probe_texts.specs.FormLines.{lines_text};
 ghost use Rattle.probe.specs.InquirySession.{AnswersInquiry, AnswersProbe};
 ghost use Rattle.board_plain.specs.Plain.{byte_of};
 ghost use Rattle.debugger_meaning.specs.Session.{Shows};
@@ -16,9 +15,8 @@ use crate::typed::type_key;
 use debugger::session::Session;
 use debugger_meaning::answer::Answer;
 use debugger_meaning::fault::DebugFault;
-use probe_texts::forms_text::forms_text;
-use probe_texts::inquiry::{Inquiry, Place, read_inquiry};
-use probe_texts::list_text::list_text;
+use probe_texts::inquiry::{Inquiry, Lines, Place, read_inquiry};
+use probe_texts::list_text::lines_text;
 use std::alloc::Global;
 
 /// Answers a typed line: an inquiry here, and any other line as the debugger's session does. `chips`, `list` and `forms`
@@ -43,8 +41,7 @@ fn answer(session: &mut Session, alloc: Global, inquiry: Inquiry) -> Result<Answ
 {
     match inquiry {
         Inquiry::Chips => chips(session, alloc),
-        Inquiry::List(place, count) => list(session, alloc, place, count),
-        Inquiry::Forms(place, count) => forms(session, alloc, place, count),
+        Inquiry::List(lines, place, count) => list(session, alloc, lines, place, count),
         Inquiry::Counts(count) => tell_counts(session, alloc, count),
         Inquiry::Signals(count) => tell_signals(session, alloc, count),
         Inquiry::Events(count, kinds) => tell_events(session, alloc, count, kinds.as_slice()),
@@ -59,16 +56,16 @@ fn chips(session: &Session, alloc: Global) -> Result<Answer, DebugFault>
     Ok(Answer::Text(chips_text(alloc, session.board())?))
 }
 
-/// Answers the inquiry `list`: `count` instructions from a place in memory on.
-fn list(session: &Session, alloc: Global, place: Place, count: u16) -> Result<Answer, DebugFault>
-    ensures { Shows (list_text (byte_of session.now.board.plain) place.segment place.offset count) result }
+/// Answers the inquiry `list` or `forms`: `count` instructions from a place in memory on.
+fn list(
+    session: &Session,
+    alloc: Global,
+    lines: Lines,
+    place: Place,
+    count: u16,
+) -> Result<Answer, DebugFault>
+    ensures { Shows (lines_text lines (byte_of session.now.board.plain) place.segment place.offset count) result }
 {
-    Ok(Answer::Text(list_text(alloc, &BoardBytes(session.board()), place, count)?))
-}
-
-/// Answers the inquiry `forms`: what `count` instructions from a place in memory on do.
-fn forms(session: &Session, alloc: Global, place: Place, count: u16) -> Result<Answer, DebugFault>
-    ensures { Shows (forms_text (byte_of session.now.board.plain) place.segment place.offset count) result }
-{
-    Ok(Answer::Text(forms_text(alloc, &BoardBytes(session.board()), place, count)?))
+    let memory = BoardBytes(session.board());
+    Ok(Answer::Text(lines_text(alloc, &memory, lines, place, count)?))
 }

@@ -32,7 +32,9 @@ use Rattle.forms.specs.Flow.{flow_of, target_of}
 use Rattle.forms.specs.Reached.{accesses_of, port_of}
 use Rattle.forms.specs.StackMove.{move_of}
 use Rattle.forms.specs.StepClocks.{clocks_told}
-use Rattle.probe_texts.specs.Listing.{bytes_listed, offset_listed_next, size_listed, stands_at}
+use Rattle.probe_texts.specs.declared.inquiry.Lines.{Lines}
+use Rattle.probe_texts.specs.declared.inquiry.Lines.TheVariants.{Texts, Forms}
+use Rattle.probe_texts.specs.Listing.{bytes_listed, line_of, offset_listed_next, size_listed, stands_at}
 
 abbrev pub flow_word : Flow → List ℕ
 flow_word flows.Next = codes "next"
@@ -173,10 +175,15 @@ form_by bytes segment offset stands =
     ++ (codes " " ++ (flat_map hex_byte_text (bytes_listed bytes segment offset (size_listed stands))
     ++ done_text stands segment offset))
 
-unfoldable pub form_line : (ℕ → ℕ) → ℕ → ℕ → List ℕ
-form_line bytes segment offset = form_by bytes segment offset (stands_at bytes segment offset)
+-- a line of `list`, or of `forms`
+abbrev pub line_by : Lines → (ℕ → ℕ) → ℕ → ℕ → Decoded → List ℕ
+line_by Texts = line_of
+line_by Forms = form_by
+
+unfoldable pub line_at : Lines → (ℕ → ℕ) → ℕ → ℕ → List ℕ
+line_at lines bytes segment offset = line_by lines bytes segment offset (stands_at bytes segment offset)
 
 -- `count` lines from a place on
-abbrev pub forms_text : (ℕ → ℕ) → ℕ → ℕ → ℕ → List ℕ
-forms_text bytes segment offset count =
-    gathered (offset_listed_next bytes segment) (form_line bytes segment) count offset
+abbrev pub lines_text : Lines → (ℕ → ℕ) → ℕ → ℕ → ℕ → List ℕ
+lines_text lines bytes segment offset count =
+    gathered (offset_listed_next bytes segment) (line_at lines bytes segment) count offset

@@ -8,8 +8,10 @@ use Rattle.debugger_meaning.specs.declared.command.Command.TheVariants.{Break}
 use Rattle.debugger_meaning.specs.Commands.{break_command, is_colon}
 use Rattle.debugger_meaning.specs.CommandWords.{count_of, hex_number, words_of}
 use Rattle.probe_texts.specs.declared.inquiry.Inquiry.{Inquiry}
-use Rattle.probe_texts.specs.declared.inquiry.Inquiry.TheVariants.{Chips, List as Listing, Forms, Counts}
+use Rattle.probe_texts.specs.declared.inquiry.Inquiry.TheVariants.{Chips, List as Listing, Counts}
 use Rattle.probe_texts.specs.declared.inquiry.Inquiry.TheVariants.{Signals, Events, Key}
+use Rattle.probe_texts.specs.declared.inquiry.Lines.{Lines}
+use Rattle.probe_texts.specs.declared.inquiry.Lines.TheVariants.{Texts, Forms}
 use Rattle.probe_texts.specs.declared.inquiry.Place.{Place}
 use Rattle.probe_texts.specs.declared.kinds.Kind.{Kind}
 use Rattle.probe_texts.specs.Kinds.{kinds_from}
@@ -31,18 +33,14 @@ place_of word =
     else place_of_address (hex_number 5 word)
 
 -- 1 to 4,096 instructions from a place on
-abbrev pub list_within : Place → ℕ → Option Inquiry
-list_within place count = if nat_le 1 count && nat_le count 4096 then Some (Listing place count) else None
+abbrev pub list_within : Lines → Place → ℕ → Option Inquiry
+list_within lines place count =
+    if nat_le 1 count && nat_le count 4096 then Some (Listing lines place count) else None
 
-abbrev pub list_of : Option Place → Option ℕ → Option Inquiry
-list_of (Some place) (Some count) = list_within place count
-list_of (Some place) None = None
-list_of None _ = None
-
--- what the instructions do that `list` would show
-abbrev pub forms_of : Option Inquiry → Option Inquiry
-forms_of (Some (Listing place count)) = Some (Forms place count)
-forms_of _ = None
+abbrev pub list_of : Lines → Option Place → Option ℕ → Option Inquiry
+list_of lines (Some place) (Some count) = list_within lines place count
+list_of lines (Some place) None = None
+list_of lines None _ = None
 
 -- an inquiry that runs for some clocks
 abbrev pub run_inquiry : List ℕ → Option ℕ → Option Inquiry
@@ -74,8 +72,8 @@ inquiry_with name first =
 
 abbrev pub inquiry_with_two : List ℕ → List ℕ → List ℕ → Option Inquiry
 inquiry_with_two name first second =
-    if bytes_eq name (codes "list") then list_of (place_of first) (count_of second) else (
-    if bytes_eq name (codes "forms") then forms_of (list_of (place_of first) (count_of second)) else (
+    if bytes_eq name (codes "list") then list_of Texts (place_of first) (count_of second) else (
+    if bytes_eq name (codes "forms") then list_of Forms (place_of first) (count_of second) else (
     if bytes_eq name (codes "key") then key_at (hex_number 2 first) (count_of second) else None))
 
 abbrev pub inquiry_of_two : List ℕ → List ℕ → List ℕ → List (List ℕ) → Option Inquiry

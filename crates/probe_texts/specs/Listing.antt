@@ -4,7 +4,6 @@ use Rattle.std.specs.Prelude.{ℕ, List, ◌++◌, codes, map}
 use Rattle.std.specs.List.{flat_map, range_with_len}
 use Rattle.board_types.specs.Address.{offset_after, physical}
 use Rattle.board_types.specs.Digits.{hex_byte_text, hex_word}
-use Rattle.board_types.specs.Iterate.{gathered}
 use Rattle.decode.specs.declared.decoding.Decoding.{Decoding as Decoded}
 use Rattle.decode.specs.declared.decoding.Decoding.TheVariants.{Found, NoRow}
 use Rattle.decode.specs.Decoding.{code_at, decoded_from}
@@ -36,14 +35,6 @@ line_of bytes segment offset stands =
     ++ (flat_map hex_byte_text (bytes_listed bytes segment offset (size_listed stands))
     ++ (codes " " ++ (text_listed stands offset (bytes (physical segment offset)) ++ codes "\n"))))))
 
-unfoldable pub list_line : (ℕ → ℕ) → ℕ → ℕ → List ℕ
-list_line bytes segment offset = line_of bytes segment offset (stands_at bytes segment offset)
-
 -- the offset at which the next line begins
 unfoldable pub offset_listed_next : (ℕ → ℕ) → ℕ → ℕ → ℕ
 offset_listed_next bytes segment offset = offset_after offset (size_listed (stands_at bytes segment offset))
-
--- `count` lines from a place on
-abbrev pub list_text : (ℕ → ℕ) → ℕ → ℕ → ℕ → List ℕ
-list_text bytes segment offset count =
-    gathered (offset_listed_next bytes segment) (list_line bytes segment) count offset

@@ -1,14 +1,10 @@
 //! What instructions in memory do, as text.
-ghost use Rattle.std.specs.Prelude.{◌≡◌, ◌++◌, IfOk, OnOk, Some};
-ghost use Rattle.std.specs.List.{flat_map};
+ghost use Rattle.std.specs.Prelude.{◌≡◌, IfOk, OnOk, Some};
 ghost use Rattle.std.specs.String.{string_bytes};
-ghost use Rattle.board_types.specs.Digits.{hex_byte_text};
 ghost use Rattle.forms.specs.Changed.{sets_word};
-ghost use Rattle.probe_texts.specs.FormLines.{alters_text, changes_text, clocks_text, comma_after, done_text, either_text, flow_word, form_by, form_line, forms_text, leads_text, letter, move_text, names_after, or_word, place_text, pointers_set, port_name_text, port_text, reached_text, reaches_text, segments_set, sets_text, signed_text, target_text, with_name, words_set};
-ghost use Rattle.probe_texts.specs.Listing.{bytes_listed, offset_listed_next, size_listed, stands_at};
+ghost use Rattle.probe_texts.specs.FormLines.{alters_text, changes_text, clocks_text, comma_after, done_text, either_text, flow_word, form_by, leads_text, letter, move_text, names_after, or_word, place_text, pointers_set, port_name_text, port_text, reached_text, reaches_text, segments_set, sets_text, signed_text, target_text, with_name, words_set};
 
-use crate::inquiry::Place;
-use crate::list_text::{bytes_text, size_listed, stands_at};
+use crate::list_text::{bytes_text, size_listed};
 use board_types::bytes::Bytes;
 use board_types::choice::ClockTable;
 use board_types::digits::{HexByte, HexWord};
@@ -24,45 +20,8 @@ use isa::register::{SegmentRegister, WordRegister};
 use std::alloc::{AllocError, Global};
 use std::fmt;
 
-/// Returns the answer to the inquiry `forms`: what `count` instructions from a place on do, a line for each.
-pub fn forms_text<B: Bytes>(
-    alloc: Global,
-    memory: &B,
-    place: Place,
-    count: u16,
-) -> Result<String, AllocError>
-    ensures { IfOk result (λ text. string_bytes text ≡ forms_text (B.byte_at memory.now) place.segment place.offset count) }
-{
-    let segment = place.segment;
-    let mut offset = place.offset;
-    let mut text = String::new(alloc);
-    for _ in 0..count {
-        offset = push_line(alloc, &mut text, memory, segment, offset)?;
-    }
-    Ok(text)
-}
-
-/// Adds the line of `forms` for what stands at a place. Returns the offset of the next line, which wraps around in the
-/// segment.
-#[tactic(auto, unfolding(crate::specs::FormLines::form_line, crate::specs::Listing::offset_listed_next))]
-fn push_line<B: Bytes>(
-    alloc: Global,
-    text: &mut String,
-    memory: &B,
-    segment: u16,
-    offset: u16,
-) -> Result<u16, AllocError>
-    ensures line { OnOk result (string_bytes text.new ≡ string_bytes text.old ++ form_line (B.byte_at memory.now) segment offset) }
-    ensures next { IfOk result (λ next. next ≡ offset_listed_next (B.byte_at memory.now) segment offset) }
-{
-    let stands = stands_at(memory, segment, offset);
-    let line = form_by(alloc, memory, segment, offset, &stands)?;
-    text.push_str(line.as_str())?;
-    Ok(offset.wrapping_add(size_listed(&stands)))
-}
-
 /// Returns the line of `forms` for what was decoded at a place: the place, the bytes, and what they do.
-fn form_by<B: Bytes>(
+pub(crate) fn form_by<B: Bytes>(
     alloc: Global,
     memory: &B,
     segment: u16,

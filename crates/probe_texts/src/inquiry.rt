@@ -1,7 +1,7 @@
 //! Inquiries, and how a line is read as one.
 ghost use Rattle.std.specs.Prelude.{◌≡◌, []};
 ghost use Rattle.debugger_meaning.specs.CommandWords.{count_of, hex_number, words_of};
-ghost use Rattle.probe_texts.specs.Inquiry.{events_of, forms_of, inquiry_of, inquiry_with, inquiry_with_two, key_at, key_of, list_of, place_of, run_inquiry};
+ghost use Rattle.probe_texts.specs.Inquiry.{events_of, inquiry_of, inquiry_with, inquiry_with_two, key_at, key_of, list_of, place_of, run_inquiry};
 ghost use Rattle.probe_texts.specs.Kinds.{kinds_from};
 
 use crate::kinds::{Kinds, read_kinds};
@@ -15,15 +15,22 @@ pub struct Place {
     pub offset: u16,
 }
 
+/// What is shown of instructions in memory, a line for each.
+#[derive(Clone, Copy, Debug, PartialEq, Eq)]
+pub enum Lines {
+    /// Their texts, for `list`.
+    Texts,
+    /// What they do, for `forms`.
+    Forms,
+}
+
 /// What a typed line asks `pcprobe` of a session's board, beside the debugger's commands.
 #[derive(Drop)]
 pub enum Inquiry {
     /// What the chips hold.
     Chips,
-    /// Lists this many instructions, 1 to 4,096, from a place on.
-    List(Place, u16),
-    /// Tells what this many instructions do, 1 to 4,096, from a place on.
-    Forms(Place, u16),
+    /// Shows this many instructions, 1 to 4,096, from a place on.
+    List(Lines, Place, u16),
     /// Runs for this many clocks, and counts them by what began.
     Counts(u64),
     /// Runs for this many clocks, and lists the changes of wires.
@@ -76,9 +83,9 @@ fn inquiry_with_two(name: &[u8], first: &[u8], second: &[u8]) -> Option<Inquiry>
     ensures { result ≡ inquiry_with_two name.now first.now second.now }
 {
     if name == b"list".as_slice() {
-        list(first, second)
+        list(Lines::Texts, first, second)
     } else if name == b"forms".as_slice() {
-        forms(first, second)
+        list(Lines::Forms, first, second)
     } else if name == b"key".as_slice() {
         key_at(first, second)
     } else {
@@ -127,26 +134,16 @@ fn run_inquiry(name: &[u8], count: &[u8]) -> Option<Inquiry>
     None
 }
 
-/// Reads the words after `list`, a place and a count of 1 to 4,096 instructions, as an inquiry.
-fn list(place: &[u8], count: &[u8]) -> Option<Inquiry>
-    ensures { result ≡ list_of (place_of place.now) (count_of count.now) }
+/// Reads the words after `list` or `forms`, a place and a count of 1 to 4,096 instructions, as an inquiry.
+fn list(lines: Lines, place: &[u8], count: &[u8]) -> Option<Inquiry>
+    ensures { result ≡ list_of lines (place_of place.now) (count_of count.now) }
 {
     let place = place_of(place)?;
     let count = count_of(count)?;
     if count < 1 || count > 4096 {
         return None;
     }
-    Some(Inquiry::List(place, count as u16))
-}
-
-/// Reads the words after `forms`, which are those after `list`, as an inquiry.
-fn forms(place: &[u8], count: &[u8]) -> Option<Inquiry>
-    ensures { result ≡ forms_of (list_of (place_of place.now) (count_of count.now)) }
-{
-    match list(place, count) {
-        Some(Inquiry::List(place, count)) => Some(Inquiry::Forms(place, count)),
-        _ => None,
-    }
+    Some(Inquiry::List(lines, place, count as u16))
 }
 
 /// Reads the place from which instructions are listed: `SEGMENT:OFFSET`, or a physical address, to which the segment of

@@ -6,7 +6,7 @@ pub mod chips_text;
 pub mod controller_text;
 pub mod counter_text;
 pub mod event_text;
-pub mod forms_text;
+mod forms_text;
 pub mod inquiry;
 pub mod kinds;
 pub mod laws;

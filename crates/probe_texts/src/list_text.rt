@@ -3,9 +3,11 @@ ghost use Rattle.std.specs.Prelude.{◌≡◌, ◌++◌, IfOk, OnOk, Some};
 ghost use Rattle.std.specs.List.{flat_map};
 ghost use Rattle.std.specs.String.{string_bytes};
 ghost use Rattle.board_types.specs.Digits.{hex_byte_text};
-ghost use Rattle.probe_texts.specs.Listing.{bytes_listed, line_of, list_line, list_text, offset_listed_next, size_listed, stands_at, text_listed};
+ghost use Rattle.probe_texts.specs.FormLines.{line_at, line_by, lines_text};
+ghost use Rattle.probe_texts.specs.Listing.{bytes_listed, line_of, offset_listed_next, size_listed, stands_at, text_listed};
 
-use crate::inquiry::Place;
+use crate::forms_text::form_by;
+use crate::inquiry::{Lines, Place};
 use board_types::address::physical;
 use board_types::bytes::Bytes;
 use board_types::digits::{HexByte, HexWord};
@@ -44,45 +46,65 @@ impl fmt::Display for Listed<'_> {
     }
 }
 
-/// Returns the answer to the inquiry `list`: `count` instructions from a place on, a line for each.
-pub fn list_text<B: Bytes>(
+/// Returns the answer to the inquiry `list` or `forms`: `count` instructions from a place on, a line for each.
+pub fn lines_text<B: Bytes>(
     alloc: Global,
     memory: &B,
+    lines: Lines,
     place: Place,
     count: u16,
 ) -> Result<String, AllocError>
-    ensures { IfOk result (λ text. string_bytes text ≡ list_text (B.byte_at memory.now) place.segment place.offset count) }
+    ensures { IfOk result (λ text. string_bytes text
+        ≡ lines_text lines (B.byte_at memory.now) place.segment place.offset count) }
 {
     let segment = place.segment;
     let mut offset = place.offset;
     let mut text = String::new(alloc);
     for _ in 0..count {
-        offset = push_line(alloc, &mut text, memory, segment, offset)?;
+        offset = push_line(alloc, &mut text, memory, lines, segment, offset)?;
     }
     Ok(text)
 }
 
-/// Adds the line of `list` for what stands at a place. Returns the offset of the next line, which wraps around in the
-/// segment.
-#[tactic(auto, unfolding(crate::specs::Listing::list_line, crate::specs::Listing::offset_listed_next))]
+/// Adds the line of what stands at a place. Returns the offset of the next line, which wraps around in the segment.
+#[tactic(auto, unfolding(crate::specs::FormLines::line_at, crate::specs::Listing::offset_listed_next))]
 fn push_line<B: Bytes>(
     alloc: Global,
     text: &mut String,
     memory: &B,
+    lines: Lines,
     segment: u16,
     offset: u16,
 ) -> Result<u16, AllocError>
-    ensures line { OnOk result (string_bytes text.new ≡ string_bytes text.old ++ list_line (B.byte_at memory.now) segment offset) }
+    ensures line { OnOk result
+        (string_bytes text.new ≡ string_bytes text.old ++ line_at lines (B.byte_at memory.now) segment offset) }
     ensures next { IfOk result (λ next. next ≡ offset_listed_next (B.byte_at memory.now) segment offset) }
 {
     let stands = stands_at(memory, segment, offset);
-    let line = line_of(alloc, memory, segment, offset, &stands)?;
+    let line = line_by(alloc, memory, lines, segment, offset, &stands)?;
     text.push_str(line.as_str())?;
     Ok(offset.wrapping_add(size_listed(&stands)))
 }
 
+/// Returns the line of `list` or of `forms` for what was decoded at a place.
+fn line_by<B: Bytes>(
+    alloc: Global,
+    memory: &B,
+    lines: Lines,
+    segment: u16,
+    offset: u16,
+    stands: &Decoding,
+) -> Result<String, AllocError>
+    ensures { IfOk result (λ text. string_bytes text ≡ line_by lines (B.byte_at memory.now) segment offset stands.now) }
+{
+    match lines {
+        Lines::Texts => line_of(alloc, memory, segment, offset, stands),
+        Lines::Forms => form_by(alloc, memory, segment, offset, stands),
+    }
+}
+
 /// Decodes what stands at a place in memory, for its line of `list` or `forms`.
-pub(crate) fn stands_at<B: Bytes>(memory: &B, segment: u16, offset: u16) -> Decoding
+fn stands_at<B: Bytes>(memory: &B, segment: u16, offset: u16) -> Decoding
     ensures { result ≡ stands_at (B.byte_at memory.now) segment offset }
 {
     decoding_at(memory, segment, offset)
