@@ -5,10 +5,10 @@ ghost use Rattle.debugger_meaning.specs.Stands.{shown_of};
 ghost use Rattle.probe.specs.Lab.{edited, have_cells, takes_edit, with_bytes};
 ghost use Rattle.probe_texts.specs.Wishes.{HasPlaces};
 
-use probe_texts::wishes::Edit;
 use board::board::Board;
 use board_plain::change::Change;
 use debugger::session::Session;
+use probe_texts::wishes::Edit;
 
 /// Whether a board can be changed so: each byte needs a cell in RAM, text memory or ROM.
 pub(crate) fn takes_edit(board: &Board, edit: &Edit) -> bool

@@ -9,11 +9,11 @@ ghost use Rattle.probe.specs.Probe.{session_of};
 ghost use Rattle.probe_texts.specs.Wishes.{HasPlaces};
 
 use crate::probe::Probe;
-use probe_texts::wishes::{Edit, Wish, read_wish};
 use board::board::Board;
 use debugger::session::Session;
 use debugger_meaning::answer::Answer;
 use debugger_meaning::fault::DebugFault;
+use probe_texts::wishes::{Edit, Wish, read_wish};
 use std::alloc::Global;
 use std::marker::Model;
 
