@@ -32,6 +32,7 @@ pub(crate) struct Turn {
 }
 
 /// Looks at a board before or after a turn, at wires and keys only if they are asked for.
+#[inline(always)]
 #[tactic(auto, unfolding(crate::specs::Seen::seen_of))]
 pub(crate) fn seen_of(board: &Board, asked: Asked) -> Seen
     ensures seen { result ≡ seen_of asked board.now.plain }
@@ -47,6 +48,7 @@ pub(crate) fn seen_of(board: &Board, asked: Asked) -> Seen
 }
 
 /// Returns how many codes wait in the keyboard if keys are asked for, else 0 without a look.
+#[inline(always)]
 fn waiting_seen(board: &Board, keys: bool) -> usize
     ensures waiting { result ≡ waiting_seen keys board.now.plain }
     ensures room { result ≤ 16 }
@@ -71,6 +73,7 @@ fn waiting_of(keyboard: &Keyboard) -> usize
 }
 
 /// Returns the levels of the wires if they are asked for, else `None` without a look.
+#[inline(always)]
 fn levels_seen(board: &Board, wires: bool) -> Option<Levels>
     ensures { result ≡ levels_seen wires board.now.plain }
 {
