@@ -6,7 +6,7 @@ use Rattle.probe_texts.specs.Asked.{asked_with, nothing_asked}
 use Rattle.probe_texts.specs.Listed.{listed_lines}
 use Rattle.probe_texts.proofs.Hearing.{on_ok_then}
 use Rattle.probe.proofs.Lines.{lines_on}
-use Rattle.probe.proofs.event_lines.EventLinesVisitor.see.Goals as goal
+use Rattle.probe.proofs.event_lines.EventLinesVisitorAccesses.see.Goals as goal
 
 pub returns-clause-saw : goal.returns-clause-saw
 returns-clause-saw c =

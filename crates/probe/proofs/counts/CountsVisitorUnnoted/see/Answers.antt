@@ -1,6 +1,6 @@
 use Rattle.probe.proofs.Counting.{begins_after, more_counted}
 use Rattle.probe.proofs.Lines.{on_ok_three}
-use Rattle.probe.proofs.counts.CountsVisitor.see.Goals as goal
+use Rattle.probe.proofs.counts.CountsVisitorUnnoted.see.Goals as goal
 
 pub note-requires : goal.note-requires
 note-requires c =

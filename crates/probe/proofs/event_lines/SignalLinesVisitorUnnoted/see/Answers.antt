@@ -7,7 +7,7 @@ use Rattle.probe_texts.specs.declared.asked.Asked.{Asked}
 use Rattle.probe_texts.specs.Signals.{signal_line}
 use Rattle.probe_texts.proofs.Hearing.{on_ok_then}
 use Rattle.probe.proofs.Lines.{signals_on}
-use Rattle.probe.proofs.event_lines.SignalLinesVisitor.see.Goals as goal
+use Rattle.probe.proofs.event_lines.SignalLinesVisitorUnnoted.see.Goals as goal
 
 pub returns-clause-saw : goal.returns-clause-saw
 returns-clause-saw c =
