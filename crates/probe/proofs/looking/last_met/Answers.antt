@@ -21,6 +21,7 @@ turns-init c = record {
       (c.standing-here.ensures ∙ ap (λ xs. standing xs c.args.board.now.plain) c.copy_bytes.ensures.keeps.stops) c.clock.ensures
       c.found_first-last.ensures c.copy_bytes.ensures.keeps.stops c.copy_bytes.ensures.copies c.copy_bytes.ensures.keeps.watched;
   before = c.seen_of-before.ensures.seen;
+  clock = c.seen_of-before.ensures.clock;
   room = c.seen_of-before.ensures.room;
 }
 
@@ -86,6 +87,7 @@ turns-preserved c =
           c.standing_now-here.result c.turns.last c.found_before-before_end.result c.clock-clock.result so_far turn far once end
           (omega (arith, before_end, clock)) now c.found-number.ensures.keeps);
       before = c.seen_of-after.ensures.seen;
+      clock = c.seen_of-after.ensures.clock;
       room = c.seen_of-after.ensures.room;
     }
 

@@ -10,6 +10,7 @@ abbrev pub invariant-turns : goal.invariant-turns
 invariant-turns l = record {
   so_far : LastSoFar (stops_of l.fn.watches) l.is_first l.to l.fn.board l.board l.watches l.here l.last;
   before : l.before ≡ seen_of l.asked l.board.plain;
+  clock : l.before.clock ≡ clock_of l.board.plain;
   room : l.before.waiting ≤ 16;
 }
 

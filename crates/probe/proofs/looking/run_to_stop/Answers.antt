@@ -20,6 +20,7 @@ turns-init c = record {
       (subst (λ (b : BoardState). AreCopies c.copy_bytes.new.watches b.plain) c.board.ensures.board c.copy_bytes.ensures.copies)
       c.copy_bytes.ensures.keeps.watched;
   before = c.seen_of-before.ensures.seen ∙ ap (λ (b : BoardState). seen_of c.asked_by-asked.result b.plain) c.board-3.ensures.board;
+  clock = c.seen_of-before.ensures.clock ∙ ap (λ (b : BoardState). clock_of b.plain) c.board-3.ensures.board;
   room = c.seen_of-before.ensures.room;
 }
 
@@ -96,6 +97,7 @@ turns-preserved c =
       met = met_none_more stops c.args.end s t u c.turns.watches c.found-number.new.watches c.found-number.result (sym c.is_some.ensures ∙ c.if-is_some.false)
           c.turns.invariant.met on.0 on.1.0 on.1.1 c.in-Ok.ensures.stops c.in-Ok.ensures.first c.found-number.ensures.keeps;
       before = c.seen_of-after.ensures.seen ∙ ap (λ (b : BoardState). seen_of c.asked_by-asked.result b.plain) c.board-in-turns-2.ensures.board;
+      clock = c.seen_of-after.ensures.clock ∙ ap (λ (b : BoardState). clock_of b.plain) c.board-in-turns-2.ensures.board;
       room = c.seen_of-after.ensures.room;
     }
 

@@ -10,6 +10,7 @@ abbrev pub invariant-turns : goal.invariant-turns
 invariant-turns l = record {
   met : Met (stops_of l.fn.watches) l.end l.fn.session l.session l.watches;
   before : l.before ≡ seen_of l.asked l.session.board.plain;
+  clock : l.before.clock ≡ clock_of l.session.board.plain;
   room : l.before.waiting ≤ 16;
 }
 

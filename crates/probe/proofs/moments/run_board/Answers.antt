@@ -14,6 +14,7 @@ turns-init c = record {
   met = met_none (stops_of c.args.watches.now) c.args.end (session_about c.args.board.now) c.copy_bytes.new.watches c.requires.trail
       c.requires.from c.copy_bytes.ensures.keeps.stops c.copy_bytes.ensures.copies c.copy_bytes.ensures.keeps.watched;
   before = c.seen_of-before.ensures.seen;
+  clock = c.seen_of-before.ensures.clock;
   room = c.seen_of-before.ensures.room;
 }
 
@@ -52,6 +53,7 @@ turns-preserved c =
       met = met_none_more stops c.args.end s t u c.turns.watches c.found-number.new.watches c.found-number.result
           (sym c.is_some.ensures ∙ c.if-is_some.false) c.turns.invariant.met on.0 on.1.0 on.1.1 refl refl c.found-number.ensures.keeps;
       before = c.seen_of-after.ensures.seen;
+      clock = c.seen_of-after.ensures.clock;
       room = c.seen_of-after.ensures.room;
     }
 

@@ -11,6 +11,7 @@ abbrev pub invariant-turns : goal.invariant-turns
 invariant-turns l = record {
   met : Met (stops_of l.fn.watches) l.end (session_about l.fn.board) (record (session_about l.fn.board) { board = l.board }) l.watches;
   before : l.before ≡ seen_of l.asked l.board.plain;
+  clock : l.before.clock ≡ clock_of l.board.plain;
   room : l.before.waiting ≤ 16;
 }
 
