@@ -8,7 +8,7 @@ use Rattle.probe.proofs.Made.{shows_made}
 use Rattle.probe.proofs.event_lines.tell_signals.Goals as goal
 
 pub make-requires : goal.make-requires
-make-requires c = c.new-text.ensures.bytes ∙ no_signals c.args.session.now.board.plain
+make-requires c = c.new.ensures.bytes ∙ no_signals c.args.session.now.board.plain
 
 pub returns : goal.returns
 unfolding signals_text
