@@ -1,11 +1,11 @@
 -- What a turn begins, and what it does to the wires, for callers that make one turn at a time.
-use Rattle.std.proofs.Common.{◌≡◌, ℕ, ◌+◌, ◌-◌, ◌<◌, ◌≤◌, inl, inr, Bool, true, false, List, [], ◌∷◌, ◌++◌}
+use Rattle.std.proofs.Common.{◌≡◌, ℕ, ◌+◌, ◌-◌, ◌*◌, ◌<◌, ◌≤◌, inl, inr, Bool, true, false, List, [], ◌∷◌, ◌++◌}
 use Rattle.std.proofs.Common.{length, map, Option, None, refl, sym, ap, ◌∙◌, subst, arith, append-nil}
 use Rattle.std.proofs.lemmas.Bool.Decides.{nat_tests}
 use Rattle.std.specs.Prelude.{◌⊎◌, nat_lt, IfOk, IfSome, IsTrue, OnOk, Result, Ok, Err}
 use Rattle.std.specs.Option.{option_to_list}
-use Rattle.board_types.proofs.Iterate.{iterate_add, iterate_zero, gathered_add}
-use Rattle.board_plain.specs.Board.{BoardState}
+use Rattle.board_types.proofs.Iterate.{iterate_add, iterate_zero, gathered_add, total_add, total_zero}
+use Rattle.board_plain.specs.Board.{BoardState, Ran}
 use Rattle.board_plain.specs.Plain.{Plain, after_clock, after_clocks, clock_of, next_act}
 use Rattle.board_plain.specs.Trail.{entry_at, event_of, trail_in, trail_next, start_of}
 use Rattle.board_plain.specs.declared.act.Act.{Act}
@@ -22,7 +22,8 @@ use Rattle.board.specs.OneTurn.{begun_of, HaveSameWires, IsOneTurn}
 use Rattle.board.specs.Turns.{IsLeapOn, IsTickOn, IsTurnOn}
 use Rattle.board.specs.UnseenClocks.{PassesOver, WiresStay, WiresStayThen}
 use Rattle.board.proofs.Ticking.{first_clock, first_seen, first_unseen, ran_more}
-use Rattle.board.proofs.Turns.{before_rest, leap_runs, ran_leap}
+use Rattle.board.proofs.Turns.{before_rest, leap_runs, owed, paid, ran_leap, work_after_leap, work_of_first}
+use Rattle.board_plain.specs.Work.{work_in, work_next}
 
 -- what begins
 
@@ -91,13 +92,16 @@ once_leap edges within end s u begun few before on stay is clock =
         wires = λ not. subst (HaveSameWires s.plain) (first_clock s.plain) ((stay not).leap (omega (arith, past, passed)) 1 (omega (arith, leap.some, passed)));
         conditions = λ stops j within. leap.unseen.conditions stops j within;
       };
+      turns = on.turns;
+      useful = inr (leap.unseen.busy, leap.maximal);
     }
 
 -- a turn that is one clock
 once_ticked : (edges : Bool) (within end : ℕ) (s u : BoardState) (begun : Option Begun)
-    → length s.trail ≤ 32 → clock_of s.plain < within → within ≤ end → IsTickOn s u → (¬ (IsTrue edges) → WiresStayThen within s.plain u.plain)
+    → length s.trail ≤ 32 → clock_of s.plain < within → within ≤ end → IsTickOn s u → 1 ≤ work_next s.plain
+    → (¬ (IsTrue edges) → WiresStayThen within s.plain u.plain)
     → option_to_list begun ≡ map begun_of (trail_next s.plain) → IfSome begun (λ b. b.clock ≡ clock_of s.plain) → IsOneTurn edges within end s u begun
-once_ticked edges within end s u begun few before order tick stay is clock =
+once_ticked edges within end s u begun few before order tick work stay is clock =
     let passed = tick.clock in record {
       passed = 1;
       some = omega arith;
@@ -110,15 +114,18 @@ once_ticked edges within end s u begun few before order tick stay is clock =
       keyboard = ap (λ (p : Plain). p.chips.keyboard) tick.plain;
       wires = λ not j some last. (stay not).later j some (omega (arith, last, passed));
       leap = λ past. absurd (omega (arith, before, past));
+      turns = tick.turns;
+      useful = inl work;
     }
 
 -- a turn that is an act with a leap after it
 once_acted : (edges : Bool) (within end : ℕ) (s b u : BoardState) (begun : Option Begun) → length s.trail ≤ 32 → clock_of s.plain < within
-    → within ≤ end → IsTickOn s b → (u ≡ b) ⊎ ((1 ≤ b.plain.busy) × IsLeapOn within 0 b u) → (¬ (IsTrue edges) → WiresStayThen within s.plain u.plain)
+    → within ≤ end → IsTickOn s b → 1 ≤ work_next s.plain → (u ≡ b) ⊎ ((1 ≤ b.plain.busy) × IsLeapOn within 0 b u)
+    → (¬ (IsTrue edges) → WiresStayThen within s.plain u.plain)
     → option_to_list begun ≡ map begun_of (trail_next s.plain) → IfSome begun (λ x. x.clock ≡ clock_of s.plain) → IsOneTurn edges within end s u begun
-once_acted edges within end s b u begun few before order tick (inl same) stay is clock =
-    once_ticked edges within end s u begun few before order (subst (IsTickOn s) (sym same) tick) stay is clock
-once_acted edges within end s b u begun few before order tick (inr rest) stay is clock =
+once_acted edges within end s b u begun few before order tick work (inl same) stay is clock =
+    once_ticked edges within end s u begun few before order (subst (IsTickOn s) (sym same) tick) work stay is clock
+once_acted edges within end s b u begun few before order tick work (inr rest) stay is clock =
     let leap = rest.1.leap in
     let few_clocks = leap.within in
     let first = tick.clock in
@@ -147,6 +154,8 @@ once_acted edges within end s b u begun few before order tick (inr rest) stay is
           ∙ ap (λ (p : Plain). p.chips.keyboard) tick.plain;
       wires = λ not j some last. (stay not).later j some (omega (arith, last, first, passed));
       leap = λ past_within. absurd (omega (arith, few_clocks, first, past, past_within));
+      turns = let one = tick.turns in let none = rest.1.turns in omega (arith, one, none);
+      useful = inl work;
     }
 
 pub once_turned : (edges : Bool) (within end : ℕ) (s u : BoardState) (begun : Option Begun)
@@ -155,7 +164,7 @@ pub once_turned : (edges : Bool) (within end : ℕ) (s u : BoardState) (begun : 
 once_turned edges within end s u begun few before order (inl leap) stay is clock =
     once_leap edges within end s u begun few (omega (arith, before, order)) leap stay is clock
 once_turned edges within end s u begun few before order (inr act) stay is clock =
-    once_acted edges within end s act.begun u begun few before order act.first act.rest stay is clock
+    once_acted edges within end s act.begun u begun few before order act.first act.work act.rest stay is clock
 
 -- the wires after the first clock
 
@@ -206,3 +215,34 @@ turned_once edges within end by to s u (Ok begun) few before order is at turn st
     once_turned edges within end s u begun few before order (subst (λ n. IsTurnOn n end s u) is (subst (λ n. IsTurnOn by n s u) at turn))
     (λ not. subst (λ n. WiresStayThen n s.plain u.plain) is (stay not)) begins clock
 turned_once edges within end by to s u (Err fault) few before order is at turn stay begins clock = tt
+
+-- The turns of a run that is made one turn after another, against its work: a clock with work pays for three, and the run
+-- for what is left.
+pub record MostTurns (spare end : ℕ) (s t : BoardState) (n : ℕ) : Type 0 where
+  pub before_end : clock_of t.plain < end → t.turns + owed t.plain ≤ s.turns + 3 * work_in s.plain n + spare + paid t.plain
+  pub whole : t.turns ≤ s.turns + 3 * work_in s.plain n + spare + 1
+
+pub no_turns : (end : ℕ) (s : BoardState) → MostTurns 1 end s s 0
+no_turns end s = record { before_end = λ _. omega arith; whole = omega arith }
+
+pub more_turns : {edges : Bool} {begun : Option Begun} (within spare end n : ℕ) (s t u : BoardState) → MostTurns spare end s t n → Ran n s t
+    → (turn : IsOneTurn edges within end t u begun) → MostTurns spare end s u (n + turn.passed)
+more_turns within spare end n s t u so_far ran turn =
+    let k : ℕ = turn.passed in
+    let some = turn.some in
+    let before_end = turn.before_end in
+    let one = turn.turns in
+    let clock = turn.ran.clock in
+    let first = work_of_first k t.plain some in
+    let parts : work_in s.plain (n + k) ≡ work_in s.plain n + work_in t.plain k =
+    total_add after_clock work_next n k s.plain ∙ ap (λ p. work_in s.plain n + work_in p k) (sym ran.plain) in
+    let spent = so_far.before_end (omega (arith, some, before_end)) in
+    elim turn.useful [
+      | inl work ↦ record { before_end = λ _. omega (arith, one, first, parts, spent, work); whole = omega (arith, one, first, parts, spent, work) }
+      | inr leap ↦ record {
+          before_end = λ early.
+              let then = work_after_leap (end - clock_of t.plain) k t.plain u.plain leap.1 (omega (arith, early, clock)) some leap.0 in
+              omega (arith, one, first, parts, spent, then);
+          whole = omega (arith, one, first, parts, spent);
+        }
+    ]

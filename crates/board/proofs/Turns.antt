@@ -4,7 +4,7 @@ use Rattle.std.specs.Prelude.{◌⊎◌, true, OnOk, Result, Ok, Err}
 use Rattle.board_types.proofs.Iterate.{iterate_zero, total_zero, total_more, total_add}
 use Rattle.board_plain.specs.Board.{BoardState, Ran, StoppedEarly}
 use Rattle.board.specs.HeldBack.{IsHeldBack}
-use Rattle.board.specs.UneventfulClocks.{IsMaximalTo}
+use Rattle.board.specs.LongLeaps.{IsMaximalTo}
 use Rattle.board_plain.specs.Plain.{Plain, after_clock, after_clocks, change_next, changes_in, clock_of}
 use Rattle.board_plain.specs.Trail.{last, trail_next}
 use Rattle.board.specs.QuietSteps.{AreQuietSteps, IsQuietStep, Traced}
@@ -45,7 +45,7 @@ work_more n s t ran = total_more after_clock work_next n s.plain ∙ ap (λ p. w
 pub steps_more : (n : ℕ) (s t : BoardState) → Ran n s t → steps_in s.plain (n + 1) ≡ steps_in s.plain n + steps_next t.plain
 steps_more n s t ran = total_more after_clock steps_next n s.plain ∙ ap (λ p. steps_in s.plain n + steps_next p) (sym ran.plain)
 
-work_of_first : (m : ℕ) (p : Plain) → 1 ≤ m → work_next p ≤ work_in p m
+pub work_of_first : (m : ℕ) (p : Plain) → 1 ≤ m → work_next p ≤ work_in p m
 work_of_first m p some =
     let whole : work_in p m ≡ work_in p (1 + (m - 1)) = ap (work_in p) (omega (arith, some)) in
     let parts : work_in p (1 + (m - 1)) ≡ work_in p 1 + work_in (after_clocks p 1) (m - 1) = total_add after_clock work_next 1 (m - 1) p in

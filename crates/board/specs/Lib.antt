@@ -5,6 +5,7 @@ pub mod TrailLines
 pub mod Doings
 pub mod TrailState
 pub mod HeldBack
+pub mod LongLeaps
 pub mod UneventfulClocks
 pub mod UnseenClocks
 pub mod QuietBoard

@@ -1,6 +1,6 @@
 -- One turn of a board: what begins in it, and what stays after its first clock.
 -- To be believed by callers of this crate: the headline does not rest on it.
-use Rattle.std.specs.Prelude.{ℕ, ◌≡◌, ◌+◌, ◌<◌, ◌≤◌, Bool, IsTrue, List, [], map, Option, None, Some, IfSome}
+use Rattle.std.specs.Prelude.{ℕ, ◌≡◌, ◌+◌, ◌-◌, ◌<◌, ◌≤◌, ◌⊎◌, Bool, IsTrue, List, [], map, Option, None, Some, IfSome}
 use Rattle.std.specs.Option.{option_to_list}
 use Rattle.board_plain.specs.declared.stop.Condition.{Condition}
 use Rattle.board_plain.specs.declared.trail.TrailEntry.{TrailEntry}
@@ -10,8 +10,10 @@ use Rattle.board_plain.specs.Board.{BoardState, Ran}
 use Rattle.board_plain.specs.Plain.{Plain, after_clock, after_clocks, clock_of, speaker_level}
 use Rattle.board_plain.specs.Stops.{holding}
 use Rattle.board_plain.specs.Trail.{trail_in}
+use Rattle.board_plain.specs.Work.{work_next}
 use Rattle.events.specs.Events.{unwired_next}
 use Rattle.board.specs.declared.one_turn.Begun.{Begun}
+use Rattle.board.specs.LongLeaps.{IsMaximalTo}
 
 -- the type of the interrupt that was entered, or none for an instruction
 abbrev pub type_of : TrailEvent → Option ℕ
@@ -42,7 +44,8 @@ pub record StartsStill (edges : Bool) (n : ℕ) (s : Plain) : Type 0 where
 
 -- One turn, at most up to the clock `end`. What happens in it happens in its first clock; wires, too, change only there
 -- unless edges of the timer may be leapt over. Only a leap leads past the clock `within`, and nothing happens in its
--- first clock either.
+-- first clock either. It counts as one turn, and is of use: its first clock has work, or it is a leap that is as long as
+-- it can be.
 pub record IsOneTurn (edges : Bool) (within end : ℕ) (old new : BoardState) (begun : Option Begun) : Type 0 where
   pub passed : ℕ
   pub some : 1 ≤ passed
@@ -56,3 +59,7 @@ pub record IsOneTurn (edges : Bool) (within end : ℕ) (old new : BoardState) (b
   pub wires : ¬ (IsTrue edges) → (j : ℕ) → 1 ≤ j → j ≤ passed
       → HaveSameWires (after_clock old.plain) (after_clocks old.plain j)
   pub leap : within < clock_of old.plain + passed → StartsStill edges passed old.plain
+  pub turns : new.turns ≡ old.turns + 1
+  pub useful : (1 ≤ work_next old.plain)
+      ⊎ ((new.plain.busy ≡ old.plain.busy - passed)
+      × IsMaximalTo (end - clock_of old.plain) old.plain passed new.plain)

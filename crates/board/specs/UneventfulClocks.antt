@@ -22,7 +22,7 @@ use Rattle.board_plain.specs.declared.act.Act.TheVariants.{Nothing}
 use Rattle.board.specs.Arrivals.{IsNextStamp}
 use Rattle.board_plain.specs.BoardLaws.{NoKeyComes, WiresHold, writes_of}
 use Rattle.board_plain.specs.Plain.{Plain, clock_of, next_act}
-use Rattle.board_plain.specs.Work.{work_next}
+use Rattle.board.specs.LongLeaps.{IsMaximalTo}
 
 -- an act that does nothing
 abbrev pub is_idle : Act → Bool
@@ -65,11 +65,6 @@ pub record ActsQuietly (s : Plain) : Type 0 where
 -- n idle and quiet clocks at once
 unfoldable pub after_leap : Plain → ℕ → Plain
 after_leap s n = record s { busy = s.busy - n; chips = wires.after_leap s.chips n }
-
--- n clocks that lead to a board can't be more: they are all that are asked for, or the processor becomes free at their
--- end, or the clock after them has work
-abbrev pub IsMaximalTo : ℕ → Plain → ℕ → Plain → Type 0
-IsMaximalTo limit s n t = (n ≡ limit) ⊎ (((1 ≤ s.busy) × (n ≡ s.busy)) ⊎ (1 ≤ work_next t))
 
 -- n clocks that are leapt over at once can't be more
 abbrev pub IsMaximal : ℕ → Plain → ℕ → Type 0

@@ -19,7 +19,8 @@ use Rattle.board_plain.specs.Stops.{holding}
 use Rattle.board_plain.specs.Trail.{trail_in}
 use Rattle.board_plain.specs.Work.{steps_in}
 use Rattle.events.specs.Events.{unwired_next}
-use Rattle.board.specs.UneventfulClocks.{IsMaximalTo, AreUneventful}
+use Rattle.board.specs.LongLeaps.{IsMaximalTo}
+use Rattle.board.specs.UneventfulClocks.{AreUneventful}
 use Rattle.board.specs.OneTurn.{HaveSameWires}
 
 -- a free processor begins nothing whatever the timer does: whether or not an interrupt is requested, or as one is or

@@ -16,17 +16,18 @@ use Rattle.debugger_meaning.specs.declared.fault.DebugFault.TheVariants.{Memory}
 use Rattle.debugger_meaning.specs.Stands.{SessionState}
 use Rattle.probe.specs.declared.counts.Counts.{Counts}
 use Rattle.probe.specs.Counted.{HasCountedAll}
-use Rattle.probe.specs.Making.{RefusesMaking}
+use Rattle.probe.specs.Making.{FewTurns, RefusesMaking}
 use Rattle.probe.specs.Tallied.{HasCounted, IsBefore}
 
 -- no memory, after some of the clocks have passed
-pub stands_short : (n k : ℕ) (s t : SessionState) (fault : DebugFault) → clock_of s.board.plain + n ≤ 2 ^ 40 → k ≤ n
+pub stands_short : (n k : ℕ) (s t : SessionState) (fault : DebugFault) → FewTurns k s.board t.board → clock_of s.board.plain + n ≤ 2 ^ 40 → k ≤ n
     → Ran k s.board t.board → t.stops ≡ s.stops → t.first ≡ s.first → fault ≡ Memory (Some (clock_of t.board.plain)) → RefusesMaking n s t fault
-stands_short n k s t fault all within ran stops first is = subst (RefusesMaking n s t) (sym is) (record {
+stands_short n k s t fault turns all within ran stops first is = subst (RefusesMaking n s t) (sym is) (record {
   within_all = all;
   passed = k;
   within = within;
   stands = record { plain = ran.plain; clock = ran.clock; changes = ran.changes; trail = ran.trail };
+  turns = turns;
   stops = stops;
   first = first;
   clock_is = refl;

@@ -1,8 +1,9 @@
 -- Runs of some clocks, whatever the stops are, of which a text is shown.
 -- To be believed by callers of this crate: the headline does not rest on it.
-use Rattle.std.specs.Prelude.{ℕ, ◌≡◌, ◌+◌, ◌<◌, ◌≤◌, ◌^◌, List, None, Some, Result, MatchResult}
-use Rattle.board_plain.specs.Board.{Ran}
+use Rattle.std.specs.Prelude.{ℕ, ◌≡◌, ◌+◌, ◌*◌, ◌<◌, ◌≤◌, ◌^◌, List, None, Some, Result, MatchResult}
+use Rattle.board_plain.specs.Board.{BoardState, Ran}
 use Rattle.board_plain.specs.Plain.{clock_of}
+use Rattle.board_plain.specs.Work.{work_in}
 use Rattle.debugger_meaning.specs.declared.answer.Answer.{Answer}
 use Rattle.debugger_meaning.specs.declared.fault.DebugFault.{DebugFault}
 use Rattle.debugger_meaning.specs.declared.fault.DebugFault.TheVariants.{BadScan, StampsFall, ClockLimit, BadCommand}
@@ -10,10 +11,15 @@ use Rattle.debugger_meaning.specs.declared.fault.DebugFault.TheVariants.{TooMany
 use Rattle.debugger_meaning.specs.Session.{IsText}
 use Rattle.debugger_meaning.specs.Stands.{SessionState, shown_of, StandsAt}
 
+-- in n clocks a board makes no more turns than its work asks for
+abbrev pub FewTurns : ℕ → BoardState → BoardState → Type 0
+FewTurns n old new = new.turns ≤ old.turns + 3 * work_in old.plain n + 2
+
 -- n clocks pass, and the text is shown; the stops stay
 pub record Makes (n : ℕ) (text : List ℕ) (old new : SessionState) (answer : Answer) : Type 0 where
   pub within : clock_of old.board.plain + n ≤ 2 ^ 40
   pub ran : Ran n old.board new.board
+  pub turns : FewTurns n old.board new.board
   pub stops : new.stops ≡ old.stops
   pub first : new.first ≡ old.first
   pub shows : IsText text answer
@@ -25,6 +31,7 @@ pub record StandsShort (n : ℕ) (old new : SessionState) (clock : ℕ) : Type 0
   pub passed : ℕ
   pub within : passed ≤ n
   pub stands : StandsAt passed (shown_of old.board) new.board
+  pub turns : FewTurns passed old.board new.board
   pub stops : new.stops ≡ old.stops
   pub first : new.first ≡ old.first
   pub clock_is : clock ≡ clock_of new.board.plain
@@ -48,6 +55,7 @@ AnswersMaking n text old result new = MatchResult result (Makes n text old new) 
 pub record HasMade (n : ℕ) (old new : SessionState) (end : ℕ) : Type 0 where
   pub within : clock_of old.board.plain + n ≤ 2 ^ 40
   pub ran : Ran n old.board new.board
+  pub turns : FewTurns n old.board new.board
   pub stops : new.stops ≡ old.stops
   pub first : new.first ≡ old.first
   pub end_is : end ≡ clock_of old.board.plain + n

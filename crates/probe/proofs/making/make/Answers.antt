@@ -111,7 +111,7 @@ turns-preserved g c =
     let made_clock = one.ran.clock in
     let same : made.one.passed ≡ one.passed = omega (arith, seen_clock, made_clock, here) in
     record {
-      so_far = more_made (λ n. g.V.Visitor.saw c.see.new.self s.board.plain n) c.unwrap-end.result s t u so_far.passed made.one.passed so_far.within
+      so_far = more_made (λ n. g.V.Visitor.saw c.see.new.self s.board.plain n) c.unwrap-end.result s t u so_far.passed made.one.passed so_far.within so_far.turns
           so_far.ran so_far.stops so_far.first one same c.in_ok-begun.ensures.stops c.in_ok-begun.ensures.first
           (saw s.board.plain so_far.passed t.board after c.in_ok-begun.ensures.noted so_far.seen);
       before = c.seen_of-after.ensures.seen ∙ ap (λ (x : BoardState). seen_of c.asked-asked.result x.plain) c.board-in-turns-2.ensures.board;
