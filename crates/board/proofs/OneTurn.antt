@@ -240,9 +240,9 @@ more_turns within spare end n s t u so_far ran turn =
     elim turn.useful [
       | inl work ↦ record { before_end = λ _. omega (arith, one, first, parts, spent, work); whole = omega (arith, one, first, parts, spent, work) }
       | inr leap ↦ record {
-          before_end = λ early.
-              let then = work_after_leap (end - clock_of t.plain) k t.plain u.plain leap.1 (omega (arith, early, clock)) some leap.0 in
-              omega (arith, one, first, parts, spent, then);
-          whole = omega (arith, one, first, parts, spent);
-        }
+        before_end = λ early.
+            let then = work_after_leap (end - clock_of t.plain) k t.plain u.plain leap.1 (omega (arith, early, clock)) some leap.0 in
+            omega (arith, one, first, parts, spent, then);
+        whole = omega (arith, one, first, parts, spent);
+      }
     ]
