@@ -14,8 +14,9 @@ use Rattle.debugger_meaning.specs.Session.{IsText}
 use Rattle.debugger_meaning.specs.Stands.{SessionState}
 use Rattle.probe.specs.declared.seen.Turn.{Turn}
 use Rattle.probe.specs.Making.{AnswersMaking, FewTurns, HasMade, RefusesMaking}
-use Rattle.probe.specs.Seen.{IsMade, seen_of}
+use Rattle.probe.specs.Seen.{IsMade, next_turn, seen_of}
 use Rattle.probe.proofs.Counting.{stands_short}
+use Rattle.probe.proofs.Turns.{next_of, one_of}
 
 -- some clocks have passed, at most up to the clock `end`, and were seen
 pub record Making (saw : ℕ → Type 0) (end : ℕ) (s t : SessionState) : Type 0 where
@@ -78,15 +79,17 @@ short_after saw n end s t u fault so_far turn stops first is limit lacks =
     (runs_join so_far.passed turn.passed s.board t.board u.board so_far.ran turn.ran) (stops ∙ so_far.stops) (first ∙ so_far.first) lacks
 
 -- a turn with what was seen of both its ends
-pub made_of : (turn : Turn) (t u b : BoardState) (end : ℕ) → turn.before ≡ seen_of turn.asked t.plain → turn.after ≡ seen_of turn.asked b.plain
-    → b ≡ u → IsOneTurn (not turn.asked.wires) end end t u turn.begun → IsMade turn t b
-made_of turn t u b end before after here one = record {
-  within = end;
-  end = end;
-  one = subst (λ (v : BoardState). IsOneTurn (not turn.asked.wires) end end t v turn.begun) (sym here) one;
-  before = before;
-  after = after;
-}
+pub made_next : (turn new : Turn) (begun : Option Begun) (t u b : BoardState) (end : ℕ) → new ≡ next_turn turn begun b.plain
+    → turn.after ≡ seen_of turn.asked t.plain → b ≡ u → IsOneTurn (not turn.asked.wires) end end t u begun → IsMade new t b
+made_next turn new begun t u b end is seen here one =
+    let after = next_of turn new begun t.plain b.plain is seen in record {
+      within = end;
+      end = end;
+      one = subst (λ (v : BoardState). IsOneTurn (not new.asked.wires) end end t v new.begun) (sym here)
+          (one_of turn new begun b.plain end end t u is one);
+      before = after.before;
+      after = after.after;
+    }
 
 -- the text of what was made is shown, or there was no memory for it
 pub shows_made : (n end : ℕ) (s t : SessionState) (text : List ℕ) (result : Result Answer DebugFault) → HasMade n s t end

@@ -44,7 +44,7 @@ use Rattle.events.specs.Events.{key_events, latch_events, level_of, settling_eve
 use Rattle.events.proofs.Queue.{arrived_keyboard, gathered_in, next_chips, reached_queue}
 use Rattle.probe.specs.declared.seen.Seen.{Seen}
 use Rattle.probe.specs.declared.seen.Turn.{Turn}
-use Rattle.probe.specs.Seen.{asked_in, IsLooked, IsMade, keys_told, levels_seen, seen_of, waiting_seen}
+use Rattle.probe.specs.Seen.{IsLooked, IsMade, asked_in, keys_told, levels_seen, next_turn, seen_of, waiting_seen}
 use Rattle.probe_texts.specs.declared.asked.Asked.{Asked}
 use Rattle.probe_texts.specs.Asked.{asks, asks_begun}
 use Rattle.probe_texts.specs.declared.telling.Levels.{Levels}
@@ -322,6 +322,23 @@ turn_is turn old new accesses clock next made noted at next_at =
     ∙ clock_is a s
     ∙ sym (events_first a made.within made.end old new turn.begun one)
 
+-- what is seen of a turn more, after a turn that had led to the board before it
+pub record Follows (turn new : Turn) (begun : Option Begun) (t b : Plain) : Type 0 where
+  pub asked : new.asked ≡ turn.asked
+  pub stood : new.before ≡ turn.after
+  pub before : new.before ≡ seen_of new.asked t
+  pub after : new.after ≡ seen_of new.asked b
+
+pub next_of : (turn new : Turn) (begun : Option Begun) (t b : Plain) → new ≡ next_turn turn begun b → turn.after ≡ seen_of turn.asked t
+    → Follows turn new begun t b
+next_of turn new begun t b is seen =
+    subst (λ (x : Turn). Follows turn x begun t b) (sym is) (record { asked = refl; stood = refl; before = seen; after = refl })
+
+pub one_of : (turn new : Turn) (begun : Option Begun) (b : Plain) (within end : ℕ) (t u : BoardState) → new ≡ next_turn turn begun b
+    → IsOneTurn (not turn.asked.wires) within end t u begun → IsOneTurn (not new.asked.wires) within end t u new.begun
+one_of turn new begun b within end t u is one =
+    subst (λ (x : Turn). IsOneTurn (not x.asked.wires) within end t u x.begun) (sym is) one
+
 pub looked_of : (turn : Turn) (t u b : BoardState) (within end : ℕ) → turn.before ≡ seen_of turn.asked t.plain → turn.before.waiting ≤ 16
     → turn.after.waiting ≤ 16 → turn.before.clock < 2 ^ 40 → b ≡ u → IsOneTurn (not turn.asked.wires) within end t u turn.begun → IsLooked turn b
 looked_of turn t u b within end before room few limit here one =
@@ -334,3 +351,16 @@ looked_of turn t u b within end before room few limit here one =
       limit = limit;
       later = omega (arith, start, there, some, clock);
     }
+
+pub looked_next : (turn new : Turn) (begun : Option Begun) (t u b : BoardState) (within end : ℕ) → new ≡ next_turn turn begun b.plain
+    → turn.after ≡ seen_of turn.asked t.plain → turn.after.waiting ≤ 16 → new.after.waiting ≤ 16 → turn.after.clock < 2 ^ 40 → b ≡ u
+    → IsOneTurn (not turn.asked.wires) within end t u begun → IsLooked new b
+looked_next turn new begun t u b within end is seen room few limit here one =
+    let after = next_of turn new begun t.plain b.plain is seen in
+    looked_of new t u b within end after.before (subst (λ (x : Seen). x.waiting ≤ 16) (sym after.stood) room) few
+    (subst (λ (x : Seen). x.clock < 2 ^ 40) (sym after.stood) limit) here (one_of turn new begun b.plain within end t u is one)
+
+-- the end of a run's first turn
+pub first_by : (last before : Seen) (start to : ℕ) → before ≡ last → (last.clock ≡ start → to ≡ last.clock + 1) → before.clock ≡ start
+    → to ≡ before.clock + 1
+first_by last before start to is first = subst (λ (x : Seen). x.clock ≡ start → to ≡ x.clock + 1) (sym is) first

@@ -2,6 +2,7 @@
 -- For proofs alone: no public contract rests on it.
 use Rattle.std.specs.Prelude.{ℕ, ◌≡◌, ◌+◌, ◌<◌, ◌≤◌, ◌^◌, Bool, not, if◌then◌else◌}
 use Rattle.std.specs.Prelude.{List, [], ◌++◌, filter, length, Option, None, Some}
+use Rattle.board.specs.declared.one_turn.Begun.{Begun}
 use Rattle.board.specs.OneTurn.{IsOneTurn}
 use Rattle.board_plain.specs.Board.{BoardState}
 use Rattle.board_plain.specs.Plain.{Plain, after_clocks, clock_of, state_of}
@@ -28,6 +29,15 @@ seen_of asked s = record {
   state = state_of s;
   waiting = waiting_seen asked.keys s;
   levels = levels_seen asked.wires s;
+}
+
+-- the turn after another, in which this began, and which has led to a board
+abbrev pub next_turn : Turn → Option Begun → Plain → Turn
+next_turn turn begun s = record {
+  asked = turn.asked;
+  before = turn.after;
+  begun = begun;
+  after = seen_of turn.asked s;
 }
 
 -- a turn that has led to a board

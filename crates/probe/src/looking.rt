@@ -12,7 +12,7 @@ ghost use Rattle.probe.specs.Watched.{asked_of, IsWatched, KeepsStops, stops_of}
 
 use crate::making::lacking;
 use crate::met::{met, standing};
-use crate::seen::{Turn, seen_of};
+use crate::seen::Turn;
 use crate::watched::{Watched, copy_bytes, renew_bytes};
 use board::board::Board;
 use board_types::clock::Clock;
@@ -110,28 +110,20 @@ pub(crate) fn run_to_stop(
     ensures keeps { KeepsStops watches.old watches.new }
 {
     copy_bytes(watches, session.board());
-    let asked = asked_by(watches);
     let mut accesses = Accesses::new();
     let start = session.board().clock().get();
-    let mut before = seen_of(session.board(), asked);
+    let mut turn = Turn::none(session.board(), asked_by(watches));
     'turns: while session.board().clock() < end {
-        let to = turn_end(before.clock, start, end);
-        let next = next_clock(before.clock, to);
-        let Ok(begun) = session.run_turn(next, to, &mut accesses, !asked.wires) else {
+        let to = turn_end(turn.after.clock, start, end);
+        let next = next_clock(turn.after.clock, to);
+        let Ok(begun) = session.run_turn(next, to, &mut accesses, !turn.asked.wires) else {
             return Err(lacking(session));
         };
-        let after = seen_of(session.board(), asked);
-        let turn = Turn {
-            asked,
-            before,
-            begun,
-            after,
-        };
+        turn.next(begun, session.board());
         let number = found(watches, &turn, accesses.as_slice(), session.board());
         if number.is_some() {
             return Ok(number);
         }
-        before = after;
     }
     Ok(None)
 }
@@ -154,29 +146,21 @@ pub(crate) fn last_met(
     ensures keeps { KeepsStops watches.old watches.new }
 {
     copy_bytes(watches, board);
-    let asked = asked_by(watches);
     let mut accesses = Accesses::new();
     let mut here = standing(watches, board);
     let mut last = found_first(is_first, here, board.clock());
-    let mut before = seen_of(board, asked);
+    let mut turn = Turn::none(board, asked_by(watches));
     'turns: while board.clock() < to {
-        let next = next_clock(before.clock, to);
-        let Ok(begun) = board.run_turn(next, to, &mut accesses, !asked.wires) else {
+        let next = next_clock(turn.after.clock, to);
+        let Ok(begun) = board.run_turn(next, to, &mut accesses, !turn.asked.wires) else {
             return Err(DebugFault::Memory(None));
         };
-        let after = seen_of(board, asked);
-        let turn = Turn {
-            asked,
-            before,
-            begun,
-            after,
-        };
+        turn.next(begun, board);
         let clock = board.clock();
-        let before_end = found_before(last, here, before.clock, clock);
+        let before_end = found_before(last, here, turn.before.clock, clock);
         let number = found(watches, &turn, accesses.as_slice(), board);
         last = found_at(before_end, number, clock);
         here = standing_now(number, watches, board);
-        before = after;
     }
     Ok(last)
 }

@@ -10,7 +10,7 @@ ghost use Rattle.probe.specs.Making.{HasMade, RefusesMaking};
 ghost use Rattle.probe.specs.Seen.{IsLooked, IsMadeAfter};
 ghost use Rattle.probe_texts.specs.declared.asked.Asked.{Asked};
 
-use crate::seen::{Turn, seen_of};
+use crate::seen::Turn;
 use board::board::Board;
 use board_types::clock::Clock;
 use debugger::session::Session;
@@ -69,21 +69,13 @@ pub(crate) fn make<N: Notes, V: Visitor<N>>(
         return Err(DebugFault::ClockLimit);
     }
     let end = Clock::new(start.get() + count).unwrap();
-    let asked = visitor.asked();
-    let mut before = seen_of(session.board(), asked);
+    let mut turn = Turn::none(session.board(), visitor.asked());
     'turns: while session.board().clock() < end {
-        let begun = session.run_turn(end, end, notes, !asked.wires)?;
-        let after = seen_of(session.board(), asked);
-        let turn = Turn {
-            asked,
-            before,
-            begun,
-            after,
-        };
+        let begun = session.run_turn(end, end, notes, !turn.asked.wires)?;
+        turn.next(begun, session.board());
         if visitor.see(&turn, notes, session.board()).is_err() {
             return Err(lacking(session));
         }
-        before = after;
     }
     Ok(end)
 }

@@ -14,7 +14,7 @@ ghost use Rattle.probe.specs.Tried.{RunsTo, TriedNext, TriedSoFar, added, ends_o
 ghost use Rattle.probe.specs.Watched.{IsWatched, KeepsStops, all_standing, stops_of};
 
 use crate::looking::{asked_by, found, next_clock, turn_end};
-use crate::seen::{Turn, seen_of};
+use crate::seen::Turn;
 use crate::watched::{Watched, all_stand, conditions_of, copy_bytes};
 use board::board::Board;
 use board_plain::stop::{Stop, Stopped};
@@ -258,28 +258,20 @@ fn run_board(
     ensures keeps { KeepsStops watches.old watches.new }
 {
     copy_bytes(watches, board);
-    let asked = asked_by(watches);
     let mut accesses = Accesses::new();
     let start = board.clock().get();
-    let mut before = seen_of(board, asked);
+    let mut turn = Turn::none(board, asked_by(watches));
     'turns: while board.clock() < end {
-        let to = turn_end(before.clock, start, end);
-        let next = next_clock(before.clock, to);
-        let Ok(begun) = board.run_turn(next, to, &mut accesses, !asked.wires) else {
+        let to = turn_end(turn.after.clock, start, end);
+        let next = next_clock(turn.after.clock, to);
+        let Ok(begun) = board.run_turn(next, to, &mut accesses, !turn.asked.wires) else {
             return Err(DebugFault::Memory(None));
         };
-        let after = seen_of(board, asked);
-        let turn = Turn {
-            asked,
-            before,
-            begun,
-            after,
-        };
+        turn.next(begun, board);
         let number = found(watches, &turn, accesses.as_slice(), board);
         if number.is_some() {
             return Ok(number);
         }
-        before = after;
     }
     Ok(None)
 }

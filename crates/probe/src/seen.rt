@@ -1,7 +1,7 @@
 //! What is seen of a board before and after a turn, by which its events are told.
 ghost use Rattle.std.specs.Prelude.{◌≡◌, ◌≤◌, length};
-ghost use Rattle.board_plain.specs.Plain.{clock_of};
-ghost use Rattle.probe.specs.Seen.{levels_seen, seen_of, waiting_seen};
+ghost use Rattle.board_plain.specs.Plain.{Plain, clock_of};
+ghost use Rattle.probe.specs.Seen.{levels_seen, next_turn, seen_of, waiting_seen};
 
 use crate::levels::levels_of;
 use board::board::Board;
@@ -31,10 +31,48 @@ pub(crate) struct Turn {
     pub(crate) after: Seen,
 }
 
-/// Looks at a board before or after a turn, at wires and keys only if they are asked for.
-#[inline(always)]
+impl Turn {
+    /// Looks at a board before the first turn of a run, for the events that are asked for.
+    pub(crate) fn none(board: &Board, asked: Asked) -> Turn
+        ensures asked { result.asked ≡ asked }
+        ensures seen { result.after ≡ seen_of asked board.now.plain }
+        ensures clock { result.after.clock ≡ clock_of board.now.plain }
+        ensures room { result.after.waiting ≤ 16 }
+    {
+        let after = seen_of(board, asked);
+        Turn {
+            asked,
+            before: after,
+            begun: None,
+            after,
+        }
+    }
+
+    /// Looks at a board that has made a turn more, in which this began. It stood before that turn as it was seen last.
+    /// In place, since a run makes many turns: what isn't asked for stays as it is.
+    #[inline(always)]
+    pub(crate) fn next(&mut self, begun: Option<Begun>, board: &Board)
+        requires { (s : Plain) × (self.old.after ≡ seen_of self.old.asked s) }
+        ensures turn { self.new ≡ next_turn self.old begun board.now.plain }
+        ensures clock { self.new.after.clock ≡ clock_of board.now.plain }
+        ensures room { self.new.after.waiting ≤ 16 }
+    {
+        self.before = self.after;
+        self.begun = begun;
+        self.after.clock = board.clock().get();
+        self.after.state = board.state();
+        if self.asked.keys {
+            self.after.waiting = waiting_of(board.keyboard());
+        }
+        if self.asked.wires {
+            self.after.levels = Some(levels_of(board));
+        }
+    }
+}
+
+/// Looks at a board before a run's first turn, at wires and keys only if they are asked for.
 #[tactic(auto, unfolding(crate::specs::Seen::seen_of))]
-pub(crate) fn seen_of(board: &Board, asked: Asked) -> Seen
+fn seen_of(board: &Board, asked: Asked) -> Seen
     ensures seen { result ≡ seen_of asked board.now.plain }
     ensures clock { result.clock ≡ clock_of board.now.plain }
     ensures room { result.waiting ≤ 16 }
@@ -48,7 +86,6 @@ pub(crate) fn seen_of(board: &Board, asked: Asked) -> Seen
 }
 
 /// Returns how many codes wait in the keyboard if keys are asked for, else 0 without a look.
-#[inline(always)]
 fn waiting_seen(board: &Board, keys: bool) -> usize
     ensures waiting { result ≡ waiting_seen keys board.now.plain }
     ensures room { result ≤ 16 }
@@ -73,7 +110,6 @@ fn waiting_of(keyboard: &Keyboard) -> usize
 }
 
 /// Returns the levels of the wires if they are asked for, else `None` without a look.
-#[inline(always)]
 fn levels_seen(board: &Board, wires: bool) -> Option<Levels>
     ensures { result ≡ levels_seen wires board.now.plain }
 {

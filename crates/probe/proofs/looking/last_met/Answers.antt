@@ -1,4 +1,4 @@
-use Rattle.std.proofs.Common.{◌≡◌, ◌≤◌, ◌<◌, ◌-◌, refl, sym, ap, ◌∙◌, subst, arith}
+use Rattle.std.proofs.Common.{◌≡◌, ◌+◌, ◌≤◌, ◌<◌, ◌-◌, refl, sym, ap, ◌∙◌, subst, arith}
 use Rattle.std.proofs.lemmas.Map.Keys.{ge_from_not_lt}
 use Rattle.board_plain.specs.Board.{BoardState}
 use Rattle.board_plain.specs.Plain.{clock_of}
@@ -7,11 +7,12 @@ use Rattle.probe.specs.declared.seen.Seen.{Seen}
 use Rattle.probe.specs.declared.seen.Turn.{Turn}
 use Rattle.probe.specs.Met.{asked_by}
 use Rattle.probe.specs.ProbeStops.{standing}
+use Rattle.probe.specs.Seen.{seen_of}
 use Rattle.probe.specs.Watched.{stops_of}
 use Rattle.probe.proofs.Searching.{last_all, last_more, last_none, LastSoFar, none_here}
 use Rattle.probe.proofs.Meeting.{told_of, Turned, turned}
 use Rattle.probe.proofs.Trying.{trail_stays}
-use Rattle.probe.proofs.Turns.{looked_of, seen_clock}
+use Rattle.probe.proofs.Turns.{looked_next, next_of, one_of}
 use Rattle.probe.proofs.looking.last_met.Goals as goal
 
 pub turns-init : goal.turns-init
@@ -20,10 +21,14 @@ turns-init c = record {
       c.copy_bytes.new.watches c.standing-here.result c.found_first-last.result c.requires.few c.requires.from
       (c.standing-here.ensures ∙ ap (λ xs. standing xs c.args.board.now.plain) c.copy_bytes.ensures.keeps.stops) c.clock.ensures
       c.found_first-last.ensures c.copy_bytes.ensures.keeps.stops c.copy_bytes.ensures.copies c.copy_bytes.ensures.keeps.watched;
-  before = c.seen_of-before.ensures.seen;
-  clock = c.seen_of-before.ensures.clock;
-  room = c.seen_of-before.ensures.room;
+  asked = c.none-turn.ensures.asked ∙ c.asked_by.ensures ∙ ap asked_by c.copy_bytes.ensures.keeps.stops;
+  after = c.none-turn.ensures.seen ∙ ap (λ a. seen_of a c.args.board.now.plain) (sym c.none-turn.ensures.asked);
+  clock = c.none-turn.ensures.clock;
+  room = c.none-turn.ensures.room;
 }
+
+pub next-requires : goal.next-requires
+next-requires c = (c.turns.board.plain, c.turns.invariant.after)
 
 pub found-number-requires-clause-within : goal.found-number-requires-clause-within
 found-number-requires-clause-within c = c.turns.invariant.so_far.watched
@@ -40,12 +45,14 @@ standing_now-here-requires-clause-none c = λ none.
     let new = c.found-number.new.watches in
     let so_far = c.turns.invariant.so_far in
     let one = c.in-Ok.ensures.ok in
-    let made : Turn = record { asked = c.asked_by-asked.result; before = c.turns.before; begun = c.in-Ok.begun; after = c.seen_of-after.result } in
+    let made : Turn = c.next.new.self in
+    let after = next_of c.turns.turn made c.in-Ok.begun t.plain u.plain c.next.ensures.turn c.turns.invariant.after in
     let turn =
     turned stops made c.as_slice.result.now t u old new c.found-number.result so_far.stops_are
     (told_of stops made c.as_slice.result.now t u u c.next_clock-next.result c.args.to old new c.found-number.result so_far.stops_are
-    (c.asked_by-asked.ensures ∙ ap asked_by c.copy_bytes.ensures.keeps.stops) c.turns.invariant.before c.seen_of-after.ensures.seen refl
-    (c.as_slice.ensures.value ∙ c.in-Ok.ensures.noted) c.next_clock-next.ensures one
+    (after.asked ∙ c.turns.invariant.asked) after.before after.after refl
+    (c.as_slice.ensures.value ∙ c.in-Ok.ensures.noted) (c.next_clock-next.ensures ∙ ap (λ (x : Seen). x.clock + 1) (sym after.stood))
+    (one_of c.turns.turn made c.in-Ok.begun u.plain c.next_clock-next.result c.args.to t u c.next.ensures.turn one)
     c.found-number.ensures.clock c.found-number.ensures.leap c.found-number.ensures.copied) so_far.copies so_far.watched in
     ap (λ xs. standing xs u.plain) (c.found-number.ensures.keeps.stops ∙ so_far.stops_are) ∙ none_here stops t u new (subst (Turned stops t u new) none turn)
 
@@ -62,15 +69,16 @@ turns-preserved c =
     let new = c.found-number.new.watches in
     let so_far = c.turns.invariant.so_far in
     let one = c.in-Ok.ensures.ok in
-    let made : Turn = record { asked = c.asked_by-asked.result; before = c.turns.before; begun = c.in-Ok.begun; after = c.seen_of-after.result } in
+    let made : Turn = c.next.new.self in
+    let after = next_of c.turns.turn made c.in-Ok.begun t.plain u.plain c.next.ensures.turn c.turns.invariant.after in
     let turn =
     turned stops made c.as_slice.result.now t u old new c.found-number.result so_far.stops_are
     (told_of stops made c.as_slice.result.now t u u c.next_clock-next.result c.args.to old new c.found-number.result so_far.stops_are
-    (c.asked_by-asked.ensures ∙ ap asked_by c.copy_bytes.ensures.keeps.stops) c.turns.invariant.before c.seen_of-after.ensures.seen refl
-    (c.as_slice.ensures.value ∙ c.in-Ok.ensures.noted) c.next_clock-next.ensures one
+    (after.asked ∙ c.turns.invariant.asked) after.before after.after refl
+    (c.as_slice.ensures.value ∙ c.in-Ok.ensures.noted) (c.next_clock-next.ensures ∙ ap (λ (x : Seen). x.clock + 1) (sym after.stood))
+    (one_of c.turns.turn made c.in-Ok.begun u.plain c.next_clock-next.result c.args.to t u c.next.ensures.turn one)
     c.found-number.ensures.clock c.found-number.ensures.leap c.found-number.ensures.copied) so_far.copies so_far.watched in
-    let start : c.turns.before.clock ≡ clock_of t.plain =
-    ap (λ (x : Seen). x.clock) c.turns.invariant.before ∙ seen_clock c.asked_by-asked.result t.plain in
+    let start : made.before.clock ≡ clock_of t.plain = ap (λ (x : Seen). x.clock) after.stood ∙ c.turns.invariant.clock in
     let before_end = one.before_end in
     let clock = one.ran.clock in
     let passed = turn.ran.clock in
@@ -86,9 +94,10 @@ turns-preserved c =
           (last_more stops c.args.is_first c.args.to s t u old new c.turns.here c.found-number.result
           c.standing_now-here.result c.turns.last c.found_before-before_end.result c.clock-clock.result so_far turn far once end
           (omega (arith, before_end, clock)) now c.found-number.ensures.keeps);
-      before = c.seen_of-after.ensures.seen;
-      clock = c.seen_of-after.ensures.clock;
-      room = c.seen_of-after.ensures.room;
+      asked = after.asked ∙ c.turns.invariant.asked;
+      after = after.after;
+      clock = c.next.ensures.clock;
+      room = c.next.ensures.room;
     }
 
 pub returns-clause-found : goal.returns-clause-found
@@ -106,7 +115,6 @@ found-number-requires-clause-few c =
 
 pub found-number-requires-clause-looked : goal.found-number-requires-clause-looked
 found-number-requires-clause-looked c =
-    let turn : Turn = record { asked = c.asked_by-asked.result; before = c.turns.before; begun = c.in-Ok.begun; after = c.seen_of-after.result } in
-    looked_of turn c.turns.board c.run_turn.new.self c.run_turn.new.self c.next_clock-next.result c.args.to
-    c.turns.invariant.before c.turns.invariant.room c.seen_of-after.ensures.room
+    looked_next c.turns.turn c.next.new.self c.in-Ok.begun c.turns.board c.run_turn.new.self c.run_turn.new.self c.next_clock-next.result c.args.to
+    c.next.ensures.turn c.turns.invariant.after c.turns.invariant.room c.next.ensures.room
     (omega (arith, c.next_clock-next.ensures, c.next_clock-next.type_inv)) refl c.in-Ok.ensures.ok

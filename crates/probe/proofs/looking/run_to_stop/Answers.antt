@@ -1,4 +1,4 @@
-use Rattle.std.proofs.Common.{◌≡◌, ◌≤◌, ◌<◌, sym, ap, ◌∙◌, subst, arith}
+use Rattle.std.proofs.Common.{◌≡◌, ◌+◌, ◌≤◌, ◌<◌, sym, ap, ◌∙◌, subst, arith}
 use Rattle.std.proofs.lemmas.Map.Keys.{ge_from_not_lt}
 use Rattle.board_plain.specs.Board.{BoardState}
 use Rattle.board_plain.specs.Plain.{clock_of}
@@ -7,10 +7,10 @@ use Rattle.probe.specs.declared.seen.Seen.{Seen}
 use Rattle.probe.specs.declared.seen.Turn.{Turn}
 use Rattle.probe.specs.Looked.{ShortOfMemory}
 use Rattle.probe.specs.Met.{asked_by}
-use Rattle.probe.specs.Seen.{seen_of}
+use Rattle.probe.specs.Seen.{next_turn, seen_of}
 use Rattle.probe.specs.Watched.{AreCopies, stops_of}
 use Rattle.probe.proofs.Meeting.{looks_on, met_none, met_none_more, ran_short, ran_some, ran_to_end}
-use Rattle.probe.proofs.Turns.{looked_of, seen_clock}
+use Rattle.probe.proofs.Turns.{first_by, looked_next, next_of, one_of}
 use Rattle.probe.proofs.looking.run_to_stop.Goals as goal
 
 pub turns-init : goal.turns-init
@@ -19,19 +19,24 @@ turns-init c = record {
       c.copy_bytes.ensures.keeps.stops
       (subst (λ (b : BoardState). AreCopies c.copy_bytes.new.watches b.plain) c.board.ensures.board c.copy_bytes.ensures.copies)
       c.copy_bytes.ensures.keeps.watched;
-  before = c.seen_of-before.ensures.seen ∙ ap (λ (b : BoardState). seen_of c.asked_by-asked.result b.plain) c.board-3.ensures.board;
-  clock = c.seen_of-before.ensures.clock ∙ ap (λ (b : BoardState). clock_of b.plain) c.board-3.ensures.board;
-  room = c.seen_of-before.ensures.room;
+  asked = c.none-turn.ensures.asked ∙ c.asked_by.ensures ∙ ap asked_by c.copy_bytes.ensures.keeps.stops;
+  after = c.none-turn.ensures.seen ∙ ap (λ a. seen_of a c.board-3.result.now.plain) (sym c.none-turn.ensures.asked)
+      ∙ ap (λ (b : BoardState). seen_of c.none-turn.result.asked b.plain) c.board-3.ensures.board;
+  clock = c.none-turn.ensures.clock ∙ ap (λ (b : BoardState). clock_of b.plain) c.board-3.ensures.board;
+  room = c.none-turn.ensures.room;
 }
+
+pub next-requires : goal.next-requires
+next-requires c = (c.turns.session.board.plain, c.turns.invariant.after)
 
 pub found-number-requires-clause-within : goal.found-number-requires-clause-within
 found-number-requires-clause-within c = c.turns.invariant.met.watched
 
 pub found-number-requires-clause-looked : goal.found-number-requires-clause-looked
 found-number-requires-clause-looked c =
-    let turn : Turn = record { asked = c.asked_by-asked.result; before = c.turns.before; begun = c.in-Ok.begun; after = c.seen_of-after.result } in
-    looked_of turn c.turns.session.board c.run_turn.new.self.board c.board-in-turns-3.result.now c.next_clock-next.result c.turn_end-to.result
-    c.turns.invariant.before c.turns.invariant.room c.seen_of-after.ensures.room
+    looked_next c.turns.turn c.next.new.self c.in-Ok.begun c.turns.session.board c.run_turn.new.self.board c.board-in-turns-3.result.now
+    c.next_clock-next.result c.turn_end-to.result (c.next.ensures.turn ∙ ap (λ (b : BoardState). next_turn c.turns.turn c.in-Ok.begun b.plain)
+    (c.board-in-turns-2.ensures.board ∙ sym c.board-in-turns-3.ensures.board)) c.turns.invariant.after c.turns.invariant.room c.next.ensures.room
     (omega (arith, c.next_clock-next.ensures, c.next_clock-next.type_inv)) c.board-in-turns-3.ensures.board c.in-Ok.ensures.ok
 
 pub returns-in_default-clause-ran : goal.returns-in_default-clause-ran
@@ -40,8 +45,7 @@ returns-in_default-clause-ran c =
     let t : SessionState = c.turns.session in
     let u : SessionState = c.run_turn.new.self in
     let stops = stops_of c.args.watches.now in
-    let start : c.turns.before.clock ≡ clock_of t.board.plain =
-    ap (λ (x : Seen). x.clock) c.turns.invariant.before ∙ seen_clock c.asked_by-asked.result t.board.plain in
+    let start : c.turns.turn.after.clock ≡ clock_of t.board.plain = c.turns.invariant.clock in
     subst (ShortOfMemory stops c.args.end s u) (sym c.lacking.ensures)
     (ran_short stops c.args.end (clock_of u.board.plain) s t u c.turns.watches c.turns.invariant.met
     (omega (arith, start, c.turn_end-to.ensures.later, c.turn_end-to.ensures.within)) c.in_default.ensures.err c.in_default.ensures.held_back
@@ -56,18 +60,23 @@ returns-then-is_some-clause-ran c =
     let t : SessionState = c.turns.session in
     let u : SessionState = c.run_turn.new.self in
     let stops = stops_of c.args.watches.now in
-    let turn : Turn = record { asked = c.asked_by-asked.result; before = c.turns.before; begun = c.in-Ok.begun; after = c.seen_of-after.result } in
+    let turn : Turn = c.next.new.self in
+    let is : turn ≡ next_turn c.turns.turn c.in-Ok.begun c.board-in-turns-3.result.now.plain =
+    c.next.ensures.turn ∙ ap (λ (b : BoardState). next_turn c.turns.turn c.in-Ok.begun b.plain)
+    (c.board-in-turns-2.ensures.board ∙ sym c.board-in-turns-3.ensures.board) in
+    let after = next_of c.turns.turn turn c.in-Ok.begun t.board.plain c.board-in-turns-3.result.now.plain is c.turns.invariant.after in
     let first_start : c.get-start.result ≡ clock_of s.board.plain =
     c.get-start.ensures.value ∙ c.clock.ensures ∙ ap (λ (b : BoardState). clock_of b.plain) c.board-2.ensures.board in
     let on =
     looks_on stops turn c.as_slice.result.now c.next_clock-next.result c.turn_end-to.result c.args.end c.get-start.result s t u c.board-in-turns-3.result.now
     c.turns.watches c.found-number.new.watches c.found-number.result c.turns.invariant.met
-    (c.asked_by-asked.ensures ∙ ap asked_by c.copy_bytes.ensures.keeps.stops) c.turns.invariant.before
-    (c.seen_of-after.ensures.seen
-    ∙ ap (λ (b : BoardState). seen_of c.asked_by-asked.result b.plain) (c.board-in-turns-2.ensures.board ∙ sym c.board-in-turns-3.ensures.board))
-    c.board-in-turns-3.ensures.board (c.as_slice.ensures.value ∙ c.in-Ok.ensures.noted) c.next_clock-next.ensures
-    c.in-Ok.ensures.ok c.found-number.ensures.clock c.found-number.ensures.leap c.found-number.ensures.copied
-    first_start c.turn_end-to.ensures.first c.turn_end-to.ensures.within in
+    (after.asked ∙ c.turns.invariant.asked) after.before after.after
+    c.board-in-turns-3.ensures.board (c.as_slice.ensures.value ∙ c.in-Ok.ensures.noted)
+    (c.next_clock-next.ensures ∙ ap (λ (x : Seen). x.clock + 1) (sym after.stood))
+    (one_of c.turns.turn turn c.in-Ok.begun c.board-in-turns-3.result.now.plain c.next_clock-next.result c.turn_end-to.result
+    t.board u.board is c.in-Ok.ensures.ok) c.found-number.ensures.clock c.found-number.ensures.leap c.found-number.ensures.copied
+    first_start (first_by c.turns.turn.after turn.before c.get-start.result c.turn_end-to.result after.stood c.turn_end-to.ensures.first)
+    c.turn_end-to.ensures.within in
     ran_some stops c.args.end s t u c.turns.watches c.found-number.new.watches c.found-number.result
     (sym c.is_some.ensures ∙ c.if-is_some.true) c.turns.invariant.met on.0 on.1.0 on.1.1 c.in-Ok.ensures.stops c.in-Ok.ensures.first
 
@@ -81,24 +90,30 @@ turns-preserved c =
     let t : SessionState = c.turns.session in
     let u : SessionState = c.run_turn.new.self in
     let stops = stops_of c.args.watches.now in
-    let turn : Turn = record { asked = c.asked_by-asked.result; before = c.turns.before; begun = c.in-Ok.begun; after = c.seen_of-after.result } in
+    let turn : Turn = c.next.new.self in
+    let is : turn ≡ next_turn c.turns.turn c.in-Ok.begun c.board-in-turns-3.result.now.plain =
+    c.next.ensures.turn ∙ ap (λ (b : BoardState). next_turn c.turns.turn c.in-Ok.begun b.plain)
+    (c.board-in-turns-2.ensures.board ∙ sym c.board-in-turns-3.ensures.board) in
+    let after = next_of c.turns.turn turn c.in-Ok.begun t.board.plain c.board-in-turns-3.result.now.plain is c.turns.invariant.after in
     let first_start : c.get-start.result ≡ clock_of s.board.plain =
     c.get-start.ensures.value ∙ c.clock.ensures ∙ ap (λ (b : BoardState). clock_of b.plain) c.board-2.ensures.board in
     let on =
     looks_on stops turn c.as_slice.result.now c.next_clock-next.result c.turn_end-to.result c.args.end c.get-start.result s t u c.board-in-turns-3.result.now
     c.turns.watches c.found-number.new.watches c.found-number.result c.turns.invariant.met
-    (c.asked_by-asked.ensures ∙ ap asked_by c.copy_bytes.ensures.keeps.stops) c.turns.invariant.before
-    (c.seen_of-after.ensures.seen
-    ∙ ap (λ (b : BoardState). seen_of c.asked_by-asked.result b.plain) (c.board-in-turns-2.ensures.board ∙ sym c.board-in-turns-3.ensures.board))
-    c.board-in-turns-3.ensures.board (c.as_slice.ensures.value ∙ c.in-Ok.ensures.noted) c.next_clock-next.ensures
-    c.in-Ok.ensures.ok c.found-number.ensures.clock c.found-number.ensures.leap c.found-number.ensures.copied
-    first_start c.turn_end-to.ensures.first c.turn_end-to.ensures.within in
+    (after.asked ∙ c.turns.invariant.asked) after.before after.after
+    c.board-in-turns-3.ensures.board (c.as_slice.ensures.value ∙ c.in-Ok.ensures.noted)
+    (c.next_clock-next.ensures ∙ ap (λ (x : Seen). x.clock + 1) (sym after.stood))
+    (one_of c.turns.turn turn c.in-Ok.begun c.board-in-turns-3.result.now.plain c.next_clock-next.result c.turn_end-to.result
+    t.board u.board is c.in-Ok.ensures.ok) c.found-number.ensures.clock c.found-number.ensures.leap c.found-number.ensures.copied
+    first_start (first_by c.turns.turn.after turn.before c.get-start.result c.turn_end-to.result after.stood c.turn_end-to.ensures.first)
+    c.turn_end-to.ensures.within in
     record {
       met = met_none_more stops c.args.end s t u c.turns.watches c.found-number.new.watches c.found-number.result (sym c.is_some.ensures ∙ c.if-is_some.false)
           c.turns.invariant.met on.0 on.1.0 on.1.1 c.in-Ok.ensures.stops c.in-Ok.ensures.first c.found-number.ensures.keeps;
-      before = c.seen_of-after.ensures.seen ∙ ap (λ (b : BoardState). seen_of c.asked_by-asked.result b.plain) c.board-in-turns-2.ensures.board;
-      clock = c.seen_of-after.ensures.clock ∙ ap (λ (b : BoardState). clock_of b.plain) c.board-in-turns-2.ensures.board;
-      room = c.seen_of-after.ensures.room;
+      asked = after.asked ∙ c.turns.invariant.asked;
+      after = after.after ∙ ap (λ (b : BoardState). seen_of turn.asked b.plain) c.board-in-turns-3.ensures.board;
+      clock = c.next.ensures.clock ∙ ap (λ (b : BoardState). clock_of b.plain) c.board-in-turns-2.ensures.board;
+      room = c.next.ensures.room;
     }
 
 pub returns-clause-ran : goal.returns-clause-ran

@@ -1,6 +1,7 @@
 -- No stop has been met, and what is to be seen before the next turn is known.
 use Rattle.std.proofs.Common.{◌≡◌, ◌≤◌, ◌-◌}
 use Rattle.board_plain.specs.Plain.{clock_of}
+use Rattle.probe.specs.Met.{asked_by}
 use Rattle.probe.specs.Seen.{seen_of}
 use Rattle.probe.specs.Watched.{stops_of}
 use Rattle.probe.proofs.Meeting.{Met}
@@ -9,9 +10,10 @@ use Rattle.probe.proofs.looking.run_to_stop.Given as goal
 abbrev pub invariant-turns : goal.invariant-turns
 invariant-turns l = record {
   met : Met (stops_of l.fn.watches) l.end l.fn.session l.session l.watches;
-  before : l.before ≡ seen_of l.asked l.session.board.plain;
-  clock : l.before.clock ≡ clock_of l.session.board.plain;
-  room : l.before.waiting ≤ 16;
+  asked : l.turn.asked ≡ asked_by (stops_of l.fn.watches);
+  after : l.turn.after ≡ seen_of l.turn.asked l.session.board.plain;
+  clock : l.turn.after.clock ≡ clock_of l.session.board.plain;
+  room : l.turn.after.waiting ≤ 16;
 }
 
 abbrev pub decreases-turns : goal.decreases-turns

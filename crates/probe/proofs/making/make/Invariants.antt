@@ -8,8 +8,9 @@ use Rattle.probe.proofs.making.make.Given as goal
 abbrev pub invariant-turns : goal.invariant-turns
 invariant-turns g l = record {
   so_far : Making (λ n. g.V.Visitor.saw l.visitor l.fn.session.board.plain n) l.end l.fn.session l.session;
-  before : l.before ≡ seen_of l.asked l.session.board.plain;
-  room : l.before.waiting ≤ 16;
+  asked : l.turn.asked ≡ g.V.Visitor.asks (g.V.Visitor.manner l.visitor);
+  after : l.turn.after ≡ seen_of l.turn.asked l.session.board.plain;
+  room : l.turn.after.waiting ≤ 16;
   manner : g.V.Visitor.manner l.visitor ≡ g.V.Visitor.manner l.fn.visitor;
 }
 

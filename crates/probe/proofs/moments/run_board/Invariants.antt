@@ -2,6 +2,7 @@
 use Rattle.std.proofs.Common.{◌≡◌, ◌≤◌, ◌-◌}
 use Rattle.board_plain.specs.Plain.{clock_of}
 use Rattle.debugger_meaning.specs.Stands.{session_about}
+use Rattle.probe.specs.Met.{asked_by}
 use Rattle.probe.specs.Seen.{seen_of}
 use Rattle.probe.specs.Watched.{stops_of}
 use Rattle.probe.proofs.Meeting.{Met}
@@ -10,9 +11,10 @@ use Rattle.probe.proofs.moments.run_board.Given as goal
 abbrev pub invariant-turns : goal.invariant-turns
 invariant-turns l = record {
   met : Met (stops_of l.fn.watches) l.end (session_about l.fn.board) (record (session_about l.fn.board) { board = l.board }) l.watches;
-  before : l.before ≡ seen_of l.asked l.board.plain;
-  clock : l.before.clock ≡ clock_of l.board.plain;
-  room : l.before.waiting ≤ 16;
+  asked : l.turn.asked ≡ asked_by (stops_of l.fn.watches);
+  after : l.turn.after ≡ seen_of l.turn.asked l.board.plain;
+  clock : l.turn.after.clock ≡ clock_of l.board.plain;
+  room : l.turn.after.waiting ≤ 16;
 }
 
 abbrev pub decreases-turns : goal.decreases-turns
