@@ -33,6 +33,7 @@ pub(crate) struct Turn {
 
 impl Turn {
     /// Looks at a board before the first turn of a run, for the events that are asked for.
+    #[inline(always)]
     pub(crate) fn none(board: &Board, asked: Asked) -> Turn
         ensures asked { result.asked ≡ asked }
         ensures seen { result.after ≡ seen_of asked board.now.plain }
@@ -71,6 +72,7 @@ impl Turn {
 }
 
 /// Looks at a board before a run's first turn, at wires and keys only if they are asked for.
+#[inline(always)]
 #[tactic(auto, unfolding(crate::specs::Seen::seen_of))]
 fn seen_of(board: &Board, asked: Asked) -> Seen
     ensures seen { result ≡ seen_of asked board.now.plain }
@@ -86,6 +88,7 @@ fn seen_of(board: &Board, asked: Asked) -> Seen
 }
 
 /// Returns how many codes wait in the keyboard if keys are asked for, else 0 without a look.
+#[inline(always)]
 fn waiting_seen(board: &Board, keys: bool) -> usize
     ensures waiting { result ≡ waiting_seen keys board.now.plain }
     ensures room { result ≤ 16 }
@@ -110,6 +113,7 @@ fn waiting_of(keyboard: &Keyboard) -> usize
 }
 
 /// Returns the levels of the wires if they are asked for, else `None` without a look.
+#[inline(always)]
 fn levels_seen(board: &Board, wires: bool) -> Option<Levels>
     ensures { result ≡ levels_seen wires board.now.plain }
 {
