@@ -44,8 +44,8 @@ pub record StartsStill (edges : Bool) (n : ℕ) (s : Plain) : Type 0 where
 
 -- One turn, at most up to the clock `end`. What happens in it happens in its first clock; wires, too, change only there
 -- unless edges of the timer may be leapt over. Only a leap leads past the clock `within`, and nothing happens in its
--- first clock either. It counts as one turn, and is of use: its first clock has work, or it is a leap that is as long as
--- it can be.
+-- first clock either. A turn counts as one and is of use: its first clock has work, or it is a leap that is as long as
+-- a leap can be there.
 pub record IsOneTurn (edges : Bool) (within end : ℕ) (old new : BoardState) (begun : Option Begun) : Type 0 where
   pub passed : ℕ
   pub some : 1 ≤ passed
