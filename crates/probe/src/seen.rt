@@ -37,6 +37,7 @@ impl Turn {
     pub(crate) fn none(board: &Board, asked: Asked) -> Turn
         ensures asked { result.asked ≡ asked }
         ensures seen { result.after ≡ seen_of asked board.now.plain }
+        ensures before { result.before ≡ result.after }
         ensures clock { result.after.clock ≡ clock_of board.now.plain }
         ensures room { result.after.waiting ≤ 16 }
     {
@@ -53,19 +54,23 @@ impl Turn {
     /// In place, since a run makes many turns: what isn't asked for stays as it is.
     #[inline(always)]
     pub(crate) fn next(&mut self, begun: Option<Begun>, board: &Board)
-        requires { (s : Plain) × (self.old.after ≡ seen_of self.old.asked s) }
+        requires { (r : Plain) × (s : Plain) × (self.old.before ≡ seen_of self.old.asked r)
+            × (self.old.after ≡ seen_of self.old.asked s) }
         ensures turn { self.new ≡ next_turn self.old begun board.now.plain }
         ensures clock { self.new.after.clock ≡ clock_of board.now.plain }
         ensures room { self.new.after.waiting ≤ 16 }
     {
-        self.before = self.after;
         self.begun = begun;
+        self.before.clock = self.after.clock;
         self.after.clock = board.clock().get();
+        self.before.state = self.after.state;
         self.after.state = board.state();
         if self.asked.keys {
+            self.before.waiting = self.after.waiting;
             self.after.waiting = waiting_of(board.keyboard());
         }
         if self.asked.wires {
+            self.before.levels = self.after.levels;
             self.after.levels = Some(levels_of(board));
         }
     }

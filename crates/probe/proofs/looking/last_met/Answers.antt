@@ -22,13 +22,17 @@ turns-init c = record {
       (c.standing-here.ensures ∙ ap (λ xs. standing xs c.args.board.now.plain) c.copy_bytes.ensures.keeps.stops) c.clock.ensures
       c.found_first-last.ensures c.copy_bytes.ensures.keeps.stops c.copy_bytes.ensures.copies c.copy_bytes.ensures.keeps.watched;
   asked = c.none-turn.ensures.asked ∙ c.asked_by.ensures ∙ ap asked_by c.copy_bytes.ensures.keeps.stops;
+  before = (
+    c.args.board.now.plain,
+    c.none-turn.ensures.before ∙ c.none-turn.ensures.seen ∙ ap (λ a. seen_of a c.args.board.now.plain) (sym c.none-turn.ensures.asked),
+  );
   after = c.none-turn.ensures.seen ∙ ap (λ a. seen_of a c.args.board.now.plain) (sym c.none-turn.ensures.asked);
   clock = c.none-turn.ensures.clock;
   room = c.none-turn.ensures.room;
 }
 
 pub next-requires : goal.next-requires
-next-requires c = (c.turns.board.plain, c.turns.invariant.after)
+next-requires c = (c.turns.invariant.before.0, c.turns.board.plain, c.turns.invariant.before.1, c.turns.invariant.after)
 
 pub found-number-requires-clause-within : goal.found-number-requires-clause-within
 found-number-requires-clause-within c = c.turns.invariant.so_far.watched
@@ -95,6 +99,7 @@ turns-preserved c =
           c.standing_now-here.result c.turns.last c.found_before-before_end.result c.clock-clock.result so_far turn far once end
           (omega (arith, before_end, clock)) now c.found-number.ensures.keeps);
       asked = after.asked ∙ c.turns.invariant.asked;
+      before = (t.plain, after.before);
       after = after.after;
       clock = c.next.ensures.clock;
       room = c.next.ensures.room;

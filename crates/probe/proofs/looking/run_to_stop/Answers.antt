@@ -20,6 +20,10 @@ turns-init c = record {
       (subst (λ (b : BoardState). AreCopies c.copy_bytes.new.watches b.plain) c.board.ensures.board c.copy_bytes.ensures.copies)
       c.copy_bytes.ensures.keeps.watched;
   asked = c.none-turn.ensures.asked ∙ c.asked_by.ensures ∙ ap asked_by c.copy_bytes.ensures.keeps.stops;
+  before = (
+    c.board-3.result.now.plain,
+    c.none-turn.ensures.before ∙ c.none-turn.ensures.seen ∙ ap (λ a. seen_of a c.board-3.result.now.plain) (sym c.none-turn.ensures.asked),
+  );
   after = c.none-turn.ensures.seen ∙ ap (λ a. seen_of a c.board-3.result.now.plain) (sym c.none-turn.ensures.asked)
       ∙ ap (λ (b : BoardState). seen_of c.none-turn.result.asked b.plain) c.board-3.ensures.board;
   clock = c.none-turn.ensures.clock ∙ ap (λ (b : BoardState). clock_of b.plain) c.board-3.ensures.board;
@@ -27,7 +31,7 @@ turns-init c = record {
 }
 
 pub next-requires : goal.next-requires
-next-requires c = (c.turns.session.board.plain, c.turns.invariant.after)
+next-requires c = (c.turns.invariant.before.0, c.turns.session.board.plain, c.turns.invariant.before.1, c.turns.invariant.after)
 
 pub found-number-requires-clause-within : goal.found-number-requires-clause-within
 found-number-requires-clause-within c = c.turns.invariant.met.watched
@@ -111,6 +115,7 @@ turns-preserved c =
       met = met_none_more stops c.args.end s t u c.turns.watches c.found-number.new.watches c.found-number.result (sym c.is_some.ensures ∙ c.if-is_some.false)
           c.turns.invariant.met on.0 on.1.0 on.1.1 c.in-Ok.ensures.stops c.in-Ok.ensures.first c.found-number.ensures.keeps;
       asked = after.asked ∙ c.turns.invariant.asked;
+      before = (t.board.plain, after.before);
       after = after.after ∙ ap (λ (b : BoardState). seen_of turn.asked b.plain) c.board-in-turns-3.ensures.board;
       clock = c.next.ensures.clock ∙ ap (λ (b : BoardState). clock_of b.plain) c.board-in-turns-2.ensures.board;
       room = c.next.ensures.room;

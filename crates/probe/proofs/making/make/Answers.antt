@@ -22,6 +22,10 @@ turns-init g c =
     record {
       so_far = none_made (λ n. g.V.Visitor.saw c.args.visitor.now s.board.plain n) c.unwrap-end.result s c.board.ensures.few (omega (arith, end)) c.requires;
       asked = c.none-turn.ensures.asked ∙ c.asked.ensures;
+      before = (
+        c.board-2.result.now.plain,
+        c.none-turn.ensures.before ∙ c.none-turn.ensures.seen ∙ ap (λ a. seen_of a c.board-2.result.now.plain) (sym c.none-turn.ensures.asked),
+      );
       after = c.none-turn.ensures.seen ∙ ap (λ a. seen_of a c.board-2.result.now.plain) (sym c.none-turn.ensures.asked)
           ∙ ap (λ (b : BoardState). seen_of c.none-turn.result.asked b.plain) c.board-2.ensures.board;
       room = c.none-turn.ensures.room;
@@ -29,7 +33,7 @@ turns-init g c =
     }
 
 pub next-requires : goal.next-requires
-next-requires g c = (c.turns.session.board.plain, c.turns.invariant.after)
+next-requires g c = (c.turns.invariant.before.0, c.turns.session.board.plain, c.turns.invariant.before.1, c.turns.invariant.after)
 
 pub see-requires-clause-looked : goal.see-requires-clause-looked
 see-requires-clause-looked g c =
@@ -113,10 +117,11 @@ turns-preserved g c =
     let made_clock = one.ran.clock in
     let same : made.one.passed ≡ one.passed = omega (arith, seen_clock, made_clock, here) in
     record {
-      so_far = more_made (λ n. g.V.Visitor.saw c.see.new.self s.board.plain n) c.unwrap-end.result s t u so_far.passed made.one.passed so_far.within so_far.turns
-          so_far.ran so_far.stops so_far.first one same c.in_ok-begun.ensures.stops c.in_ok-begun.ensures.first
+      so_far = more_made (λ n. g.V.Visitor.saw c.see.new.self s.board.plain n) c.unwrap-end.result s t u so_far.passed made.one.passed so_far.within
+          so_far.turns so_far.ran so_far.stops so_far.first one same c.in_ok-begun.ensures.stops c.in_ok-begun.ensures.first
           (saw s.board.plain so_far.passed t.board after c.in_ok-begun.ensures.noted so_far.seen);
       asked = ap (λ (x : Turn). x.asked) is ∙ c.turns.invariant.asked ∙ ap g.V.Visitor.asks (sym c.see.ensures.manner);
+      before = (t.board.plain, (next_of c.turns.turn turn c.in_ok-begun.begun t.board.plain b.plain is c.turns.invariant.after).before);
       after = (next_of c.turns.turn turn c.in_ok-begun.begun t.board.plain b.plain is c.turns.invariant.after).after
           ∙ ap (λ (x : BoardState). seen_of turn.asked x.plain) c.board-in-turns-3.ensures.board;
       room = c.next.ensures.room;

@@ -16,13 +16,17 @@ turns-init c = record {
   met = met_none (stops_of c.args.watches.now) c.args.end (session_about c.args.board.now) c.copy_bytes.new.watches c.requires.trail
       c.requires.from c.copy_bytes.ensures.keeps.stops c.copy_bytes.ensures.copies c.copy_bytes.ensures.keeps.watched;
   asked = c.none-turn.ensures.asked ∙ c.asked_by.ensures ∙ ap asked_by c.copy_bytes.ensures.keeps.stops;
+  before = (
+    c.args.board.now.plain,
+    c.none-turn.ensures.before ∙ c.none-turn.ensures.seen ∙ ap (λ a. seen_of a c.args.board.now.plain) (sym c.none-turn.ensures.asked),
+  );
   after = c.none-turn.ensures.seen ∙ ap (λ a. seen_of a c.args.board.now.plain) (sym c.none-turn.ensures.asked);
   clock = c.none-turn.ensures.clock;
   room = c.none-turn.ensures.room;
 }
 
 pub next-requires : goal.next-requires
-next-requires c = (c.turns.board.plain, c.turns.invariant.after)
+next-requires c = (c.turns.invariant.before.0, c.turns.board.plain, c.turns.invariant.before.1, c.turns.invariant.after)
 
 pub returns-then-is_some-clause-ran : goal.returns-then-is_some-clause-ran
 returns-then-is_some-clause-ran c =
@@ -39,7 +43,8 @@ returns-then-is_some-clause-ran c =
     (c.as_slice.ensures.value ∙ c.in-Ok.ensures.noted) (c.next_clock-next.ensures ∙ ap (λ (x : Seen). x.clock + 1) (sym after.stood))
     (one_of c.turns.turn turn c.in-Ok.begun c.run_turn.new.self.plain c.next_clock-next.result c.turn_end-to.result c.turns.board c.run_turn.new.self
     c.next.ensures.turn c.in-Ok.ensures.ok) c.found-number.ensures.clock c.found-number.ensures.leap c.found-number.ensures.copied
-    (c.get-start.ensures.value ∙ c.clock.ensures) (first_by c.turns.turn.after turn.before c.get-start.result c.turn_end-to.result after.stood c.turn_end-to.ensures.first) c.turn_end-to.ensures.within in
+    (c.get-start.ensures.value ∙ c.clock.ensures)
+    (first_by c.turns.turn.after turn.before c.get-start.result c.turn_end-to.result after.stood c.turn_end-to.ensures.first) c.turn_end-to.ensures.within in
     ran_some stops c.args.end s t u c.turns.watches c.found-number.new.watches c.found-number.result
     (sym c.is_some.ensures ∙ c.if-is_some.true) c.turns.invariant.met on.0 on.1.0 on.1.1 refl refl
 
@@ -58,11 +63,13 @@ turns-preserved c =
     (c.as_slice.ensures.value ∙ c.in-Ok.ensures.noted) (c.next_clock-next.ensures ∙ ap (λ (x : Seen). x.clock + 1) (sym after.stood))
     (one_of c.turns.turn turn c.in-Ok.begun c.run_turn.new.self.plain c.next_clock-next.result c.turn_end-to.result c.turns.board c.run_turn.new.self
     c.next.ensures.turn c.in-Ok.ensures.ok) c.found-number.ensures.clock c.found-number.ensures.leap c.found-number.ensures.copied
-    (c.get-start.ensures.value ∙ c.clock.ensures) (first_by c.turns.turn.after turn.before c.get-start.result c.turn_end-to.result after.stood c.turn_end-to.ensures.first) c.turn_end-to.ensures.within in
+    (c.get-start.ensures.value ∙ c.clock.ensures)
+    (first_by c.turns.turn.after turn.before c.get-start.result c.turn_end-to.result after.stood c.turn_end-to.ensures.first) c.turn_end-to.ensures.within in
     record {
       met = met_none_more stops c.args.end s t u c.turns.watches c.found-number.new.watches c.found-number.result
           (sym c.is_some.ensures ∙ c.if-is_some.false) c.turns.invariant.met on.0 on.1.0 on.1.1 refl refl c.found-number.ensures.keeps;
       asked = after.asked ∙ c.turns.invariant.asked;
+      before = (c.turns.board.plain, after.before);
       after = after.after;
       clock = c.next.ensures.clock;
       room = c.next.ensures.room;

@@ -1,6 +1,6 @@
 -- No stop has been met, and what is to be seen before the next turn is known.
 use Rattle.std.proofs.Common.{◌≡◌, ◌≤◌, ◌-◌}
-use Rattle.board_plain.specs.Plain.{clock_of}
+use Rattle.board_plain.specs.Plain.{Plain, clock_of}
 use Rattle.debugger_meaning.specs.Stands.{session_about}
 use Rattle.probe.specs.Met.{asked_by}
 use Rattle.probe.specs.Seen.{seen_of}
@@ -12,6 +12,7 @@ abbrev pub invariant-turns : goal.invariant-turns
 invariant-turns l = record {
   met : Met (stops_of l.fn.watches) l.end (session_about l.fn.board) (record (session_about l.fn.board) { board = l.board }) l.watches;
   asked : l.turn.asked ≡ asked_by (stops_of l.fn.watches);
+  before : (r : Plain) × (l.turn.before ≡ seen_of l.turn.asked r);
   after : l.turn.after ≡ seen_of l.turn.asked l.board.plain;
   clock : l.turn.after.clock ≡ clock_of l.board.plain;
   room : l.turn.after.waiting ≤ 16;
