@@ -74,7 +74,7 @@ def told_of_run(report: Report, files: Files, listing: Listing | None = None, re
             return [Told(text)]
         was_at_zero = go_to_end(session, report)
         ram_end = ram_end_of(files)
-        served = left_at(session, ram_end)
+        served = left_at(session.dump, ram_end)
         trail = [event_of(line) for line in session.answers(['trail'])]
         is_ended = bool(served and served.phase == 2)
         run = Run(report, files, session, free, listing or listing_of(files), trail, ram_end, mark_of(ram_end) if served else 0, is_ended)
@@ -107,7 +107,7 @@ def of_calls(run: Run) -> list[Told]:
 def is_on_disk(run: Run, path: str) -> bool:
     """Whether a program's disk has a file at the run's end. One that was written over has none."""
     with contextlib.suppress(Sorry):
-        return re.sub(r'^(.:)?[\\/]?', '', path.upper()) in disk.files_of(run.session.dump, left_at(run.session, run.ram_end))
+        return re.sub(r'^(.:)?[\\/]?', '', path.upper()) in disk.files_of(run.session.dump, left_at(run.session.dump, run.ram_end))
     return False
 
 

@@ -5,7 +5,7 @@ import re
 from bisect import bisect_right
 from dataclasses import dataclass, field
 from functools import cached_property
-from typing import Any, Iterator, Protocol
+from typing import Any, Iterator
 
 from zebludor import Happening, happening_of
 
@@ -26,23 +26,6 @@ WAKES = 0x300  # IF and TF
 ROM, TEXT, TEXT_END, SERVICES = 0xF0000, 0xB0000, 0xB0FFF, 0xF6000
 COLOUR, COLOUR_END = 0xB8000, 0xC0000
 DATA = ('DB', 'DW', 'DD')
-
-
-class Talker(Protocol):
-    """What answers the debugger's commands at a clock: a session, or the board of another tool."""
-
-    @property
-    def clock(self) -> int:
-        """Where it stands."""
-
-    def one(self, command: str) -> str:
-        """The line that answers a command."""
-
-    def many(self, command: str) -> list[str]:
-        """The lines that answer a command."""
-
-    def dump(self, address: int, count: int) -> bytes:
-        """Bytes from a physical address on."""
 
 
 def statement_of(line: Line | None) -> str:
@@ -100,7 +83,7 @@ class Run:
 
     report: Report
     files: Files
-    session: Talker
+    session: ProbeSession
     free: ProbeSession
     listing: Listing
     trail: list[Event]
