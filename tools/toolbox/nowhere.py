@@ -428,7 +428,7 @@ def of_a_loop(run: Run) -> list[Told]:
     """Whether the same few instructions come in turn, of which one jumps by a condition, and what leads out of them."""
     period = period_of(run.trail) if run.report.state == 'running' else 0
     turn = sorted(run.trail[-period:], key=lambda event: (event.segment, event.offset)) if period else []
-    if not any(map(is_conditional, turn)):
+    if 'branch' not in map(done_by, turn):
         return []
     values = {'count': period, 'rows': '\n'.join(f'  {run.place(event)}' for event in turn)}
     first, last = run.trail[-period - 1].clock, run.trail[-1].clock
@@ -450,8 +450,9 @@ def is_left(run: Run, turn: list[Event], is_of_ports: bool) -> bool:
     clock, places = run.report.clock, {(event.segment, event.offset) for event in turn}
     if clock + A_SECOND > LAST_CLOCK:
         return False
-    ways = {(event.segment, (event.offset + len(event.octets)) % 0x10000) for event in turn if is_conditional(event)}
-    ways |= {way for event in turn if is_conditional(event) for way in [target_of(event)] if way}
+    branches = [event for event in turn if done_by(event) == 'branch']
+    ways = {(event.segment, (event.offset + len(event.octets)) % 0x10000) for event in branches}
+    ways |= {way for way in map(target_of, branches) if way}
     with ProbeSession(run.files) as session:
         session.go_to(clock)
         for command in (
@@ -472,11 +473,6 @@ def is_left(run: Run, turn: list[Event], is_of_ports: bool) -> bool:
 def target_of(event: Event) -> tuple[int, int] | None:
     """The place that a jump or call has in its own bytes, if it is one."""
     return form_of(event.octets).target((event.segment, event.offset))
-
-
-def is_conditional(event: Event) -> bool:
-    """Whether an instruction jumps by a condition."""
-    return done_by(event) == 'branch'
 
 
 def of_a_round(run: Run, period: int) -> str | None:
