@@ -302,7 +302,7 @@ def with_own_lines(files: Files) -> Iterator[Files]:
     """The files themselves, or what is made of a source of MASM by its look; nothing is told of that."""
     guest = looked_at(Guest(files.file, is_bare=files.is_hex or bool(files.symbols)))
     with tempfile.TemporaryDirectory(prefix='zebludor-') as room:
-        yield (made_with(guest, fields_for(guest, None), room) if guest.language else None) or files
+        yield (made_with(guest, room) if guest.language else None) or files
 
 
 def tell_of(guest: Guest) -> None:
@@ -320,7 +320,7 @@ def prepared(guest: Guest, files: Files, more: Fields | None = None) -> Iterator
     """The files that a tool runs: `files` themselves, or what is made of them where they need the services; then `more` has fields
     that stand before RUN's. RUN may be missing (empty). A source that the program refuses stays what it is."""
     with tempfile.TemporaryDirectory(prefix='zebludor-') as room:
-        made = made_with(guest, fields_for(guest, files.run_file or None, more), room) if guest.is_one else None
+        made = made_with(guest, room, files.run_file, more) if guest.is_one else None
         if made:
             tell_of(guest)
             yield replace(made, symbols=files.symbols, source=None) if files.symbols else made
@@ -329,11 +329,10 @@ def prepared(guest: Guest, files: Files, more: Fields | None = None) -> Iterator
             yield found
 
 
-def made_with(guest: Guest, fields: Fields, room: str) -> Files | None:
-    """What is made in a folder of a program with services, or None of a source that the program refuses, as it then does by itself."""
-    from toolbox.loading import check_ram
-
-    check_ram(fields['ram'], guest.file)
+def made_with(guest: Guest, room: str, run_file: str | None = None, more: Fields | None = None) -> Files | None:
+    """What is made in a folder of a program with services, by RUN's fields and those that stand before them, or None of a source that the
+    program refuses, as it then does by itself."""
+    fields = fields_for(guest, run_file, more)
     try:
         return written(guest, fields, room)
     except Refusal:

@@ -228,11 +228,10 @@ def place_of(name: str, image: dict[int, int], start: tuple[int, int], ram: int)
     return psp
 
 
-def check_ram(ram: object, where: str) -> int:
-    """A run file's RAM, if it is enough."""
+def check_ram(ram: object, where: str) -> None:
+    """Refuses RAM of a run file with which the services don't run."""
     if not isinstance(ram, int) or not LEAST_RAM <= ram <= MOST_RAM:
         raise Sorry(f'{where}: the services want {LEAST_RAM} to {MOST_RAM} KB of RAM: "ram":{MOST_RAM}')
-    return ram
 
 
 def hex_of(image: dict[int, int]) -> str:

@@ -255,7 +255,7 @@ class Adapter:
         guest = self.guest(given, is_hex)
         run_file = self.run_file(given, guest)
         symbols = os.path.realpath(path) if (path := field(given, 'symbols', str, '')) else None
-        made = guests.made_with(guest, guests.fields_for(guest, run_file), self.room) if guest.is_one else None
+        made = guests.made_with(guest, self.room, run_file) if guest.is_one else None
         files = made or copied(Files(self.program, run_file, is_hex, symbols), self.room)
         try:
             budget, listing = budget_of(files), listing_of(files)

@@ -26,7 +26,7 @@ from toolbox.asking import lines_of
 from toolbox.places import address_of, far_of, line_at, number_of
 from toolbox.program import LAST_CLOCK, Files, path
 from toolbox.report import REGISTERS, Report, report_of
-from toolbox.runfile import DEFAULTS, read_run_file, text_of, with_budget
+from toolbox.runfile import read_run_file, text_of, with_budget
 from toolbox.scancodes import names
 from toolbox.services import LEAST_RAM, MOST_RAM
 from toolbox.session_board import Paused, break_at, place_of
@@ -97,7 +97,7 @@ class Board:
             to.write(source)
         self.guest = self._taken(replace(guest, file=file, is_bare=guest.is_bare or is_hex))
         files = Files(file, self._run_file({} if given is None else {'keys': given}), is_hex, symbols)
-        made = guests.made_with(self.guest, DEFAULTS | self._fields, room) if self.guest.is_one else None
+        made = guests.made_with(self.guest, room, more=self._fields) if self.guest.is_one else None
         files = replace(made, run_file=files.run_file) if made else files
         self.whole = listing_of(files)
         self.listing = labels_alone(self.whole) if is_hex else self.whole
