@@ -19,9 +19,8 @@ from tests.test_desk import BUZZ, DARK, DATA, NESTED
 
 from toolbox.asking import answers_of
 from toolbox.chips import END_OF_INTERRUPT
-from toolbox.dap.board import FLAG_BITS
 from toolbox.program import Files, Session
-from toolbox.report import Report, registers_of, report_of
+from toolbox.report import FLAGS, Report, registers_of, report_of
 
 # What the page's modules export, under their names, as a test's expressions use them.
 NAMES = (
@@ -829,7 +828,7 @@ class OnePage(ToolCase):
         self.assertEqual(browser.run("[$('aloud').getAttribute('aria-live'),getComputedStyle($('aloud')).display]"), ['polite', 'block'])
         flags = dict(flag.split() for flag in browser.run("[...$('flags').children].map(it=>it.textContent)"))
         value = browser.run('view.registers.FL')
-        self.assertEqual(flags, {name: str(value >> bit & 1) for name, bit in FLAG_BITS.items()})
+        self.assertEqual(flags, {name: str(value >> bit & 1) for name, bit in FLAGS.items()})
         browser.run('toggle_stop(41)')
         page.settled('stops.length===1')
         self.assertEqual(browser.run("$('aloud').textContent"), 'stop at line 41')
