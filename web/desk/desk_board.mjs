@@ -5,8 +5,8 @@ import {Chips, endsBefore, factsOf} from './chips.mjs';
 import {constantsOf, dataOf, valuesOf} from './data.mjs';
 import {kindOfSource, takenAs} from './guest.mjs';
 import {NAMES, stamped, strokesOf} from './keys.mjs';
-import {Listing, addressOf, answerOf, codeOf, farOf, hexOfSource, imageOf, lineAt, listingOf, numberOf,
-  partsOf} from './listing.mjs';
+import {addressOf, answerOf, farOf, hexOfSource, imageOf, lineAt, listingOf, listingOfHex,
+  numberOf} from './listing.mjs';
 import {LAST_CLOCK, Paused, breakAt, placeOf, withKeys} from './machine.mjs';
 import {TYPING} from './services.mjs';
 import {MOST_SAMPLES, Speaker} from './sound.mjs';
@@ -34,7 +34,7 @@ function isKeyList(given) {
 }
 
 export class Board {
-  constructor(library, data, {source, run, isHex, isBare}) {
+  constructor(library, data, {source, run, isHex, how, includes}) {
     this.library = library;
     this.fields = Object.fromEntries(Object.entries(run).filter(([name]) => name !== 'keys'));
     const given = 'keys' in run ? {keys: run.keys} : {};
@@ -43,11 +43,10 @@ export class Board {
     Object.assign(this, {screenNumber: 0, rows: [], screen: null, looks: 0, count: 1, stops: [], held: [-1, []]});
     Object.assign(this, {furthest: 0, wasAt: 0, turn: 0, beganAt: 0, speakers: new Speaker([], 0),
       ofTheRun: [[0, 0], {}]});
-    this.kind = isHex || isBare ? '' : kindOfSource(library, source);
-    const made = takenAs(library, source, this.fields, data, this.kind);
-    this.listing = made?.listing ?? (isHex ? new Listing() : listingOf(library, source));
-    if (isHex) this.listing.parts = partsOf(imageOf(source));
-    else this.readData(source, made?.image);
+    this.kind = isHex ? '' : kindOfSource(library, source, how);
+    const made = takenAs(library, source, this.fields, data, this.kind, {args: how.args, includes});
+    this.listing = made?.listing ?? (isHex ? listingOfHex(source, how.symbols) : listingOf(library, source));
+    if (!isHex) this.readData(source, made?.image);
     const files = {text: made?.text ?? source, isHex: Boolean(made) || isHex, run: {...this.fields, ...given}};
     this.machine = new Machine(library, files, this.listing, () => this.poll(), () => this.breathe());
   }
@@ -378,9 +377,7 @@ export class Board {
     if (!text && rows.every(([at]) => at !== IP)) rows = this.machine.listed([CS, IP], CODE_ROWS);
     const code = rows.map(([at, octets, said]) => {
       const label = [...this.listing.labels].find(([, [para, there]]) => para === segment && there === at)?.[0] ?? '';
-      const line = this.listing.at.get(physical(segment, at)), source = line
-        ? `${line.number}: ${codeOf(line.text).trim()}` : '';
-      return [far(segment, at), label, hexOf(octets), said, source];
+      return [far(segment, at), label, hexOf(octets), said, this.listing.textAt(physical(segment, at))];
     });
     return {clock: this.clock, code};
   }
@@ -390,7 +387,7 @@ export class Board {
   codeBefore(segment, here) {
     const known = [...this.listing.labels.values(),
       ...[...this.machine.known.values()].map(it => [it.segment, it.offset])];
-    for (const line of this.listing.at.values()) known.push(line.address);
+    known.push(...[...this.listing.at.values()].map(line => line.address), ...this.listing.begun);
     const near = known.filter(([para, at]) => para === segment && here - at >= 0 && here - at <= CODE_BEFORE);
     return near.reduce((least, [, at]) => Math.min(least, at), here);
   }
@@ -601,11 +598,13 @@ function base64(octets) {
   for (let at = 0; at < octets.length; at += 0x8000) text += String.fromCharCode(...octets.subarray(at, at + 0x8000));
   return btoa(text);
 }
-// Others are heard before it goes on; a message is no slower than that, as a timer may be.
+// Others are heard before it goes on: by a message, which is no slower than that, as a timer may be; node has a call for
+// it, and hands on many messages before it hears others.
 const channel = new MessageChannel(), waiting = [];
 channel.port1.onmessage = () => waiting.shift()();
 channel.port1.unref?.();
-export function rest(go) {
+function byMessage(go) {
   waiting.push(go);
   channel.port2.postMessage(0);
 }
+export const rest = globalThis.setImmediate ?? byMessage;
