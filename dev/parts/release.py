@@ -26,8 +26,9 @@ from toolbox.sources import sum_of, sum_of_sources
 PLATFORM = 'x86_64-linux'
 STORED_FILES = tuple(f'stored/{program}' for program in PROGRAMS)
 FILES = ('CHANGELOG.md', 'CONTRIBUTING.md', 'SECURITY.md', 'LICENSE-APACHE', 'LICENSE-MIT', 'README.md', 'VERSION', *PROGRAMS, *STORED_FILES, 'stored/PROVED')
-FOLDERS = ('c', 'docs', 'editors', 'examples', 'python', 'services', 'tools')
-LEFT_OUT = ('tools/test', 'tools/tests', 'editors/grammar')  # which want the sources
+FOLDERS = ('c', 'docs', 'editors', 'examples', 'python', 'services', 'tools', 'web')
+LIBRARY = 'stored/zebludor.wasm'  # by which the desk's page runs the board
+LEFT_OUT = ('tools/test', 'tools/tests', 'editors/grammar', 'web/desk.html')  # which want the sources, or are made
 TIME = 315532800  # of every file: the first second of 1980, the earliest that other kinds of archives have too
 CONTAINER = """# Zebludor {version} for machines without Linux, as docs/install.md tells. In the folder that has it and {package}:
 #   docker build -f Containerfile -t zebludor .
@@ -132,7 +133,7 @@ def is_left_out(path: str) -> bool:
 def paths() -> list[str]:
     """The files that a release has of the repository."""
     inside = (os.path.relpath(f'{folder}/{file}', TOP) for top in FOLDERS for folder, _, files in os.walk(f'{TOP}/{top}') for file in files)
-    return [*FILES, *(path for path in inside if not is_left_out(path))]
+    return [*FILES, *filter(lambda path: os.path.isfile(f'{TOP}/{path}'), (LIBRARY,)), *(path for path in inside if not is_left_out(path))]
 
 
 def verdicts_of(crates: Crates) -> str:

@@ -13,7 +13,6 @@ import re
 import resource
 import subprocess
 import sys
-import tempfile
 import unittest
 import warnings
 from typing import Any, Callable
@@ -28,12 +27,8 @@ sys.path.insert(0, f'{TOP}/dev')
 from parts import trials
 from toolbox import framing, starting
 from toolbox.command import MISTAKE, start
-from toolbox.desk.drafts import Drafts
-from toolbox.desk.files import Given
-from toolbox.desk.words import Desk
 from toolbox.moments import Worker
 from toolbox.program import Files, ProbeSession, path
-from toolbox.runfile import DEFAULTS
 from toolbox.threads import STACK, begin
 import zebludor
 
@@ -93,12 +88,6 @@ EDITORS = (
 MOVES = ('continue', 'next', 'stepIn', 'stepOut', 'stepBack', 'reverseContinue')
 DEBUGGERS = ('g', 'Z0,f6058,1', 'c', 'mf0000010,40', 's', 'mb0000,4', 'Z2,b0000,1', 'c', 'bs', 'bc', 'z2,b0000,1', 'z0,f6058,1', 's')
 MONITORS = ('regs', 'chips', 'screen', 'trail', 'dump B0000 4', 'key a', 'keys', 'break F600:58', 'go 3000', 'to 400', 'back stop')
-PAGES: tuple[tuple[str, dict[str, Any]], ...] = (
-    ('stops', {'stops': ['tick', 'changes B0000']}),
-    *(('run', {'to': 5000}), ('over', {}), ('out', {}), ('step', {}), ('back', {}), ('last', {}), ('look', {})),
-    *(('memory', {'place': 'SS:SP'}), ('code', {}), ('chips', {}), ('data', {}), ('why', {}), ('marks', {}), ('who', {'address': 0xB0000})),
-    *(('type', {'codes': [30, 158]}), ('run', {'to': 9000, 'past': True}), ('drop keys', {'keys': [0]}), ('go to', {'clock': 300})),
-)
 PROMPTS = 'regs,chips,trail,step,back,to 3000,break tick,byte B0000 41,last,stops,clear all,key a,keys,drop,speed fast,quit'
 # It jams at what it has written.
 JAM = f"""SEGMENT MAIN AT 0F000h
@@ -281,27 +270,6 @@ class Broken(ToolCase):
             return '\n'.join([*said, tool.communicate(timeout=SECONDS)[1]])
 
         self.each_of(work)
-
-    def test_desk(self) -> None:
-        def work() -> str:
-            with tempfile.TemporaryDirectory(dir=self.room) as room, contextlib.closing(Desk(room, Given(), Drafts(f'{room}/drafts'))) as desk:
-                with open(example('ticks')[0], encoding='ascii') as file:
-                    found = desk.answer({'do': 'open', 'source': file.read(), 'run': DEFAULTS | {'budget': 9000}})
-                board, said = found.pop('board', ''), [found]
-                for word, fields in PAGES if board else ():
-                    said.append(self.whole(desk, {'do': word, 'board': board, **fields}))
-                return json.dumps([{name: value for name, value in found.items() if name != 'screen number'} for found in said])
-
-        self.each_of(work)
-
-    def whole(self, desk: Desk, words: dict[str, Any]) -> dict[str, Any]:
-        """What words of a page come to; what was paused on a busy machine goes on."""
-        found: dict[str, Any] = {'why': 'paused'}
-        while found.get('why') == 'paused':
-            found = desk.answer(words)
-            while found.get('working'):
-                found = desk.answer({'do': 'wait', 'board': words['board']})
-        return found
 
     def test_term(self) -> None:
         def work() -> str:

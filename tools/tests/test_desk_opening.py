@@ -11,7 +11,8 @@ import webbrowser
 from typing import Any
 from unittest import mock
 
-from tests.browser import Browser, path
+from tests.browser import Browser
+from tests.desk_engine import lacking
 from tests.support import TOOLS, ToolCase, main_of, not_run, rooms_in, until
 from tests.test_desk import Client, Served
 from toolbox.desk.http import COOKIE
@@ -145,8 +146,8 @@ class InABrowser(ToolCase):
     def test_by_the_file(self) -> None:
         """It leads to the page, which is there again after a reload and in a second tab. Another browser is told that there is another
         address, which leads there too."""
-        if path() is None:
-            not_run('how a browser comes to the page of tools/desk, since Chromium is not installed')
+        if why := lacking():
+            not_run(f'how a browser comes to the page of tools/desk: {why}')
             return
         process, address, file = self.begin()
         self.assertEqual(file, f'file://{self.room}/zebludor/{rooms_in(self.room)[0]}/open.html')

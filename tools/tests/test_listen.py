@@ -13,7 +13,9 @@ import sys
 import threading
 import unittest
 from typing import Any
+from unittest import mock
 
+from tests.desk_engine import named_library
 from tests.support import SECONDS, TOOLS, ToolCase, not_run
 from toolbox.desk.http import COOKIE, Server
 
@@ -93,6 +95,10 @@ class Listening(unittest.TestCase):
 
 class Started(ToolCase):
     """The tool as it is started."""
+
+    def setUp(self) -> None:
+        super().setUp()
+        self.enterContext(mock.patch.dict(os.environ, named_library(self.room)))
 
     def begin(self, *words: str) -> tuple[subprocess.Popen[str], str]:
         """Starts it, and gives its address."""

@@ -6,7 +6,7 @@ import {Remarks, Wanted, isMasm, refusedOfMasm, rowsOfLine} from './guest.mjs';
 import {noteHints} from './hints.mjs';
 import {Language, block} from './language.mjs';
 import {messagesOf, refusalsOf} from './refusals.mjs';
-import {Gone, LAST_CLOCK, Refused, Sorry, far} from './session.mjs';
+import {Gone, LAST_CLOCK, Refused, Sorry, far, patience} from './session.mjs';
 
 const PATIENCE = 250, LONGEST_SOURCE = 1 << 20, MOST_REMARKS = 20;
 const MOST_MEMORY = 512 << 20; // bytes that the library has at most: what asks for more is refused it
@@ -43,6 +43,7 @@ export class Engine {
     noteFaults(data.faults);
     noteHints(data.hints);
     noteSentences(data.sentences);
+    patience.seconds = data.seconds ?? patience.seconds;
     this.begin();
   }
 
@@ -239,6 +240,7 @@ const OF_BOARD = {
   chips: board => doing(board, () => board.chips()),
   data: board => doing(board, async () => board.data()),
   why: board => doing(board, () => board.why()),
+  standing: board => doing(board, async () => board.standing()),
   stops(board, fields) {
     const stops = want(fields, 'stops', 'list');
     if (stops.length > 1000 || !stops.every(stop => typeof stop === 'string'))

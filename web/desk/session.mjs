@@ -4,6 +4,7 @@ export const MEMORY = 1 << 20;
 export const BEFORE_START = 'fault 54 BeforeStart';
 const ORDER = ['version', 'ram', 'sw1', 'sw2', 'budget', 'keys', 'timer', 'clocks'];
 const MOST_DUMPED = 4096;
+export const patience = {seconds: 2}; // a search that may be long ends after so many
 const decoder = new TextDecoder(), encoder = new TextEncoder();
 
 // What the user can mend, as a sentence.

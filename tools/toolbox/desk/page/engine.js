@@ -28,6 +28,8 @@ function end_engine(why) {
   for (const {go, timer} of waiting.values()) { clearTimeout(timer); go({gone: why}); }
   waiting = new Map();
 }
+/* Begins the engine before it is asked. */
+export function begin_soon(how) { (worker ??= begin_engine(how)).catch(() => {}); }
 /* What the engine answers. `how` has `begun`, which begins a Worker and tells it what it is told first, and `include`,
    which finds a text beside the source: its name and bytes, nothing, or a sentence. */
 export async function engine_of(question, how) {
