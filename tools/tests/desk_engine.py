@@ -2,6 +2,7 @@
 for it."""
 from __future__ import annotations
 
+import functools
 import json
 import os
 import shutil
@@ -13,7 +14,9 @@ from tests import browser
 from tests.support import SECONDS, TOOLS, children, is_there, only_if, processor_seconds
 
 from toolbox import proved
-from toolbox.desk.parts import LIBRARY, PLACES, engine_data
+from toolbox.command import Sorry
+from toolbox.desk import parts
+from toolbox.desk.parts import LIBRARY, engine_data
 from toolbox.program import path
 
 Fields = dict[str, Any]
@@ -87,12 +90,21 @@ def lacking() -> str:
     """Why no page of the desk can be opened, or nothing."""
     if browser.path() is None:
         return "Chromium isn't installed"
-    return '' if any(map(os.path.isfile, PLACES)) else f'there is no {LIBRARY}'
+    return '' if has_library() else f'there is no {LIBRARY}'
+
+
+@functools.cache
+def has_library() -> bool:
+    """Whether there is a library of the present sources."""
+    try:
+        return bool(parts.library())
+    except Sorry:
+        return False
 
 
 def named_library(room: str) -> dict[str, str]:
     """What the environment has for a desk that is started: if there is no library, a file in its place, which a page couldn't run."""
-    if any(map(os.path.isfile, PLACES)):
+    if has_library():
         return {}
     with open(f'{room}/{LIBRARY}', 'wb') as file:
         file.write(b'\0asm')

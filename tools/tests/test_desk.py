@@ -5,6 +5,7 @@ from __future__ import annotations
 import concurrent.futures as futures
 import contextlib
 import glob
+import hashlib
 import http.client
 import json
 import os
@@ -19,11 +20,12 @@ import unittest
 from typing import Any, Callable
 from unittest import mock
 
-from tests.desk_engine import Engine, named_library, with_node
+from tests.desk_engine import Engine, has_library, named_library, with_node
 from tests.support import EXAMPLES, SECONDS, TOOLS, TOP, ToolCase, children, example, rooms_in, until
 from tests.test_symbols import NASM, ROM, hex_of
 
 from toolbox.asking import answers_of
+from toolbox.crates import Crates
 from toolbox.dap.values import is_code
 from toolbox.desk import http as desk_http, parts
 from toolbox.desk.drafts import Drafts
@@ -33,9 +35,10 @@ from toolbox.desk.pages import as_html, examples, grammar, page_of
 from toolbox.desk.words import Desk
 from toolbox.events import events
 from toolbox.listing import line_of
-from toolbox.program import Files, Session, path
+from toolbox.program import Files, Session, path as path_of
 from toolbox.report import registers_of, report_of
 from toolbox.runfile import DEFAULTS, text_of
+from toolbox.sources import sum_of_sources
 
 Fields = dict[str, Any]
 PAGE = f'{TOOLS}/toolbox/desk/page'
@@ -1110,9 +1113,15 @@ class Started(Begun):
     def test_without_its_library(self) -> None:
         """What makes it is told, before a page is served that couldn't run a board."""
         with mock.patch.dict(os.environ, {'ZEBLUDOR_WASM': ''}), mock.patch.object(parts, 'PLACES', ()):
-            self.assertIn('there is no zebludor.wasm', self.called('desk', '--no-open', status=2)[1])
+            self.assertIn('there is no zebludor.wasm of the present sources', self.called('desk', '--no-open', status=2)[1])
         with mock.patch.dict(os.environ, {'ZEBLUDOR_WASM': f'{self.room}/none'}):
             self.assertIn("can't be read", self.called('desk', '--no-open', status=3)[1])
+        octets, sources = b'\0asm', sum_of_sources(Crates().below(parts.CRATE))
+        with open(f'{self.room}/{parts.LIBRARY}', 'wb') as file:
+            file.write(octets)
+        for made, of, wanted in ((octets, sources, octets), (b'other', sources, None), (octets, 'f' * 64, None)):
+            self.file('PROVED', f'made {parts.LIBRARY} {hashlib.sha256(made).hexdigest()} sources {of}\n')
+            self.assertEqual(parts.library_in(self.room), wanted)
 
     def test_a_desk_that_is_killed(self) -> None:
         """Its folder goes when the next desk begins."""
@@ -1186,8 +1195,8 @@ class Whole(Begun):
     def page(self, *words: str) -> Callable[[str], Fields]:
         """Starts a desk, and opens its page."""
         process, client = self.begin(*words)
-        programs = {name.upper(): path(name) for name in ('pcboard', 'pcprobe', 'pcmasm')}
-        stand_in = {} if any(map(os.path.isfile, parts.PLACES)) else {'STANDS_IN': '1'}
+        programs = {name.upper(): path_of(name) for name in ('pcboard', 'pcprobe', 'pcmasm')}
+        stand_in = {} if has_library() else {'STANDS_IN': '1'}
         asking = ['node', f'{TOOLS}/tests/desk/page.mjs', f'http://{client.host}/{client.token}/']
         node = subprocess.Popen(asking, stdin=subprocess.PIPE, stdout=subprocess.PIPE, text=True, env=os.environ | programs | stand_in | {'COOKIE': client.cookie})
         self.addCleanup(node.communicate)

@@ -221,8 +221,8 @@ class Asked(ToolCase):
             self.open(source)
             self.assertEqual(self.ask('data')['data'], values_of(listing.data, machine.dump))
         self.open(KINDS_OF_DATA)
-        for text, told in (('AX = top', 'AX = 0B83Ch'), ('BX = less', 'BX = 0FFFBh'), ('CX = five', 'CX = 00005h (5)'), ('AX = many', '')):
-            self.assertTrue(told in self.ask('set', text=text).get('told', ''), text)
+        for text, wanted in (('AX = top', 'AX = 0B83Ch'), ('BX = less', 'BX = 0FFFBh'), ('CX = five', 'CX = 00005h (5)'), ('AX = many', '')):
+            self.assertIn(wanted, self.ask('set', text=text).get('told', ''), text)
         stops = self.ask('stops', stops=['changes many', 'changes 502', 'changes odd', 'changes LAST'])['stops']
         self.assertEqual([stop[0].split()[2] for stop in stops], ['20', '16', '4'])  # at 502 is `many` too
 

@@ -1,25 +1,29 @@
 """What tools/desk serves: the page, its modules, those of its engine, the library that this calls, and the tables that it reads."""
 from __future__ import annotations
 
+import hashlib
 import json
 import os
+import re
 from typing import Any
 
 from toolbox.command import Sorry, named, read_bytes, read_text
+from toolbox.crates import Crates
 from toolbox.foreign import OWN
 from toolbox.program import TOP
 from toolbox.runfile import DEFAULTS
+from toolbox.sources import sum_of_sources
 from toolbox.tables import tables
 
 Fields = dict[str, Any]
 PAGE, WEB = f'{os.path.dirname(os.path.realpath(__file__))}/page', f'{TOP}/web'
 ENGINE = f'{WEB}/desk'
-LIBRARY = 'zebludor.wasm'
+LIBRARY, CRATE = 'zebludor.wasm', 'zebludor_program'
 # Where the library is, if $ZEBLUDOR_WASM names none: built here, or stored.
-PLACES = (f'{TOP}/crates/zebludor_program/out/wasm/{LIBRARY}', f'{TOP}/stored/{LIBRARY}')
+PLACES = (f'{TOP}/crates/zebludor_program/out/wasm', f'{TOP}/stored')
 ALONE = 'local.js'  # which a page without a server has in the place of the page's served.js
 TABLES = ('faults', 'hints', 'sentences', 'services')
-LACKING = f"there is no {LIBRARY}, by which the page runs the board; dev/build zebludor_program --target wasm makes it (docs/install.md)"
+LACKING = f'there is no {LIBRARY} of the present sources, by which the page runs the board; dev/build zebludor_program --target wasm makes it'
 
 
 def engine_data() -> Fields:
@@ -30,10 +34,23 @@ def engine_data() -> Fields:
 
 def library() -> bytes:
     """The library for WebAssembly."""
-    path = os.environ.get('ZEBLUDOR_WASM') or next(filter(os.path.isfile, PLACES), None)
-    if not path:
+    path = os.environ.get('ZEBLUDOR_WASM')
+    found = read_bytes(path) if path else next(filter(None, map(library_in, PLACES)), None)
+    if found is None:
         raise Sorry(LACKING)
-    return read_bytes(path)
+    return found
+
+
+def library_in(folder: str) -> bytes | None:
+    """The library in a folder, if PROVED beside it tells of these bytes, made of the present sources; a release has none."""
+    path, beside = f'{folder}/{LIBRARY}', f'{folder}/PROVED'
+    if not (os.path.isfile(path) and os.path.isfile(beside)):
+        return None
+    made, octets = re.search(rf'^made {LIBRARY} (\S+) sources (\S+)$', read_text(beside), re.M), read_bytes(path)
+    if not made or hashlib.sha256(octets).hexdigest() != made[1]:
+        return None
+    is_own = not os.path.isfile(f'{TOP}/crates.txt') or sum_of_sources(Crates().below(CRATE)) == made[2]
+    return octets if is_own else None
 
 
 def page() -> str:
