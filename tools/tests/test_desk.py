@@ -1192,15 +1192,19 @@ class Started(Begun):
 class Whole(Begun):
     """The desk as it is started, and how a page asks it and its engine: by the page's own module under node."""
 
+    def node(self, module: str, *words: str) -> subprocess.Popen[str]:
+        """Starts a desk, and a module of tests/desk that opens its page."""
+        self.desk, client = self.begin(*words)
+        programs = {name.upper(): path_of(name) for name in ('pcboard', 'pcprobe', 'pcmasm')}
+        more = programs | {'COOKIE': client.cookie} | ({} if has_library() else {'STANDS_IN': '1'})
+        asking = ['node', f'{TOOLS}/tests/desk/{module}', f'http://{client.host}/{client.token}/']
+        node = subprocess.Popen(asking, stdin=subprocess.PIPE, stdout=subprocess.PIPE, text=True, env=os.environ | more)
+        self.addCleanup(node.communicate)
+        return node
+
     def page(self, *words: str) -> Callable[[str], Fields]:
         """Starts a desk, and opens its page."""
-        process, client = self.begin(*words)
-        programs = {name.upper(): path_of(name) for name in ('pcboard', 'pcprobe', 'pcmasm')}
-        stand_in = {} if has_library() else {'STANDS_IN': '1'}
-        asking = ['node', f'{TOOLS}/tests/desk/page.mjs', f'http://{client.host}/{client.token}/']
-        node = subprocess.Popen(asking, stdin=subprocess.PIPE, stdout=subprocess.PIPE, text=True, env=os.environ | programs | stand_in | {'COOKIE': client.cookie})
-        self.addCleanup(node.communicate)
-        self.desk = process
+        node = self.node('page.mjs', *words)
 
         def ask(word: str, **fields: Any) -> Fields:
             assert node.stdin and node.stdout
@@ -1210,6 +1214,17 @@ class Whole(Begun):
             return found
 
         return ask
+
+    def test_a_walk(self) -> None:
+        """The page itself, without a browser: it runs an example, goes back and on, meets a stop, refuses a line with a hint, and says why a
+        run goes nowhere."""
+        node = self.node('walk.mjs')
+        found = {one['what']: one for one in map(json.loads, node.communicate()[0].splitlines())}
+        self.assertEqual(found['first'], {'what': 'first', 'now': 'clock 10,000', 'said': '', 'more': ['first.asm', 'Hello from RAM', 32]})
+        self.assertEqual([found[what]['now'] for what in ('back', 'step', 'stop')], ['clock 1,859', 'clock 1,861', 'clock 1,859'])
+        self.assertEqual((found['stop']['said'], found['stop']['more']), ('a stop is met', []))
+        self.assertEqual((found['refused']['said'], found['refused']['more']), ('1 line refused', ['line 2: UnknownName: is MOV meant?']))
+        self.assertIn('enters interrupt 05', found['why']['more'][0])
 
     def test_a_program(self) -> None:
         """Its files are the desk's, its board the engine's, which goes on when the desk has ended; then no file is."""
