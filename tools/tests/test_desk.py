@@ -1295,6 +1295,16 @@ class Pages(unittest.TestCase):
         for name, text in modules().items():
             self.assertNotRegex(text, r'https?:|//\w+\.|@import|url\(|eval\(|new Function', name)
 
+    def test_its_script_is_short(self) -> None:
+        """With the engine's, it has at most 6,500 lines that aren't blank, also without a server, and none above 120 characters."""
+        texts = parts.modules()
+        with open(f'{parts.ENGINE}/{parts.ALONE}', encoding='utf-8') as file:
+            alone = texts | {'served.js': file.read()}
+        for them in (texts, alone):
+            lines = [line for text in them.values() for line in text.split('\n') if line.strip()]
+            self.assertLessEqual(len(lines), 6500)
+            self.assertLessEqual(max(map(len, lines)), 120)
+
     def test_modules_name_what_they_use(self) -> None:
         """Each name that a module uses of another is imported from there, each import is used, and one name means one thing."""
         texts = {name: re.sub(r'/\*.*?\*/', '', text, flags=re.S) for name, text in modules().items()}

@@ -552,7 +552,8 @@ export class Board {
 
   // The interrupts of the run, and up to which clock they were looked for.
   async interrupts(until) {
-    const deadline = now() + 1000 * patience.seconds, found = [], session = new Session(this.library, this.machine.files);
+    const deadline = now() + 1000 * patience.seconds, found = [];
+    const session = new Session(this.library, this.machine.files);
     try {
       while (session.clock < until && now() < deadline && found.length <= MOST_MARKS) {
         for (const line of session.lines(Math.min(MARKED_AT_ONCE, until - session.clock), 'entries')) {
