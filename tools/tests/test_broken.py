@@ -19,6 +19,7 @@ from typing import Any, Callable
 from unittest import mock
 
 from tests import test_gdb
+from tests.desk_engine import named_library
 from tests.support import RESET, SECONDS, TOOLS, TOP, ToolCase, children, example, main_of
 from tests.terminal import Terminal
 from tests.test_dap import Client as Editor
@@ -331,6 +332,7 @@ class NoThread(ToolCase):
         source, run = example('ticks')
         os.mkdir(f'{self.room}/state')
         self.file('page', 'shows = HI\n')
+        self.enterContext(mock.patch.dict(os.environ, named_library(self.room)))
         for name, words in (
             ('dap', []),
             ('lsp', []),

@@ -819,7 +819,7 @@ class Boards(Served):
             typed = self.client.ask('type', board=board, codes=[30, 158])
             self.assertEqual((typed['clock'], len(typed['keys'])), (here, 2 * count))
         self.client.ask('marks', board=board)
-        self.assert_within(self.client.engine.spent() - before, 0.5)
+        self.assert_within(self.client.engine.spent() - before, 2)  # one repetition of the run takes as long
         stamps = [each[0] for each in typed['keys']]
         self.assertEqual(stamps, [here + 1000 * each for each in range(1, 41)])
         for clock, waiting in ((stamps[0] - 1, 0), (stamps[0], 1), (stamps[2], 3), (stamps[-1], 16)) * 2:
