@@ -1262,6 +1262,11 @@ class Whole(Begun):
         board = ask('open', source=DARK, run=RUN, hex=False)['board']
         ask('go to', board=board, clock=1000)
         self.assertIn('text memory has characters', ask('why', board=board)['told'][0])
+        for text in (source, NESTED.replace('CALL outer', 'RETF')):
+            board = ask('open', source=text, run=RUN, hex=False)['board']
+            ask('go to', board=board, clock=300)
+            err = self.tool('why', 'run', self.file('it.asm', text), self.file('it.json', text_of(RUN | {'budget': 300})))[1]
+            self.assertEqual([f'why: {line}' for line in ask('why', board=board)['told']], err.splitlines())
 
     def test_words(self) -> None:
         """How a source is taken, a command's tail, symbols and what a source includes come by the desk."""

@@ -27,8 +27,9 @@ function within(run, work) {
   }
 }
 
-// Where an instruction was, with its source line, or what it did.
-function placeOf(run, event) {
+// Where an event was, with its source line, or what it did.
+export function placeOf(run, event) {
+  if (event.entry !== null) return `interrupt ${hex(event.entry, 2)}`;
   const line = lineAt(run.listing, event), place = far(event.segment, event.offset);
   const isOwn = !(run.board.ramEnd && event.address >= SERVICES);
   if (line && isOwn) return `line ${line.number} (${codeOf(line.text).trim()}), ${place}`;
