@@ -60,7 +60,7 @@ class Listening(unittest.TestCase):
             self.assertEqual(self.asked(server, at, full, 'POST', 'http://evil.example')[0], 403)
             self.assertEqual(self.asked(server, at, full, 'POST')[0], 403)
             if is_served:
-                self.assertIn(f'script-src http://{full}/{server.token}/main.js;', policy)
+                self.assertIn(f"script-src http://{full}/{server.token}/main.js 'wasm-unsafe-eval';", policy)
 
     def test_one_address(self) -> None:
         server = self.serve('127.0.0.2')
