@@ -43,8 +43,8 @@ $('byte-who').onclick = () => {
   acts(() => move('who', {address, count}));
 };
 $('byte-set').onclick = () => {
-  const at = address > 0xFFFF ? `[0${hex(address, 5)}h]` : `0:[0${hex(address, 4)}h]`;
   const one = opener, [address, count] = bytesChosen, shown = one.textContent, kept = [...one.childNodes];
+  const at = address > 0xFFFF ? `[0${hex(address, 5)}h]` : `0:[0${hex(address, 4)}h]`;
   close_menu();
   edit_in_place(one, `${count === 2 ? 'WORD' : 'BYTE'} ${at}`, /^[0-9A-F]{2}$/.test(shown) ? shown : '',
     true, () => one.replaceChildren(...kept));
