@@ -621,7 +621,9 @@ class OnePage(ToolCase):
         browser.run("$('place').value='00400';$('place').dispatchEvent(new Event('change'));queue")
         browser.until("$('bytes').textContent.startsWith('00400: 00')")
         browser.run("document.querySelector('#bytes .byte').click()")
+        browser.run('look_on();queue')  # as a step's look that comes late: what is open isn't drawn over
         browser.run("$('byte-set').click()")
+        browser.run('look_on();queue')
         typed('41', 'Enter')
         browser.until("$('bytes').textContent.startsWith('00400: 41')")
         page.click('#undo', 'view.registers.BX===0')

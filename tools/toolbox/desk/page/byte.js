@@ -3,6 +3,7 @@
 import {$, hex, say} from './asking.js';
 import {acts, move, put_stops, stops} from './board.js';
 import {edit_in_place} from './edit.js';
+import {later, look_on} from './timeline.js';
 let bytesChosen = null, opener = null;
 /* An element of bytes of memory, so many from an address on. */
 export function opens_menu(element, address, count) {
@@ -28,6 +29,7 @@ function close_menu(isBack = true) {
   if ($('byte-menu').hidden) return;
   $('byte-menu').hidden = true;
   if (isBack && opener) opener.focus();
+  later(look_on);
 }
 $('byte-stop').onclick = () => {
   const [address, count] = bytesChosen, place = `changes ${hex(address, 5)} ${count}`, before = stops.length;
