@@ -28,18 +28,22 @@ def has_node(_: Any = None) -> bool:
     return is_there('node', "the engine of the desk's page", 'nodejs')
 
 
+def begun(room: str, module: str, *words: str) -> subprocess.Popen[str]:
+    """A module of tests/desk, which is told these words, then what an engine has, and the library if there is one."""
+    with open(f'{room}/has.json', 'w', encoding='utf-8') as file:
+        json.dump(engine_data() | {'seconds': SECONDS}, file)  # on a machine at which others are at work, all is told too
+    library = list(filter(None, [proved.library_file('zebludor.wasm')]))
+    programs = {name.upper(): path(name) for name in ('pcboard', 'pcprobe', 'pcmasm')}
+    command = ['node', f'{TOOLS}/tests/desk/{module}', *words, f'{room}/has.json', *library]
+    return subprocess.Popen(command, stdin=subprocess.PIPE, stdout=subprocess.PIPE, text=True, env=os.environ | programs | {'TMPDIR': room})
+
+
 class Engine:
     """An engine, which is asked as the page asks it. `include` finds what a source includes."""
 
     def __init__(self, include: Callable[[str], Fields | None] = lambda _: None) -> None:
         self.room, self.include = tempfile.mkdtemp(prefix='zebludor-'), include
-        with open(f'{self.room}/has.json', 'w', encoding='utf-8') as file:
-            json.dump(engine_data() | {'seconds': SECONDS}, file)  # on a machine at which others are at work, all is told too
-        library = list(filter(None, [proved.library_file('zebludor.wasm')]))
-        programs = {name.upper(): path(name) for name in ('pcboard', 'pcprobe', 'pcmasm')}
-        words = ['node', f'{TOOLS}/tests/desk/answers.mjs', f'{self.room}/has.json', *library]
-        env = os.environ | programs | {'TMPDIR': self.room}
-        self.process = subprocess.Popen(words, stdin=subprocess.PIPE, stdout=subprocess.PIPE, text=True, env=env)
+        self.process = begun(self.room, 'answers.mjs')
 
     def close(self) -> None:
         """Ends it."""

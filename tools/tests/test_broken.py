@@ -19,8 +19,8 @@ from typing import Any, Callable
 from unittest import mock
 
 from tests import test_gdb
-from tests.desk_engine import named_library
-from tests.support import RESET, SECONDS, TOOLS, TOP, ToolCase, children, example, main_of
+from tests.desk_engine import begun, has_node, named_library
+from tests.support import RESET, SECONDS, TOOLS, TOP, ToolCase, children, example, main_of, only_if
 from tests.terminal import Terminal
 from tests.test_dap import Client as Editor
 
@@ -30,6 +30,7 @@ from toolbox import framing, starting
 from toolbox.command import MISTAKE, start
 from toolbox.moments import Worker
 from toolbox.program import Files, ProbeSession, path
+from toolbox.runfile import DEFAULTS
 from toolbox.threads import STACK, begin
 import zebludor
 
@@ -89,6 +90,12 @@ EDITORS = (
 MOVES = ('continue', 'next', 'stepIn', 'stepOut', 'stepBack', 'reverseContinue')
 DEBUGGERS = ('g', 'Z0,f6058,1', 'c', 'mf0000010,40', 's', 'mb0000,4', 'Z2,b0000,1', 'c', 'bs', 'bc', 'z2,b0000,1', 'z0,f6058,1', 's')
 MONITORS = ('regs', 'chips', 'screen', 'trail', 'dump B0000 4', 'key a', 'keys', 'break F600:58', 'go 3000', 'to 400', 'back stop')
+PAGES: tuple[tuple[str, dict[str, Any]], ...] = (
+    ('stops', {'stops': ['tick', 'changes B0000']}),
+    *(('run', {'to': 5000}), ('over', {}), ('out', {}), ('step', {}), ('back', {}), ('last', {}), ('look', {})),
+    *(('memory', {'place': 'SS:SP'}), ('code', {}), ('chips', {}), ('data', {}), ('why', {}), ('marks', {}), ('who', {'address': 0xB0000})),
+    *(('type', {'codes': [30, 158]}), ('run', {'to': 9000, 'past': True}), ('drop keys', {'keys': [0]}), ('go to', {'clock': 300})),
+)
 PROMPTS = 'regs,chips,trail,step,back,to 3000,break tick,byte B0000 41,last,stops,clear all,key a,keys,drop,speed fast,quit'
 # It jams at what it has written.
 JAM = f"""SEGMENT MAIN AT 0F000h
@@ -271,6 +278,24 @@ class Broken(ToolCase):
             return '\n'.join([*said, tool.communicate(timeout=SECONDS)[1]])
 
         self.each_of(work)
+
+    @only_if(has_node)
+    def test_desk(self) -> None:
+        """The engine of its page, over its library."""
+        with open(example('ticks')[0], encoding='ascii') as file:
+            first: dict[str, Any] = {'do': 'open', 'source': file.read(), 'run': DEFAULTS | {'budget': 9000}}
+        asked = json.dumps([first, *({'do': word, **fields} for word, fields in PAGES)])
+
+        def answers(refused: str) -> dict[str, Any]:
+            found: dict[str, Any] = json.loads(begun(self.room, 'refusing.mjs', refused).communicate(asked)[0])
+            return found
+
+        wanted = answers('nothing')
+        self.assertNotRegex(json.dumps(wanted['said']), '"error"|refuse')
+        for word in wanted['seen']:
+            said = json.dumps(answers(word)['said'])
+            self.assertNotIn('"error"', said, word)
+            self.assertRegex(said, 'refuse|no memory', word)
 
     def test_term(self) -> None:
         def work() -> str:
