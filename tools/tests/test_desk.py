@@ -1073,6 +1073,7 @@ class Begun(ToolCase):
             cwd=self.room,
             env=os.environ | {'XDG_RUNTIME_DIR': self.room, 'XDG_STATE_HOME': f'{self.room}/state'},
         )
+        self.addCleanup(process.communicate)
         self.addCleanup(process.kill)
         assert process.stdout
         return process, Client(process.stdout.readline().split()[1])
