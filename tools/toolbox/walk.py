@@ -248,5 +248,6 @@ def go_to_end(session: ProbeSession, report: Report) -> int | None:
     session.stop('break 0:0')
     answer = session.go(report.clock)
     was = session.clock if answer.startswith('stop') and session.dump(0, 2) == b'\0\0' else None
-    session.go_to(report.clock)
+    if session.clock < report.clock:  # past the stop, which a processor that has jammed there meets at each clock
+        session.lines(report.clock - session.clock, 'keys')
     return was
