@@ -3,17 +3,18 @@
 import {begin_soon, engine_of} from './engine.js';
 export const isAlone = false;
 const OF_FILES = ['hello', 'example', 'page', 'include', 'keep', 'changed', 'keep draft', 'drop draft', 'draft'];
-const ENDED = 'desk has ended: start tools/desk again';
+const ENDED = 'desk has ended: start tools/desk again', PATIENCE = 10000;
 let how = {};  // as the command's words say that sources are taken
 
-/* The desk. */
-async function desk_of(question) {
+/* The desk; maybe for so many milliseconds. */
+async function desk_of(question, most = null) {
   let answer;
   try {
     answer = await fetch('do', {
       method: 'POST',
       headers: {'Content-Type': 'application/json'},
       body: JSON.stringify(question),
+      signal: most && AbortSignal.timeout(most),
     });
   } catch {
     throw new Error(ENDED);
@@ -40,13 +41,14 @@ const ENGINE = {
     return sorry ? {sorry} : {...found, bytes: Uint8Array.from(atob(bytes), it => it.charCodeAt(0))};
   },
 };
-/* Why a run goes nowhere: the desk knows sentences that the engine doesn't. */
+/* Why a run goes nowhere: the desk knows sentences that the engine doesn't, and isn't waited for very long. */
 async function why_of(question) {
   const {source, hex, run, clock, registers, state, screen} = await engine_of({...question, do: 'standing'}, ENGINE);
+  const asked = {do: 'why', source, hex, run, clock, registers, state, screen};
   try {
-    const {told} = registers ? await desk_of({do: 'why', source, hex, run, clock, registers, state, screen}) : {};
+    const {told} = registers ? await desk_of(asked, PATIENCE) : {};
     if (told) return {clock, told};
-  } catch { /* the desk has ended */ }
+  } catch { /* the desk has ended, or takes too long */ }
   return engine_of(question, ENGINE);
 }
 /* What is answered; throws what a server says that answers nothing. */
