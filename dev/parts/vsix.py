@@ -9,7 +9,7 @@ from html import escape
 
 EXTENSION, INSIDE = 'editors/vscode/', 'zebludor'
 # What neither the server nor the debugger reads.
-LEFT_OUT = ('c/', 'docs/book.', 'lib/', 'SHA256SUMS')
+LEFT_OUT = ('c/', 'docs/book.', 'lib/', 'stored/zebludor.wasm', 'web/', 'SHA256SUMS')
 PLATFORM = 'linux-x64'  # as VS Code calls it
 TIME = (1980, 1, 1, 0, 0, 0)
 TYPES = {'json': 'application/json', 'vsixmanifest': 'text/xml'}
