@@ -9,8 +9,8 @@
         session.go(1000)
         print(session.word('count'))
 
-Runs, sessions and the assembler are the built program's, which PCBOARD names, else the one that the launcher
-of the repository takes that this file stands in. Pit, Pic and Ppi are the chips by themselves: timer, interrupt controller and parallel port. They are calls of
+Runs, sessions and the assembler are those of the program that PCBOARD names, else of the one that the launcher of the repository
+takes that this file stands in, or of the library that is stored beside it, in this process. Pit, Pic and Ppi are the chips by themselves: timer, interrupt controller and parallel port. They are calls of
 the static library, laid out as c/zebludor.h says. Nothing here decides a fact. A refusal is raised as Fault, with the number
 and the name that docs/formats.md explains; what isn't there, or isn't such a thing, as Unfit."""
 from __future__ import annotations
@@ -22,6 +22,7 @@ import io
 import json
 import os
 import re
+import stat
 import subprocess
 import sys
 import tempfile
@@ -42,10 +43,16 @@ LAST_CLOCK = 1 << 40
 MEMORY = 1 << 20
 # A run by a library is made in parts of so many clocks, or of twice as many as long as a part takes less than a tenth of a second.
 PART = 10_000_000
+ROOM = 1 << 18  # bytes of an answer; of a longer one the library is asked again
 # The chips' library of a release, else the one that dev/build leaves.
 CHIPS = f'{TOP}/lib/libzebludor_chips.so', f'{TOP}/crates/zebludor_chips/out/libzebludor_chips.a'
-# The sessions' library, likewise.
-SESSIONS = f'{TOP}/lib/libzebludor_program.so', f'{TOP}/crates/zebludor_program/out/libzebludor_program.a'
+# What is stored beside the programs, and answers in this process.
+LIBRARY, RELEASED = 'libzebludor.so', f'{TOP}/lib/libzebludor_program.so'
+# A run of more clocks, or of an unknown number, is a process's, which an interrupt ends at once; and so is a text of more bytes.
+LONG, LARGE = 20_000_000, 1 << 20
+BUDGET = re.compile(rb'"budget"\s*:\s*(\d{1,13})')
+# What the library's programs know their files by, and the words of their tasks that it is asked for.
+FILES_OF, OPTIONS = {'run': ['FILE', 'RUN'], 'asm': ['FILE']}, {'--hex', '--list'}
 ROWS, COLUMNS = 25, 80
 REGISTER_LINES = (('AX', 'BX', 'CX', 'DX', 'SP', 'BP', 'SI', 'DI'), ('CS', 'DS', 'ES', 'SS', 'IP', 'FL'))
 REGISTERS = REGISTER_LINES[0] + REGISTER_LINES[1]
@@ -69,6 +76,10 @@ T = TypeVar('T')
 
 class Unfit(Exception):
     """What is asked for isn't there, or a text isn't what it is taken for; its text is a sentence."""
+
+
+class TooLong(Unfit):
+    """An answer has more bytes than are read."""
 
 
 class NotReturned(Exception):
@@ -262,8 +273,14 @@ def program(name: str = 'pcboard') -> str:
 
 @functools.cache
 def taken(name: str) -> str:
-    """The program that the launcher of this name takes for a run, as its `--version` tells then, which says once to each user where that
-    is the stored one."""
+    """The program that the launcher of this name takes for a run. That the stored one is made of the present sources is known without a
+    shell."""
+    return f'{TOP}/stored/{name}' if not os.path.exists(f'{TOP}/crates/{name}/out/{name}') and _stored(name) else _launched(name)
+
+
+@functools.cache
+def _launched(name: str) -> str:
+    """The same by the launcher's `--version`, which says once to each user where that is the stored one."""
     env = os.environ | {'ZEBLUDOR_TAKES': name}
     try:
         printed = subprocess.run([f'{TOP}/{name}', '--version'], stdin=subprocess.DEVNULL, stdout=subprocess.PIPE, env=env, text=True, check=False).stdout
@@ -278,9 +295,41 @@ def taken(name: str) -> str:
     return f'{TOP}/{path[1]}'
 
 
+def _stored(name: str) -> bool:
+    """Whether a stored file is the one of which stored/PROVED tells, and made of the present sources; and that it was proved elsewhere
+    has been told."""
+    found = _present()
+    return found is not None and name in found.names and _is_told(found.mark)
+
+
+@functools.cache
+def _present() -> Any:
+    """What the tools beside this file know of stored files, once; None if they aren't there."""
+    _with_tools()
+    try:
+        from toolbox import present  # pylint: disable=import-error
+    except ImportError:
+        return None
+    return present.present() if os.path.realpath(present.TOP) == TOP else None
+
+
+@functools.cache
+def _is_told(mark: str) -> bool:
+    """Whether it was said, of stored programs, that they were proved elsewhere: else the launcher says it now."""
+    from toolbox import present  # pylint: disable=import-error
+
+    folder = present.cache()
+    if folder and os.path.exists(f'{folder}/{mark}'):
+        return True
+    with contextlib.suppress(Unfit):
+        _launched('pcboard')
+        return True
+    return False
+
+
 def limit_memory(megabytes: int | None) -> None:
-    """From now on each process of the program that begins here takes so much memory at most: one that wants more refuses, with a
-    fault named Memory. None lifts the limit."""
+    """From now on each process of the program that begins here, and each call of the library, takes so much memory at most: one that
+    wants more refuses, with a fault named Memory. None lifts the limit."""
     _limits[:] = [] if megabytes is None else [megabytes]
 
 
@@ -293,7 +342,10 @@ def limited(words: list[str]) -> list[str]:
 
 
 def ran(words: list[str], given: bytes = b'', most: int = sys.maxsize, name: str = 'pcboard') -> Ran:
-    """Runs a program to its end. An answer of more than `most` bytes isn't read, which is told as Unfit."""
+    """Runs a program to its end, in this process if that can be. An answer of more than `most` bytes isn't read, which is told as Unfit."""
+    within = ran_within(words, given, most, name)
+    if within:
+        return within
     with tempfile.TemporaryFile() as to, tempfile.TemporaryFile() as err:
         to.write(given)  # into a file, not a pipe: a session answers before it has read all
         to.seek(0)
@@ -305,7 +357,7 @@ def ran(words: list[str], given: bytes = b'', most: int = sys.maxsize, name: str
                 while piece := out.read1(1 << 16):  # read() would make room for `most` at once
                     octets += piece
                     if len(octets) > most:
-                        raise Unfit(f'the answer has more than {most:,} bytes')
+                        raise TooLong(f'the answer has more than {most:,} bytes')
         except BaseException:
             process.kill()
             raise
@@ -390,12 +442,17 @@ def run(source: Source, *, is_hex: bool = False, services: bool | None = None, *
         return read_report(_answer(['run', *words]))
 
 
+def _with_tools() -> None:
+    """Modules of the tools can be imported, which stand in the folder beside this file's."""
+    if f'{TOP}/tools' not in sys.path:
+        sys.path.append(f'{TOP}/tools')
+
+
 def _toolbox(what: str) -> Any:
     """Modules of the tools, which stand in the folder beside this file's. Unfit tells what wants them, if it isn't there."""
     import importlib
 
-    if f'{TOP}/tools' not in sys.path:
-        sys.path.append(f'{TOP}/tools')
+    _with_tools()
     names = 'command', 'guests', 'listing', 'places', 'program', 'reading'
     try:
         return SimpleNamespace(**{name: importlib.import_module(f'toolbox.{name}') for name in names})
@@ -539,17 +596,57 @@ def _end_all() -> None:
         each.kill()
 
 
-class Dialogue:
-    """A session of `pcboard debug` by its texts: one command at a time, and its answer. The terminal's interrupt doesn't reach
-    it, so that what talks with it can end a long run and go on."""
+class Piped:
+    """A session's process, by its pipes. The terminal's interrupt doesn't reach it, so that what talks with it can end a long run and go
+    on. `start` begins it, as subprocess.Popen does."""
 
-    def __init__(self, words: list[str], name: str | None = None) -> None:
-        self._process = self.started(
-            [name or program(), *words], stdin=subprocess.PIPE, stdout=subprocess.PIPE, stderr=subprocess.PIPE, bufsize=0, start_new_session=True
-        )
-        _started.add(self._process)
-        assert self._process.stdout
-        self._out = os.fdopen(os.dup(self._process.stdout.fileno()), 'rb')
+    is_within = False
+
+    def __init__(self, words: list[str], start: Callable[..., subprocess.Popen[bytes]]) -> None:
+        pipes = {name: subprocess.PIPE for name in ('stdin', 'stdout', 'stderr')}
+        self.process = start(words, **pipes, bufsize=0, start_new_session=True)
+        _started.add(self.process)
+        assert self.process.stdout
+        self.out = os.fdopen(os.dup(self.process.stdout.fileno()), 'rb')
+
+    def send(self, text: str) -> bool:
+        """Hands the program commands; no, if it has ended."""
+        assert self.process.stdin
+        try:
+            self.process.stdin.write(text.encode())
+        except BrokenPipeError:
+            return False
+        return True
+
+    def ended(self) -> tuple[int, str]:
+        """The status with which it has ended, and what it told."""
+        assert self.process.stderr
+        err = self.process.stderr.read().decode('utf-8', 'replace')
+        return self.process.wait(), err
+
+    def is_answered(self, seconds: float | None) -> bool:
+        """Whether something comes within so many seconds, or without a limit."""
+        import select
+
+        return bool(select.select([self.out], [], [], seconds)[0])
+
+    def close(self) -> None:
+        """Ends it, also in the midst of a run: it has nothing to keep."""
+        self.process.kill()
+        streams: list[IO[bytes] | None] = [self.process.stdin, self.out, self.process.stdout, self.process.stderr]
+        for stream in streams:
+            assert stream
+            with contextlib.suppress(BrokenPipeError):
+                stream.close()
+        self.process.wait()
+
+
+class Dialogue:
+    """A session of `pcboard debug`, or of pcprobe, by its texts: one command at a time, and its answer. It is the library's, in this
+    process, if that can be and the run file has a short run, or its runs may be cut; else the program's."""
+
+    def __init__(self, words: list[str], name: str = 'pcboard', is_cut: bool = False) -> None:
+        self.way: Piped | Called = called_of(words, name == 'pcprobe', is_cut) or Piped([program(name), *words], self.started)
         self.clock, self.is_idle = 0, True
 
     def started(self, words: list[str], **how: Any) -> subprocess.Popen[bytes]:
@@ -557,36 +654,25 @@ class Dialogue:
         return subprocess.Popen(limited(words), **how)
 
     def close(self) -> None:
-        """Ends the session's process, also in the midst of a run: it has nothing to keep."""
-        self._process.kill()
-        streams: list[IO[bytes] | None] = [self._process.stdin, self._out, self._process.stdout, self._process.stderr]
-        for stream in streams:
-            assert stream
-            with contextlib.suppress(BrokenPipeError):
-                stream.close()
-        self._process.wait()
+        """Ends the session."""
+        self.way.close()
 
     def refused(self, status: int, err: str) -> NoReturn:
         """The program has ended without an answer, so it has refused the files, or found no memory."""
         _refuse(status, err)
 
     def _send(self, text: str) -> None:
-        """Hands the program commands; where it has ended, it has told why. Until all is answered, it isn't idle."""
-        assert self._process.stdin
+        """Hands the session commands; if it has ended, it has told why. Until all is answered, it isn't idle."""
         self.is_idle = False
-        try:
-            self._process.stdin.write(text.encode())
-        except BrokenPipeError:
+        if not self.way.send(text):
             self._ended()
 
     def _ended(self) -> NoReturn:
-        assert self._process.stderr
-        err = self._process.stderr.read().decode('utf-8', 'replace')
-        self.refused(self._process.wait(), err)
+        self.refused(*self.way.ended())
 
     def _line(self) -> str:
         """The next line of an answer."""
-        line = self._out.readline()
+        line = self.way.out.readline()
         if not line:
             self._ended()
         return line.decode('ascii', 'replace').rstrip('\n')
@@ -636,7 +722,7 @@ class Dialogue:
         """So many lines, and those behind them up to the answer of `go 0`."""
         octets, end = bytearray(), None
         while end is None or octets.count(b'\n') <= first:
-            piece = self._out.read1(1 << 16)  # type: ignore[attr-defined]
+            piece = self.way.out.read1(1 << 16)  # type: ignore[attr-defined]
             if not piece:
                 self._ended()
             octets += piece
@@ -737,61 +823,155 @@ class Library:
             library = _shared(path, *more) if path.endswith('.a') else ctypes.CDLL(path)
         except OSError as error:
             raise Unfit(f"{path} can't be loaded: {error}") from None
-        self.structs, self.calls, self.at = header.structs, dict[str, Any](), ctypes.byref
+        self.structs, self.calls, self.at, self._octet = header.structs, dict[str, Any](), ctypes.byref, ctypes.c_uint8
         for name, (answer, parameters) in header.calls.items():
             if hasattr(library, name):
                 self.calls[name] = call = getattr(library, name)
                 call.restype, call.argtypes = answer, parameters
 
+    def room(self, octets: int) -> Any:
+        """Room for an answer of so many bytes."""
+        return (self._octet * octets)()
+
+    def limit(self) -> None:
+        """The limit of a process's memory, for what this thread asks next, and for each session that is there."""
+        self.calls['zebludor_limit'](_limits[0] * (1 + Called.there) << 20 if _limits else 0)
+
 
 @functools.cache
-def sessions() -> Library | None:
-    """The sessions' library, loaded once, if it is there. One that ZEBLUDOR_SESSION doesn't name and that can't be loaded isn't."""
-    named = os.environ.get('ZEBLUDOR_SESSION')
-    path = named or next(filter(os.path.exists, SESSIONS), None)
-    if named and not os.path.exists(named):
-        raise Unfit(f"the sessions' library {named}, which ZEBLUDOR_SESSION names, isn't there")
+def _loaded(path: str) -> Library:
+    """A library, loaded once."""
+    return Library(path, f'{TOP}/c/memory.c')
+
+
+@functools.cache
+def _own() -> Library | None:
+    """The stored library, if it is made of the present sources, as the launcher's program is, or a release's; None if it can't be loaded."""
+    path = f'{TOP}/stored/{LIBRARY}' if _stored(LIBRARY) else RELEASED
     try:
-        return Library(path, f'{TOP}/c/memory.c') if path else None
+        return _loaded(path) if os.path.exists(path) else None
     except Unfit:
-        if named:
-            raise
         return None
 
 
-class Called(Dialogue):
-    """A session of pcprobe, or else of `pcboard debug`, by the calls of the sessions' library, in this process: as a Dialogue, but for
-    an interrupt, which comes between the parts of a run, and else once a command is answered."""
+_apart: list[bool] = []
+
+
+@contextlib.contextmanager
+def apart() -> Iterator[None]:
+    """Within it all that is asked of a program is asked of a process: what outlives each answer does so, which a crash of the program mustn't
+    end, or an interrupt keep waiting."""
+    _apart.append(True)
+    try:
+        yield
+    finally:
+        _apart.pop()
+
+
+def library() -> Library | None:
+    """The library that answers in this process in place of programs: the one that ZEBLUDOR_SESSION names, else the stored one. None if
+    a program is named, or none can be loaded."""
+    named = os.environ.get('ZEBLUDOR_SESSION')
+    if named and not os.path.exists(named):
+        raise Unfit(f"the library {named}, which ZEBLUDOR_SESSION names, isn't there")
+    if named:
+        return _loaded(named)
+    return None if _apart or any(os.environ.get(it) for it in ('PCBOARD', 'PCPROBE')) else _own()
+
+
+def _octets_of(path: str) -> bytes | None:
+    """The bytes of a file; None of what isn't regular, large, or not read, of which a process tells more."""
+    try:
+        found = os.stat(path)
+        if not stat.S_ISREG(found.st_mode) or found.st_size > LARGE:
+            return None
+        with open(path, 'rb') as file:
+            return file.read()
+    except (OSError, ValueError):
+        return None
+
+
+def is_short(run: bytes) -> bool:
+    """Whether a run file tells, in plain words, that its run isn't long."""
+    budgets = BUDGET.findall(run)
+    return len(budgets) == 1 and int(budgets[0]) <= LONG and b'\\' not in run
+
+
+def _texts_of(words: list[str], given: bytes) -> list[bytes] | None:
+    """What the files of a task hold: a source or Intel HEX, and of a run its run file. None if it is a process's."""
+    names, end = FILES_OF.get(words[0], []), len(words) - 1 - words[::-1].index('--') if '--' in words else 0
+    paths = words[end + 1 :]
+    if not names or len(paths) != len(names) or not OPTIONS.issuperset(words[1:end]):
+        return None
+    texts = [given if path == '/dev/stdin' else _octets_of(path) for path in paths]
+    found = [text for text in texts if text is not None and len(text) <= LARGE]
+    return found if len(found) == len(names) and (len(names) == 1 or is_short(found[1])) else None
+
+
+def ran_within(words: list[str], given: bytes, most: int, name: str) -> Ran | None:
+    """What pcboard answers of a run or a source, by the library, in this process; None if that is a process's."""
+    texts = _texts_of(words, given) if name == 'pcboard' and words else None
+    them = library() if texts else None
+    if not them or not texts:
+        return None
+    named = '\n'.join([words[0], *OPTIONS.intersection(words[1:-1]), *FILES_OF[words[0]], '']).encode()
+    handed = [part for text in (named, *texts, *[b''] * (3 - len(texts))) for part in (text, len(text))]
+    ended, rooms = them.structs['zebludor_ended'](), (ROOM, ROOM >> 4)
+    while True:
+        out, err = map(them.room, rooms)
+        them.limit()
+        them.calls['zebludor_pcboard'](*handed, out, len(out), err, len(err), them.at(ended))
+        if ended.out > most:
+            raise TooLong(f'the answer has more than {most:,} bytes')
+        if ended.out <= len(out) and ended.err <= len(err):
+            break
+        rooms = max(len(out), ended.out), max(len(err), ended.err)
+    printed = (bytes(memoryview(room)[:size]).decode('utf-8', 'replace') for room, size in ((out, ended.out), (err, ended.err)))
+    return Ran(ended.status, *printed)
+
+
+class Called:
+    """A session of pcprobe, or else of `pcboard debug`, by the calls of the library, in this process: an interrupt comes between the
+    parts of a run, and else once a command is answered."""
+
+    is_within, there = True, 0
 
     def __init__(self, library: Library, source: bytes, run: bytes, is_hex: bool, is_probe: bool) -> None:
-        self._command = library.calls['zebludor_session_command']
-        self._text = library.calls['zebludor_session_text']
-        self._drop = library.calls['zebludor_session_drop']
+        self._library = library
+        self._command, self._text, self._drop = (library.calls[f'zebludor_session_{name}'] for name in ('command', 'text', 'drop'))
         begin = library.calls[f'zebludor_{"session" if is_probe else "debug"}_new{"_hex" * is_hex}']
         session, begun, self._told = (library.structs[f'zebludor_{name}']() for name in ('session', 'begun', 'told'))
         self._session, self._answer = library.at(session), library.at(self._told)
+        library.limit()
         begin(self._session, source, len(source), run, len(run), library.at(begun))
-        self.is_there = not begun.fault
-        self.clock, self.is_idle = 0, True
-        self._make_room(1 << 16)
-
-    def _make_room(self, octets: int) -> None:
-        """Room for answers of so many bytes."""
-        import ctypes
-
-        self._size, self._room = octets, (ctypes.c_uint8 * octets)()
+        self.is_there, self.out, self._why = not begun.fault, io.BytesIO(), ''
+        Called.there += self.is_there
+        self._room = library.room(ROOM)
 
     def close(self) -> None:
         """Ends the session, and gives its memory back."""
+        Called.there -= self.is_there
+        self.is_there = False
         self._drop(self._session)
 
     def __del__(self) -> None:
-        self._drop(self._session)
+        self.close()
 
-    def _send(self, text: str) -> None:
-        """Makes the commands, whose answers are read from then on."""
-        self.is_idle = False
-        self._out = io.BytesIO(b''.join(map(self.answer, text.encode().removesuffix(b'\n').split(b'\n'))))
+    def send(self, text: str) -> bool:
+        """Makes the commands, whose answers are read from then on; no, if there was no memory for one of them."""
+        try:
+            self.out = io.BytesIO(b''.join(map(self.answer, text.encode().removesuffix(b'\n').split(b'\n'))))
+        except MemoryError:
+            return False
+        return True
+
+    def ended(self) -> tuple[int, str]:
+        """How a program would have ended."""
+        return 1, 'fault 53 Memory'
+
+    def is_answered(self, seconds: float | None) -> bool:
+        """Whatever was asked is answered."""
+        return True
 
     def answer(self, line: bytes) -> bytes:
         """The text of a command's answer. A run that isn't refused for its clocks is made in parts."""
@@ -811,30 +991,27 @@ class Called(Dialogue):
     def _made(self, line: bytes) -> bytes:
         """The text of the answer of a command, made at once."""
         told = self._told
-        self._command(self._session, line, len(line), self._room, self._size, self._answer)
+        self._library.limit()
+        self._command(self._session, line, len(line), self._room, len(self._room), self._answer)
         if told.status == 2:
-            self._make_room(told.length)
-            self._text(self._session, self._room, self._size, self._answer)
+            self._room = self._library.room(told.length)
+            self._text(self._session, self._room, len(self._room), self._answer)
         if told.status == 1:
             raise Unfit('the session is closed')
         if told.status == 3:
-            raise Fault(53, 'Memory')
+            raise MemoryError
         return bytes(memoryview(self._room)[: told.length])
 
 
-def called_of(words: list[str], is_probe: bool) -> Called | None:
-    """A session of the sessions' library about files, as a program's words name them. None if the library isn't there, if a
-    program is named or its memory limited, and if the files aren't read or are refused, which the program tells by name."""
-    is_chosen = any(os.environ.get(it) for it in ('PCBOARD', 'PCPROBE')) and not os.environ.get('ZEBLUDOR_SESSION')
-    library = None if is_chosen or _limits else sessions()
-    if not library:
+def called_of(words: list[str], is_probe: bool, is_cut: bool = True) -> Called | None:
+    """A session of the library about files, as a program's words name them. None if it is a process's: if no library answers, if the
+    files aren't read or are refused, which the program tells by name, and if the run is long, unless it may be cut."""
+    texts = [_octets_of(path) for path in words[-2:]]
+    if texts[0] is None or texts[1] is None or not (is_cut or is_short(texts[1])):
         return None
-    try:
-        with open(words[-2], 'rb') as source, open(words[-1], 'rb') as run:
-            called = Called(library, source.read(), run.read(), '--hex' in words[:-2], is_probe)
-    except OSError:
-        return None
-    return called if called.is_there else None
+    them = library()
+    called = Called(them, texts[0], texts[1], '--hex' in words[:-2], is_probe) if them else None
+    return called if called and called.is_there else None
 
 
 class Places:
@@ -903,11 +1080,9 @@ class Session:
         self._changes = list[tuple[int, list[str]]]()  # the last ones: their clocks, and what was given then, with the keys since
         self._returns = dict[tuple[int, int], int]()  # the stops to which routines return
         with _made(source, is_hex, services, fields) as words:
-            called = called_of(words, probe)
-            if called:
-                self._dialogue: Dialogue = called
+            self._dialogue = Dialogue(words, 'pcprobe', True) if probe else Dialogue(['debug', *words], is_cut=True)
+            if self._dialogue.way.is_within:
                 return
-            self._dialogue = Dialogue(words, program('pcprobe')) if probe else Dialogue(['debug', *words])
             try:
                 self._dialogue.many('regs')  # behind its answer the files are read, and may go
             except BaseException:

@@ -19,7 +19,7 @@ from toolbox.as_json import print_answer, row_fields
 from toolbox.command import PYTHON, Sorry, read_bytes, waiting, write_bytes, write_text
 from toolbox.expectations import Outcome, Planned
 from toolbox.marks import Row, as_csv, as_junit, cell, line_of, tell_copies
-from toolbox.program import path as program_path
+from toolbox import program
 from toolbox.starting import started
 from toolbox.threads import want
 
@@ -168,7 +168,7 @@ def rows_of(them: Class, files: list[str], folders: list[str]) -> Iterator[Row]:
 
 def table(page: str, planned: list[Planned], files: list[str], given: argparse.Namespace) -> int:
     """Prints a row for each file, writes what else is asked for, and returns the exit status."""
-    program_path()
+    program.want()
     them = Class(page, planned, given, submissions.folder_of(files), included_of(given.include or []))
     folders = feedback.folders_of(files, given.feedback) if given.feedback else []
     said, rows = [outcome.said for outcome in them.outcomes], list[Row]()

@@ -1,0 +1,178 @@
+"""The stored library: the tools that ask it in place of processes print the same, end alike, and are interrupted as soon."""
+from __future__ import annotations
+
+import glob
+import os
+import pathlib
+import re
+import subprocess
+import sys
+import time
+from typing import Any, Iterator
+from unittest import mock
+
+from tests.support import EXAMPLES, TOOLS, TOP, ToolCase, but_progress, not_run
+from toolbox import present, program
+import zebludor
+
+# What a tool is asked of each example.
+ASKED = (
+    ('try', '{}.asm', '--run', '{}.json'),
+    ('try', '{}.asm', '--bare', '--json'),
+    ('why', 'run', '{}.asm', '{}.json'),
+    ('why', '--lines', '{}.asm'),
+    ('picture', '-', '--of', '{}.asm', '{}.json'),
+    ('trace', '{}.asm', '{}.json', '--calls', '--to', '20000'),
+    ('trace', '{}.asm', '{}.json', '--profile'),
+)
+# Once each: refusals, other files, other tools, and want of memory.
+ONCE = (
+    ('try', f'{EXAMPLES}/books/squares.asm'),
+    ('try', f'{EXAMPLES}/books/adds.asm', '--json'),
+    ('try', f'{EXAMPLES}/monitor.hex', '--keys', '?'),
+    ('try', 'bad.asm'),
+    ('try', 'none.asm'),
+    ('try', f'{EXAMPLES}/keys.asm', '--run', 'bad.json'),
+    ('why', 'run', 'bad.asm'),
+    ('why', 'run', f'{EXAMPLES}/hello.asm', 'bad.json'),
+    ('why', 'run', f'{EXAMPLES}/hello.asm', 'small.json'),
+    ('why', 'run', f'{EXAMPLES}/hello.asm', 'escaped.json'),
+    ('why', '--all', 'bad.asm'),
+    ('why', 'asm', f'{EXAMPLES}/hello.asm', '--list'),
+    ('judge', f'{EXAMPLES}/class/echo.page', f'{EXAMPLES}/keys.asm'),
+    ('judge', '--class', f'{EXAMPLES}/class/echo.page', f'{EXAMPLES}/keys.asm', 'bad.asm'),
+    ('runfile', '--from', f'{EXAMPLES}/keys.json'),
+    ('keys', 'hello{enter}', '--run', f'{EXAMPLES}/keys.json'),
+    ('place', 'rom', 'bytes.bin'),
+    ('table', 'report'),
+    ('moments', f'{EXAMPLES}/class/echo.page', f'{EXAMPLES}/keys.asm', '--key', '1E', '--at', '5000..5003', '--jobs', '1'),
+)
+# Never ends.
+BUSY, SECONDS = '        MOV CX,1\nagain:  INC AX\n        JMP again', 0.5
+
+
+# Starts a tool, and interrupts it while it runs its program; tells how long it takes then.
+INTERRUPTED = """import atexit, os, runpy, signal, sys, threading, time
+tools, name, *words = sys.argv[1:]
+sys.path.insert(0, tools)
+sys.argv = [f'{tools}/{name}', *words]
+import toolbox, zebludor
+asked = zebludor.ran_within
+def interrupt(begun):
+    os.kill(os.getpid(), signal.SIGINT)
+    atexit.register(lambda: os.write(2, b'\\n%f' % (time.monotonic() - begun)))
+def ran_within(*given):
+    threading.Timer(0.05, lambda: interrupt(time.monotonic())).start()
+    return asked(*given)
+zebludor.ran_within = ran_within
+runpy.run_path(sys.argv[0], run_name='__main__')
+"""
+
+
+def is_there() -> bool:
+    """Whether the library is taken; if it isn't, that is told as not run."""
+    found = present.LIBRARY in present.present().names
+    if not found:
+        not_run('the tools over the stored library, which is of other sources; dev/build --store renews it')
+    return found
+
+
+def by_processes() -> Any:
+    """Names the programs, so that processes answer."""
+    return mock.patch.dict(os.environ, {name.upper(): program.path(name) for name in ('pcboard', 'pcprobe')})
+
+
+def by_the_library() -> Any:
+    """Names none, so that the library answers."""
+    named = {name: value for name, value in os.environ.items() if name not in ('PCBOARD', 'PCPROBE')}
+    return mock.patch.dict(os.environ, named, clear=True)
+
+
+class TheLibrary(ToolCase):
+    """Tools over the library, and over processes."""
+
+    def setUp(self) -> None:
+        super().setUp()
+        self.file('bad.asm', 'SEGMENT MAIN AT 0F000h\n MOV AX\n NOP\n XYZ 1\nENDS\n')
+        self.file('bad.json', '{"version":1}')
+        self.file('small.json', '{"version":1,"ram":17,"sw1":0,"sw2":0,"budget":100,"keys":[]}')
+        self.file('escaped.json', '{"version":1,"ram":64,"sw1":0,"sw2":0,"\\u0062udget":100,"keys":[]}')
+        self.file('bytes.bin', 'HI')
+        self.file('report', zebludor.ran(['run', '--', f'{EXAMPLES}/hello.asm', f'{EXAMPLES}/hello.json']).out)
+
+    def asked(self) -> Iterator[tuple[str, ...]]:
+        """All that is asked."""
+        stems = sorted(path.removesuffix('.asm') for path in glob.glob(f'{EXAMPLES}/*.asm') if os.path.exists(f'{path[:-4]}.json'))
+        self.assertGreater(len(stems), 12)
+        yield from (tuple(word.format(stem) for word in words) for stem in stems for words in ASKED)
+        yield from ONCE
+
+    def test_the_same_bytes_and_statuses(self) -> None:
+        if not is_there():
+            return
+        for words in self.asked():
+            with self.subTest(words=words):
+                with by_processes():
+                    wanted = self.answer(*words)
+                with by_the_library():
+                    self.assertEqual(self.answer(*words), wanted)
+
+    def answer(self, *words: str) -> tuple[str, str, int]:
+        """What a tool prints, and its status."""
+        if words[0] == 'moments' or 'asm' in words:  # which has processes of its own
+            ran = subprocess.run([sys.executable, '-S', f'{TOOLS}/{words[0]}', *words[1:]], capture_output=True, text=True, cwd=self.room, check=False)
+            return ran.stdout, but_progress(ran.stderr), ran.returncode
+        out, err = self.called(*words, status=None)
+        return out, err, self.came
+
+    def test_it_is_the_library_that_answers(self) -> None:
+        """No process of pcboard or pcprobe is begun for any of it."""
+        if not is_there():
+            return
+        refuse = mock.Mock(side_effect=AssertionError('a process is asked for'))
+        with by_the_library(), mock.patch.object(zebludor, 'program', refuse):
+            for words in (*((word.format(f'{EXAMPLES}/nested') for word in words) for words in ASKED), *ONCE[:2], ONCE[3], *ONCE[12:13]):
+                with self.subTest(words=words):
+                    self.called(*words, status=None)
+            self.assertEqual(zebludor.run(pathlib.Path(f'{EXAMPLES}/hello.asm')).text, 'HI')
+
+    def test_what_stays_a_process(self) -> None:
+        """A long run, one of which nothing tells how long it is, what isn't read, and whatever a program is named for."""
+        if not is_there():
+            return
+        source, run = self.program(BUSY)
+        with open(run, encoding='utf-8') as file:
+            text = file.read()
+        long, escaped = self.file('long.json', text.replace('1000', str(zebludor.LONG + 1))), f'{self.room}/escaped.json'
+        with by_the_library():
+            self.assertIsNotNone(zebludor.ran_within(['run', '--', source, run], b'', 1 << 20, 'pcboard'))
+            for words in (['run', '--', source, long], ['run', '--', source, escaped], ['run', '--', 'none', run], ['debug', '--', source, run], ['run']):
+                self.assertIsNone(zebludor.ran_within(words, b'', 1 << 20, 'pcboard'), words)
+            with zebludor.apart():
+                self.assertIsNone(zebludor.library())
+        with by_processes():
+            self.assertIsNone(zebludor.library())
+
+    def test_control_c(self) -> None:
+        """A run of any length ends soon, within a call of the library or not."""
+        source, run = self.program(BUSY)
+        with open(run, encoding='utf-8') as file:
+            text = file.read()
+        for budget in (zebludor.LONG, zebludor.LAST_CLOCK):
+            path = self.file(f'{budget}.json', text.replace('1000', str(budget)))
+            for words in (('try', source, '--budget', str(budget)), ('why', 'run', source, path), ('picture', '-', '--of', source, path)):
+                with self.subTest(words=words):
+                    script = [sys.executable, '-S', '-c', INTERRUPTED, TOOLS, *words]
+                    ran = subprocess.run(script, stdout=subprocess.PIPE, stderr=subprocess.PIPE, text=True, check=False)
+                    self.assertEqual(ran.returncode, 130, ran.stderr)
+                    self.assert_within(float(ran.stderr.split()[-1]), SECONDS)
+
+    def test_the_longest_call(self) -> None:
+        """Of a program that modifies its own code, of whose steps no more are made in a second than of others."""
+        loop = f'{TOP}/bench/loops/d'
+        with open(f'{loop}.json', encoding='utf-8') as file:
+            path = self.file('long.json', re.sub('"budget": *[0-9]+', f'"budget":{zebludor.LONG}', file.read()))
+        with by_the_library():
+            begun = time.process_time()
+            zebludor.ran(['run', '--', f'{loop}.asm', path])
+            self.assert_within(time.process_time() - begun, SECONDS)
