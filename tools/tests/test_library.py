@@ -8,7 +8,8 @@ import re
 import subprocess
 import sys
 import time
-from typing import Any, Iterator
+import unittest
+from typing import Any, Callable, Iterator
 from unittest import mock
 
 from tests.support import EXAMPLES, TOOLS, TOP, ToolCase, but_progress, not_run
@@ -176,3 +177,93 @@ class TheLibrary(ToolCase):
             begun = time.process_time()
             zebludor.ran(['run', '--', f'{loop}.asm', path])
             self.assert_within(time.process_time() - begun, SECONDS)
+
+
+class Notes(ToolCase):
+    """What is stored is compared with its sources once, as long as nothing is touched."""
+
+    def setUp(self) -> None:
+        super().setUp()
+        self.compared, self.cache = 0, f'{self.room}/cache'
+        for path in ('crates.txt', 'stored/PROVED', 'crates/pcboard/src/a.rt', 'crates/pcboard/src/inner/b.rt', 'crates/pcboard/specs/c.antt'):
+            os.makedirs(os.path.dirname(f'{self.room}/top/{path}'), exist_ok=True)
+            self.file(f'top/{path}', 'x')
+        top = f'{self.room}/top'
+        for name, value in (('TOP', top), ('STORED', f'{top}/stored'), ('crates_below', lambda: {'pcboard': {'pcboard'}}), ('of_the_stored', self.compare)):
+            self.enterContext(mock.patch.object(present, name, value))
+        self.enterContext(mock.patch.dict(os.environ, {'XDG_CACHE_HOME': self.cache}))
+        time.sleep(0.05)  # what is noted has to be older than the note
+
+    def compare(self, below: dict[str, set[str]]) -> present.Present:
+        """What is found by comparing, which is counted."""
+        self.assertEqual(set(below), {'pcboard'})
+        self.compared += 1
+        return present.Present(('pcboard',), 'mark')
+
+    def asked(self, times: int, what: str) -> None:
+        """What is present is asked once more, and has been compared so often by then."""
+        self.assertEqual(present.present(), present.Present(('pcboard',), 'mark'))
+        self.assertEqual(self.compared, times, what)
+
+    def note(self) -> str:
+        """Where the note is, which has no other beside it."""
+        (name,) = os.listdir(f'{self.cache}/zebludor')
+        return f'{self.cache}/zebludor/{name}'
+
+    def test_compared_once(self) -> None:
+        self.asked(1, 'nothing is noted')
+        self.asked(1, 'nothing was touched')
+        self.file('top/crates/pcboard/src/a.txt', '')
+        time.sleep(0.05)
+        self.asked(2, "a folder was touched, if by what is no source's")
+        self.asked(2, 'and noted')
+
+    def test_what_is_touched(self) -> None:
+        a, b = (f'{self.room}/top/crates/pcboard/src/{name}' for name in ('a.rt', 'inner/b.rt'))
+        times = os.stat(b).st_mtime_ns
+        touches: dict[str, Callable[[], object]] = {
+            'a source of as many bytes, with its time set back': lambda: (self.file('top/crates/pcboard/src/inner/b.rt', 'y'), os.utime(b, ns=(times, times))),
+            'a new source': lambda: self.file('top/crates/pcboard/src/inner/new.rt', ''),
+            'one that is gone': lambda: os.remove(a),
+            'a new folder of sources': lambda: os.mkdir(f'{self.room}/top/crates/pcboard/proofs'),
+            'the list of crates': lambda: self.file('top/crates.txt', 'y'),
+            'PROVED': lambda: self.file('top/stored/PROVED', 'y'),
+            'a program that wasn\'t there': lambda: self.file('top/stored/pcboard', ''),
+        }
+        self.asked(1, 'nothing is noted')
+        for times, (what, touch) in enumerate(touches.items(), 2):
+            touch()
+            time.sleep(0.05)
+            self.asked(times, what)
+            self.asked(times, f'{what}, again')
+
+    def test_a_note_that_is_none(self) -> None:
+        self.asked(1, 'nothing is noted')
+        with open(self.note(), 'rb') as file:
+            octets = file.read()
+        others = octets.replace(b'pcboard', b'pcprobe', 1), octets[:-1], octets[:20], b'', b'\n\n', b'\xff' * 100, octets + b'x'
+        for times, other in enumerate(others, 2):
+            with open(self.note(), 'wb') as file:
+                file.write(other)
+            self.asked(times, repr(other[:30]))
+        with mock.patch.object(present, 'machine', lambda: 'another'):
+            self.asked(len(others) + 2, 'it is of another machine')
+
+    def test_what_is_too_new_is_not_noted(self) -> None:
+        path = f'{self.room}/top/crates/pcboard/src/a.rt'
+        os.utime(path, (time.time() + 1000, time.time() + 1000))
+        self.asked(1, 'nothing is noted')
+        self.asked(2, 'a file is newer than a note')
+        self.assertEqual(os.listdir(f'{self.cache}/zebludor'), [])
+
+    def test_no_place_for_a_note(self) -> None:
+        with mock.patch.dict(os.environ):
+            del os.environ['XDG_CACHE_HOME']
+            os.environ.pop('HOME', None)
+            self.asked(1, 'there is no place')
+            os.environ['XDG_CACHE_HOME'] = self.file('no folder', '')
+            self.asked(2, 'there is none')
+
+
+if __name__ == '__main__':
+    unittest.main()

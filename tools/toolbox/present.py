@@ -25,14 +25,6 @@ class Present(NamedTuple):
     mark: str
 
 
-class Seen(NamedTuple):
-    """What a note has: what was found, on which machine, and the folders whose sources were compared."""
-
-    present: Present
-    machine: str
-    folders: tuple[str, ...]
-
-
 def cache() -> str | None:
     """The user's folder for what is kept between calls, as the launcher has it, if there is one."""
     home = os.environ.get('HOME')
@@ -46,50 +38,47 @@ def is_release() -> bool:
 
 
 def machine() -> str:
-    """What tells whether programs start here that did so when a note was written."""
+    """What tells whether programs start here that did so where a note was written."""
     system = os.uname()
     return f'{system.sysname} {system.nodename} {system.machine} {os.confstr("CS_GNU_LIBC_VERSION")}'
 
 
-def sources_in(folder: str) -> Iterator[os.DirEntry[str]]:
-    """The sources in a folder and those below it."""
-    try:
-        entries = os.scandir(folder)
-    except FileNotFoundError:
-        return
-    with entries:
+def paths_in(folder: str) -> Iterator[str]:
+    """The folders in a folder, and the sources."""
+    with contextlib.suppress(FileNotFoundError), os.scandir(folder) as entries:
         for one in entries:
             if one.name.endswith(KINDS):
-                yield one
+                yield one.path
             elif one.is_dir():
-                yield from sources_in(one.path)
+                yield one.path
+                yield from paths_in(one.path)
 
 
-def times_of(folders: tuple[str, ...]) -> list[tuple[str, int, int, int, int]]:
-    """What the system tells of each file that is compared. A change that keeps its size and time has another time of the inode."""
-    paths = [f'{TOP}/crates.txt', f'{STORED}/PROVED', *(f'{STORED}/{name}' for name in MADE)]
-    found = [(path, os.stat(path)) for path in paths if os.path.exists(path)]
-    found += [(one.path, one.stat()) for folder in folders for one in sources_in(folder)]
-    return [(path, at.st_size, at.st_ino, at.st_mtime_ns, at.st_ctime_ns) for path, at in found]
+def touched(paths: list[str]) -> bytes:
+    """What tells whether a file or folder was touched, of each of these. A change that keeps a file's size and time has another time of
+    the inode, and what comes or goes changes its folder's."""
+    stat = os.stat
+    return marshal.dumps([(at.st_ino, at.st_mtime_ns, at.st_ctime_ns) for at in map(stat, paths)], 2)
 
 
-def text_of(seen: Seen, times: list[tuple[str, int, int, int, int]]) -> bytes:
-    """A note: a line that says all, the same again, so that one that was damaged is known, and the times."""
-    line = '\t'.join((' '.join(seen.present.names), seen.present.mark, seen.machine, *seen.folders)).encode('utf-8', 'surrogateescape')
-    return b'\n'.join((line, line, marshal.dumps(times, 2)))
+def text_of(found: Present, paths: list[str]) -> bytes:
+    """A note but for what tells whether something was touched: a line that says all, the same again, so that one that was damaged is
+    known, and the paths."""
+    line = '\t'.join((' '.join(found.names), found.mark, machine()))
+    return '\n'.join((line, line, *paths, '', '')).encode('utf-8', 'surrogateescape')
 
 
 def noted(path: str) -> Present | None:
-    """What a note says, if no file was touched since, and it is of this machine."""
+    """What a note says, if nothing was touched since, and it is of this machine."""
     try:
         with open(path, 'rb') as file:
-            octets = file.read()
-        names, mark, where, *folders = octets.partition(b'\n')[0].decode('utf-8', 'surrogateescape').split('\t')
-        seen = Seen(Present(tuple(names.split()), mark), where, tuple(folders))
-        is_one = where == machine() and octets == text_of(seen, times_of(seen.folders))
+            text, _, rest = file.read().partition(b'\n\n')
+        line, again, *paths = text.decode('utf-8', 'surrogateescape').split('\n')
+        names, mark, where = line.split('\t')
+        is_one = line == again and where == machine() and rest == touched(paths)
     except (OSError, ValueError):
         return None
-    return seen.present if is_one else None
+    return Present(tuple(names.split()), mark) if is_one else None
 
 
 def present() -> Present:
@@ -100,21 +89,30 @@ def present() -> Present:
 
 
 def compared(path: str) -> Present:
-    """The same by comparing, which is noted there, if anywhere. A file that isn't older than the note could change again within the
-    clock's tick, and then there is none."""
-    from toolbox.sources import PARTS
-
+    """The same by comparing, which is noted there, if anywhere. What isn't older than the note could change again within the clock's
+    tick, and then there is none."""
     with new_file(path) as (handle, began):
         below = {} if is_release() else crates_below()
-        folders = tuple(f'{TOP}/crates/{name}/{part}' for name in sorted(set().union(*below.values())) for part in PARTS)
-        times = times_of(folders)
-        seen = Seen(of_the_stored(below), machine(), folders)
-        if began and all(max(mtime, ctime) < began for *_, mtime, ctime in times):
+        paths = paths_of(set[str]().union(*below.values()))
+        times = touched(paths)
+        found = of_the_stored(below)
+        if began and all(max(mtime, ctime) < began for _, mtime, ctime in marshal.loads(times)):
             with contextlib.suppress(OSError):
                 with open(handle, 'wb', closefd=False) as file:
-                    file.write(text_of(seen, times))
+                    file.write(text_of(found, paths) + times)
                 os.rename(f'{path}.{os.getpid()}', path)
-    return seen.present
+    return found
+
+
+def paths_of(crates: set[str]) -> list[str]:
+    """What is compared that is there: what is stored, the list of crates, and their sources with their folders."""
+    from toolbox.sources import PARTS
+
+    found = [f'{TOP}/crates.txt', STORED, f'{STORED}/PROVED', *(f'{STORED}/{name}' for name in MADE)]
+    for name in sorted(crates):
+        folders = [f'{TOP}/crates/{name}/{part}' for part in PARTS]
+        found += [f'{TOP}/crates/{name}', *folders, *(path for folder in folders for path in paths_in(folder))]
+    return list(filter(os.path.exists, found))
 
 
 @contextlib.contextmanager
