@@ -23,18 +23,16 @@ import json
 import os
 import re
 import stat
-import subprocess
 import sys
-import tempfile
 import threading
 import time
 import weakref
-from dataclasses import dataclass
 from types import SimpleNamespace
 from typing import IO, TYPE_CHECKING, Any, Callable, Container, Iterable, Iterator, Mapping, NamedTuple, NoReturn, Sequence, TypeVar
 
 if TYPE_CHECKING:
-    import ctypes  # else imported where the chips are loaded: what only runs programs begins sooner without it
+    import ctypes  # else imported where it is used, as all that takes long to load
+    import subprocess
 
 HERE = os.path.dirname(os.path.realpath(__file__))
 # The repository or the release; of a wheel, its files stand beside this one.
@@ -138,8 +136,7 @@ class Changes(Sequence[tuple[int, int]]):
         return repr(self._all)
 
 
-@dataclass(frozen=True)
-class Report:
+class Report(NamedTuple):
     """A report: what a run came to."""
 
     clock: int
@@ -252,13 +249,13 @@ def _unfit(fields: dict[str, Any]) -> Iterator[str]:
 # The program.
 
 
-@dataclass(frozen=True)
-class Ran:
-    """What a run of the program came to."""
+class Ran(NamedTuple):
+    """What a run of the program came to, and the path of what made it: the program, or the library."""
 
     status: int
     out: str
     err: str
+    by: str = ''
 
 
 def program(name: str = 'pcboard') -> str:
@@ -281,6 +278,8 @@ def taken(name: str) -> str:
 @functools.cache
 def _launched(name: str) -> str:
     """The same by the launcher's `--version`, which says once to each user where that is the stored one."""
+    import subprocess
+
     env = os.environ | {'ZEBLUDOR_TAKES': name}
     try:
         printed = subprocess.run([f'{TOP}/{name}', '--version'], stdin=subprocess.DEVNULL, stdout=subprocess.PIPE, env=env, text=True, check=False).stdout
@@ -346,10 +345,14 @@ def ran(words: list[str], given: bytes = b'', most: int = sys.maxsize, name: str
     within = ran_within(words, given, most, name)
     if within:
         return within
+    import subprocess
+    import tempfile
+
     with tempfile.TemporaryFile() as to, tempfile.TemporaryFile() as err:
         to.write(given)  # into a file, not a pipe: a session answers before it has read all
         to.seek(0)
-        process = subprocess.Popen(limited([program(name), *words]), stdin=to, stdout=subprocess.PIPE, stderr=err)
+        path = program(name)
+        process = subprocess.Popen(limited([path, *words]), stdin=to, stdout=subprocess.PIPE, stderr=err)
         assert process.stdout
         try:
             with process.stdout as out:
@@ -364,7 +367,7 @@ def ran(words: list[str], given: bytes = b'', most: int = sys.maxsize, name: str
         finally:
             process.wait()
         err.seek(0)
-        return Ran(process.returncode, octets.decode('utf-8', 'replace'), err.read().decode('utf-8', 'replace'))
+        return Ran(process.returncode, octets.decode('utf-8', 'replace'), err.read().decode('utf-8', 'replace'), path)
 
 
 def _refuse(status: int, err: str) -> NoReturn:
@@ -419,6 +422,8 @@ def _there(source: os.PathLike) -> str:
 @contextlib.contextmanager
 def _files(source: Source, fields: dict[str, Any] | None = None) -> Iterator[list[str]]:
     """The names of files with a source's text and a run file's fields; a path stays what it is."""
+    import tempfile
+
     with tempfile.TemporaryDirectory() as room:
         if isinstance(source, (str, bytes)):
             path = f'{room}/source'
@@ -500,6 +505,8 @@ def batch(
     """The answers to many runs of a program, in their order, as tools/batch has them (docs/sweeps.md). A run is a run file, with a `name`
     if you like, as a dict or as a line of JSON. Each may take so many processor seconds and megabytes. Runs whose ids are known are
     left out."""
+    import tempfile
+
     tools = _toolbox('batches')
     from toolbox import batches  # pylint: disable=import-error
 
@@ -603,6 +610,8 @@ class Piped:
     is_within = False
 
     def __init__(self, words: list[str], start: Callable[..., subprocess.Popen[bytes]]) -> None:
+        import subprocess
+
         pipes = {name: subprocess.PIPE for name in ('stdin', 'stdout', 'stderr')}
         self.process = start(words, **pipes, bufsize=0, start_new_session=True)
         _started.add(self.process)
@@ -651,6 +660,8 @@ class Dialogue:
 
     def started(self, words: list[str], **how: Any) -> subprocess.Popen[bytes]:
         """The session's process, begun; `how` is as for subprocess.Popen."""
+        import subprocess
+
         return subprocess.Popen(limited(words), **how)
 
     def close(self) -> None:
@@ -798,6 +809,8 @@ class Header:
 def _shared(archive: str, *more: str) -> ctypes.CDLL:
     """A static library, and sources that it needs, as a shared one, which the C compiler makes of them."""
     import ctypes
+    import subprocess
+    import tempfile
 
     with tempfile.TemporaryDirectory() as room:
         path = f'{room}/shared.so'
@@ -823,7 +836,8 @@ class Library:
             library = _shared(path, *more) if path.endswith('.a') else ctypes.CDLL(path)
         except OSError as error:
             raise Unfit(f"{path} can't be loaded: {error}") from None
-        self.structs, self.calls, self.at, self._octet = header.structs, dict[str, Any](), ctypes.byref, ctypes.c_uint8
+        self.path, self.structs, self.calls = path, header.structs, dict[str, Any]()
+        self.at, self._octet = ctypes.byref, ctypes.c_uint8
         for name, (answer, parameters) in header.calls.items():
             if hasattr(library, name):
                 self.calls[name] = call = getattr(library, name)
@@ -914,8 +928,13 @@ def ran_within(words: list[str], given: bytes, most: int, name: str) -> Ran | No
     them = library() if texts else None
     if not them or not texts:
         return None
-    named = '\n'.join([words[0], *OPTIONS.intersection(words[1:-1]), *FILES_OF[words[0]], '']).encode()
-    handed = [part for text in (named, *texts, *[b''] * (3 - len(texts))) for part in (text, len(text))]
+    task = '\n'.join([words[0], *OPTIONS.intersection(words[1:-1]), *FILES_OF[words[0]], '']).encode()
+    return (_assembled if words[0] == 'asm' else _asked)(them, (task, *texts), most, tuple(_limits))
+
+
+def _asked(them: Library, texts: tuple[bytes, ...], most: int, _: tuple[int, ...]) -> Ran:
+    """What pcboard answers to its words, as a text, and the texts of its files."""
+    handed = [part for text in (*texts, *[b''] * (4 - len(texts))) for part in (text, len(text))]
     ended, rooms = them.structs['zebludor_ended'](), (ROOM, ROOM >> 4)
     while True:
         out, err = map(them.room, rooms)
@@ -927,7 +946,11 @@ def ran_within(words: list[str], given: bytes, most: int, name: str) -> Ran | No
             break
         rooms = max(len(out), ended.out), max(len(err), ended.err)
     printed = (bytes(memoryview(room)[:size]).decode('utf-8', 'replace') for room, size in ((out, ended.out), (err, ended.err)))
-    return Ran(ended.status, *printed)
+    return Ran(ended.status, *printed, by=them.path)
+
+
+# A tool asks of one source again and again, and the same texts have the same answer.
+_assembled = functools.lru_cache(8)(_asked)
 
 
 class Called:

@@ -87,7 +87,7 @@ class Sealing(ToolCase):
         held = os.environ.get('PCBOARD')
         os.environ['PCBOARD'] = another
         try:
-            self.assertEqual(set(sealing.board()), {'version', 'sum'})
+            self.assertEqual(set(sealing.board(program.path())), {'version', 'sum'})
         finally:
             os.environ.pop('PCBOARD')
             os.environ.update({} if held is None else {'PCBOARD': held})

@@ -4,7 +4,7 @@ from __future__ import annotations
 
 import os
 import struct
-from dataclasses import dataclass
+from typing import NamedTuple
 
 from toolbox import services
 from toolbox.command import Sorry, handed_on, tool
@@ -22,8 +22,7 @@ HEADER = struct.Struct('<14H')
 SERVICES_OWN = SPAN // 16  # paragraphs of RAM at its end
 
 
-@dataclass
-class Loaded:
+class Loaded(NamedTuple):
     """A program in memory: its bytes by address, the services before it, the rows of a file of symbols, and the paragraph up to which
     it wants memory."""
 

@@ -8,13 +8,10 @@ from functools import partial
 from itertools import takewhile
 from typing import Any, Iterator
 
-from toolbox import disk
-from toolbox.asked_calls import doubtful
 from toolbox.asking import Raw, Told
 from toolbox.chips import Chips, ends_before, of_chips
 from toolbox.command import Sorry, tool
 from toolbox.doubts import doubts
-from toolbox.following import writer_in
 from toolbox.forms import CALLING, ends_of, ends_with_call, form_of, learn
 from toolbox.later import later
 from toolbox.listing import Line, Listing, code_of, listing_of, physical
@@ -96,8 +93,12 @@ def by_line(run: Run, place: tuple[int, int]) -> str:
 
 def of_calls(run: Run) -> list[Told]:
     """Calls that ask for what isn't there, each by the first time that its place made it."""
+    if not run.mark:
+        return []
+    from toolbox.asked_calls import doubtful  # and below following, which few runs need
+
     found = dict[str, list[Told]]()
-    for call in doubtful(run.files, run.end) if run.mark else ():
+    for call in doubtful(run.files, run.end):
         remark = call.says.replace('{place}', by_line(run, call.place))
         if remark not in found and not (call.file and is_on_disk(run, call.file)):
             found[remark] = run.tell('asked for', at=call.clock, remark=remark, address=call.address, count=call.count, **call.registers)
@@ -106,6 +107,8 @@ def of_calls(run: Run) -> list[Told]:
 
 def is_on_disk(run: Run, path: str) -> bool:
     """Whether a program's disk has a file at the run's end. One that was written over has none."""
+    from toolbox import disk  # which few programs use
+
     with contextlib.suppress(Sorry):
         return re.sub(r'^(.:)?[\\/]?', '', path.upper()) in disk.files_of(run.session.dump, left_at(run.session.dump, run.ram_end))
     return False
@@ -150,6 +153,8 @@ def text_of(event: Event) -> str:
 
 def last_change(run: Run, condition: str, before: int | None = None) -> Event | None:
     """What wrote where a stop on writes or changes was met last, at the run's end or before a clock."""
+    from toolbox.following import writer_in
+
     with ProbeSession(run.files) as session:
         session.go_to(run.report.clock if before is None else before)
         session.stop(condition)

@@ -4,16 +4,17 @@ from __future__ import annotations
 import contextlib
 import re
 import signal
-import subprocess
 import threading
-from dataclasses import dataclass, replace
-from typing import Any, Iterator, NoReturn
+from typing import TYPE_CHECKING, Any, Iterator, NamedTuple, NoReturn
 
 import zebludor
 from zebludor import LAST_CLOCK, TOP, Ran, Unfit, apart, is_hex_name, limit_memory, limited
 
 from toolbox.command import UNREADABLE_STATUS, Sorry, Unreadable, handed_on, read_bytes, tool, write_bytes
 from toolbox.threads import is_alone
+
+if TYPE_CHECKING:
+    import subprocess
 
 __all__ = [
     'BEFORE_START',
@@ -35,6 +36,7 @@ __all__ = [
     'refusal',
     'refused',
     'run',
+    'uninterrupted',
     'want',
 ]
 MOST_READ = 1 << 26  # bytes of an answer
@@ -73,8 +75,7 @@ def given_text(words: list[str], text: str) -> Ran:
     return run([*words, '--', '/dev/stdin'], text.encode('utf-8', 'surrogateescape'))
 
 
-@dataclass(frozen=True)
-class Files:
+class Files(NamedTuple):
     """What a board is built from: a source or Intel HEX, and a run file; and of Intel HEX the file that tells its symbols, and the source
     that it was made of, if its lines are told."""
 
@@ -92,7 +93,7 @@ class Files:
 
 def copied(files: Files, room: str) -> Files:
     """Copies of the files in a folder: a session that is begun anew is of the same program, whatever is edited meanwhile."""
-    made = replace(files, file=f'{room}/file', run_file=f'{room}/run')
+    made = files._replace(file=f'{room}/file', run_file=f'{room}/run')
     for path, to in ((files.file, made.file), (files.run_file, made.run_file)):
         write_bytes(to, read_bytes(path))
     return made

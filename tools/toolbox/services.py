@@ -6,7 +6,6 @@ import contextlib
 import functools
 import re
 import struct
-from dataclasses import dataclass
 from typing import Callable, Iterator, NamedTuple
 
 from toolbox import reading
@@ -121,8 +120,7 @@ class Call(NamedTuple):
         return f'{place} ({self.times:,} times)' if self.times > 1 else place
 
 
-@dataclass(frozen=True)
-class Served:
+class Served(NamedTuple):
     """What the services left at a clock: whether the program runs (phase 1) or has ended (2), how, with which exit code
     and when; how many bytes it wrote, and those that were kept; how many calls weren't served, and the first 24 of
     other places or functions; how many keys found the buffer full; the paragraph of the disk of files, or 0."""

@@ -3,9 +3,8 @@ from __future__ import annotations
 
 import re
 from bisect import bisect_right
-from dataclasses import dataclass, field
 from functools import cached_property
-from typing import Any, Iterator
+from typing import Any, Iterator, NamedTuple
 
 from zebludor import Happening, happening_of
 
@@ -49,13 +48,13 @@ def has_pushed(event: Event) -> bool:
     return event.entry is not None or form_of(event.octets).pushes
 
 
-@dataclass
 class Part:
     """What happened in some clocks without a gap: what began, and which of it wrote where, and read which port."""
 
-    events: list[Event] = field(default_factory=list)
-    writes: list[tuple[int, int, int]] = field(default_factory=list)  # which event, where, and what
-    reads: list[tuple[int, int, int]] = field(default_factory=list)  # so too, from which port
+    def __init__(self) -> None:
+        self.events = list[Event]()
+        self.writes = list[tuple[int, int, int]]()  # which event, where, and what
+        self.reads = list[tuple[int, int, int]]()  # so too, from which port
 
     @staticmethod
     def of(lines: list[bytes]) -> Part:
@@ -76,8 +75,7 @@ class Part:
         return part
 
 
-@dataclass
-class Run:
+class State(NamedTuple):
     """A run at its end: report, trail, the source's lines, RAM's end. One with services is looked at from where its program begins. Of its
     two sessions one stands at the end, and one goes about without stops."""
 
@@ -90,6 +88,10 @@ class Run:
     ram_end: int = 0
     mark: int = 0  # where the services note that the program runs
     is_ended: bool = False  # whether they have ended it
+
+
+class Run(State):
+    """Such a run, and what is found of it, each when it is asked for."""
 
     def tell(self, name: str, event: Event | None = None, **values: Any) -> list[Told]:
         """A sentence; of an event with its clock, its place, and its beginning in `trail` and `events`."""
