@@ -29,7 +29,7 @@ from parts import trials
 from toolbox import framing, starting
 from toolbox.command import MISTAKE, start
 from toolbox.moments import Worker
-from toolbox.program import Files, ProbeSession, path
+from toolbox.program import Files, ProbeSession, apart, path
 from toolbox.runfile import DEFAULTS
 from toolbox.threads import STACK, begin
 import zebludor
@@ -316,12 +316,12 @@ class Broken(ToolCase):
     def test_a_mistake(self) -> None:
         """One of the tool itself is told in a sentence, with its place; what it has started ends."""
         code = (
-            "import sys; sys.path[:0] = ['.', '../python']\nfrom toolbox.command import start\nfrom toolbox.program import Files, ProbeSession\n"
-            f"def main(words):\n    session = ProbeSession(Files(*{example('ticks')!r}))\n    session.begin('go 1099511627776')\n    return [][1]\nstart(main)\n"
+            "import sys; sys.path[:0] = ['.', '../python']\nfrom toolbox.command import start\nfrom toolbox.program import Files, ProbeSession, apart\n"
+            f"@apart()\ndef main(words):\n    session = ProbeSession(Files(*{example('ticks')!r}))\n    session.begin('go 1099511627776')\n    return [][1]\nstart(main)\n"
         )
         came = subprocess.run([sys.executable, '-c', code], cwd=TOOLS, capture_output=True, text=True, timeout=SECONDS, check=False)
         self.assertEqual((came.returncode, came.stdout), (2, ''))
-        self.assertRegex(came.stderr, r'^-c: a mistake of this tool has ended it: IndexError: list index out of range \(<string>, line 7\)\n$')
+        self.assertRegex(came.stderr, r'^-c: a mistake of this tool has ended it: IndexError: list index out of range \(<string>, line 8\)\n$')
 
 
 class NoThread(ToolCase):
@@ -337,7 +337,7 @@ class NoThread(ToolCase):
             if re.search(r'\bThread\(|start_new_thread|ThreadPool', text):
                 found.append(os.path.relpath(module, TOOLS))
                 self.assertIn('want()', text, module)
-        self.assertEqual(sorted(found), ['toolbox/batches.py', 'toolbox/classes.py', 'toolbox/threads.py'])
+        self.assertEqual(sorted(found), ['toolbox/batches.py', 'toolbox/threads.py'])
 
     def test_without_memory(self) -> None:
         """The stacks of threads that have ended are there for the next one, which then lacks the memory to begin."""
@@ -372,7 +372,7 @@ class NoThread(ToolCase):
     def test_sessions_of_threads(self) -> None:
         """A session that needs the thread which starts processes says so, and another one is begun later."""
         files = Files(*example('ticks'))
-        with mock.patch.object(starting, '_STARTERS', []), mock.patch('toolbox.program.is_alone', return_value=False):
+        with apart(), mock.patch.object(starting, '_STARTERS', []), mock.patch('toolbox.program.is_alone', return_value=False):
             with mock.patch.object(mmap, 'mmap', side_effect=OSError(errno.ENOMEM, os.strerror(errno.ENOMEM))):
                 self.assertRaisesRegex(OSError, self.SENTENCE.strip(), ProbeSession, files)
             with ProbeSession(files) as session:
