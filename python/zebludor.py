@@ -949,6 +949,11 @@ def _asked(them: Library, texts: tuple[bytes, ...], most: int, _: tuple[int, ...
     return Ran(ended.status, *printed, by=them.path)
 
 
+def ran_of(them: Library, image: bytes, run: bytes, most: int) -> Ran:
+    """What pcboard answers of Intel HEX under a run file, however long that takes."""
+    return _asked(them, (b'run\n--hex\nFILE\nRUN\n', image, run), most, ())
+
+
 # A tool asks of one source again and again, and the same texts have the same answer.
 _assembled = functools.lru_cache(8)(_asked)
 
