@@ -2,9 +2,11 @@
 from __future__ import annotations
 
 import glob
+import json
 import os
 import pathlib
 import re
+import signal
 import subprocess
 import sys
 import time
@@ -12,7 +14,8 @@ import unittest
 from typing import Any, Callable, Iterator
 from unittest import mock
 
-from tests.support import EXAMPLES, TOOLS, TOP, ToolCase, but_progress, not_run
+from tests.support import EXAMPLES, TOOLS, TOP, ToolCase, but_progress, children, not_run, processor_seconds, until
+from tests.test_class import FLOOD
 from toolbox import present, program
 import zebludor
 
@@ -125,6 +128,37 @@ class TheLibrary(ToolCase):
             return ran.stdout, but_progress(ran.stderr), ran.returncode
         out, err = self.called(*words, status=None)
         return out, err, self.came
+
+    def test_a_batch(self) -> None:
+        """The same lines by workers as by processes, also of what is refused, late, or wants too much memory."""
+        if not is_there():
+            return
+        source, run = f'{EXAMPLES}/nested.asm', {'version': 1, 'ram': 64, 'sw1': 0, 'sw2': 0, 'budget': 9000, 'keys': []}
+        lines = [json.dumps(run | {'keys': [[at, 30]], 'name': f'key {at}'}) for at in range(1000, 1040)]
+        lines += ['x', json.dumps(run | {'ram': 17}), json.dumps(run | {'budget': 1 << 40})]
+        flood, long = self.file('flood.asm', FLOOD), [json.dumps(run | {'budget': budget}) for budget in (1000, 30_000_000)]
+        for words, given in (((source, '--seconds', '1', '--jobs', '3'), lines), ((flood, '--memory', '16', '--jobs', '1'), long)):
+            answers = []
+            for way in (by_processes, by_the_library):
+                with way():
+                    answers.append(self.tool('batch', *words, given='\n'.join(given), status=1))
+            self.assertEqual(answers[0], answers[1])
+
+    def test_a_worker_that_is_killed(self) -> None:
+        """Its run tells so, and the others have their reports."""
+        if not is_there():
+            return
+        run = {'version': 1, 'ram': 64, 'sw1': 0, 'sw2': 0, 'budget': 1 << 40, 'keys': []}
+        lines = ''.join(json.dumps(one) + '\n' for one in (run, run | {'budget': 9000}))
+        words = [sys.executable, '-S', f'{TOOLS}/batch', f'{EXAMPLES}/nested.asm', '--jobs', '1']
+        with by_the_library(), subprocess.Popen(words, stdin=subprocess.PIPE, stdout=subprocess.PIPE, text=True) as process:
+            assert process.stdin
+            process.stdin.write(lines)
+            process.stdin.flush()
+            self.assertTrue(until(lambda: sum(map(processor_seconds, children(process.pid))) > 0.1))
+            os.kill(children(process.pid)[0], signal.SIGKILL)
+            killed, whole = map(json.loads, process.communicate()[0].splitlines())
+        self.assertEqual((killed['why'], whole['clock']), ('the program was ended by signal 9 (Killed)', 9000))
 
     def test_it_is_the_library_that_answers(self) -> None:
         """No process of pcboard or pcprobe is begun for any of it."""
