@@ -45,7 +45,7 @@ ROOM = 1 << 18  # bytes of an answer; of a longer one the library is asked again
 # The chips' library of a release, else the one that dev/build leaves.
 CHIPS = f'{TOP}/lib/libzebludor_chips.so', f'{TOP}/crates/zebludor_chips/out/libzebludor_chips.a'
 # What is stored beside the programs, and answers in this process.
-LIBRARY, RELEASED = 'libzebludor.so', f'{TOP}/lib/libzebludor_program.so'
+LIBRARY = 'libzebludor.so'
 # A run of more clocks, or of an unknown number, is a process's, which an interrupt ends at once; and so is a text of more bytes.
 LONG, LARGE = 20_000_000, 1 << 20
 BUDGET = re.compile(rb'"budget"\s*:\s*(\d{1,13})')
@@ -860,10 +860,9 @@ def _loaded(path: str) -> Library:
 
 @functools.cache
 def _own() -> Library | None:
-    """The stored library, if it is made of the present sources, as the launcher's program is, or a release's; None if it can't be loaded."""
-    path = f'{TOP}/stored/{LIBRARY}' if _stored(LIBRARY) else RELEASED
+    """The stored library, if it is made of the present sources, as the launcher's program is, and can be loaded here."""
     try:
-        return _loaded(path) if os.path.exists(path) else None
+        return _loaded(f'{TOP}/stored/{LIBRARY}') if _stored(LIBRARY) else None
     except Unfit:
         return None
 
