@@ -3,7 +3,7 @@ from __future__ import annotations
 
 import os
 import tempfile
-from dataclasses import dataclass, replace
+from dataclasses import dataclass
 from typing import Any
 
 from toolbox import guests
@@ -13,7 +13,7 @@ from toolbox.listing import labels_alone, listing_of
 from toolbox.nowhere import told_of_run
 from toolbox.program import Files
 from toolbox.report import Report
-from toolbox.runfile import DEFAULTS, text_of
+from toolbox.runfile import text_of
 
 # So many clocks are run anew: a tenth of a second's work.
 REACH = 20_000_000
@@ -36,8 +36,8 @@ def told_of(board: Standing, guest: Guest, symbols: str | None) -> list[str]:
         for path, text in ((file, board.source), (run_file, text_of(board.run))):
             with open(path, 'w', encoding='utf-8', errors='surrogatepass', newline='') as to:
                 to.write(text)
-        taken = guests.looked_at(replace(guest, file=file, is_bare=guest.is_bare or board.is_hex))
-        made = guests.made_with(taken, DEFAULTS | board.run, room) if taken.is_one else None
-        files = replace(made, run_file=run_file) if made else Files(file, run_file, board.is_hex, symbols)
+        taken = guests.looked_at(guest._replace(file=file, is_bare=guest.is_bare or board.is_hex))
+        made = guests.made_with(taken, room, more=board.run) if taken.is_one else None
+        files = made._replace(run_file=run_file) if made else Files(file, run_file, board.is_hex, symbols)
         listing = listing_of(files)
         return lines_of(told_of_run(board.report, files, labels_alone(listing) if board.is_hex else listing, REACH))
