@@ -55,12 +55,14 @@ ROWS, COLUMNS = 25, 80
 REGISTER_LINES = (('AX', 'BX', 'CX', 'DX', 'SP', 'BP', 'SI', 'DI'), ('CS', 'DS', 'ES', 'SS', 'IP', 'FL'))
 REGISTERS = REGISTER_LINES[0] + REGISTER_LINES[1]
 REGISTER_TEXT = re.compile('\n'.join(' '.join(f'{name}=([0-9A-F]{{4}})' for name in names) for names in REGISTER_LINES))
+REGISTER_SHIFTS = dict(zip(REGISTERS, reversed(range(0, 16 * len(REGISTERS), 16))))  # in the number that all their digits are
 HALVES = {f'{name}{half}': (f'{name}X', shift) for name in 'ABCD' for half, shift in (('L', 0), ('H', 8))}
 # What stands on the stack where a routine is called: the bytes of its return address, and of FL; and the offset to which it returns.
 RETURNS, RETURNED_TO = {'near': 2, 'far': 4, 'iret': 6}, 0xFFFF
 SET_AT_ONCE = 16  # bytes of a command
 GIVEN_AT_ONCE = 200  # commands: their answers fit in the pipe
 CLOCK_ALONE = re.compile(rb'clock (\d{1,13})\n')
+CLOCK_AT_END = re.compile(r'\bclock (\d+)$')
 FLAGS = {'CF': 0, 'PF': 2, 'AF': 4, 'ZF': 6, 'SF': 7, 'TF': 8, 'IF': 9, 'DF': 10, 'OF': 11}
 DEFAULTS: dict[str, Any] = {'version': 1, 'ram': 64, 'sw1': 0, 'sw2': 0, 'budget': 10_000_000, 'keys': []}
 # What version 2 of run files has besides: which chip the timer is, and which table the clocks. Of version 1 they are the first.
@@ -178,7 +180,8 @@ def registers_of(lines: list[str]) -> dict[str, int]:
     found = REGISTER_TEXT.fullmatch('\n'.join(lines))
     if not found:
         raise ValueError(lines)
-    return {name: int(value, 16) for name, value in zip(REGISTERS, found.groups())}
+    words = int(''.join(found.groups()), 16)
+    return {name: words >> shift & 0xFFFF for name, shift in REGISTER_SHIFTS.items()}
 
 
 def _value(line: str, name: str) -> str:
@@ -692,12 +695,17 @@ class Dialogue:
         """Gives a command that has a single line for an answer, which is `rest`."""
         self._send(command + '\n')
 
-    def rest(self) -> str:
-        """The answer to what was begun."""
+    def _single(self) -> str:
+        """The next answer of a single line, which may tell the clock."""
         line = self._line()
-        found = re.search(r'\bclock (\d+)$', line)
+        found = CLOCK_AT_END.search(line)
         if found:
             self.clock = int(found[1])
+        return line
+
+    def rest(self) -> str:
+        """The answer to what was begun."""
+        line = self._single()
         self.is_idle = True
         return line
 
@@ -712,27 +720,27 @@ class Dialogue:
         for at in range(0, len(commands), GIVEN_AT_ONCE):
             some = commands[at : at + GIVEN_AT_ONCE]
             self._send('\n'.join(some) + '\n')
-            found += [self.rest() for _ in some]
+            found += [self._single() for _ in some]
+            self.is_idle = True
         return found
 
-    def some_and(self, commands: list[str], question: str) -> tuple[list[str], list[str]]:
-        """The answers of such commands, and that of a question behind them, which has many lines."""
-        found = self.some(commands[:-GIVEN_AT_ONCE])
-        last = commands[-GIVEN_AT_ONCE:]
-        self._send('\n'.join([*last, question, 'go 0\n']))
-        lines = self._lines(len(last))
-        return found + lines[: len(last)], lines[len(last) :]
+    def some_and_registers(self, commands: list[str]) -> tuple[list[str], list[str]]:
+        """The answers of such commands, and what `regs` answers behind them: its lines, or the one that refuses it."""
+        found, last = self.some(commands[:-GIVEN_AT_ONCE]), commands[-GIVEN_AT_ONCE:]
+        self._send('\n'.join([*last, 'regs\n']))
+        found += [self._single() for _ in last]
+        lines = [self._line()]
+        if '=' in lines[0]:
+            lines.append(self._line())
+        self.is_idle = True
+        return found, lines
 
     def many(self, command: str) -> list[str]:
         """The answer of any other command. `go 0` behind it changes nothing, and its answer marks the end: a line of the screen may
         say what it likes, but has 80 characters."""
         self._send(command + '\ngo 0\n')
-        return self._lines(0)
-
-    def _lines(self, first: int) -> list[str]:
-        """So many lines, and those behind them up to the answer of `go 0`."""
         octets, end = bytearray(), None
-        while end is None or octets.count(b'\n') <= first:
+        while end is None:
             piece = self.way.out.read1(1 << 16)  # type: ignore[attr-defined]
             if not piece:
                 self._ended()
@@ -1351,7 +1359,9 @@ def _octets(value: int, size: int) -> bytes:
 def with_parts(now: Mapping[str, int], given: Mapping[str, Any]) -> dict[str, int]:
     """The registers that are given, by their names, or by those of halves and flags, which change what stands in theirs now."""
     found = {name: int.from_bytes(_octets(value, 2), 'little') for name, value in given.items() if name in REGISTERS}
-    for name, value in ((name, value) for name, value in given.items() if name not in REGISTERS):
+    for name, value in given.items() if len(found) < len(given) else ():
+        if name in REGISTERS:
+            continue
         if name not in HALVES and name not in FLAGS:
             raise ValueError(f'{name} is no register, half of one, or flag')
         whole, shift = HALVES[name] if name in HALVES else ('FL', FLAGS[name])
@@ -1404,6 +1414,7 @@ class Routine:
         if self._back_to not in session._returns:
             session._returns[self._back_to] = session.stop_at('%X:%X' % self._back_to)
         self._returned = f'stop {session._returns[self._back_to]} '
+        self._frame = functools.lru_cache(64)(self._framed)  # calls mostly have the same one
 
     def __enter__(self) -> Routine:
         return self
@@ -1420,21 +1431,23 @@ class Routine:
 
     def __call__(self, *, stack: Sequence[int] = (), memory: Mapping[str | int, int | bytes] | None = None, **registers: int) -> Returned:
         then = {**self._were, **with_parts(self._were, {name.upper(): value for name, value in registers.items()})}
-        frame = self._frame(then['FL'], stack)
-        top = then['SP'] = (then['SP'] - len(frame)) % 0x10000
+        then['SP'], octets = self._frame(then['FL'], then['SS'], then['SP'], *stack)
         then['CS'], then['IP'] = self._place
-        first = 16 * then['SS']
-        octets = {(first + (top + at) % 0x10000) % MEMORY: octet for at, octet in enumerate(frame)}
-        for place, value in memory.items() if memory else ():
-            octets |= enumerate(value if isinstance(value, bytes) else _octets(value, 1), self._session._address(place))
-        self._look_at(octets)
+        if memory:
+            octets = dict(octets)
+            for place, value in memory.items():
+                octets |= enumerate(value if isinstance(value, bytes) else _octets(value, 1), self._session._address(place))
+        if not octets.keys() <= self._bytes_were.keys():
+            self._look_at(octets)
         found, clocks = self._run(then, octets), self._session.clock - self._clock
         return Returned(found, self._written(clocks) if self._with_memory else {}, clocks - self._left)
 
-    def _frame(self, flags: int, stack: Sequence[int]) -> bytes:
-        """What stands on the stack where the routine begins."""
+    def _framed(self, flags: int, segment: int, top: int, *stack: int) -> tuple[int, dict[int, int]]:
+        """SP where the routine begins, and the bytes that stand on the stack then, by their addresses."""
         words = (self._back_to[1], self._back_to[0], flags)[: RETURNS[self._returns] // 2]
-        return b''.join([_octets(word, 2) for word in (*words, *stack)])
+        frame = b''.join([_octets(word, 2) for word in (*words, *stack)])
+        top = (top - len(frame)) % 0x10000
+        return top, {(16 * segment + (top + at) % 0x10000) % MEMORY: octet for at, octet in enumerate(frame)}
 
     def _back(self) -> list[str]:
         """The command that leads back to where each call begins."""
@@ -1442,8 +1455,6 @@ class Routine:
 
     def _look_at(self, octets: dict[int, int]) -> None:
         """What stands at addresses that no call has set before, and whether bytes can be set there."""
-        if octets.keys() <= self._bytes_were.keys():
-            return
         for command in self._back():
             self._session._one(command)
         before = dict[int, int]()
@@ -1467,17 +1478,18 @@ class Routine:
         stops are passed."""
         session, bytes_then = self._session, {**self._bytes_were, **octets}
         commands = self._back()
-        commands += _set_lines(dict(bytes_then.items() - self._bytes_are.items())) if bytes_then != self._bytes_are else []
+        if bytes_then != self._bytes_are:
+            commands += _set_lines(dict(bytes_then.items() - self._bytes_are.items()))
         commands += [f'set {name} {word:X}' for name, word in then.items() if word != self._are[name]]
-        answers, lines = session._asked(session._dialogue.some_and, [*commands, f'go {self._most}'], 'regs')
-        self._took(answers)
+        answers, lines = session._asked(session._dialogue.some_and_registers, [*commands, f'go {self._most}'])
+        self._took([*answers, *lines])
         self._are, self._bytes_are = then, bytes_then
         end = self._clock + self._most
         while not (answers[-1].startswith(self._returned) or answers[-1].startswith('stop') and self._has_returned(lines)):
             if session.clock >= end:
                 raise NotReturned(f"the routine hasn't returned within {self._most:,} clocks")
-            answers, lines = session._asked(session._dialogue.some_and, [f'go {end - session.clock}'], 'regs')
-            self._took(answers)
+            answers, lines = session._asked(session._dialogue.some_and_registers, [f'go {end - session.clock}'])
+            self._took([*answers, *lines])
         return registers_of(lines)
 
     def _has_returned(self, lines: list[str]) -> bool:

@@ -228,6 +228,17 @@ class Broken(ToolCase):
 
         self.each_of(work)
 
+    def test_a_routine(self) -> None:
+        """Registers that are refused behind a call are told of, and the next call is answered."""
+        with open(example('ticks')[0], encoding='ascii') as file, mock.patch.dict(os.environ, self.environment('regs')):
+            session = zebludor.Session(file.read(), probe=True)
+        self.addCleanup(session.close)
+        session.set(0x600, b'\x40\xC3')  # INC AX, RET
+        with session.routine((0, 0x600)) as routine:
+            os.remove(f'{self.room}/once')
+            self.assertRaisesRegex(zebludor.Fault, '53 Memory', routine, ax=4)
+            self.assertEqual(routine(ax=4).registers['AX'], 5)
+
     @staticmethod
     def said_by(words: list[str]) -> str:
         """All that a tool says."""
