@@ -40,7 +40,7 @@ TOP = f'{HERE}/zebludor_files' if os.path.isdir(f'{HERE}/zebludor_files') else o
 LAST_CLOCK = 1 << 40
 MEMORY = 1 << 20
 # A run by a library is made in parts of so many clocks, or of twice as many as long as a part takes less than a tenth of a second.
-PART = 10_000_000
+PART, LONG_RUN = 10_000_000, re.compile(rb'go \d{8,13}')
 ROOM = 1 << 18  # bytes of an answer; of a longer one the library is asked again
 # The chips' library of a release, else the one that dev/build leaves.
 CHIPS = f'{TOP}/lib/libzebludor_chips.so', f'{TOP}/crates/zebludor_chips/out/libzebludor_chips.a'
@@ -845,7 +845,7 @@ class Library:
         except OSError as error:
             raise Unfit(f"{path} can't be loaded: {error}") from None
         self.path, self.structs, self.calls = path, header.structs, dict[str, Any]()
-        self.at, self._octet = ctypes.byref, ctypes.c_uint8
+        self.at, self._octet, self._is_limited = ctypes.byref, ctypes.c_uint8, False
         for name, (answer, parameters) in header.calls.items():
             if hasattr(library, name):
                 self.calls[name] = call = getattr(library, name)
@@ -857,7 +857,9 @@ class Library:
 
     def limit(self) -> None:
         """The limit of a process's memory, for what this thread asks next, and for each session that is there."""
-        self.calls['zebludor_limit'](_limits[0] * (1 + Called.there) << 20 if _limits else 0)
+        if _limits or self._is_limited:
+            self._is_limited = True  # for good: a thread's limit is lifted when it asks the next time
+            self.calls['zebludor_limit'](_limits[0] * (1 + Called.there) << 20 if _limits else 0)
 
 
 @functools.cache
@@ -1010,7 +1012,7 @@ class Called:
 
     def answer(self, line: bytes) -> bytes:
         """The text of a command's answer. A run that isn't refused for its clocks is made in parts."""
-        clocks = int(line[3:]) if re.fullmatch(rb'go \d{8,13}', line) else 0
+        clocks = int(line[3:]) if LONG_RUN.fullmatch(line) else 0
         if clocks <= PART or int(self._made(b'go 0').split()[1]) + clocks > LAST_CLOCK:
             return self._made(line)
         part = PART
@@ -1028,12 +1030,14 @@ class Called:
         told = self._told
         self._library.limit()
         self._command(self._session, line, len(line), self._room, len(self._room), self._answer)
-        if told.status == 2:
+        status = told.status
+        if status == 2:
             self._room = self._library.room(told.length)
             self._text(self._session, self._room, len(self._room), self._answer)
-        if told.status == 1:
+            status = told.status
+        if status == 1:
             raise Unfit('the session is closed')
-        if told.status == 3:
+        if status == 3:
             raise MemoryError
         return bytes(memoryview(self._room)[: told.length])
 
