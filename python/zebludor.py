@@ -1332,8 +1332,9 @@ class Session:
         """Calls a routine on the board as it stands, with these registers (`ax=5`, `cl=1`, ..), words on the stack behind its return
         address, the nearest first, and memory, by labels or physical addresses. What it came to; NotReturned, if it takes more clocks.
         The session stands as before then."""
-        with self.routine(place, returns=returns, most=most, with_memory=True) as routine:
-            return routine(stack=stack, memory=memory, **registers)
+        with self.routine(place, returns=returns, most=most) as routine:
+            found = routine(stack=stack, memory=memory, **registers)
+            return found._replace(memory=routine.written())
 
     def _of_the_probe(self, name: str) -> None:
         """Refuses what `pcboard debug` hasn't."""
@@ -1444,7 +1445,11 @@ class Routine:
         if not octets.keys() <= self._bytes_were.keys():
             self._look_at(octets)
         found, clocks = self._run(then, octets), self._session.clock - self._clock
-        return Returned(found, self._written(clocks) if self._with_memory else {}, clocks - self._left)
+        written = dict[int, int]()
+        if self._with_memory:
+            written = self.written()
+            self._session.events(clocks, 'keys')
+        return Returned(found, written, clocks - self._left)
 
     def _framed(self, flags: int, segment: int, top: int, *stack: int) -> tuple[int, dict[int, int]]:
         """SP where the routine begins, and the bytes that stand on the stack then, by their addresses."""
@@ -1501,15 +1506,14 @@ class Routine:
         registers = registers_of(lines)
         return (registers['CS'], registers['IP']) == self._back_to and ' busy 0 ' in self._session._many('chips')[-1]
 
-    def _written(self, clocks: int) -> dict[int, int]:
-        """The bytes that differ from where the call began."""
-        session = self._session
+    def written(self) -> dict[int, int]:
+        """The bytes that differ from where the last call began, to which the session goes back."""
+        session, clocks = self._session, self._session.clock - self._clock
         session.back(clocks)
         runs = list(_runs({one.place for one in session.events(clocks, 'writes')}, 4096))
         after = [session.dump(run.start, len(run)) for run in runs]
         session.back(clocks)
         before = [session.dump(run.start, len(run)) for run in runs]
-        session.events(clocks, 'keys')
         pairs = ((at, old, new) for run, olds, news in zip(runs, before, after) for at, old, new in zip(run, olds, news))
         return {at: new for at, old, new in pairs if old != new}
 
