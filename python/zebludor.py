@@ -838,9 +838,9 @@ class Library:
     def __init__(self, path: str, *more: str) -> None:
         import ctypes
 
-        with open(f'{TOP}/c/zebludor.h', encoding='utf-8') as file:
-            header = Header(file.read())
         try:
+            with open(f'{TOP}/c/zebludor.h', encoding='utf-8') as file:
+                header = Header(file.read())
             library = _shared(path, *more) if path.endswith('.a') else ctypes.CDLL(path)
         except OSError as error:
             raise Unfit(f"{path} can't be loaded: {error}") from None
