@@ -488,8 +488,7 @@ def _served(path: str, services: bool | None, given: dict[str, Any], room: str) 
         return None
     try:
         guest = tools.guests.looked_at(tools.guests.Guest(path, is_served=bool(services)))
-        fields = _fields({'ram': tools.guests.MOST_RAM} | given)
-        made = tools.guests.made_with(guest, fields, room) if guest.is_one else None
+        made = tools.guests.made_with(guest, room, more=_fields({'ram': tools.guests.MOST_RAM} | given)) if guest.is_one else None
     except tools.command.Sorry as sorry:
         raise Unfit(str(sorry).replace(f'{room}/source', 'the source')) from None
     return made and [made.file, made.run_file]
