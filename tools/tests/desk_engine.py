@@ -106,9 +106,9 @@ def has_library() -> bool:
         return False
 
 
-def named_library(room: str) -> dict[str, str]:
+def named_library(room: str, is_held: bool | None = None) -> dict[str, str]:
     """What the environment has for a desk that is started: if there is no library, a file in its place, which a page couldn't run."""
-    if has_library():
+    if has_library() if is_held is None else is_held:
         return {}
     with open(f'{room}/{LIBRARY}', 'wb') as file:
         file.write(b'\0asm')

@@ -93,7 +93,7 @@ class Installed(Unpacked):
             stdout=subprocess.PIPE,
             stderr=subprocess.PIPE,
             text=True,
-            env=self.environment() | named_library(self.room),
+            env=self.environment() | named_library(self.room, False),  # an archive of stand-ins has none
             cwd=self.room,
         ) as process:
             assert process.stdout
