@@ -1015,6 +1015,7 @@ class Boards(Served):
             board = self.client.ask('open', source=file.read(), run=RUN | {'budget': 10**7})['board']
         self.client.ask('go to', board=board, clock=10**7)
         for word, most in (('step', 0.05), ('back', 0.15)):
+            self.client.ask(word, board=board, seen=1)  # by which node compiles what the next ones need
             before = self.client.engine.spent()
             for _ in range(8):
                 self.client.ask(word, board=board, seen=1)
