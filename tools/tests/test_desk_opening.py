@@ -1,6 +1,7 @@
 """How a browser comes to the page of tools/desk: by a file that leads on, and again by its cookie; and what another browser is told."""
 from __future__ import annotations
 
+import inspect
 import os
 import signal
 import subprocess
@@ -91,14 +92,14 @@ class Tokens(Served):
 
     def test_one_who_tells_nobody(self) -> None:
         """An output that is closed ends nothing."""
-        self.server.tell = main_of('desk').__globals__['tell']
+        self.server.tell = inspect.unwrap(main_of('desk')).__globals__['tell']
         with mock.patch('builtins.print', side_effect=BrokenPipeError):
             self.assertEqual(self.status('GET', self.client.token, '', None), 403)
 
     def opened(self, is_opened: bool) -> list[Any]:
         """What a browser is asked for, and what is told on standard error where it comes, or doesn't."""
         asked, printed = list[Any](), list[str]()
-        work = main_of('desk').__globals__
+        work = inspect.unwrap(main_of('desk')).__globals__
         over = mock.Mock(wait=lambda _: False)
         server = mock.Mock(address='http://x/', is_used=is_opened)
         with mock.patch.object(webbrowser, 'open', asked.append), mock.patch('builtins.print', lambda text, **_: printed.append(text)):
