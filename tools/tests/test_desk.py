@@ -1015,11 +1015,12 @@ class Boards(Served):
             board = self.client.ask('open', source=file.read(), run=RUN | {'budget': 10**7})['board']
         self.client.ask('go to', board=board, clock=10**7)
         for word, most in (('step', 0.05), ('back', 0.15)):
-            self.client.ask(word, board=board, seen=1)  # by which node compiles what the next ones need
-            before = self.client.engine.spent()
-            for _ in range(8):
+            spent = [self.client.engine.spent()]
+            for _ in range(24):
                 self.client.ask(word, board=board, seen=1)
-            self.assert_within((self.client.engine.spent() - before) / 8, most, word)
+                spent.append(self.client.engine.spent())
+            # of the last ones, since node compiles during the first what all need
+            self.assert_within((spent[-1] - spent[-9]) / 8, most, word)
 
 
 @with_node
