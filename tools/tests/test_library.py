@@ -66,7 +66,7 @@ def interrupt(begun):
     os.kill(os.getpid(), signal.SIGINT)
     atexit.register(lambda: os.write(2, b'\\n%f' % (time.monotonic() - begun)))
 def ran_within(*given):
-    threading.Timer(0.05, lambda: interrupt(time.monotonic())).start()
+    threading.Timer(0.01, lambda: interrupt(time.monotonic())).start()
     return asked(*given)
 zebludor.ran_within = ran_within
 runpy.run_path(sys.argv[0], run_name='__main__')
