@@ -9,8 +9,8 @@
         session.go(1000)
         print(session.word('count'))
 
-Runs, sessions and the assembler are the built program's, which PCBOARD names, else the one that the launcher
-of the repository takes that this file stands in. Pit, Pic and Ppi are the chips by themselves: timer, interrupt controller and parallel port. They are calls of
+Runs, sessions and the assembler are those of the program that PCBOARD names, else of the one that the launcher of the repository
+takes that this file stands in, or of the library that is stored beside it, in this process. Pit, Pic and Ppi are the chips by themselves: timer, interrupt controller and parallel port. They are calls of
 the static library, laid out as c/zebludor.h says. Nothing here decides a fact. A refusal is raised as Fault, with the number
 and the name that docs/formats.md explains; what isn't there, or isn't such a thing, as Unfit."""
 from __future__ import annotations
@@ -22,18 +22,17 @@ import io
 import json
 import os
 import re
-import subprocess
+import stat
 import sys
-import tempfile
 import threading
 import time
 import weakref
-from dataclasses import dataclass
 from types import SimpleNamespace
 from typing import IO, TYPE_CHECKING, Any, Callable, Container, Iterable, Iterator, Mapping, NamedTuple, NoReturn, Sequence, TypeVar
 
 if TYPE_CHECKING:
-    import ctypes  # else imported where the chips are loaded: what only runs programs begins sooner without it
+    import ctypes  # else imported where it is used, as all that takes long to load
+    import subprocess
 
 HERE = os.path.dirname(os.path.realpath(__file__))
 # The repository or the release; of a wheel, its files stand beside this one.
@@ -41,21 +40,29 @@ TOP = f'{HERE}/zebludor_files' if os.path.isdir(f'{HERE}/zebludor_files') else o
 LAST_CLOCK = 1 << 40
 MEMORY = 1 << 20
 # A run by a library is made in parts of so many clocks, or of twice as many as long as a part takes less than a tenth of a second.
-PART = 10_000_000
+PART, LONG_RUN = 10_000_000, re.compile(rb'go \d{8,13}')
+ROOM = 1 << 18  # bytes of an answer; of a longer one the library is asked again
 # The chips' library of a release, else the one that dev/build leaves.
 CHIPS = f'{TOP}/lib/libzebludor_chips.so', f'{TOP}/crates/zebludor_chips/out/libzebludor_chips.a'
-# The sessions' library, likewise.
-SESSIONS = f'{TOP}/lib/libzebludor_program.so', f'{TOP}/crates/zebludor_program/out/libzebludor_program.a'
+# What is stored beside the programs, and answers in this process.
+LIBRARY = 'libzebludor.so'
+# A run of more clocks, or of an unknown number, is a process's, which an interrupt ends at once; and so is a text of more bytes.
+LONG, LARGE = 20_000_000, 1 << 20
+BUDGET = re.compile(rb'"budget"\s*:\s*(\d{1,13})')
+# What the library's programs know their files by, and the words of their tasks that it is asked for.
+FILES_OF, OPTIONS = {'run': ['FILE', 'RUN'], 'asm': ['FILE']}, {'--hex', '--list'}
 ROWS, COLUMNS = 25, 80
 REGISTER_LINES = (('AX', 'BX', 'CX', 'DX', 'SP', 'BP', 'SI', 'DI'), ('CS', 'DS', 'ES', 'SS', 'IP', 'FL'))
 REGISTERS = REGISTER_LINES[0] + REGISTER_LINES[1]
 REGISTER_TEXT = re.compile('\n'.join(' '.join(f'{name}=([0-9A-F]{{4}})' for name in names) for names in REGISTER_LINES))
+REGISTER_SHIFTS = dict(zip(REGISTERS, reversed(range(0, 16 * len(REGISTERS), 16))))  # in the number that all their digits are
 HALVES = {f'{name}{half}': (f'{name}X', shift) for name in 'ABCD' for half, shift in (('L', 0), ('H', 8))}
 # What stands on the stack where a routine is called: the bytes of its return address, and of FL; and the offset to which it returns.
 RETURNS, RETURNED_TO = {'near': 2, 'far': 4, 'iret': 6}, 0xFFFF
 SET_AT_ONCE = 16  # bytes of a command
 GIVEN_AT_ONCE = 200  # commands: their answers fit in the pipe
 CLOCK_ALONE = re.compile(rb'clock (\d{1,13})\n')
+CLOCK_AT_END = re.compile(r'\bclock (\d+)$')
 FLAGS = {'CF': 0, 'PF': 2, 'AF': 4, 'ZF': 6, 'SF': 7, 'TF': 8, 'IF': 9, 'DF': 10, 'OF': 11}
 DEFAULTS: dict[str, Any] = {'version': 1, 'ram': 64, 'sw1': 0, 'sw2': 0, 'budget': 10_000_000, 'keys': []}
 # What version 2 of run files has besides: which chip the timer is, and which table the clocks. Of version 1 they are the first.
@@ -69,6 +76,10 @@ T = TypeVar('T')
 
 class Unfit(Exception):
     """What is asked for isn't there, or a text isn't what it is taken for; its text is a sentence."""
+
+
+class TooLong(Unfit):
+    """An answer has more bytes than are read."""
 
 
 class NotReturned(Exception):
@@ -127,8 +138,7 @@ class Changes(Sequence[tuple[int, int]]):
         return repr(self._all)
 
 
-@dataclass(frozen=True)
-class Report:
+class Report(NamedTuple):
     """A report: what a run came to."""
 
     clock: int
@@ -170,7 +180,8 @@ def registers_of(lines: list[str]) -> dict[str, int]:
     found = REGISTER_TEXT.fullmatch('\n'.join(lines))
     if not found:
         raise ValueError(lines)
-    return {name: int(value, 16) for name, value in zip(REGISTERS, found.groups())}
+    words = int(''.join(found.groups()), 16)
+    return {name: words >> shift & 0xFFFF for name, shift in REGISTER_SHIFTS.items()}
 
 
 def _value(line: str, name: str) -> str:
@@ -241,13 +252,13 @@ def _unfit(fields: dict[str, Any]) -> Iterator[str]:
 # The program.
 
 
-@dataclass(frozen=True)
-class Ran:
-    """What a run of the program came to."""
+class Ran(NamedTuple):
+    """What a run of the program came to, and the path of what made it: the program, or the library."""
 
     status: int
     out: str
     err: str
+    by: str = ''
 
 
 def program(name: str = 'pcboard') -> str:
@@ -262,8 +273,16 @@ def program(name: str = 'pcboard') -> str:
 
 @functools.cache
 def taken(name: str) -> str:
-    """The program that the launcher of this name takes for a run, as its `--version` tells then, which says once to each user where that
-    is the stored one."""
+    """The program that the launcher of this name takes for a run. That the stored one is made of the present sources is known without a
+    shell."""
+    return f'{TOP}/stored/{name}' if not os.path.exists(f'{TOP}/crates/{name}/out/{name}') and _stored(name) else _launched(name)
+
+
+@functools.cache
+def _launched(name: str) -> str:
+    """The same by the launcher's `--version`, which says once to each user where that is the stored one."""
+    import subprocess
+
     env = os.environ | {'ZEBLUDOR_TAKES': name}
     try:
         printed = subprocess.run([f'{TOP}/{name}', '--version'], stdin=subprocess.DEVNULL, stdout=subprocess.PIPE, env=env, text=True, check=False).stdout
@@ -278,9 +297,41 @@ def taken(name: str) -> str:
     return f'{TOP}/{path[1]}'
 
 
+def _stored(name: str) -> bool:
+    """Whether a stored file is the one of which stored/PROVED tells, and made of the present sources; and that it was proved elsewhere
+    has been told."""
+    found = _present()
+    return found is not None and name in found.names and _is_told(found.mark)
+
+
+@functools.cache
+def _present() -> Any:
+    """What the tools beside this file know of stored files, once; None if they aren't there."""
+    _with_tools()
+    try:
+        from toolbox import present  # pylint: disable=import-error
+    except ImportError:
+        return None
+    return present.present() if os.path.realpath(present.TOP) == TOP else None
+
+
+@functools.cache
+def _is_told(mark: str) -> bool:
+    """Whether it was said, of stored programs, that they were proved elsewhere: else the launcher says it now."""
+    from toolbox import present  # pylint: disable=import-error
+
+    folder = present.cache()
+    if folder and os.path.exists(f'{folder}/{mark}'):
+        return True
+    with contextlib.suppress(Unfit):
+        _launched('pcboard')
+        return True
+    return False
+
+
 def limit_memory(megabytes: int | None) -> None:
-    """From now on each process of the program that begins here takes so much memory at most: one that wants more refuses, with a
-    fault named Memory. None lifts the limit."""
+    """From now on each process of the program that begins here, and each call of the library, takes so much memory at most: one that
+    wants more refuses, with a fault named Memory. None lifts the limit."""
     _limits[:] = [] if megabytes is None else [megabytes]
 
 
@@ -293,11 +344,18 @@ def limited(words: list[str]) -> list[str]:
 
 
 def ran(words: list[str], given: bytes = b'', most: int = sys.maxsize, name: str = 'pcboard') -> Ran:
-    """Runs a program to its end. An answer of more than `most` bytes isn't read, which is told as Unfit."""
+    """Runs a program to its end, in this process if that can be. An answer of more than `most` bytes isn't read, which is told as Unfit."""
+    within = ran_within(words, given, most, name)
+    if within:
+        return within
+    import subprocess
+    import tempfile
+
     with tempfile.TemporaryFile() as to, tempfile.TemporaryFile() as err:
         to.write(given)  # into a file, not a pipe: a session answers before it has read all
         to.seek(0)
-        process = subprocess.Popen(limited([program(name), *words]), stdin=to, stdout=subprocess.PIPE, stderr=err)
+        path = program(name)
+        process = subprocess.Popen(limited([path, *words]), stdin=to, stdout=subprocess.PIPE, stderr=err)
         assert process.stdout
         try:
             with process.stdout as out:
@@ -305,14 +363,14 @@ def ran(words: list[str], given: bytes = b'', most: int = sys.maxsize, name: str
                 while piece := out.read1(1 << 16):  # read() would make room for `most` at once
                     octets += piece
                     if len(octets) > most:
-                        raise Unfit(f'the answer has more than {most:,} bytes')
+                        raise TooLong(f'the answer has more than {most:,} bytes')
         except BaseException:
             process.kill()
             raise
         finally:
             process.wait()
         err.seek(0)
-        return Ran(process.returncode, octets.decode('utf-8', 'replace'), err.read().decode('utf-8', 'replace'))
+        return Ran(process.returncode, octets.decode('utf-8', 'replace'), err.read().decode('utf-8', 'replace'), path)
 
 
 def _refuse(status: int, err: str) -> NoReturn:
@@ -367,6 +425,8 @@ def _there(source: os.PathLike) -> str:
 @contextlib.contextmanager
 def _files(source: Source, fields: dict[str, Any] | None = None) -> Iterator[list[str]]:
     """The names of files with a source's text and a run file's fields; a path stays what it is."""
+    import tempfile
+
     with tempfile.TemporaryDirectory() as room:
         if isinstance(source, (str, bytes)):
             path = f'{room}/source'
@@ -390,12 +450,17 @@ def run(source: Source, *, is_hex: bool = False, services: bool | None = None, *
         return read_report(_answer(['run', *words]))
 
 
+def _with_tools() -> None:
+    """Modules of the tools can be imported, which stand in the folder beside this file's."""
+    if f'{TOP}/tools' not in sys.path:
+        sys.path.append(f'{TOP}/tools')
+
+
 def _toolbox(what: str) -> Any:
     """Modules of the tools, which stand in the folder beside this file's. Unfit tells what wants them, if it isn't there."""
     import importlib
 
-    if f'{TOP}/tools' not in sys.path:
-        sys.path.append(f'{TOP}/tools')
+    _with_tools()
     names = 'command', 'guests', 'listing', 'places', 'program', 'reading'
     try:
         return SimpleNamespace(**{name: importlib.import_module(f'toolbox.{name}') for name in names})
@@ -423,8 +488,7 @@ def _served(path: str, services: bool | None, given: dict[str, Any], room: str) 
         return None
     try:
         guest = tools.guests.looked_at(tools.guests.Guest(path, is_served=bool(services)))
-        fields = _fields({'ram': tools.guests.MOST_RAM} | given)
-        made = tools.guests.made_with(guest, fields, room) if guest.is_one else None
+        made = tools.guests.made_with(guest, room, more=_fields({'ram': tools.guests.MOST_RAM} | given)) if guest.is_one else None
     except tools.command.Sorry as sorry:
         raise Unfit(str(sorry).replace(f'{room}/source', 'the source')) from None
     return made and [made.file, made.run_file]
@@ -443,6 +507,8 @@ def batch(
     """The answers to many runs of a program, in their order, as tools/batch has them (docs/sweeps.md). A run is a run file, with a `name`
     if you like, as a dict or as a line of JSON. Each may take so many processor seconds and megabytes. Runs whose ids are known are
     left out."""
+    import tempfile
+
     tools = _toolbox('batches')
     from toolbox import batches  # pylint: disable=import-error
 
@@ -539,54 +605,87 @@ def _end_all() -> None:
         each.kill()
 
 
-class Dialogue:
-    """A session of `pcboard debug` by its texts: one command at a time, and its answer. The terminal's interrupt doesn't reach
-    it, so that what talks with it can end a long run and go on."""
+class Piped:
+    """A session's process, by its pipes. The terminal's interrupt doesn't reach it, so that what talks with it can end a long run and go
+    on. `start` begins it, as subprocess.Popen does."""
 
-    def __init__(self, words: list[str], name: str | None = None) -> None:
-        self._process = self.started(
-            [name or program(), *words], stdin=subprocess.PIPE, stdout=subprocess.PIPE, stderr=subprocess.PIPE, bufsize=0, start_new_session=True
-        )
-        _started.add(self._process)
-        assert self._process.stdout
-        self._out = os.fdopen(os.dup(self._process.stdout.fileno()), 'rb')
-        self.clock, self.is_idle = 0, True
+    is_within = False
 
-    def started(self, words: list[str], **how: Any) -> subprocess.Popen[bytes]:
-        """The session's process, begun; `how` is as for subprocess.Popen."""
-        return subprocess.Popen(limited(words), **how)
+    def __init__(self, words: list[str], start: Callable[..., subprocess.Popen[bytes]]) -> None:
+        import subprocess
+
+        pipes = {name: subprocess.PIPE for name in ('stdin', 'stdout', 'stderr')}
+        self.process = start(words, **pipes, bufsize=0, start_new_session=True)
+        _started.add(self.process)
+        assert self.process.stdout
+        self.out = os.fdopen(os.dup(self.process.stdout.fileno()), 'rb')
+
+    def send(self, text: str) -> bool:
+        """Hands the program commands; no, if it has ended."""
+        assert self.process.stdin
+        try:
+            self.process.stdin.write(text.encode())
+        except BrokenPipeError:
+            return False
+        return True
+
+    def ended(self) -> tuple[int, str]:
+        """The status with which it has ended, and what it told."""
+        assert self.process.stderr
+        err = self.process.stderr.read().decode('utf-8', 'replace')
+        return self.process.wait(), err
+
+    def is_answered(self, seconds: float | None) -> bool:
+        """Whether something comes within so many seconds, or without a limit."""
+        import select
+
+        return bool(select.select([self.out], [], [], seconds)[0])
 
     def close(self) -> None:
-        """Ends the session's process, also in the midst of a run: it has nothing to keep."""
-        self._process.kill()
-        streams: list[IO[bytes] | None] = [self._process.stdin, self._out, self._process.stdout, self._process.stderr]
+        """Ends it, also in the midst of a run: it has nothing to keep."""
+        self.process.kill()
+        streams: list[IO[bytes] | None] = [self.process.stdin, self.out, self.process.stdout, self.process.stderr]
         for stream in streams:
             assert stream
             with contextlib.suppress(BrokenPipeError):
                 stream.close()
-        self._process.wait()
+        self.process.wait()
+
+
+class Dialogue:
+    """A session of `pcboard debug`, or of pcprobe, by its texts: one command at a time, and its answer. It is the library's, in this
+    process, if that can be and the run file has a short run, or its runs may be cut; else the program's."""
+
+    def __init__(self, words: list[str], name: str = 'pcboard', is_cut: bool = False) -> None:
+        self.way: Piped | Called = called_of(words, name == 'pcprobe', is_cut) or Piped([program(name), *words], self.started)
+        self.clock, self.is_idle = 0, True
+
+    def started(self, words: list[str], **how: Any) -> subprocess.Popen[bytes]:
+        """The session's process, begun; `how` is as for subprocess.Popen."""
+        import subprocess
+
+        return subprocess.Popen(limited(words), **how)
+
+    def close(self) -> None:
+        """Ends the session."""
+        self.way.close()
 
     def refused(self, status: int, err: str) -> NoReturn:
         """The program has ended without an answer, so it has refused the files, or found no memory."""
         _refuse(status, err)
 
     def _send(self, text: str) -> None:
-        """Hands the program commands; where it has ended, it has told why. Until all is answered, it isn't idle."""
-        assert self._process.stdin
+        """Hands the session commands; if it has ended, it has told why. Until all is answered, it isn't idle."""
         self.is_idle = False
-        try:
-            self._process.stdin.write(text.encode())
-        except BrokenPipeError:
+        if not self.way.send(text):
             self._ended()
 
     def _ended(self) -> NoReturn:
-        assert self._process.stderr
-        err = self._process.stderr.read().decode('utf-8', 'replace')
-        self.refused(self._process.wait(), err)
+        self.refused(*self.way.ended())
 
     def _line(self) -> str:
         """The next line of an answer."""
-        line = self._out.readline()
+        line = self.way.out.readline()
         if not line:
             self._ended()
         return line.decode('ascii', 'replace').rstrip('\n')
@@ -595,12 +694,17 @@ class Dialogue:
         """Gives a command that has a single line for an answer, which is `rest`."""
         self._send(command + '\n')
 
-    def rest(self) -> str:
-        """The answer to what was begun."""
+    def _single(self) -> str:
+        """The next answer of a single line, which may tell the clock."""
         line = self._line()
-        found = re.search(r'\bclock (\d+)$', line)
+        found = CLOCK_AT_END.search(line)
         if found:
             self.clock = int(found[1])
+        return line
+
+    def rest(self) -> str:
+        """The answer to what was begun."""
+        line = self._single()
         self.is_idle = True
         return line
 
@@ -615,28 +719,28 @@ class Dialogue:
         for at in range(0, len(commands), GIVEN_AT_ONCE):
             some = commands[at : at + GIVEN_AT_ONCE]
             self._send('\n'.join(some) + '\n')
-            found += [self.rest() for _ in some]
+            found += [self._single() for _ in some]
+            self.is_idle = True
         return found
 
-    def some_and(self, commands: list[str], question: str) -> tuple[list[str], list[str]]:
-        """The answers of such commands, and that of a question behind them, which has many lines."""
-        found = self.some(commands[:-GIVEN_AT_ONCE])
-        last = commands[-GIVEN_AT_ONCE:]
-        self._send('\n'.join([*last, question, 'go 0\n']))
-        lines = self._lines(len(last))
-        return found + lines[: len(last)], lines[len(last) :]
+    def some_and_registers(self, commands: list[str]) -> tuple[list[str], list[str]]:
+        """The answers of such commands, and what `regs` answers behind them: its lines, or the one that refuses it."""
+        found, last = self.some(commands[:-GIVEN_AT_ONCE]), commands[-GIVEN_AT_ONCE:]
+        self._send('\n'.join([*last, 'regs\n']))
+        found += [self._single() for _ in last]
+        lines = [self._line()]
+        if '=' in lines[0]:
+            lines.append(self._line())
+        self.is_idle = True
+        return found, lines
 
     def many(self, command: str) -> list[str]:
         """The answer of any other command. `go 0` behind it changes nothing, and its answer marks the end: a line of the screen may
         say what it likes, but has 80 characters."""
         self._send(command + '\ngo 0\n')
-        return self._lines(0)
-
-    def _lines(self, first: int) -> list[str]:
-        """So many lines, and those behind them up to the answer of `go 0`."""
         octets, end = bytearray(), None
-        while end is None or octets.count(b'\n') <= first:
-            piece = self._out.read1(1 << 16)  # type: ignore[attr-defined]
+        while end is None:
+            piece = self.way.out.read1(1 << 16)  # type: ignore[attr-defined]
             if not piece:
                 self._ended()
             octets += piece
@@ -712,6 +816,8 @@ class Header:
 def _shared(archive: str, *more: str) -> ctypes.CDLL:
     """A static library, and sources that it needs, as a shared one, which the C compiler makes of them."""
     import ctypes
+    import subprocess
+    import tempfile
 
     with tempfile.TemporaryDirectory() as room:
         path = f'{room}/shared.so'
@@ -731,71 +837,181 @@ class Library:
     def __init__(self, path: str, *more: str) -> None:
         import ctypes
 
-        with open(f'{TOP}/c/zebludor.h', encoding='utf-8') as file:
-            header = Header(file.read())
         try:
+            with open(f'{TOP}/c/zebludor.h', encoding='utf-8') as file:
+                header = Header(file.read())
             library = _shared(path, *more) if path.endswith('.a') else ctypes.CDLL(path)
         except OSError as error:
             raise Unfit(f"{path} can't be loaded: {error}") from None
-        self.structs, self.calls, self.at = header.structs, dict[str, Any](), ctypes.byref
+        self.path, self.structs, self.calls = path, header.structs, dict[str, Any]()
+        self.at, self._octet, self._is_limited = ctypes.byref, ctypes.c_uint8, False
         for name, (answer, parameters) in header.calls.items():
             if hasattr(library, name):
                 self.calls[name] = call = getattr(library, name)
                 call.restype, call.argtypes = answer, parameters
 
+    def room(self, octets: int) -> Any:
+        """Room for an answer of so many bytes."""
+        return (self._octet * octets)()
+
+    def limit(self) -> None:
+        """The limit of a process's memory, for what this thread asks next, and for each session that is there."""
+        if _limits or self._is_limited:
+            self._is_limited = True  # for good: a thread's limit is lifted when it asks the next time
+            self.calls['zebludor_limit'](_limits[0] * (1 + Called.there) << 20 if _limits else 0)
+
 
 @functools.cache
-def sessions() -> Library | None:
-    """The sessions' library, loaded once, if it is there. One that ZEBLUDOR_SESSION doesn't name and that can't be loaded isn't."""
-    named = os.environ.get('ZEBLUDOR_SESSION')
-    path = named or next(filter(os.path.exists, SESSIONS), None)
-    if named and not os.path.exists(named):
-        raise Unfit(f"the sessions' library {named}, which ZEBLUDOR_SESSION names, isn't there")
+def _loaded(path: str) -> Library:
+    """A library, loaded once."""
+    return Library(path, f'{TOP}/c/memory.c')
+
+
+@functools.cache
+def _own() -> Library | None:
+    """The stored library, if it is made of the present sources, as the launcher's program is, and can be loaded here."""
     try:
-        return Library(path, f'{TOP}/c/memory.c') if path else None
+        return _loaded(f'{TOP}/stored/{LIBRARY}') if _stored(LIBRARY) else None
     except Unfit:
-        if named:
-            raise
         return None
 
 
-class Called(Dialogue):
-    """A session of pcprobe, or else of `pcboard debug`, by the calls of the sessions' library, in this process: as a Dialogue, but for
-    an interrupt, which comes between the parts of a run, and else once a command is answered."""
+_apart: list[bool] = []
+
+
+@contextlib.contextmanager
+def apart() -> Iterator[None]:
+    """Within it all that is asked of a program is asked of a process: what outlives each answer does so, which a crash of the program mustn't
+    end, or an interrupt keep waiting."""
+    _apart.append(True)
+    try:
+        yield
+    finally:
+        _apart.pop()
+
+
+def library() -> Library | None:
+    """The library that answers in this process in place of programs: the one that ZEBLUDOR_SESSION names, else the stored one. None if
+    a program is named, or none can be loaded."""
+    named = os.environ.get('ZEBLUDOR_SESSION')
+    if named and not os.path.exists(named):
+        raise Unfit(f"the library {named}, which ZEBLUDOR_SESSION names, isn't there")
+    if named:
+        return _loaded(named)
+    return None if _apart or any(os.environ.get(it) for it in ('PCBOARD', 'PCPROBE')) else _own()
+
+
+def _octets_of(path: str) -> bytes | None:
+    """The bytes of a file; None of what isn't regular, large, or not read, of which a process tells more."""
+    try:
+        found = os.stat(path)
+        if not stat.S_ISREG(found.st_mode) or found.st_size > LARGE:
+            return None
+        with open(path, 'rb') as file:
+            return file.read()
+    except (OSError, ValueError):
+        return None
+
+
+def is_short(run: bytes) -> bool:
+    """Whether a run file tells, in plain words, that its run isn't long."""
+    budgets = BUDGET.findall(run)
+    return len(budgets) == 1 and int(budgets[0]) <= LONG and b'\\' not in run
+
+
+def _texts_of(words: list[str], given: bytes) -> list[bytes] | None:
+    """What the files of a task hold: a source or Intel HEX, and of a run its run file. None if it is a process's."""
+    names, end = FILES_OF.get(words[0], []), len(words) - 1 - words[::-1].index('--') if '--' in words else 0
+    paths = words[end + 1 :]
+    if not names or len(paths) != len(names) or not OPTIONS.issuperset(words[1:end]):
+        return None
+    texts = [given if path == '/dev/stdin' else _octets_of(path) for path in paths]
+    found = [text for text in texts if text is not None and len(text) <= LARGE]
+    return found if len(found) == len(names) and (len(names) == 1 or is_short(found[1])) else None
+
+
+def ran_within(words: list[str], given: bytes, most: int, name: str) -> Ran | None:
+    """What pcboard answers of a run or a source, by the library, in this process; None if that is a process's."""
+    texts = _texts_of(words, given) if name == 'pcboard' and words else None
+    them = library() if texts else None
+    if not them or not texts:
+        return None
+    task = '\n'.join([words[0], *OPTIONS.intersection(words[1:-1]), *FILES_OF[words[0]], '']).encode()
+    return (_assembled if words[0] == 'asm' else _asked)(them, (task, *texts), most, tuple(_limits))
+
+
+def _asked(them: Library, texts: tuple[bytes, ...], most: int, _: tuple[int, ...]) -> Ran:
+    """What pcboard answers to its words, as a text, and the texts of its files."""
+    handed = [part for text in (*texts, *[b''] * (4 - len(texts))) for part in (text, len(text))]
+    ended, rooms = them.structs['zebludor_ended'](), (ROOM, ROOM >> 4)
+    while True:
+        out, err = map(them.room, rooms)
+        them.limit()
+        them.calls['zebludor_pcboard'](*handed, out, len(out), err, len(err), them.at(ended))
+        if ended.out > most:
+            raise TooLong(f'the answer has more than {most:,} bytes')
+        if ended.out <= len(out) and ended.err <= len(err):
+            break
+        rooms = max(len(out), ended.out), max(len(err), ended.err)
+    printed = (bytes(memoryview(room)[:size]).decode('utf-8', 'replace') for room, size in ((out, ended.out), (err, ended.err)))
+    return Ran(ended.status, *printed, by=them.path)
+
+
+def ran_of(them: Library, image: bytes, run: bytes, most: int) -> Ran:
+    """What pcboard answers of Intel HEX under a run file, however long that takes."""
+    return _asked(them, (b'run\n--hex\nFILE\nRUN\n', image, run), most, ())
+
+
+# A tool asks of one source again and again, and the same texts have the same answer.
+_assembled = functools.lru_cache(8)(_asked)
+
+
+class Called:
+    """A session of pcprobe, or else of `pcboard debug`, by the calls of the library, in this process: an interrupt comes between the
+    parts of a run, and else once a command is answered."""
+
+    is_within, there = True, 0
 
     def __init__(self, library: Library, source: bytes, run: bytes, is_hex: bool, is_probe: bool) -> None:
-        self._command = library.calls['zebludor_session_command']
-        self._text = library.calls['zebludor_session_text']
-        self._drop = library.calls['zebludor_session_drop']
+        self._library = library
+        self._command, self._text, self._drop = (library.calls[f'zebludor_session_{name}'] for name in ('command', 'text', 'drop'))
         begin = library.calls[f'zebludor_{"session" if is_probe else "debug"}_new{"_hex" * is_hex}']
         session, begun, self._told = (library.structs[f'zebludor_{name}']() for name in ('session', 'begun', 'told'))
         self._session, self._answer = library.at(session), library.at(self._told)
+        library.limit()
         begin(self._session, source, len(source), run, len(run), library.at(begun))
-        self.is_there = not begun.fault
-        self.clock, self.is_idle = 0, True
-        self._make_room(1 << 16)
-
-    def _make_room(self, octets: int) -> None:
-        """Room for answers of so many bytes."""
-        import ctypes
-
-        self._size, self._room = octets, (ctypes.c_uint8 * octets)()
+        self.is_there, self.out, self._why = not begun.fault, io.BytesIO(), ''
+        Called.there += self.is_there
+        self._room = library.room(ROOM)
 
     def close(self) -> None:
         """Ends the session, and gives its memory back."""
+        Called.there -= self.is_there
+        self.is_there = False
         self._drop(self._session)
 
     def __del__(self) -> None:
-        self._drop(self._session)
+        self.close()
 
-    def _send(self, text: str) -> None:
-        """Makes the commands, whose answers are read from then on."""
-        self.is_idle = False
-        self._out = io.BytesIO(b''.join(map(self.answer, text.encode().removesuffix(b'\n').split(b'\n'))))
+    def send(self, text: str) -> bool:
+        """Makes the commands, whose answers are read from then on; no, if there was no memory for one of them."""
+        try:
+            self.out = io.BytesIO(b''.join(map(self.answer, text.encode().removesuffix(b'\n').split(b'\n'))))
+        except MemoryError:
+            return False
+        return True
+
+    def ended(self) -> tuple[int, str]:
+        """How a program would have ended."""
+        return 1, 'fault 53 Memory'
+
+    def is_answered(self, seconds: float | None) -> bool:
+        """Whatever was asked is answered."""
+        return True
 
     def answer(self, line: bytes) -> bytes:
         """The text of a command's answer. A run that isn't refused for its clocks is made in parts."""
-        clocks = int(line[3:]) if re.fullmatch(rb'go \d{8,13}', line) else 0
+        clocks = int(line[3:]) if LONG_RUN.fullmatch(line) else 0
         if clocks <= PART or int(self._made(b'go 0').split()[1]) + clocks > LAST_CLOCK:
             return self._made(line)
         part = PART
@@ -811,30 +1027,29 @@ class Called(Dialogue):
     def _made(self, line: bytes) -> bytes:
         """The text of the answer of a command, made at once."""
         told = self._told
-        self._command(self._session, line, len(line), self._room, self._size, self._answer)
-        if told.status == 2:
-            self._make_room(told.length)
-            self._text(self._session, self._room, self._size, self._answer)
-        if told.status == 1:
+        self._library.limit()
+        self._command(self._session, line, len(line), self._room, len(self._room), self._answer)
+        status = told.status
+        if status == 2:
+            self._room = self._library.room(told.length)
+            self._text(self._session, self._room, len(self._room), self._answer)
+            status = told.status
+        if status == 1:
             raise Unfit('the session is closed')
-        if told.status == 3:
-            raise Fault(53, 'Memory')
+        if status == 3:
+            raise MemoryError
         return bytes(memoryview(self._room)[: told.length])
 
 
-def called_of(words: list[str], is_probe: bool) -> Called | None:
-    """A session of the sessions' library about files, as a program's words name them. None if the library isn't there, if a
-    program is named or its memory limited, and if the files aren't read or are refused, which the program tells by name."""
-    is_chosen = any(os.environ.get(it) for it in ('PCBOARD', 'PCPROBE')) and not os.environ.get('ZEBLUDOR_SESSION')
-    library = None if is_chosen or _limits else sessions()
-    if not library:
+def called_of(words: list[str], is_probe: bool, is_cut: bool = True) -> Called | None:
+    """A session of the library about files, as a program's words name them. None if it is a process's: if no library answers, if the
+    files aren't read or are refused, which the program tells by name, and if the run is long, unless it may be cut."""
+    texts = [_octets_of(path) for path in words[-2:]]
+    if texts[0] is None or texts[1] is None or not (is_cut or is_short(texts[1])):
         return None
-    try:
-        with open(words[-2], 'rb') as source, open(words[-1], 'rb') as run:
-            called = Called(library, source.read(), run.read(), '--hex' in words[:-2], is_probe)
-    except OSError:
-        return None
-    return called if called.is_there else None
+    them = library()
+    called = Called(them, texts[0], texts[1], '--hex' in words[:-2], is_probe) if them else None
+    return called if called and called.is_there else None
 
 
 class Places:
@@ -903,11 +1118,9 @@ class Session:
         self._changes = list[tuple[int, list[str]]]()  # the last ones: their clocks, and what was given then, with the keys since
         self._returns = dict[tuple[int, int], int]()  # the stops to which routines return
         with _made(source, is_hex, services, fields) as words:
-            called = called_of(words, probe)
-            if called:
-                self._dialogue: Dialogue = called
+            self._dialogue = Dialogue(words, 'pcprobe', True) if probe else Dialogue(['debug', *words], is_cut=True)
+            if self._dialogue.way.is_within:
                 return
-            self._dialogue = Dialogue(words, program('pcprobe')) if probe else Dialogue(['debug', *words])
             try:
                 self._dialogue.many('regs')  # behind its answer the files are read, and may go
             except BaseException:
@@ -1118,8 +1331,9 @@ class Session:
         """Calls a routine on the board as it stands, with these registers (`ax=5`, `cl=1`, ..), words on the stack behind its return
         address, the nearest first, and memory, by labels or physical addresses. What it came to; NotReturned, if it takes more clocks.
         The session stands as before then."""
-        with self.routine(place, returns=returns, most=most, with_memory=True) as routine:
-            return routine(stack=stack, memory=memory, **registers)
+        with self.routine(place, returns=returns, most=most) as routine:
+            found = routine(stack=stack, memory=memory, **registers)
+            return found._replace(memory=routine.written())
 
     def _of_the_probe(self, name: str) -> None:
         """Refuses what `pcboard debug` hasn't."""
@@ -1149,7 +1363,9 @@ def _octets(value: int, size: int) -> bytes:
 def with_parts(now: Mapping[str, int], given: Mapping[str, Any]) -> dict[str, int]:
     """The registers that are given, by their names, or by those of halves and flags, which change what stands in theirs now."""
     found = {name: int.from_bytes(_octets(value, 2), 'little') for name, value in given.items() if name in REGISTERS}
-    for name, value in ((name, value) for name, value in given.items() if name not in REGISTERS):
+    for name, value in given.items() if len(found) < len(given) else ():
+        if name in REGISTERS:
+            continue
         if name not in HALVES and name not in FLAGS:
             raise ValueError(f'{name} is no register, half of one, or flag')
         whole, shift = HALVES[name] if name in HALVES else ('FL', FLAGS[name])
@@ -1202,6 +1418,7 @@ class Routine:
         if self._back_to not in session._returns:
             session._returns[self._back_to] = session.stop_at('%X:%X' % self._back_to)
         self._returned = f'stop {session._returns[self._back_to]} '
+        self._frame = functools.lru_cache(64)(self._framed)  # calls mostly have the same one
 
     def __enter__(self) -> Routine:
         return self
@@ -1218,21 +1435,27 @@ class Routine:
 
     def __call__(self, *, stack: Sequence[int] = (), memory: Mapping[str | int, int | bytes] | None = None, **registers: int) -> Returned:
         then = {**self._were, **with_parts(self._were, {name.upper(): value for name, value in registers.items()})}
-        frame = self._frame(then['FL'], stack)
-        top = then['SP'] = (then['SP'] - len(frame)) % 0x10000
+        then['SP'], octets = self._frame(then['FL'], then['SS'], then['SP'], *stack)
         then['CS'], then['IP'] = self._place
-        first = 16 * then['SS']
-        octets = {(first + (top + at) % 0x10000) % MEMORY: octet for at, octet in enumerate(frame)}
-        for place, value in memory.items() if memory else ():
-            octets |= enumerate(value if isinstance(value, bytes) else _octets(value, 1), self._session._address(place))
-        self._look_at(octets)
+        if memory:
+            octets = dict(octets)
+            for place, value in memory.items():
+                octets |= enumerate(value if isinstance(value, bytes) else _octets(value, 1), self._session._address(place))
+        if not octets.keys() <= self._bytes_were.keys():
+            self._look_at(octets)
         found, clocks = self._run(then, octets), self._session.clock - self._clock
-        return Returned(found, self._written(clocks) if self._with_memory else {}, clocks - self._left)
+        written = dict[int, int]()
+        if self._with_memory:
+            written = self.written()
+            self._session.events(clocks, 'keys')
+        return Returned(found, written, clocks - self._left)
 
-    def _frame(self, flags: int, stack: Sequence[int]) -> bytes:
-        """What stands on the stack where the routine begins."""
+    def _framed(self, flags: int, segment: int, top: int, *stack: int) -> tuple[int, dict[int, int]]:
+        """SP where the routine begins, and the bytes that stand on the stack then, by their addresses."""
         words = (self._back_to[1], self._back_to[0], flags)[: RETURNS[self._returns] // 2]
-        return b''.join([_octets(word, 2) for word in (*words, *stack)])
+        frame = b''.join([_octets(word, 2) for word in (*words, *stack)])
+        top = (top - len(frame)) % 0x10000
+        return top, {(16 * segment + (top + at) % 0x10000) % MEMORY: octet for at, octet in enumerate(frame)}
 
     def _back(self) -> list[str]:
         """The command that leads back to where each call begins."""
@@ -1240,8 +1463,6 @@ class Routine:
 
     def _look_at(self, octets: dict[int, int]) -> None:
         """What stands at addresses that no call has set before, and whether bytes can be set there."""
-        if octets.keys() <= self._bytes_were.keys():
-            return
         for command in self._back():
             self._session._one(command)
         before = dict[int, int]()
@@ -1265,17 +1486,18 @@ class Routine:
         stops are passed."""
         session, bytes_then = self._session, {**self._bytes_were, **octets}
         commands = self._back()
-        commands += _set_lines(dict(bytes_then.items() - self._bytes_are.items())) if bytes_then != self._bytes_are else []
+        if bytes_then != self._bytes_are:
+            commands += _set_lines(dict(bytes_then.items() - self._bytes_are.items()))
         commands += [f'set {name} {word:X}' for name, word in then.items() if word != self._are[name]]
-        answers, lines = session._asked(session._dialogue.some_and, [*commands, f'go {self._most}'], 'regs')
-        self._took(answers)
+        answers, lines = session._asked(session._dialogue.some_and_registers, [*commands, f'go {self._most}'])
+        self._took([*answers, *lines])
         self._are, self._bytes_are = then, bytes_then
         end = self._clock + self._most
         while not (answers[-1].startswith(self._returned) or answers[-1].startswith('stop') and self._has_returned(lines)):
             if session.clock >= end:
                 raise NotReturned(f"the routine hasn't returned within {self._most:,} clocks")
-            answers, lines = session._asked(session._dialogue.some_and, [f'go {end - session.clock}'], 'regs')
-            self._took(answers)
+            answers, lines = session._asked(session._dialogue.some_and_registers, [f'go {end - session.clock}'])
+            self._took([*answers, *lines])
         return registers_of(lines)
 
     def _has_returned(self, lines: list[str]) -> bool:
@@ -1283,15 +1505,14 @@ class Routine:
         registers = registers_of(lines)
         return (registers['CS'], registers['IP']) == self._back_to and ' busy 0 ' in self._session._many('chips')[-1]
 
-    def _written(self, clocks: int) -> dict[int, int]:
-        """The bytes that differ from where the call began."""
-        session = self._session
+    def written(self) -> dict[int, int]:
+        """The bytes that differ from where the last call began, to which the session goes back."""
+        session, clocks = self._session, self._session.clock - self._clock
         session.back(clocks)
         runs = list(_runs({one.place for one in session.events(clocks, 'writes')}, 4096))
         after = [session.dump(run.start, len(run)) for run in runs]
         session.back(clocks)
         before = [session.dump(run.start, len(run)) for run in runs]
-        session.events(clocks, 'keys')
         pairs = ((at, old, new) for run, olds, news in zip(runs, before, after) for at, old, new in zip(run, olds, news))
         return {at: new for at, old, new in pairs if old != new}
 

@@ -26,7 +26,7 @@ def translated(library, names, texts, lengths):
 
 def main():
     answer, *paths = sys.argv[1:]
-    library = zebludor.sessions()
+    library = zebludor.library()
     names, texts = [os.path.basename(path).encode() for path in paths], list(map(bytes_of, paths))
     lengths = list(map(len, texts))
     status, out, err = translated(library, names, texts, lengths)

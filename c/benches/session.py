@@ -30,7 +30,7 @@ def answers(session, lines):
     for line in lines:
         if line == 'quit':
             return
-        yield session.answer(line.encode()).decode()
+        yield session.way.answer(line.encode()).decode()
 
 
 def seconds(session):
@@ -63,8 +63,8 @@ def interrupted():
 
 def main():
     source, run, lines, wanted = sys.argv[1:]
-    session = zebludor.called_of([source, run], True)
-    assert session, 'no session begins'
+    session = zebludor.Dialogue([source, run], 'pcprobe')
+    assert session.way.is_within, 'no session begins'
     came = ''.join(answers(session, text_of(lines).splitlines()))
     assert came == text_of(wanted), 'the answers differ'
     session.close()
@@ -73,9 +73,9 @@ def main():
         raise AssertionError('a closed session answers')
     except zebludor.Unfit:
         pass
-    debugger = zebludor.called_of([source, run], False)
+    debugger = zebludor.Dialogue(['debug', source, run])
     assert debugger.one('chips') == 'fault 51 BadCommand', 'the debugger has an answer of the probe'
-    again = zebludor.called_of([source, run], True)
+    again = zebludor.Dialogue([source, run], 'pcprobe')
     took = seconds(again)
     print(f'{COMMANDS} commands in {took:.2f} s')
     assert took <= SECONDS, f'{COMMANDS} commands take {took:.2f} s'

@@ -14,6 +14,7 @@ import textwrap
 
 from toolbox import completions, manual
 from toolbox.command import Sorry
+from toolbox.present import MADE
 from toolbox.proved import PROGRAMS
 
 MAINTAINER = 'The developers of Zebludor <zebludor@localhost>'
@@ -115,9 +116,10 @@ def for_debian(octets: bytes) -> bytes:
 
 
 def programs(found: Files) -> Files:
-    """The stored programs, stripped, and PROVED, which tells so."""
-    made: Files = {f'stored/{each}': (stripped(found[f'stored/{each}'][0], '--remove-section=.comment'), True) for each in PROGRAMS}
-    said = ''.join(f'changed {each} {hashlib.sha256(made[f"stored/{each}"][0]).hexdigest()}\n' for each in PROGRAMS)
+    """The stored programs and the library, stripped, and PROVED, which tells so."""
+    names = [name for name in MADE if f'stored/{name}' in found]
+    made: Files = {f'stored/{each}': (stripped(found[f'stored/{each}'][0], '--remove-section=.comment'), each in PROGRAMS) for each in names}
+    said = ''.join(f'changed {each} {hashlib.sha256(made[f"stored/{each}"][0]).hexdigest()}\n' for each in names)
     return made | {'stored/PROVED': (found['stored/PROVED'][0] + said.encode(), False)}
 
 

@@ -7,15 +7,12 @@ from dataclasses import asdict
 from typing import Any
 
 from toolbox import services
-from toolbox.command import read_text
 from toolbox.desk.pages import examples, files_of, grammar, page_of
-from toolbox.foreign import OWN
-from toolbox.lsp.instructions import by_name
-from toolbox.lsp.ports import ports
+from toolbox.desk.parts import engine_data
+from toolbox.lsp.instructions import rows
+from toolbox.lsp.ports import modes, ports
 from toolbox.lsp.words import words_of
 from toolbox.program import TOP
-from toolbox.runfile import DEFAULTS
-from toolbox.tables import tables
 
 Fields = dict[str, Any]
 
@@ -23,20 +20,8 @@ Fields = dict[str, Any]
 def has() -> Fields:
     """All of it."""
     them = [asdict(example) | dict(zip(('source', 'run'), files_of(example.name))) for example in examples()]
-    return {
-        'examples': them,
-        'defaults': DEFAULTS,
-        'grammar': grammar(),
-        'pages': {name: page_of(name) for name in sorted(os.listdir(f'{TOP}/docs')) if name.endswith('.md')},
-        'faults': tables('faults'),
-        'hints': tables('hints'),
-        'sentences': tables('sentences'),
-        'services': tables('services'),
-        'forms': {name: [asdict(row) for row in them] for name, them in by_name().items()},
-        'ports': ports(),
-        'words': {kind: sorted(words_of(kind)) for kind in ('mnemonic', 'directive', 'prefix', 'register', 'operator')},
-        'includes': {name: read_text(f'{OWN}/{name}') for name in sorted(os.listdir(OWN))},
-    }
+    pages = {name: page_of(name) for name in sorted(os.listdir(f'{TOP}/docs')) if name.endswith('.md')}
+    return engine_data() | {'examples': them, 'grammar': grammar(), 'pages': pages}
 
 
 def services_made() -> Fields:
@@ -45,6 +30,26 @@ def services_made() -> Fields:
         name: {'hex': services.hex_of(name), 'labels': {label.removeprefix(f'{name}_'): place for label, place in services.labels_of(name).items()}}
         for name in ('bios', 'dos')
     }
+
+
+def instructions_made() -> Fields:
+    """What stands in instructions.json: rows of instructions, ports, the timer's modes and the dialect's words, as the pages and the editors'
+    grammar have them."""
+    return {
+        'rows': [asdict(row) for row in rows()],
+        'ports': ports(),
+        'modes': modes(),
+        'words': {kind: sorted(words_of(kind)) for kind in ('mnemonic', 'directive', 'prefix', 'register', 'operator')},
+    }
+
+
+def table_of(fields: Fields) -> str:
+    """A table as it stands in its file: a row of a list in each line."""
+    parts = list[str]()
+    for name, part in fields.items():
+        them = ',\n'.join(f'    {json.dumps(row, ensure_ascii=False)}' for row in part) if isinstance(part, list) else ''
+        parts.append(f'  "{name}": ' + (f'[\n{them}\n  ]' if them else json.dumps(part, ensure_ascii=False, separators=(',', ':'))))
+    return '{\n' + ',\n'.join(parts) + '\n}\n'
 
 
 def text_of(fields: Fields) -> str:

@@ -14,10 +14,14 @@ CLAUSE = re.compile(r'^\s*(requires|ensures)\*?(?: \w+)? \{(.*?)\}[;,]?\s*(?=^\s
 ANSWER = re.compile(r'->\s*(.*?)\s*(?:\bwhere\b.*)?;?\s*\Z', re.S)
 STAYS = r'\(?([^()]+)\.new(\.\w+)? ≡ \1\.old(?:\2)?\)?'
 PREMISES = r'(?:.* → )?'
+MADE = r'(?:result|\(clocks_made result\))'
 # What each clause that speaks of the answer says, of functions with these answers, if the worst one meets it.
 MET: dict[str, tuple[str, tuple[str, ...]]] = {
     'false': ('bool', (rf'{PREMISES}IsTrue result → .*', rf'¬ \(IsTrue result\) → {STAYS}')),
-    'None': (r'Option<.*', (rf'{PREMISES}(?:IfSome|OnSome) result .*', rf'IfNone result {STAYS}')),
+    'None': (
+        r'Option<.*|Stepped',
+        (rf'{PREMISES}(?:IfSome|OnSome) {MADE} .*', rf'IfNone {MADE} {STAYS}', rf'{PREMISES}stays result ≡ true(?: → .*)?'),
+    ),
     '0': (
         r'u8|u16|u32|u64|usize|Waited',
         (

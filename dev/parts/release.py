@@ -20,14 +20,16 @@ from parts.libraries import LIBRARIES
 from toolbox import proved
 from toolbox.command import Sorry
 from toolbox.crates import TOP, Crates
+from toolbox.present import LIBRARY, MADE
 from toolbox.proved import PROGRAMS, STORED, Made, Proved
 from toolbox.sources import sum_of, sum_of_sources
 
 PLATFORM = 'x86_64-linux'
 STORED_FILES = tuple(f'stored/{program}' for program in PROGRAMS)
 FILES = ('CHANGELOG.md', 'CONTRIBUTING.md', 'SECURITY.md', 'LICENSE-APACHE', 'LICENSE-MIT', 'README.md', 'VERSION', *PROGRAMS, *STORED_FILES, 'stored/PROVED')
-FOLDERS = ('c', 'docs', 'editors', 'examples', 'python', 'services', 'tools')
-LEFT_OUT = ('tools/test', 'tools/tests', 'editors/grammar')  # which want the sources
+FOLDERS = ('c', 'docs', 'editors', 'examples', 'python', 'services', 'tools', 'web')
+MODULE = 'stored/zebludor.wasm'  # by which the desk's page runs the board
+LEFT_OUT = ('tools/test', 'tools/tests', 'editors/grammar', 'web/desk.html')  # which want the sources, or are made
 TIME = 315532800  # of every file: the first second of 1980, the earliest that other kinds of archives have too
 CONTAINER = """# Zebludor {version} for machines without Linux, as docs/install.md tells. In the folder that has it and {package}:
 #   docker build -f Containerfile -t zebludor .
@@ -62,11 +64,18 @@ def archive_of(crates: Crates, crate: str) -> str:
     return f'{crates.folder(crate)}/{crates.made(crate)}'
 
 
+def stored_library() -> list[str]:
+    """The path of the stored library, if stored/PROVED tells of one."""
+    record = proved.read(STORED)
+    return [f'stored/{LIBRARY}'] if record and LIBRARY in record.made else []
+
+
 def lacking() -> list[str]:
     """A sentence for each thing that a release wants and that isn't here, or isn't of the present sources, with what makes it so."""
     crates = Crates()
-    found = [f"{path} isn't there" for path in (*FILES, *FOLDERS) if not os.path.exists(f'{TOP}/{path}')]
-    found += filter(None, (*(of_program(crates, program) for program in PROGRAMS), *(of_library(crates, library) for library in LIBRARIES)))
+    found = [f"{path} isn't there" for path in (*FILES, *stored_library(), *FOLDERS) if not os.path.exists(f'{TOP}/{path}')]
+    stored = [*PROGRAMS, *map(os.path.basename, stored_library())]
+    found += filter(None, (*(of_program(crates, name) for name in stored), *(of_library(crates, library) for library in LIBRARIES)))
     found += [f'{command}, which makes libraries and packages, is not on the path' for command in ('cc', 'ar', 'strip') if not shutil.which(command)]
     return found + [f"{path} isn't as it was committed; a release has what a commit has" for path in uncommitted()]
 
@@ -81,13 +90,13 @@ def differs(record: Proved, made: Made, crates: Crates, crate: str) -> str | Non
 
 
 def of_program(crates: Crates, program: str) -> str | None:
-    """What is amiss with a stored program."""
+    """What is amiss with a stored program, or the library."""
     record = proved.read(STORED)
     made = record and record.of(f'{STORED}/{program}')
     renew = 'tools/test proves and builds one, and then dev/build --store renews it'
     if record is None or made is None:
         return f"stored/{program} isn't one of which stored/PROVED tells; {renew}"
-    why = differs(record, made, crates, program)
+    why = differs(record, made, crates, MADE[program])
     return why and f"stored/{program} isn't taken: {why}; {renew}"
 
 
@@ -111,7 +120,7 @@ def uncommitted() -> list[str]:
     """The files of a release that are changed or new since the last commit, where this is a clone."""
     if not os.path.exists(f'{TOP}/.git'):
         return []
-    words = ['git', 'status', '--porcelain', '-z', '--untracked-files=all', '--no-renames', '--', *FILES, *FOLDERS]
+    words = ['git', 'status', '--porcelain', '-z', '--untracked-files=all', '--no-renames', '--', *FILES, *stored_library(), *FOLDERS]
     try:
         status = subprocess.run(words, cwd=TOP, capture_output=True, text=True, check=False)
     except OSError as error:
@@ -132,14 +141,15 @@ def is_left_out(path: str) -> bool:
 def paths() -> list[str]:
     """The files that a release has of the repository."""
     inside = (os.path.relpath(f'{folder}/{file}', TOP) for top in FOLDERS for folder, _, files in os.walk(f'{TOP}/{top}') for file in files)
-    return [*FILES, *(path for path in inside if not is_left_out(path))]
+    module = filter(lambda path: os.path.isfile(f'{TOP}/{path}'), (MODULE,))
+    return [*FILES, *stored_library(), *module, *(path for path in inside if not is_left_out(path))]
 
 
 def verdicts_of(crates: Crates) -> str:
     """The text RELEASE: the version, and a text as PROVED of all that was built, by its path."""
     stored = proved.read(STORED)
     assert stored
-    whole = Proved(stored.kit, stored.logic, {f'stored/{name}': stored.made[name] for name in PROGRAMS}, {})
+    whole = Proved(stored.kit, stored.logic, {f'stored/{name}': stored.made[name] for name in [*PROGRAMS, *map(os.path.basename, stored_library())]}, {})
     for crate in LIBRARIES:
         library = proved.read(os.path.dirname(archive_of(crates, crate)))
         assert library

@@ -9,7 +9,8 @@ from html import escape
 
 EXTENSION, INSIDE = 'editors/vscode/', 'zebludor'
 # What neither the server nor the debugger reads.
-LEFT_OUT = ('c/', 'docs/book.', 'lib/', 'SHA256SUMS')
+LEFT_OUT = ('c/', 'docs/book.', 'lib/', 'stored/zebludor.wasm', 'web/', 'SHA256SUMS')
+HEADER = 'c/zebludor.h'  # by which the stored library is asked
 PLATFORM = 'linux-x64'  # as VS Code calls it
 TIME = (1980, 1, 1, 0, 0, 0)
 TYPES = {'json': 'application/json', 'vsixmanifest': 'text/xml'}
@@ -69,7 +70,7 @@ def made(found: Files, version: str) -> bytes:
     package = json.loads(own['package.json'][0]) | {'version': version}
     own['package.json'] = json.dumps(package, indent=2).encode() + b'\n', False
     own['LICENSE.txt'], own['README.md'] = found['LICENSE-MIT'], found['editors/README.md']
-    own |= {f'{INSIDE}/{path}': each for path, each in found.items() if not path.startswith(LEFT_OUT)}
+    own |= {f'{INSIDE}/{path}': each for path, each in found.items() if path == HEADER or not path.startswith(LEFT_OUT)}
     files: Files = {f'extension/{path}': each for path, each in sorted(own.items())}
     whole = {'extension.vsixmanifest': (manifest(package), False)} | files
     whole['[Content_Types].xml'] = types(list(whole)), False

@@ -261,6 +261,7 @@ class ToolCase(unittest.TestCase):
             sys.argv, sys.stdin = held
             for sign, handler in handlers.items():
                 signal.signal(sign, handler)
+        self.came = came
         if status is not None:
             self.assertEqual(came, status, err.getvalue() or out.getvalue())
         return out.getvalue(), but_progress(err.getvalue())

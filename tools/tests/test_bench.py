@@ -1,4 +1,4 @@
-"""bench/count and bench/race: what they parse, compute and refuse, and the code that the peers run. Neither valgrind nor
+"""bench/count, bench/race and bench/tools: what they parse, compute and refuse, and the code that the peers run. Neither valgrind nor
 another emulator is needed: a script stands for valgrind, and Zebludor's own board runs what the peers would."""
 from __future__ import annotations
 
@@ -500,6 +500,26 @@ class Race(ToolCase):
         ):
             self.assertIn(why, self.tool('bench/race', *words, status=2)[1])
         self.assertIn('--rounds', self.tool('bench/race', '--help')[0])
+
+
+class Tools(ToolCase):
+    """What the tools cost, in runs of the program."""
+
+    def test_units(self) -> None:
+        tools = module('tools')
+        best = {tools.EMPTY: 0.01, tools.HELLO: 0.002, tools.NESTED: 0.004, 'try': 0.05, 'class': 0.41, 'launcher': 0.03, 'batch': 8.01}
+        measured = tools.commands('board', self.room)
+        for name, wanted in (('try', 20), ('class', 10), ('launcher', 15), ('batch', 1)):
+            self.assertAlmostEqual(tools.units(measured[name], name, best), wanted, msg=name)
+
+    def test_a_limit(self) -> None:
+        out = self.tool('bench/tools', '--rounds', '1', '--only', 'launcher', '--limit', 'launcher=0.1', status=1)[0]
+        self.assertRegex(out, r'(?m)^launcher .* ms +\d+\.\d\d, above 0\.1$')
+        self.tool('bench/tools', '--rounds', '1', '--only', 'launcher', '--limit', 'launcher=1000')
+
+    def test_refusals(self) -> None:
+        for words, why in ((['--rounds', '0'], 'rounds are 1 or more'), (['--only', 'x'], 'the rows'), (['--limit', 'try'], 'NAME=NUMBER')):
+            self.assertIn(why, self.tool('bench/tools', *words, status=2)[1])
 
 
 class Runner:

@@ -13,14 +13,14 @@ import re
 import resource
 import subprocess
 import sys
-import tempfile
 import unittest
 import warnings
 from typing import Any, Callable
 from unittest import mock
 
 from tests import test_gdb
-from tests.support import RESET, SECONDS, TOOLS, TOP, ToolCase, children, example, main_of
+from tests.desk_engine import begun, has_node, named_library
+from tests.support import RESET, SECONDS, TOOLS, TOP, ToolCase, children, example, main_of, only_if
 from tests.terminal import Terminal
 from tests.test_dap import Client as Editor
 
@@ -28,11 +28,8 @@ sys.path.insert(0, f'{TOP}/dev')
 from parts import trials
 from toolbox import framing, starting
 from toolbox.command import MISTAKE, start
-from toolbox.desk.drafts import Drafts
-from toolbox.desk.files import Given
-from toolbox.desk.words import Desk
 from toolbox.moments import Worker
-from toolbox.program import Files, ProbeSession, path
+from toolbox.program import Files, ProbeSession, apart, path
 from toolbox.runfile import DEFAULTS
 from toolbox.threads import STACK, begin
 import zebludor
@@ -231,6 +228,17 @@ class Broken(ToolCase):
 
         self.each_of(work)
 
+    def test_a_routine(self) -> None:
+        """Registers that are refused behind a call are told of, and the next call is answered."""
+        with open(example('ticks')[0], encoding='ascii') as file, mock.patch.dict(os.environ, self.environment('regs')):
+            session = zebludor.Session(file.read(), probe=True)
+        self.addCleanup(session.close)
+        session.set(0x600, b'\x40\xC3')  # INC AX, RET
+        with session.routine((0, 0x600)) as routine:
+            os.remove(f'{self.room}/once')
+            self.assertRaisesRegex(zebludor.Fault, '53 Memory', routine, ax=4)
+            self.assertEqual(routine(ax=4).registers['AX'], 5)
+
     @staticmethod
     def said_by(words: list[str]) -> str:
         """All that a tool says."""
@@ -282,26 +290,23 @@ class Broken(ToolCase):
 
         self.each_of(work)
 
+    @only_if(has_node)
     def test_desk(self) -> None:
-        def work() -> str:
-            with tempfile.TemporaryDirectory(dir=self.room) as room, contextlib.closing(Desk(room, Given(), Drafts(f'{room}/drafts'))) as desk:
-                with open(example('ticks')[0], encoding='ascii') as file:
-                    found = desk.answer({'do': 'open', 'source': file.read(), 'run': DEFAULTS | {'budget': 9000}})
-                board, said = found.pop('board', ''), [found]
-                for word, fields in PAGES if board else ():
-                    said.append(self.whole(desk, {'do': word, 'board': board, **fields}))
-                return json.dumps([{name: value for name, value in found.items() if name != 'screen number'} for found in said])
+        """The engine of its page, over its library."""
+        with open(example('ticks')[0], encoding='ascii') as file:
+            first: dict[str, Any] = {'do': 'open', 'source': file.read(), 'run': DEFAULTS | {'budget': 9000}}
+        asked = json.dumps([first, *({'do': word, **fields} for word, fields in PAGES)])
 
-        self.each_of(work)
+        def answers(refused: str) -> dict[str, Any]:
+            found: dict[str, Any] = json.loads(begun(self.room, 'refusing.mjs', refused).communicate(asked)[0])
+            return found
 
-    def whole(self, desk: Desk, words: dict[str, Any]) -> dict[str, Any]:
-        """What words of a page come to; what was paused on a busy machine goes on."""
-        found: dict[str, Any] = {'why': 'paused'}
-        while found.get('why') == 'paused':
-            found = desk.answer(words)
-            while found.get('working'):
-                found = desk.answer({'do': 'wait', 'board': words['board']})
-        return found
+        wanted = answers('nothing')
+        self.assertNotRegex(json.dumps(wanted['said']), '"error"|refuse')
+        for word in wanted['seen']:
+            said = json.dumps(answers(word)['said'])
+            self.assertNotIn('"error"', said, word)
+            self.assertRegex(said, 'refuse|no memory', word)
 
     def test_term(self) -> None:
         def work() -> str:
@@ -322,12 +327,12 @@ class Broken(ToolCase):
     def test_a_mistake(self) -> None:
         """One of the tool itself is told in a sentence, with its place; what it has started ends."""
         code = (
-            "import sys; sys.path[:0] = ['.', '../python']\nfrom toolbox.command import start\nfrom toolbox.program import Files, ProbeSession\n"
-            f"def main(words):\n    session = ProbeSession(Files(*{example('ticks')!r}))\n    session.begin('go 1099511627776')\n    return [][1]\nstart(main)\n"
+            "import sys; sys.path[:0] = ['.', '../python']\nfrom toolbox.command import start\nfrom toolbox.program import Files, ProbeSession, apart\n"
+            f"@apart()\ndef main(words):\n    session = ProbeSession(Files(*{example('ticks')!r}))\n    session.begin('go 1099511627776')\n    return [][1]\nstart(main)\n"
         )
         came = subprocess.run([sys.executable, '-c', code], cwd=TOOLS, capture_output=True, text=True, timeout=SECONDS, check=False)
         self.assertEqual((came.returncode, came.stdout), (2, ''))
-        self.assertRegex(came.stderr, r'^-c: a mistake of this tool has ended it: IndexError: list index out of range \(<string>, line 7\)\n$')
+        self.assertRegex(came.stderr, r'^-c: a mistake of this tool has ended it: IndexError: list index out of range \(<string>, line 8\)\n$')
 
 
 class NoThread(ToolCase):
@@ -343,7 +348,7 @@ class NoThread(ToolCase):
             if re.search(r'\bThread\(|start_new_thread|ThreadPool', text):
                 found.append(os.path.relpath(module, TOOLS))
                 self.assertIn('want()', text, module)
-        self.assertEqual(sorted(found), ['toolbox/batches.py', 'toolbox/classes.py', 'toolbox/threads.py'])
+        self.assertEqual(sorted(found), ['toolbox/batches.py', 'toolbox/threads.py'])
 
     def test_without_memory(self) -> None:
         """The stacks of threads that have ended are there for the next one, which then lacks the memory to begin."""
@@ -363,6 +368,7 @@ class NoThread(ToolCase):
         source, run = example('ticks')
         os.mkdir(f'{self.room}/state')
         self.file('page', 'shows = HI\n')
+        self.enterContext(mock.patch.dict(os.environ, named_library(self.room)))
         for name, words in (
             ('dap', []),
             ('lsp', []),
@@ -377,7 +383,7 @@ class NoThread(ToolCase):
     def test_sessions_of_threads(self) -> None:
         """A session that needs the thread which starts processes says so, and another one is begun later."""
         files = Files(*example('ticks'))
-        with mock.patch.object(starting, '_STARTERS', []), mock.patch('toolbox.program.is_alone', return_value=False):
+        with apart(), mock.patch.object(starting, '_STARTERS', []), mock.patch('toolbox.program.is_alone', return_value=False):
             with mock.patch.object(mmap, 'mmap', side_effect=OSError(errno.ENOMEM, os.strerror(errno.ENOMEM))):
                 self.assertRaisesRegex(OSError, self.SENTENCE.strip(), ProbeSession, files)
             with ProbeSession(files) as session:

@@ -1,10 +1,11 @@
-"""tools/desk by its own protocol: what is hostile is refused, and what a page is told is what the program answers."""
+"""tools/desk by its own protocol, and its page's engine under node: what is hostile is refused, and what a page is told is what the
+program answers. Without node the engine isn't run, and says so."""
 from __future__ import annotations
 
 import concurrent.futures as futures
 import contextlib
-import gc
 import glob
+import hashlib
 import http.client
 import json
 import os
@@ -15,34 +16,34 @@ import subprocess
 import sys
 import tempfile
 import threading
-import time
 import unittest
-import unittest.mock
-from typing import Any
+from typing import Any, Callable
 from unittest import mock
 
-from tests.support import EXAMPLES, SECONDS, TOOLS, TOP, ToolCase, children, example, is_running, processor_seconds, rooms_in, until
+from tests.desk_engine import Engine, has_library, named_library, with_node
+from tests.support import EXAMPLES, SECONDS, TOOLS, TOP, ToolCase, children, example, rooms_in, until
 from tests.test_symbols import NASM, ROM, hex_of
 
 from toolbox.asking import answers_of
-from toolbox.command import Sorry
+from toolbox.crates import Crates
 from toolbox.dap.values import is_code
-from toolbox.desk import board as desk_board, http as desk_http, words as desk_words, work as desk_work
+from toolbox.desk import http as desk_http, parts
 from toolbox.desk.drafts import Drafts
 from toolbox.desk.files import Given, Kept
 from toolbox.desk.http import LONGEST_BODY, MOST_CONNECTIONS, MOST_STRANGERS, SECONDS_OF_A_STRANGER, Refused, Server, policy_of
 from toolbox.desk.pages import as_html, examples, grammar, page_of
-from toolbox.desk.sound import Speaker
-from toolbox.desk.words import MOST_BOARDS, Desk
-from toolbox.desk.work import Helpers
+from toolbox.desk.words import Desk
 from toolbox.events import events
 from toolbox.listing import line_of
-from toolbox.program import Files, Session
+from toolbox.program import Files, Session, path as path_of
 from toolbox.report import registers_of, report_of
 from toolbox.runfile import DEFAULTS, text_of
+from toolbox.sources import sum_of_sources
 
 Fields = dict[str, Any]
 PAGE = f'{TOOLS}/toolbox/desk/page'
+# What is asked of the desk, and not of the engine.
+OF_FILES = ('hello', 'example', 'page', 'include', 'keep', 'changed', 'keep draft', 'drop draft', 'draft')
 RUN = {'version': 1, 'ram': 64, 'sw1': 0, 'sw2': 0, 'budget': 1000, 'keys': []}
 SHORT = 'SEGMENT RESET AT 0FFFFh\n        HLT\nENDS\n'
 FOREVER = 'SEGMENT MAIN AT 0F000h\nstart:  CALL deep\nstay:   JMP SHORT stay\ndeep:   INC AX\n        JMP SHORT deep\nENDS\nSEGMENT RESET AT 0FFFFh\n        JMP FAR start\nENDS\n'
@@ -125,7 +126,10 @@ def contrast(one: str, other: str) -> float:
 
 
 class Client:
-    """A page, as far as the protocol goes."""
+    """A page, as far as the protocol goes, with its engine, which begins once it is asked."""
+
+    how: Fields = {}
+    its_engine: Engine | None = None
 
     def __init__(self, address: str) -> None:
         found = re.fullmatch(r'http://(127\.0\.0\.1:(\d+))/([\w-]+)/', address)
@@ -163,13 +167,27 @@ class Client:
         finally:
             connection.close()
 
+    @property
+    def engine(self) -> Engine:
+        """Its engine, which asks the desk for what a source includes."""
+        if not self.its_engine:
+            self.its_engine = Engine(lambda name: self.ask('include', name=name))
+        return self.its_engine
+
+    def leave(self) -> None:
+        """Leaves the page."""
+        if self.its_engine:
+            self.its_engine.close()
+
     def ask(self, word: str, **fields: Any) -> Fields:
         """A question, followed to its end."""
-        status, text, _ = self.request('POST', f'/{self.token}/do', json.dumps({'do': word, **fields}).encode())
+        question = {'do': word, **fields}
+        if word not in OF_FILES:
+            return self.engine.to_the_end(question | {'how': self.how} if word == 'open' else question)
+        status, text, _ = self.request('POST', f'/{self.token}/do', json.dumps(question).encode())
         assert status == 200, (word, status, text)
-        answer = json.loads(text)
-        while answer.get('working') and word not in ('wait', 'run now'):
-            answer = self.ask('wait', board=fields['board'])
+        answer: Fields = json.loads(text)
+        self.how = answer.get('how', self.how)
         return answer
 
     def raw(self, octets: bytes) -> bytes:
@@ -200,22 +218,18 @@ class Served(ToolCase):
         drafts = tempfile.TemporaryDirectory()
         self.addCleanup(drafts.cleanup)
         self.drafts = f'{drafts.name}/state/desk'
-        for module, name in ((desk_board, 'MARKS_SECONDS'), (desk_words, 'MESSAGES_SECONDS')):
-            patch = mock.patch.object(module, name, SECONDS)  # on a machine at which others are at work, all is told too
-            patch.start()
-            self.addCleanup(patch.stop)
-        self.desk = Desk(self.room, Given(), Drafts(self.drafts))
+        self.desk = Desk(Given(), Drafts(self.drafts))
         self.server = Server('<style>x</style>', {'main.js': 'y'}, self.desk.answer)
         self.thread = threading.Thread(target=self.server.serve_forever, args=(0.02,), daemon=True)
         self.thread.start()
         self.addCleanup(self.end)
         self.client = Client(self.server.address)
+        self.addCleanup(self.client.leave)
 
     def end(self) -> None:
         """Ends it."""
         self.server.shutdown()
         self.server.server_close()
-        self.desk.close()
         self.thread.join()
 
 
@@ -232,8 +246,8 @@ class Hostile(Served):
         policy, module = answer.getheader('Content-Security-Policy') or '', f'{self.server.address}main.js'
         self.assertEqual(policy, policy_of(text, [module]))
         # Scripts come from the modules' own addresses, and from nowhere else: neither from within the page, nor from a text beside them.
-        self.assertTrue(policy.startswith(f"default-src 'none'; script-src {module}; style-src 'sha256-"), policy)
-        self.assertFalse('unsafe' in policy or '*' in policy)
+        self.assertTrue(policy.startswith(f"default-src 'none'; script-src {module} 'wasm-unsafe-eval'; style-src 'sha256-"), policy)
+        self.assertFalse('unsafe' in policy.replace("'wasm-unsafe-eval'", '') or '*' in policy)
         status, text, module_answer = self.client.request('GET', f'/{self.client.token}/main.js')
         self.assertEqual((status, text, module_answer.getheader('Content-Type')), (200, 'y', 'text/javascript; charset=utf-8'))
         self.assertEqual((answer.getheader('Cache-Control'), answer.getheader('Referrer-Policy')), ('no-store', 'same-origin'))
@@ -300,6 +314,16 @@ class Hostile(Served):
             self.assertIn('no page', self.client.ask('page', name=name)['sorry'])
             self.assertIn('no example', self.client.ask('example', name=name)['sorry'])
 
+    def test_a_failure_of_its_own(self) -> None:
+        """The page is told what happened, and the desk goes on."""
+        path, body = f'/{self.client.token}/do', b'{"do":"page","name":"desk.md"}'
+        for error, sentence in ((MemoryError(), 'desk has not enough memory'), (ZeroDivisionError('by 0'), 'a mistake of its own: ZeroDivisionError: by 0')):
+            with mock.patch('toolbox.desk.words.page_of', side_effect=error):
+                status, text, _ = self.client.request('POST', path, body)
+                self.assertEqual(status, 500)
+                self.assertIn(sentence, text)
+        self.assertIn('html', self.client.ask('page', name='desk.md'))
+
     def test_other_methods(self) -> None:
         for method in ('PUT', 'DELETE', 'HEAD', 'OPTIONS', 'CONNECT', 'TRACE', 'get'):
             self.assertEqual(self.status(method, f'/{self.client.token}/'), 501, method)
@@ -321,15 +345,17 @@ class Hostile(Served):
             (400, b'{"do":1}', {}),
             (404, b'{"do":"x"}', {}),
             (400, b'{"do":"example"}', {}),
-            (400, b'{"do":"open","source":1}', {}),
-            (400, b'{"do":"open","source":"","run":[]}', {}),
-            (400, b'{"do":"run"}', {}),
+            (400, b'{"do":"keep","source":1}', {}),
+            (400, b'{"do":"keep","source":"","run":[]}', {}),
+            (400, b'{"do":"include"}', {}),
+            (404, b'{"do":"run"}', {}),  # which the engine is asked
         ):
             self.assertEqual(
                 self.client.request('POST', path, body, **{name.replace('_', '-'): content for name, content in headers.items()})[0], wanted, (body or b'')[:40]
             )
         for deep in range(900, 1000, 10):  # at the edge of what Python reads and writes
-            body = b'{"do":"open","source":"HLT","run":{"keys":%s}}' % (b'[' * deep + b']' * deep)
+            rest = b'"given":false,"id":"12345678","name":"n","hex":false,"source":"","stops":[]'
+            body = b'{"do":"keep draft",%s,"run":{"keys":%s}}' % (rest, b'[' * deep + b']' * deep)
             self.assertIn(self.status('POST', path, body), (200, 400), deep)
         self.server.seconds_of_a_refusal = SECONDS
         for length in (LONGEST_BODY + 1, 10 << 20, 10**11):
@@ -453,12 +479,17 @@ class Hostile(Served):
         with self.assertRaises(OSError):
             socket.create_connection(('127.0.0.2', self.client.port), timeout=2).close()
 
+
+@with_node
+class Boards(Served):
+    """What the page is told."""
+
     def test_what_is_asked_of_a_board(self) -> None:
         board = self.client.open('hello')['board']
-        path = f'/{self.client.token}/do'
         for fields in (
             {'do': 'go to', 'clock': '1'},
-            {'do': 'go to', 'clock': True},
+            {'do': 'go to', 'clock': 1.5},
+            {'do': 'no such question'},
             {'do': 'type', 'codes': [0]},
             {'do': 'type', 'codes': [128]},
             {'do': 'type', 'codes': [212]},
@@ -468,10 +499,10 @@ class Hostile(Served):
             {'do': 'stops', 'stops': [1]},
             {'do': 'drop keys', 'keys': [-1]},
             {'do': 'memory', 'place': 5},
-            {'do': 'run', 'ms': None},
+            {'do': 'run', 'ms': 'x'},
             {'do': 'step', 'seen': []},
         ):
-            self.assertEqual(self.status('POST', path, json.dumps(fields | {'board': board}).encode()), 400, fields)
+            self.assertIn('error', self.client.engine.ask(fields | {'board': board}), fields)
         for fields in (
             {'do': 'go to', 'clock': -1},
             {'do': 'go to', 'clock': 1 << 41},
@@ -487,10 +518,6 @@ class Hostile(Served):
         self.assertIn('gone', self.client.ask('step', board='x'))
         self.assertEqual(self.client.ask('step', board=board)['clock'], 15)
 
-
-class Boards(Served):
-    """What the page is told."""
-
     def test_changes(self) -> None:
         """A register, a byte, a key behind them: undone, also by a way back; nothing is told then that is of a run from its start."""
         answer = self.client.open('ticks')
@@ -499,7 +526,7 @@ class Boards(Served):
         def ask(word: str, **fields: Any) -> Fields:
             return self.client.ask(word, board=board, **fields)
 
-        self.assertFalse(ask('go_to', clock=1000)['changed'])
+        self.assertFalse(ask('go to', clock=1000)['changed'])
         found = ask('set', text='BX = 5')
         self.assertEqual((found['registers']['BX'], found['clock'], found['told'], found['changed']), (5, 1000, 'BX = 00005h (5)', True))
         self.assertEqual(ask('set', text='[tick] = 90h')['told'], 'F6058: 90')
@@ -508,8 +535,8 @@ class Boards(Served):
         self.assertEqual((ask('marks')['told'], ask('marks')['changed'], ask('why')['told']), (False, True, []))
         for text, why in (('BX = 70000', 'no number of 16 bits'), ('[A0000] = 1', 'no byte can be set there'), ('x' * 2000, '1000 characters')):
             self.assertIn(why, ask('set', text=text)['sorry'])
-        self.assertEqual(ask('go_to', clock=1500)['registers']['BX'], 5)
-        found = ask('go_to', clock=999)
+        self.assertEqual(ask('go to', clock=1500)['registers']['BX'], 5)
+        found = ask('go to', clock=999)
         self.assertEqual((found['clock'], found['told'], found['keys'], found['changed']), (999, 'clock 1000: undone: BX 5, F6058 90', [], False))
         ask('set', text='BX = 5')
         self.assertEqual((ask('undo')['told'], ask('undo')['sorry']), ('clock 999: undone: BX 5', 'nothing was set that could be undone'))
@@ -663,18 +690,6 @@ class Boards(Served):
             here = self.client.ask(move, board=board)
             self.assertEqual((here['clock'], here['why']), (clock, why), move)
 
-    def test_a_failure_of_its_own(self) -> None:
-        """The page is told what happened, and the board goes on."""
-        board = self.client.open('ticks')['board']
-        path = f'/{self.client.token}/do'
-        for error, sentence in ((MemoryError(), 'desk has not enough memory'), (ZeroDivisionError('by 0'), 'a mistake of its own: ZeroDivisionError: by 0')):
-            with unittest.mock.patch('toolbox.desk.board.Board.memory', side_effect=error):
-                body = json.dumps({'do': 'memory', 'board': board, 'place': '0'}).encode()
-                status, text, _ = self.client.request('POST', path, body)
-                self.assertEqual(status, 500)
-                self.assertIn(sentence, text)
-        self.assertEqual(len(self.client.ask('memory', board=board, place='0', count=16)['bytes']), 32)
-
     def test_a_stop_at_the_speaker(self) -> None:
         board, until = self.client.ask('open', source=BUZZ, run=RUN)['board'], 400
         self.client.ask('stops', board=board, stops=['sound'])
@@ -710,11 +725,10 @@ class Boards(Served):
         ):
             answer = self.client.ask('open', source=FOREVER, run=RUN | fields)
             self.assertIn(name, answer['refused'][0]['text'], fields)
-        begun = time.process_time() + sum(os.times()[2:4])
+        begun = self.client.engine.spent()
         long = self.client.ask('open', source=f"{'x' * 200_000}\n{'x' * 200_000}", run=RUN)['refused']
         self.assertEqual([(refusal['line'], refusal['text'].partition(':')[0]) for refusal in long], [(1, 'BadLine'), (2, 'BadLine')])
-        self.assert_within(time.process_time() + sum(os.times()[2:4]) - begun, 10)
-        self.assertEqual(os.listdir(self.room), [])
+        self.assert_within(self.client.engine.spent() - begun, 10)
 
     def test_hex(self) -> None:
         with open(f'{EXAMPLES}/monitor.hex', encoding='utf-8') as file, open(f'{EXAMPLES}/monitor.json', encoding='utf-8') as run_file:
@@ -754,7 +768,7 @@ class Boards(Served):
             them = [
                 {'source': content, 'run': run, 'hex': is_hex}
                 for run in [json.load(fields)]
-                for content, is_hex in ((of_source.read(), False), (self.desk.answer({'do': 'hello'})['given']['source'], True))
+                for content, is_hex in ((of_source.read(), False), (self.client.ask('hello')['given']['source'], True))
             ]
         shown = list[Fields]()
         for one in them:
@@ -800,14 +814,12 @@ class Boards(Served):
         board = self.client.ask('open', source=FOREVER, run=RUN)['board']
         here = self.client.ask('go to', board=board, clock=400_000_000)['clock']
         self.client.ask('marks', board=board)
-        them, process = children(os.getpid()), self.desk._boards[board].machine._session._process.pid  # type: ignore[union-attr]
-        before, ended = processor_seconds(process), sum(os.times()[2:4])
+        before = self.client.engine.spent()
         for count in range(1, 21):
             typed = self.client.ask('type', board=board, codes=[30, 158])
             self.assertEqual((typed['clock'], len(typed['keys'])), (here, 2 * count))
         self.client.ask('marks', board=board)
-        self.assert_within(processor_seconds(process) - before + sum(os.times()[2:4]) - ended, 0.2)
-        self.assertEqual(children(os.getpid()), them)
+        self.assert_within(self.client.engine.spent() - before, 2)  # one repetition of the run takes as long
         stamps = [each[0] for each in typed['keys']]
         self.assertEqual(stamps, [here + 1000 * each for each in range(1, 41)])
         for clock, waiting in ((stamps[0] - 1, 0), (stamps[0], 1), (stamps[2], 3), (stamps[-1], 16)) * 2:
@@ -834,13 +846,14 @@ class Boards(Served):
     def test_marks_up_to_a_key(self) -> None:
         """They are those of a board that has stood there first."""
         for name in ('tone', 'ticks'):
-            board, other = (self.client.open(name, keys=[])['board'] for _ in range(2))
+            board = self.client.open(name, keys=[])['board']
             for clock in (9000, 3001):
                 self.client.ask('go to', board=board, clock=clock)
                 self.client.ask('marks', board=board)
-            self.client.ask('go to', board=other, clock=3001)
             self.client.ask('type', board=board, codes=[30])
             marks = self.client.ask('marks', board=board)
+            other = self.client.open(name, keys=[])['board']
+            self.client.ask('go to', board=other, clock=3001)
             self.assertEqual(marks, self.client.ask('marks', board=other))
             self.assertTrue(marks['changes'] or marks['interrupts'], name)
 
@@ -872,8 +885,7 @@ class Boards(Served):
         self.client.ask('go to', board=board, clock=15)
         asked: tuple[tuple[str, Fields], ...] = (('go to', {'clock': 1 << 40}), ('out', {}))
         for word, fields in asked:
-            body = json.dumps({'do': word, 'board': board, **fields}).encode()
-            answer = json.loads(self.client.request('POST', f'/{self.client.token}/do', body)[1])
+            answer = self.client.engine.once({'do': word, 'board': board, **fields})
             if word == 'go to':  # which isn't over before it is paused
                 self.assertIn('at work', self.client.ask('step', board=board)['sorry'])
             self.client.ask('pause', board=board)
@@ -883,106 +895,26 @@ class Boards(Served):
             self.assertEqual(self.client.ask('go to', board=board, clock=15)['clock'], 15)
         self.assertEqual(self.client.ask('go to', board=board, clock=0)['clock'], 0)
 
-    def test_a_program_that_dies(self) -> None:
-        board, other = self.client.open('hello')['board'], self.client.open('tone')['board']
-        process = self.desk._boards[board].machine._session._process  # type: ignore[union-attr]
-        process.kill()
-        self.assertIn('has ended', self.client.ask('step', board=board)['gone'])
-        self.assertIn('gone', self.client.ask('step', board=board))
+    def test_another_board(self) -> None:
+        """A page has one: another source ends it, also while it runs, and what is asked of it is told so."""
+        board = self.client.ask('open', source=FOREVER, run=RUN)['board']
+        self.assertTrue(self.client.engine.once({'do': 'go to', 'clock': 1 << 40, 'board': board})['working'])
+        other = self.client.open('hello')['board']
+        self.assertIn('left for another', self.client.ask('step', board=board)['gone'])
         self.assertEqual(self.client.ask('step', board=other)['clock'], 15)
-        self.assertEqual(self.client.ask('step', board=self.client.open('hello')['board'])['clock'], 15)
-
-    def test_two_pages_and_eight(self) -> None:
-        self.desk.least_idle = SECONDS
-        boards = [self.client.open('hello')['board'] for _ in range(MOST_BOARDS)]
-        self.client.ask('go to', board=boards[0], clock=100)
-        self.assertEqual([self.client.ask('look', board=board)['clock'] for board in boards], [100] + [0] * 7)
-        given = self.client.ask('example', name='hello')
-        fields = {'source': given['source'], 'run': given['run']}
-        self.assertIn('8 boards run', self.client.ask('open', **fields)['sorry'])
-        self.assertIn('board', self.client.ask('open', **fields, instead=boards[0]))
-        self.assertIn('gone', self.client.ask('look', board=boards[0]))
-        self.client.ask('close', board=boards[1])
-        self.assertIn('board', self.client.ask('open', **fields))
-
-    def test_the_ninth_page(self) -> None:
-        """It ends the board that was asked for nothing longest, and none that runs."""
-        boards = [self.client.ask('open', source=FOREVER, run=RUN)['board'] for _ in range(MOST_BOARDS)]
-        self.desk.least_idle = 0.1
-        path = f'/{self.client.token}/do'
-        self.client.request('POST', path, json.dumps({'do': 'go to', 'clock': 1 << 40, 'board': boards[0]}).encode())
-        self.client.ask('step', board=boards[1])
-        time.sleep(0.2)
-        self.client.ask('look', board=boards[3])
-        ninth = self.client.ask('open', source=SHORT, run=RUN)['board']
-        self.assertEqual(self.client.ask('look', board=ninth)['clock'], 0)
-        gone = [self.client.ask('stops', board=board, stops=[]).get('gone') for board in boards]
-        self.assertEqual([bool(sentence) for sentence in gone], [False, False, True] + [False] * 5)
-        self.assertIn('left alone while others were wanted', gone[2])
-        self.client.ask('pause', board=boards[0])
-
-    def test_two_hundred_pages(self) -> None:
-        """Those that close, those that are left, and those that are left while they run: what stays ends with the desk's tidying."""
-        self.desk.least_idle = 0
-        path = f'/{self.client.token}/do'
-        opened = list[Fields]()
-
-        def is_opened() -> bool:
-            opened.append(self.client.ask('open', source=FOREVER, run=RUN))
-            return 'board' in opened[-1]
-
-        for turn in range(200):
-            self.assertTrue(until(is_opened), opened[-1:])  # it isn't while eight run
-            board = opened[-1]['board']
-            if turn % 3 == 0:
-                self.client.ask('close', board=board)
-            elif turn % 3 == 1:
-                # Most of them run for an instant, and some as long as a page asks for.
-                body = json.dumps({'do': 'run', 'ms': 200 if turn % 10 == 1 else 20, 'board': board}).encode()
-                head = self.client.head('POST', path) + f'Origin: http://{self.client.host}\r\nContent-Type: application/json\r\n'.encode()
-                with socket.create_connection(('127.0.0.1', self.client.port)) as line:
-                    line.sendall(head + f'Content-Length: {len(body)}\r\n\r\n'.encode() + body)
-            self.assertLessEqual(len(os.listdir(self.room)), MOST_BOARDS + 1)
-        self.desk.idle_seconds = 0
-
-        def is_left() -> bool:
-            self.desk.end_idle()
-            return bool(children(os.getpid()) or os.listdir(self.room))
-
-        until(lambda: not is_left())
-        self.assertEqual((children(os.getpid()), os.listdir(self.room)), ([], []))
-
-    def test_idle_boards_end(self) -> None:
-        board, other = self.client.open('hello')['board'], self.client.open('hello')['board']
-        self.desk._boards[board].used -= self.desk.idle_seconds + 1  # type: ignore[union-attr]
-        self.desk.end_idle()
-        self.assertIn('left alone', self.client.ask('look', board=board)['gone'])
-        self.assertEqual(self.client.ask('look', board=other)['clock'], 0)
-        self.assertEqual(len(os.listdir(self.room)), 1)
+        self.client.ask('close', board=other)
+        self.assertIn('gone', self.client.ask('look', board=other))
 
     def test_a_hundred_runs_leave_nothing(self) -> None:
-        def count() -> tuple[int, int, int, int]:
-            gc.collect()
-            return len(children(os.getpid())), len(os.listdir('/proc/self/fd')), threading.active_count(), len(os.listdir(self.room))
-
-        def memory() -> int:
-            with open('/proc/self/statm', encoding='utf-8') as file:
-                return int(file.read().split()[1]) * 4
-
-        board, before, used = '', (0, 0, 0, 0), 0
+        """Of all that stands in for the library one session is left."""
+        board, process = '', self.client.engine.process.pid
         for turn in range(105):
             board = self.client.ask('open', source=SHORT, run=RUN, instead=board)['board']
             self.client.ask('run', board=board, to=100, past=True, ms=200)
             if turn % 20 == 0:
                 self.client.ask('type', board=board, codes=[30, 158])
                 self.client.ask('marks', board=board)
-            if turn == 4:
-                before, used = count(), memory()
-        # The last requests' threads end a little later, also when they were counted first.
-        until(lambda: all(now <= then for now, then in zip(count(), before)))
-        self.assertTrue(all(now <= then for now, then in zip(count(), before)), (count(), before))
-        self.assertEqual((count()[0], count()[3]), (1, 1))
-        self.assertLess(memory() - used, 8000, 'kilobytes')
+        self.assertTrue(until(lambda: len(children(process)) <= 1))
 
     def test_data(self) -> None:
         """Each label of data with its kind, its length and its bytes as memory has them at the clock; no label of code."""
@@ -1019,6 +951,7 @@ class Boards(Served):
         program = self.file('rom.hex', hex_of(bytes.fromhex(ROM)))
         self.desk.given = Given(program, self.file('rom.json', text_of(RUN)), True, self.file('rom.lst', NASM))
         self.desk.files = Kept(self.desk.given)
+        self.client.ask('hello')
         with open(program, encoding='ascii') as file:
             board = self.client.ask('open', source=file.read(), run=RUN, hex=True)['board']
         found = self.client.ask('data', board=board)['data']
@@ -1070,74 +1003,67 @@ class Boards(Served):
         for source, clocks in ((DARK, 10**6), (DARK, 20_000_000), (DARK, 10**8), (FOREVER, 10**8)):
             board = self.client.ask('open', source=source, run=RUN)['board']
             self.client.ask('go to', board=board, clock=clocks)
-            started = {process: processor_seconds(process) for process in children(os.getpid())}
-            before = time.process_time() + sum(os.times()[2:4])
+            before = self.client.engine.spent()
             self.client.ask('why', board=board)
-            spent = time.process_time() + sum(os.times()[2:4]) - before
-            spent += sum(processor_seconds(process) - started.get(process, 0) for process in children(os.getpid()))
-            self.assert_within(spent, 1, clocks)
+            self.assert_within(self.client.engine.spent() - before, 1, clocks)
             self.client.ask('close', board=board)
 
     def test_how_fast_it_is(self) -> None:
         """On a run of ten million clocks a step is shown within 50 ms, and one back within 150: of processor time, which others on
         the machine take least from."""
-
-        def spent() -> float:
-            return time.process_time() + sum(map(processor_seconds, children(os.getpid())))
-
         with open(f'{TOP}/bench/loops/a.asm', encoding='utf-8') as file:
             board = self.client.ask('open', source=file.read(), run=RUN | {'budget': 10**7})['board']
         self.client.ask('go to', board=board, clock=10**7)
         for word, most in (('step', 0.05), ('back', 0.15)):
-            before = spent()
-            for _ in range(8):
+            spent = [self.client.engine.spent()]
+            for _ in range(24):
                 self.client.ask(word, board=board, seen=1)
-            self.assert_within((spent() - before) / 8, most, word)
+                spent.append(self.client.engine.spent())
+            # of the last ones, since node compiles during the first what all need
+            self.assert_within((spent[-1] - spent[-9]) / 8, most, word)
 
 
+@with_node
 class Heard(unittest.TestCase):
     """The speaker's stretches and samples, against its changes by hand."""
 
+    def asked(self, changes: list[tuple[int, int]], until: int, *questions: list[Any]) -> list[Any]:
+        """What the engine's speaker answers: to its methods, each with its values."""
+        text = json.dumps({'changes': changes, 'until': until, 'questions': questions})
+        ran = subprocess.run(['node', f'{TOOLS}/tests/desk/speaker.mjs'], input=text, capture_output=True, text=True, check=True)
+        found: list[Any] = json.loads(ran.stdout)
+        return found
+
     def test_stretches(self) -> None:
         changes = [(10, 1), (20, 0), (25, 1), (26, 0), (27, 1), (28, 0), (90, 1)]
-        speaker = Speaker(changes, 100)
-        self.assertEqual(speaker.stretches(0, 100, 100), [[10, 20], [25, 26], [27, 28], [90, 100]])
-        self.assertEqual(speaker.stretches(0, 100, 10), [[10, 30], [90, 100]])
-        self.assertEqual(speaker.stretches(12, 18, 6), [[12, 18]])
-        self.assertEqual(speaker.stretches(30, 80, 1000), [])
-        self.assertEqual(Speaker([], 100).stretches(0, 100, 10), [])
-        many = Speaker([(clock, clock % 2) for clock in range(500_000)], 500_000)
-        self.assertLessEqual(len(many.stretches(0, 500_000, 4096)), 4096)
-        self.assertEqual(many.stretches(0, 500_000, 4096), [[1, 500_000]])
+        ways = ((0, 100, 100), (0, 100, 10), (12, 18, 6), (30, 80, 1000))
+        found = self.asked(changes, 100, *(['stretches', *way] for way in ways))
+        self.assertEqual(found, [[[10, 20], [25, 26], [27, 28], [90, 100]], [[10, 30], [90, 100]], [[12, 18]], []])
+        self.assertEqual(self.asked([], 100, ['stretches', 0, 100, 10]), [[]])
+        many = self.asked([(clock, clock % 2) for clock in range(500_000)], 500_000, ['stretches', 0, 500_000, 4096])
+        self.assertEqual(many, [[[1, 500_000]]])
 
     def test_samples(self) -> None:
         """A sample is 99.43 clocks of a real board: half high is half as loud; ten times slower it has as many more."""
         clocks = 14318180 / 3 / 48_000
-        speaker = Speaker([(0, 1), (round(1.5 * clocks), 0)], 1000)
-        self.assertEqual([speaker.is_still(*stretch) for stretch in ((0, 100), (0, 200), (200, 900))], [True, False, True])
-        found = speaker.samples(0, 1000)
-        self.assertEqual((len(found), found[0], found[2:]), (int(1000 / clocks), 255, bytes(8)))
+        still = (['isStill', 0, 100], ['isStill', 0, 200], ['isStill', 200, 900])
+        *are_still, found, slow = self.asked([(0, 1), (round(1.5 * clocks), 0)], 1000, *still, ['samples', 0, 1000], ['samples', 0, 1000, 10])
+        self.assertEqual(are_still, [True, False, True])
+        self.assertEqual((len(found), found[0], found[2:]), (int(1000 / clocks), 255, [0] * 8))
         self.assertLess(abs(found[1] - 127.5), 2)
-        self.assertEqual(len(speaker.samples(0, 1000, 10)), int(10_000 / clocks))
-        self.assertEqual(set(Speaker([(clock, clock % 2) for clock in range(5000)], 5000).samples(0, 5000)) - {126, 127, 128, 129}, set())
-
-
-class Beside(unittest.TestCase):
-    """Programs that are run beside a board."""
-
-    def test_what_they_come_to(self) -> None:
-        helpers = Helpers()
-        self.assertEqual(helpers.answer(['/bin/cat'], b'it'), 'it')
-        self.assertIsNone(helpers.answer(['/bin/sh', '-c', 'kill -9 $$']))
-        with mock.patch.object(desk_work, 'REPORT_SECONDS', 1):
-            self.assertIsNone(helpers.answer(['/bin/sh', '-c', 'while :; do :; done']))
-        for words, sentence in ((['/'], "/ can't be started"), (['/bin/sh', '-c', 'echo it >&2; exit 2'], 'it')):
-            with self.assertRaisesRegex(Sorry, sentence):
-                helpers.answer(words)
+        self.assertEqual(len(slow), int(10_000 / clocks))
+        [buzz] = self.asked([(clock, clock % 2) for clock in range(5000)], 5000, ['samples', 0, 5000])
+        self.assertEqual(set(buzz) - {126, 127, 128, 129}, set())
 
 
 class Begun(ToolCase):
     """The tool as it is started."""
+
+    def setUp(self) -> None:
+        super().setUp()
+        library = tempfile.TemporaryDirectory()
+        self.addCleanup(library.cleanup)
+        self.enterContext(mock.patch.dict(os.environ, named_library(library.name)))
 
     def begin(self, *words: str) -> tuple[subprocess.Popen[str], Client]:
         """Starts it."""
@@ -1149,18 +1075,17 @@ class Begun(ToolCase):
             cwd=self.room,
             env=os.environ | {'XDG_RUNTIME_DIR': self.room, 'XDG_STATE_HOME': f'{self.room}/state'},
         )
+        self.addCleanup(process.communicate)
         self.addCleanup(process.kill)
         assert process.stdout
         return process, Client(process.stdout.readline().split()[1])
 
     def ended(self, process: subprocess.Popen[str], number: int) -> None:
-        """A signal ends it and all that it has started."""
-        started = children(process.pid)
-        self.assertGreater(len(started), 0)
+        """A signal ends it. It has started nothing."""
+        self.assertEqual(children(process.pid), [])
         process.send_signal(number)
         _, err = process.communicate(timeout=SECONDS)
         self.assertNotIn('Traceback', err)
-        self.assertTrue(until(lambda: not any(map(is_running, started))))
         self.assertEqual(rooms_in(self.room), [])
 
 
@@ -1170,31 +1095,45 @@ class Started(Begun):
     def test_control_c_ends_it_all(self) -> None:
         for number in (signal.SIGINT, signal.SIGTERM):
             process, client = self.begin()
-            client.open('hello')
-            board = client.ask('open', source=FOREVER, run=RUN)['board']
-            path = f'/{client.token}/do'
-            client.request('POST', path, json.dumps({'do': 'go to', 'clock': 1 << 40, 'board': board}).encode())
+            client.ask('example', name='hello')
             self.ended(process, number)
 
+    def test_what_it_serves(self) -> None:
+        """The page, each module that another names, the library and the tables; of the modules none that isn't named."""
+        _, client = self.begin()
+        wanted, seen = ['main.js', 'desk/worker.mjs'], set[str]()
+        while wanted:
+            name = wanted.pop()
+            status, text, _ = client.request('GET', f'/{client.token}/{name}')
+            self.assertEqual(status, 200, name)
+            seen.add(name)
+            found = re.findall(r"^(?:import|export) (?:[^;]*? from )?'(\.[^']+)';", text, re.M)
+            wanted += [path for path in (os.path.normpath(os.path.join(os.path.dirname(name), it)) for it in found) if path not in seen]
+        self.assertEqual(seen, parts.modules().keys())
+        status, text, answer = client.request('GET', f'/{client.token}/has.json')
+        self.assertEqual((status, answer.getheader('Content-Type'), json.loads(text)), (200, 'application/json', json.loads(json.dumps(parts.engine_data()))))
+
+    def test_without_its_library(self) -> None:
+        """What makes it is told, before a page is served that couldn't run a board."""
+        with mock.patch.dict(os.environ, {'ZEBLUDOR_WASM': ''}), mock.patch.object(parts, 'PLACES', ()):
+            self.assertIn('there is no zebludor.wasm of the present sources', self.called('desk', '--no-open', status=2)[1])
+        with mock.patch.dict(os.environ, {'ZEBLUDOR_WASM': f'{self.room}/none'}):
+            self.assertIn("can't be read", self.called('desk', '--no-open', status=3)[1])
+        octets, sources = b'\0asm', sum_of_sources(Crates().below(parts.CRATE))
+        with open(f'{self.room}/{parts.LIBRARY}', 'wb') as file:
+            file.write(octets)
+        for made, of, wanted in ((octets, sources, octets), (b'other', sources, None), (octets, 'f' * 64, None)):
+            self.file('PROVED', f'made {parts.LIBRARY} {hashlib.sha256(made).hexdigest()} sources {of}\n')
+            self.assertEqual(parts.library_in(self.room), wanted)
+
     def test_a_desk_that_is_killed(self) -> None:
-        """Its boards and reports end with it, in the midst of long runs; its folder goes when the next desk begins."""
-        process, client = self.begin()
-        board = client.ask('open', source=FOREVER, run=RUN)['board']
-        path = f'/{client.token}/do'
-        client.request('POST', path, json.dumps({'do': 'go to', 'clock': 1 << 40, 'board': board}).encode())
-        other = client.ask('open', source=FOREVER, run=RUN)['board']
-        asking = threading.Thread(target=lambda: self.assertRaises(OSError, client.ask, 'heard', board=other, begin=0, end=1 << 40))
-        asking.start()
-        self.assertTrue(until(lambda: len(children(process.pid)) == 3))
-        started = children(process.pid)
+        """Its folder goes when the next desk begins."""
+        process, _ = self.begin()
         process.kill()
         process.communicate(timeout=SECONDS)
-        asking.join(SECONDS)
-        self.assertTrue(until(lambda: not any(map(is_running, started))))
         left = rooms_in(self.room)
         self.assertEqual(len(left), 1)
-        process, client = self.begin()
-        client.open('hello')
+        process, _ = self.begin()
         self.assertNotIn(left[0], rooms_in(self.room))
         live, _ = self.begin()  # which leaves the live one's alone
         self.assertEqual(len(rooms_in(self.room)), 2)
@@ -1205,12 +1144,11 @@ class Started(Begun):
     def test_it_listens_in_one_place(self) -> None:
         """Of all sockets of its processes one waits for connections, at 127.0.0.1; at the machine's other addresses nothing is."""
         process, client = self.begin()
-        client.open('hello')
+        client.ask('example', name='hello')
         own = set[str]()
-        for one in (process.pid, *children(process.pid)):
-            for number in os.listdir(f'/proc/{one}/fd'):
-                with contextlib.suppress(FileNotFoundError):  # of a request that has ended meanwhile
-                    own.add(os.readlink(f'/proc/{one}/fd/{number}'))
+        for number in os.listdir(f'/proc/{process.pid}/fd'):
+            with contextlib.suppress(FileNotFoundError):  # of a request that has ended meanwhile
+                own.add(os.readlink(f'/proc/{process.pid}/fd/{number}'))
         found = list[str]()
         for table in ('tcp', 'tcp6', 'udp', 'udp6'):
             with open(f'/proc/{process.pid}/net/{table}', encoding='utf-8') as file:
@@ -1228,7 +1166,6 @@ class Started(Begun):
         process, client = self.begin(source, f'{self.room}/mine.json')
         given = client.ask('hello')['given']
         self.assertEqual((given['source'], given['name'], given['run']['budget']), (FOREVER, 'mine.asm', 10_000_000))
-        client.open('hello')
         answer = client.ask('keep', source=FOREVER.replace('INC', 'DEC'), run=given['run'] | {'budget': 500}, sums=given['sums'])
         self.assertEqual(answer['kept'], [source, f'{self.room}/mine.json'])
         report = report_of(self.pcboard('run', source, f'{self.room}/mine.json').stdout)
@@ -1254,6 +1191,105 @@ class Started(Begun):
         self.assertIn('no byte at any of its labels', self.called('desk', '--symbols', self.file('a.sym', 'F000:7 it\n'), self.file('a.hex', ''), status=2)[1])
 
 
+@with_node
+class Whole(Begun):
+    """The desk as it is started, and how a page asks it and its engine: by the page's own module under node."""
+
+    def node(self, module: str, *words: str) -> subprocess.Popen[str]:
+        """Starts a desk, and a module of tests/desk that opens its page."""
+        self.desk, client = self.begin(*words)
+        programs = {name.upper(): path_of(name) for name in ('pcboard', 'pcprobe', 'pcmasm')}
+        more = programs | {'COOKIE': client.cookie} | ({} if has_library() else {'STANDS_IN': '1'})
+        asking = ['node', f'{TOOLS}/tests/desk/{module}', f'http://{client.host}/{client.token}/']
+        node = subprocess.Popen(asking, stdin=subprocess.PIPE, stdout=subprocess.PIPE, text=True, env=os.environ | more)
+        self.addCleanup(node.communicate)
+        return node
+
+    def page(self, *words: str) -> Callable[[str], Fields]:
+        """Starts a desk, and opens its page."""
+        node = self.node('page.mjs', *words)
+
+        def ask(word: str, **fields: Any) -> Fields:
+            assert node.stdin and node.stdout
+            node.stdin.write(json.dumps({'do': word, **fields}) + '\n')
+            node.stdin.flush()
+            found: Fields = json.loads(node.stdout.readline())
+            return found
+
+        return ask
+
+    def test_a_walk(self) -> None:
+        """The page itself, without a browser: it runs an example, goes back and on, meets a stop, refuses a line with a hint, and says why a
+        run goes nowhere."""
+        node = self.node('walk.mjs')
+        found = {one['what']: one for one in map(json.loads, node.communicate()[0].splitlines())}
+        self.assertEqual(found['first'], {'what': 'first', 'now': 'clock 10,000', 'said': '', 'more': ['first.asm', 'Hello from RAM', 32]})
+        self.assertEqual([found[what]['now'] for what in ('back', 'step', 'stop')], ['clock 1,859', 'clock 1,861', 'clock 1,859'])
+        self.assertEqual((found['stop']['said'], found['stop']['more']), ('a stop is met', []))
+        self.assertEqual((found['refused']['said'], found['refused']['more']), ('1 line refused', ['line 2: UnknownName: is MOV meant?']))
+        self.assertIn('enters interrupt 05', found['why']['more'][0])
+
+    def test_a_program(self) -> None:
+        """Its files are the desk's, its board the engine's, which goes on when the desk has ended; then no file is."""
+        ask = self.page(self.file('mine.asm', NESTED), self.file('mine.json', text_of(RUN)))
+        given = ask('hello')['given']
+        self.assertEqual((given['source'], given['run']), (NESTED, RUN))
+        opened = ask('open', source=given['source'], run=given['run'], hex=False)
+        board = opened['board']
+        self.assertEqual(ask('step', board=board)['line'], 2)
+        self.assertIn('refused', ask('open', source='MVO\n', run=RUN, hex=False))
+        self.assertEqual(ask('keep', source=DARK, run=RUN, sums=given['sums'])['kept'], [f'{self.room}/mine.asm', f'{self.room}/mine.json'])
+        self.desk.kill()
+        self.desk.communicate()
+        board = ask('open', source=NESTED, run=RUN, hex=False)['board']
+        self.assertEqual(ask('go to', board=board, clock=40)['clock'], 40)
+        self.assertEqual(ask('hello')['error'], 'desk has ended: start tools/desk again')
+
+    def test_why(self) -> None:
+        """It is told as tools/why tells it, with what the engine can't tell; of a desk that has ended as far as the engine can."""
+        source = NESTED.replace('NOP', 'INT 5')
+        ask = self.page()
+        ask('hello')
+        board = ask('open', source=source, run=RUN, hex=False)['board']
+        there = ask('go to', board=board, clock=300)
+        found = ask('why', board=board)
+        err = self.tool('why', 'run', self.file('it.asm', source), self.file('it.json', text_of(RUN | {'budget': 300})))[1]
+        self.assertEqual([f'why: {line}' for line in found['told']], err.splitlines())
+        self.assertIn('interrupt 05', found['told'][0])
+        after = ask('look', board=board)
+        self.assertEqual((found['clock'], after['clock'], after['registers']), (300, 300, there['registers']))
+        ask('set', board=board, text='AX = 5')
+        self.assertEqual(ask('why', board=board)['told'], [])
+        self.desk.kill()
+        self.desk.communicate()
+        board = ask('open', source=DARK, run=RUN, hex=False)['board']
+        ask('go to', board=board, clock=1000)
+        self.assertIn('text memory has characters', ask('why', board=board)['told'][0])
+        for text in (source, NESTED.replace('CALL outer', 'RETF')):
+            board = ask('open', source=text, run=RUN, hex=False)['board']
+            ask('go to', board=board, clock=300)
+            err = self.tool('why', 'run', self.file('it.asm', text), self.file('it.json', text_of(RUN | {'budget': 300})))[1]
+            self.assertEqual([f'why: {line}' for line in ask('why', board=board)['told']], err.splitlines())
+
+    def test_words(self) -> None:
+        """How a source is taken, a command's tail, symbols and what a source includes come by the desk."""
+        os.mkdir(f'{self.room}/there')
+        self.file('there/own.inc', 'five equ 5\n')
+        source = '.model small\n.stack 100h\ninclude own.inc\n.code\nmain proc\nmov ax,five\nmov ah,4ch\nint 21h\nmain endp\nend main\n'
+        ask = self.page(self.file('there/it.asm', source), '--args', 'x y')
+        given = ask('hello')['given']
+        opened = ask('open', source=given['source'], run=given['run'], hex=False)
+        self.assertIn('tools/desk --dialect takes it otherwise', opened['services'])
+        self.assertEqual(ask('go to', board=opened['board'], clock=3_000_000)['state'], 'ended with exit code 5')
+        os.symlink(f'{self.room}/there/own.inc', f'{self.room}/there/linked.inc')
+        for name, why in (('linked.inc', "can't be read"), ('none.inc', "isn't beside it"), ('..\\it.inc', 'named without folders'), ('it.asm', 'includes itself')):
+            refused = ask('open', source=source.replace('own.inc', name), run=given['run'], hex=False)['refused']
+            self.assertIn(why, refused[0]['text'])
+        ask = self.page(self.file('it.asm', NESTED.replace('HLT', 'INT 21h')), '--bare')
+        given = ask('hello')['given']
+        self.assertEqual(ask('open', source=given['source'], run=given['run'], hex=False)['services'], '')
+
+
 class Pages(unittest.TestCase):
     """The page's own text, and the project's pages in it."""
 
@@ -1266,6 +1302,16 @@ class Pages(unittest.TestCase):
         )
         for name, text in modules().items():
             self.assertNotRegex(text, r'https?:|//\w+\.|@import|url\(|eval\(|new Function', name)
+
+    def test_its_script_is_short(self) -> None:
+        """With the engine's, it has at most 6,500 lines that aren't blank, also without a server, and none above 120 characters."""
+        texts = parts.modules()
+        with open(f'{parts.ENGINE}/{parts.ALONE}', encoding='utf-8') as file:
+            alone = texts | {'served.js': file.read()}
+        for them in (texts, alone):
+            lines = [line for text in them.values() for line in text.split('\n') if line.strip()]
+            self.assertLessEqual(len(lines), 6500)
+            self.assertLessEqual(max(map(len, lines)), 120)
 
     def test_modules_name_what_they_use(self) -> None:
         """Each name that a module uses of another is imported from there, each import is used, and one name means one thing."""

@@ -1,40 +1,44 @@
-"""The engine of the page without a server, under node: it answers what the desk answers, question by question, over the library for
-WebAssembly if there is one, else over the programs that stand in for it. Without node it isn't run, and says so.
+"""The engine of the desk's page, under node: it answers what other tools answer to the same, over the library for WebAssembly if there
+is one, else over the programs that stand in for it. Without node it isn't run, and says so.
 
-  python3 -m tests.test_desk_engine --write     writes services.json, the services as pcboard makes them"""
+  python3 -m tests.test_desk_engine --write     writes services.json, the services as pcboard makes them, and instructions.json, what
+                                                the pages and the editors' grammar have of instructions, ports and words"""
 from __future__ import annotations
 
+import base64
 import glob
 import html
 import json
 import os
 import re
-import shutil
 import subprocess
 import sys
-import tempfile
 import unittest
-from typing import Any, Callable
+from typing import Any
 
-from tests.support import EXAMPLES, TOOLS, ToolCase, is_there, only_if
-from tests.test_desk import BUZZ, DARK, DATA, FOREVER, NESTED, SHORT
+from tests.desk_engine import Engine, has_node, with_node
+from tests.support import EXAMPLES, TOOLS, ToolCase
+from tests.test_desk import DATA, FOREVER, NESTED, RUN, SHORT
+from tests.test_symbols import hex_of
 
-from toolbox.command import read_text
-from parts import desk_having
-from toolbox import proved
-from toolbox.desk.drafts import Drafts
-from toolbox.desk.files import Given
-from toolbox.desk.words import Desk
+from toolbox.command import Sorry, read_text
+from toolbox.dap.board import Machine
+from toolbox.data_labels import values_of
+from toolbox.desk.pages import as_html
+from toolbox.edits import assign
 from toolbox.faults import KINDS
-from toolbox.guests import Guest
-from toolbox.program import path
+from toolbox.foreign import complaints, is_masm
+from toolbox.listing import Listing, listing_of
+from toolbox.lsp.completing import completion
+from toolbox.lsp.documents import OWN, Document, Settings
+from toolbox.lsp.hovering import hover
+from toolbox.messages import messages
+from toolbox.program import Files, path
+from toolbox.runfile import text_of
 from toolbox.tables import FOLDER, tables
+from parts import desk_having
 
 Fields = dict[str, Any]
-RUN = {'version': 1, 'ram': 64, 'sw1': 0, 'sw2': 0, 'budget': 1000, 'keys': []}
-# What only a desk with files has, the board's name, how far a search has come in its time, and how often the screen was looked at.
-ASIDE = {'board', 'services', 'given', 'drafts', 'amiss', 'interrupts up to', 'screen number'}
-WITHOUT_BOARD = ('hello', 'example', 'open', 'page', 'language')
 # Changes: some are made, and of some it can't be told which place or number is meant.
 CHANGES = (
     *('AX = 5', '[count] = 90h', 'WORD [pair] = 1, 2', 'ZF = 1', 'BL = 300', 'CX = [count]', 'DX = AX + 3', "AL = 'a'", 'nonsense'),
@@ -78,6 +82,63 @@ REFUSED = (
 )
 
 
+# Instructions of each kind of cost, and bytes that say something to each port that takes some.
+COSTLY = """five EQU 5
+SEGMENT MAIN AT 50h
+start:  ADD WORD ES:[BX+SI+5],AX
+        REP MOVSW
+        REPNE CMPSB
+        MOV AX,[1234h]
+        MOV [BX+1],AL
+        DIV WORD [SI]
+        IDIV BL
+        SHL WORD [BX],CL
+        ROR AL,1
+        INTO
+        LOOP start
+        JCXZ start
+        XCHG AX,[DI]
+        LES BX,[BP+2]
+        CALL FAR [BX]
+        PUSH WORD [BX]
+        INT 3
+        LOCK NOT BYTE [five]
+        MOV AX,1234h
+        OUT 20h,AX
+more:   MOV DX,3B4h
+        MOV AL,0Ah
+        OUT DX,AL
+        MOV DX,3B8h
+        MOV AX,29h
+        OUT DX,AL
+        MOV AL,13h
+        OUT 20h,AL
+        MOV AL,48h
+        OUT 21h,AL
+        MOV AL,1
+        OUT 21h,AL
+        MOV AL,'A'
+        OUT 21h,AL
+        MOV AL,five+1
+        OUT 20h,AL
+        MOV AL,6Bh
+        OUT 20h,AL
+        MOV AL,0D6h
+        OUT 43h,AL
+        MOV AL,40h
+        OUT 43h,AL
+        MOV AL,3
+        OUT 61h,AL
+        MOV AL,99h
+        OUT 63h,AL
+        MOV AL,9
+        OUT 63h,AL
+        IN AL,DX
+        IN AX,60h
+        XCHG AX,DX
+        OUT DX,AL
+ENDS
+"""
 MASM = """.model small
 .stack 100h
 five equ 5
@@ -99,190 +160,177 @@ end main
 
 
 def shown(text: str) -> str:
-    """A word's meaning, without clocks and what a byte says to its port."""
-    plain = re.sub(r'\s+', ' ', html.unescape(text).replace('\n', ''))
-    return re.sub(r'<p>(Clocks by C\d: |[0-9A-F]+h (there|at port [0-9A-F]+h): )[^<]*</p>', '', plain)
+    """A word's meaning, without blanks that make no difference."""
+    return re.sub(r'\s+', ' ', html.unescape(text).replace('\n', ''))
 
 
-def has_node(_: Any = None) -> bool:
-    """Whether node is there; if it isn't, what is told as not run."""
-    return is_there('node', "the engine of the desk's page", 'nodejs')
-
-
-class Engine(ToolCase):
-    """A desk, and an engine under node that is asked the same."""
+@with_node
+class Asked(ToolCase):
+    """An engine that is asked, and what the tools answer to the same."""
 
     def setUp(self) -> None:
         super().setUp()
-        if not shutil.which('node'):
-            return
-        room = self.enterContext(tempfile.TemporaryDirectory())
-        self.desk = Desk(room, Given(None, None, False, None, Guest('')), Drafts(f'{room}/drafts'))
-        self.addCleanup(self.desk.close)
-        with open(f'{room}/has.json', 'w', encoding='utf-8') as file:
-            file.write(desk_having.text_of(desk_having.has()))
-        library = list(filter(None, [proved.library_file('zebludor.wasm')]))
-        programs = {name.upper(): path(name) for name in ('pcboard', 'pcprobe', 'pcmasm')}
-        words = ['node', f'{TOOLS}/tests/desk/answers.mjs', f'{room}/has.json', *library]
-        self.node = subprocess.Popen(words, stdin=subprocess.PIPE, stdout=subprocess.PIPE, text=True, env=os.environ | programs | {'TMPDIR': room})
-        self.addCleanup(self.node.wait)
-        assert self.node.stdin and self.node.stdout
-        self.addCleanup(self.node.stdout.close)
-        self.addCleanup(self.node.stdin.close)
-        self.boards = '', ''
+        self.beside = dict[str, bytes]()
+        self.engine = Engine(self.included)
+        self.addCleanup(self.engine.close)
 
-    def of_engine(self, question: Fields) -> Fields:
-        """What the engine answers."""
-        assert self.node.stdin and self.node.stdout
-        self.node.stdin.write(json.dumps(question) + '\n')
-        self.node.stdin.flush()
-        return json.loads(self.node.stdout.readline())
+    def included(self, name: str) -> Fields | None:
+        """What stands beside a source."""
+        octets = self.beside.get(name)
+        return None if octets is None else {'name': name, 'bytes': base64.b64encode(octets).decode()}
 
-    def of_desk(self, question: Fields) -> Fields:
-        """What the desk answers."""
-        answer = self.desk.answer(question)
-        while answer.get('working'):
-            answer = self.desk.answer({'do': 'wait', 'board': question['board']})
-        return json.loads(json.dumps(answer))
-
-    @staticmethod
-    def to_the_end(answer: Callable[[Fields], Fields], question: Fields) -> Fields:
-        """What is answered after as many pauses of a run as a busy machine makes."""
-        while (found := answer(question)).get('why') == 'paused':
-            pass
+    def open(self, source: str, run: Fields | None = None, **more: Any) -> Fields:
+        """A board of a source."""
+        found = self.engine.ask({'do': 'open', 'source': source, 'run': run or RUN, **more})
+        self.board = found.get('board', '')
         return found
 
     def ask(self, word: str, **fields: Any) -> Fields:
-        """Asks both, whose answers are the same."""
-        mine, its = ({'do': word, **fields} | ({} if word in WITHOUT_BOARD else {'board': board}) for board in self.boards)
-        ours, theirs = self.to_the_end(self.of_desk, mine), self.to_the_end(self.of_engine, its)
-        if 'board' in ours and 'board' in theirs:
-            self.boards = ours['board'], theirs['board']
-        seen, wanted = ({name: value for name, value in answer.items() if name not in ASIDE} for answer in (ours, theirs))
-        self.assertEqual(wanted, seen, (word, fields))
-        return ours
+        """A question about the board."""
+        return self.engine.ask({'do': word, 'board': self.board, **fields})
 
-    def open(self, source: str, run: Fields, is_hex: bool = False) -> Fields:
-        """A board of a source."""
-        return self.ask('open', source=source, run=run, hex=is_hex)
+    def machine(self, source: str, clock: int) -> tuple[Machine, Listing]:
+        """The board and the listing that other tools have of a source."""
+        files = Files(self.file('it.asm', source), self.file('it.json', text_of(RUN)))
+        listing = listing_of(files)
+        machine = Machine(files, listing, 0, lambda: None)
+        self.addCleanup(machine.close)
+        machine.go_to(clock)
+        return machine, listing
 
-    def walk(self, budget: int) -> None:
-        """What a student asks of a run: forth and back, over and out, and what the board holds."""
-        self.ask('run', to=budget, past=True, ms=200)
-        for word in ('back', 'back', 'step', 'over', 'data', 'chips', 'marks', 'code'):
-            self.ask(word)
-        for place in ('B0000', 'SS:SP', 'no_label'):
-            self.ask('memory', place=place)
-        self.ask('speaker', low=0, high=budget)
-        self.ask('heard', begin=0, end=budget)
-        self.ask('go to', clock=min(3, budget))
-        for word in ('look', 'step', 'over'):
-            self.ask(word)
-        self.ask('go to', clock=0)
-        self.ask('back')
-
-    @only_if(has_node)
-    def test_examples(self) -> None:
-        """Some examples, among them two of textbooks' programs with services."""
-        for name in ('first', 'keys', 'ticks', 'melody', 'nested', 'books/hello', 'books/hanoi'):
-            with self.subTest(name):
-                found = self.ask('example', name=name)
-                self.open(found['source'], found['run'])
-                self.walk(min(found['run']['budget'], 20_000))
-
-    @only_if(has_node)
-    def test_stops(self) -> None:
-        """Lines, bytes, halts and the speaker; forth, and back to the last one."""
-        for source in (DARK, BUZZ, NESTED, DATA):
-            self.open(source, RUN)
-            for stops in ([':3'], ['halted', 'sound', 'changes 500', 'byte B0000 41'], ['no_label'], ['byte 500 123'], ['start', 'changes 502 4']):
-                self.ask('go to', clock=0)
-                self.ask('stops', stops=stops)
-                for _ in range(3):
-                    self.ask('run', to=300, ms=200)
-                for word in ('last', 'last', 'over', *(['out'] if source == NESTED else [])):  # out of a loop leads far
-                    self.ask(word)
-            self.ask('who', address=0x500)
-            self.ask('who', address=0x501, count=2)
-
-    @only_if(has_node)
     def test_changes(self) -> None:
-        """What is set stands there, and is undone."""
-        self.open(f'five EQU 5\n{DATA}', RUN)
-        self.ask('run', to=100, past=True, ms=200)
+        """What is set stands there, and is undone; it is told, or refused, as other tools tell it."""
+        source = f'five EQU 5\n{DATA}'
+        machine, listing = self.machine(source, 100)
+        self.open(source)
+        self.ask('go to', clock=100)
         for text in CHANGES:
-            self.ask('set', text=text)
-        for _ in range(3):
-            self.ask('step')
-            self.ask('undo')
+            try:
+                wanted = assign(machine, listing, text)
+            except Sorry as sorry:
+                wanted = str(sorry)
+            found = self.ask('set', text=text)
+            self.assertEqual(found.get('told', found.get('sorry')), wanted, text)
+        self.assertEqual(self.ask('look')['registers'], machine.registers())
+        self.assertIn('undone', self.ask('undo')['told'])
 
-    @only_if(has_node)
     def test_data(self) -> None:
-        """Data and constants, also of a program with services, and stops on all bytes of a label."""
-        served = KINDS_OF_DATA.replace('SEGMENT RESET AT 0FFFFh\n        JMP FAR start\nENDS\n', '').replace('JMP SHORT start', 'INT 20h')
-        for source in (KINDS_OF_DATA, served, DATA, MASM):
-            found = self.open(source, RUN)
-            if 'refused' not in found:
-                self.ask('data')
-                for text in ('AX = top', 'BX = less', 'CX = five', 'DX = MAIN_AT', 'AX = many', 'WORD [odd] = 1'):
-                    self.ask('set', text=text)
-                self.ask('stops', stops=['changes many', 'changes 502', 'changes odd', 'changes LAST', 'changes msg 2'])
+        """Data and constants, and stops on all bytes of a label."""
+        for source in (KINDS_OF_DATA, DATA):
+            machine, listing = self.machine(source, 0)
+            self.open(source)
+            self.assertEqual(self.ask('data')['data'], values_of(listing.data, machine.dump))
+        self.open(KINDS_OF_DATA)
+        for text, wanted in (('AX = top', 'AX = 0B83Ch'), ('BX = less', 'BX = 0FFFBh'), ('CX = five', 'CX = 00005h (5)'), ('AX = many', '')):
+            self.assertIn(wanted, self.ask('set', text=text).get('told', ''), text)
+        stops = self.ask('stops', stops=['changes many', 'changes 502', 'changes odd', 'changes LAST'])['stops']
+        self.assertEqual([stop[0].split()[2] for stop in stops], ['20', '16', '4'])  # at 502 is `many` too
 
-    @only_if(has_node)
-    def test_keys(self) -> None:
-        """Keys that are typed, dropped, and typed at an earlier clock."""
-        source, run = read_text(f'{EXAMPLES}/keys.asm'), json.loads(read_text(f'{EXAMPLES}/keys.json'))
-        self.open(source, run)
-        self.ask('run', to=20_000, past=True, ms=200)
-        for text in ('Hello{enter}', '{ctrl+c}', '{wait 100}x', '{nokey}', '}', '\xe4', 'x' * 1001):
-            self.ask('type', text=text)
-        self.ask('run', to=100_000, past=True, ms=200)
-        self.ask('drop keys', keys=[0, 1])
-        self.ask('go to', clock=5000)
-        self.ask('type', codes=[30, 158])
-        self.ask('type', codes=[30, 158], drop=True)
-        self.ask('run', to=20_000, past=True, ms=200)
+    def test_data_with_services(self) -> None:
+        """Of a program that is loaded, and of one of MASM, whose names are its own."""
+        self.open(MASM)
+        self.assertEqual([(one['name'], one['kind'], one['length']) for one in self.ask('data')['data']], [('msg', 'DB', 8), ('many', 'DW', 40)])
 
-    @only_if(has_node)
     def test_refused(self) -> None:
-        """Sources and run files that are refused, with hints; and what is refused as it is typed."""
-        for source in REFUSED:
-            self.open(source, RUN)
-            self.ask('language', source=source, what='refused')
-        for more in ({'ram': 17}, {'keys': 'x'}, {'budget': -1}, {'more': 1}):
-            self.open(NESTED, RUN | more)
-        self.open(':00', RUN, is_hex=True)
+        """Sources that are refused, with the hints that compilers' messages have; and run files."""
+        for number, source in enumerate(REFUSED):
+            path = self.file(f'{number}.asm', source)
+            found = self.open(source)
+            wanted = [*complaints(path, source.encode())] if is_masm(path) else [*messages(path, is_told=False)]
+            self.assertEqual([(one['line'], one['text']) for one in found.get('refused', [])], wanted[:20], source)
+        for more, name in (({'ram': 17}, 'RamSize'), ({'keys': 'x'}, 'BadField'), ({'budget': -1}, 'BadField'), ({'more': 1}, 'BadField')):
+            self.assertIn(name, self.open(NESTED, RUN | more)['refused'][0]['text'])
+        self.assertIn('BadRecord', self.open(':00', hex=True)['refused'][0]['text'])
 
-    @only_if(has_node)
     def test_a_halt_and_a_loop_without_end(self) -> None:
-        """A step of a halted processor, and a way over a call that never returns."""
-        self.open(SHORT, RUN)
-        for word in ('step', 'step', 'over', 'out'):
-            self.ask(word)
-        self.open(FOREVER, RUN)
-        for word in ('step', 'over'):
-            self.ask(word)
+        """A step of a halted processor goes on by a clock, and a way over a call that never returns ends somewhere."""
+        self.open(SHORT)
+        clocks = [self.ask('step')['clock'] for _ in range(3)]
+        self.assertEqual([after - before for before, after in zip(clocks, clocks[1:])], [1, 1])
+        self.open(FOREVER)
+        self.ask('step')
+        self.assertEqual(self.ask('over')['why'], 'far')
 
-    @only_if(has_node)
-    def test_language(self) -> None:
-        """What a word means, but for its clocks and for what a byte says to its port, and what completes one."""
+    def hover(self, source: str, line: int, column: int) -> str:
+        """What the engine tells of a word."""
+        return shown(self.engine.ask({'do': 'language', 'what': 'hover', 'source': source, 'line': line, 'column': column})['html'])
+
+    def test_what_a_word_means(self) -> None:
+        """As the language server tells other editors."""
+        for source in (COSTLY, read_text(f'{EXAMPLES}/ticks.asm')):
+            document = Document('file:///it.asm', source, None, Settings(dialect=OWN), lambda: None)
+            document.set(Settings(dialect=OWN))
+            for line, text in enumerate(source.split('\n')):
+                for word in re.finditer(r'\w+', text.split(';')[0]):
+                    found = hover(document, {'position': {'line': line, 'character': word.start()}})
+                    wanted = shown(as_html(found['contents']['value'])) if found else ''
+                    self.assertEqual(self.hover(source, line, word.start()), wanted, (line + 1, word[0]))
+
+    def test_what_a_line_of_masm_becomes(self) -> None:
+        """Rows of the dialect's listing."""
+        self.assertRegex(self.hover(MASM, 8, 3), r'^<pre>[0-9A-F]{4}:[0-9A-F]{4} B8[0-9A-F]{4} .*mov AX')
+        self.assertEqual(self.hover(MASM, 0, 1), '')
+
+    def test_what_completes_a_word(self) -> None:
+        """As the language server tells other editors."""
         source = read_text(f'{EXAMPLES}/keys.asm')
-        for line, text in enumerate(source.split('\n')):
-            for word in re.finditer(r'\w+', text.split(';')[0]):
-                question = {'do': 'language', 'what': 'hover', 'source': source, 'line': line, 'column': word.start()}
-                ours, theirs = (shown(answer(question)['html']) for answer in (self.of_desk, self.of_engine))
-                self.assertEqual(theirs, ours, (line + 1, word[0]))
+        document = Document('file:///it.asm', source, None, Settings(dialect=OWN), lambda: None)
         for line, column in ((3, 8), (9, 12), (45, 3)):
-            question = {'do': 'language', 'what': 'completion', 'source': source, 'line': line, 'column': column}
-            them = [[(item['label'], item['detail']) for item in answer(question)['items']] for answer in (self.of_desk, self.of_engine)]
-            self.assertEqual(*map(sorted, them))
+            wanted = [(item['label'], item['detail']) for item in completion(document, {'position': {'line': line, 'character': column}})['items']]
+            found = self.engine.ask({'do': 'language', 'what': 'completion', 'source': source, 'line': line, 'column': column})['items']
+            self.assertEqual(sorted((item['label'], item['detail']) for item in found), sorted(wanted))
 
-    @only_if(has_node)
-    def test_hex(self) -> None:
-        """Intel HEX, which has no lines."""
-        run = json.loads(read_text(f'{EXAMPLES}/monitor.json'))
-        self.open(read_text(f'{EXAMPLES}/monitor.hex'), run, is_hex=True)
-        self.walk(20_000)
+    def test_words(self) -> None:
+        """By its words a source is taken otherwise than by its look; what would have taken it so is told of its look alone."""
+        source = 'SEGMENT MAIN AT 100h\n ORG 100h\nstart: MOV AH,4Ch\n INT 21h\nENDS\n'
+        otherwise = {'served': '; --bare'}
+        self.assertTrue(self.open(source, how={'otherwise': otherwise})['services'].endswith('(docs/services.md); --bare'))
+        self.assertIn('ended with exit code', self.ask('go to', clock=1_000_000)['state'])
+        self.assertEqual(self.open(source, how={'bare': True, 'otherwise': otherwise})['services'], '')
+        self.assertEqual(self.ask('go to', clock=1000)['state'], 'jammed')
+        plain = source.replace('INT 21h', 'INT 30h')
+        self.assertEqual(self.open(plain, how={'services': True})['services'], '')
+        self.ask('step')
+        self.assertEqual(self.ask('look')['line'], 3)
+        self.assertIn('refused', self.open(source, how={'language': 'masm'}))
+        self.assertIn('refused', self.open(MASM, how={'language': 'dialect'}))
+
+    def test_a_commands_tail(self) -> None:
+        """It stands at 80h of the PSP, with the blank before it and the return after it; what is none is refused."""
+        source = 'SEGMENT MAIN AT 100h\n ORG 100h\nstart: MOV AH,4Ch\n INT 21h\nENDS\n'
+        for args, octets in ((None, '000d'), ('', '000d'), ('a b', '04206120620d'), (' x', '0220780d')):
+            self.open(source, how={'args': args})
+            self.assertEqual(self.ask('memory', place='100:80', count=16)['bytes'][: len(octets)], octets, args)
+        for args, why in (('\x7f', 'printable ASCII'), ('x' * 127, '126 characters at most')):
+            self.assertIn(why, self.open(source, how={'args': args})['refused'][0]['text'])
+
+    def test_what_a_source_includes(self) -> None:
+        """What stands beside it, before ours; what is nowhere is told, also where it is typed."""
+        source = MASM.replace('five equ 5', 'include own.inc')
+        typed = {'do': 'language', 'what': 'refused', 'source': source}
+        why = "the source includes own.inc, which isn't beside it; of our own there is emu8086.inc, irvine16.inc"
+        self.assertEqual(self.open(source)['refused'][0]['text'], why)
+        self.assertEqual(self.engine.ask(typed)['refused'], [{'line': 1, 'text': why}])
+        self.beside['own.inc'] = b'; \x84\r\nfive equ 5\r\n'
+        self.assertIn('board', self.open(source))
+        self.assertEqual(self.engine.ask(typed)['refused'], [])
+        self.assertRegex(self.hover(source, 8, 3), '^<pre>')
+        ours = MASM.replace('five equ 5', 'include emu8086.inc\nfive equ 5')
+        self.assertIn('board', self.open(ours))
+        self.beside['emu8086.inc'] = b'no such thing\r\n'
+        self.assertIn('emu8086.inc', self.open(ours)['refused'][0]['text'])
+
+    def test_symbols_of_hex(self) -> None:
+        """What a file of symbols tells is of the bytes that it was read for; a label without bytes is told of."""
+        text = hex_of(bytes.fromhex('90' * 16))
+        symbols = {'of': text, 'labels': [('there', (0xF000, 2))], 'absent': ['gone'], 'texts': [((0xF000, 1), 'it.asm:7: nop')], 'data': []}
+        self.open(text, hex=True, how={'symbols': symbols})
+        self.assertEqual([row[:2] for row in self.ask('stops', stops=['there'])['stops']], [['F000:0002', 'there']])
+        self.assertIn('gone is not in the image', self.ask('stops', stops=['gone'])['sorry'])
+        rows = self.ask('code', place='F000:0')['code'][:3]
+        self.assertEqual([(row[0], row[1], row[4]) for row in rows], [('F000:0000', '', ''), ('F000:0001', '', 'it.asm:7: nop'), ('F000:0002', 'there', '')])
+        self.open(hex_of(bytes.fromhex('91' * 16)), hex=True, how={'symbols': symbols})
+        self.assertIn('is no label', self.ask('stops', stops=['there'])['sorry'])
 
 
 class Following(unittest.TestCase):
@@ -307,6 +355,10 @@ class Tables(unittest.TestCase):
         """Are those that pcboard makes of services/."""
         self.assertEqual(tables('services'), json.loads(json.dumps(desk_having.services_made())))
 
+    def test_instructions(self) -> None:
+        """Are those that the pages and the editors' grammar have."""
+        self.assertEqual(tables('instructions'), json.loads(json.dumps(desk_having.instructions_made())))
+
     def test_faults(self) -> None:
         """Have names and meanings."""
         self.assertTrue(all(kind.name and kind.meaning for kind in KINDS.values()))
@@ -314,6 +366,6 @@ class Tables(unittest.TestCase):
 
 if __name__ == '__main__':
     assert sys.argv[1:] == ['--write']
-    rows = (f'  "{name}": {json.dumps(part, separators=(",", ":"))}' for name, part in desk_having.services_made().items())
-    with open(f'{FOLDER}/services.json', 'w', encoding='ascii') as table:
-        table.write('{\n' + ',\n'.join(rows) + '\n}\n')
+    for name, made in (('services', desk_having.services_made()), ('instructions', desk_having.instructions_made())):
+        with open(f'{FOLDER}/{name}.json', 'w', encoding='utf-8') as table:
+            table.write(desk_having.table_of(made))

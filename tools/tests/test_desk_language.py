@@ -1,42 +1,46 @@
-"""What the desk's editor tells of its text: by the desk's own question, and in Chromium, if it is installed."""
+"""What the desk's editor tells of its text: by its engine under node, and in Chromium, if these are installed."""
 from __future__ import annotations
 
 import unittest
+from typing import Any
 
-from tests.browser import CONTROL, path
+from tests.browser import CONTROL
+from tests.desk_engine import Engine, lacking, with_node
 from tests.support import ToolCase, not_run
 from tests.test_desk_page import Page
-
-from toolbox.command import Sorry
-from toolbox.desk.language import Language
 
 SOURCE = 'SEGMENT MAIN AT 50h\nstart:  MOV AL,34h\n        OUT 43h,AL\nENDS\n'
 
 
+@with_node
 class Questions(unittest.TestCase):
     """Without a page."""
 
     def test_each(self) -> None:
-        language = Language()
-        self.assertEqual(language.answer('refused', SOURCE, 0, 0), {'refused': []})
+        engine = Engine()
+        self.addCleanup(engine.close)
+
+        def answer(what: str, source: str, line: int, column: int) -> Any:
+            return engine.ask({'do': 'language', 'what': what, 'source': source, 'line': line, 'column': column})
+
+        self.assertEqual(answer('refused', SOURCE, 0, 0), {'refused': []})
         wrong = SOURCE.replace('MOV', 'MVO')
-        self.assertEqual(language.answer('refused', wrong, 0, 0), {'refused': [{'line': 2, 'text': 'is MOV meant?'}]})
-        hover = language.answer('hover', SOURCE, 2, 9)['html']
+        self.assertEqual(answer('refused', wrong, 0, 0), {'refused': [{'line': 2, 'text': 'is MOV meant?'}]})
+        hover = answer('hover', SOURCE, 2, 9)['html']
         for text in ('<code>0050:0002 E643</code>', '<p>Clocks by C1: 10</p>', 'counter 0, both bytes, mode 2', '<td>OUT DX,AL</td>'):
             self.assertIn(text, hover)
-        self.assertEqual(language.answer('hover', SOURCE, 3, 9), {'html': ''})
-        self.assertIn('43h', [item['label'] for item in language.answer('completion', SOURCE, 2, 12)['items']])
-        self.assertNotIn('<b>', language.answer('hover', SOURCE.replace('43h', "'<b>'"), 2, 15)['html'])
-        with self.assertRaises(Sorry):
-            language.answer('hover', SOURCE, 1 << 40, 0)
+        self.assertEqual(answer('hover', SOURCE, 3, 9), {'html': ''})
+        self.assertIn('43h', [item['label'] for item in answer('completion', SOURCE, 2, 12)['items']])
+        self.assertNotIn('<b>', answer('hover', SOURCE.replace('43h', "'<b>'"), 2, 15)['html'])
+        self.assertIn('error', answer('hover', SOURCE, 1 << 40, 0))
 
 
 class InTheBrowser(ToolCase):
     """On the page."""
 
     def test_underlined_told_and_completed(self) -> None:
-        if path() is None:
-            not_run("the words of tools/desk in a browser, since Chromium isn't installed")
+        if why := lacking():
+            not_run(f'the words of tools/desk in a browser: {why}')
             return
         page = Page(self.room)
         self.addCleanup(page.close)

@@ -1,6 +1,7 @@
 """How a browser comes to the page of tools/desk: by a file that leads on, and again by its cookie; and what another browser is told."""
 from __future__ import annotations
 
+import inspect
 import os
 import signal
 import subprocess
@@ -11,7 +12,8 @@ import webbrowser
 from typing import Any
 from unittest import mock
 
-from tests.browser import Browser, path
+from tests.browser import Browser
+from tests.desk_engine import lacking
 from tests.support import TOOLS, ToolCase, main_of, not_run, rooms_in, until
 from tests.test_desk import Client, Served
 from toolbox.desk.http import COOKIE
@@ -90,14 +92,14 @@ class Tokens(Served):
 
     def test_one_who_tells_nobody(self) -> None:
         """An output that is closed ends nothing."""
-        self.server.tell = main_of('desk').__globals__['tell']
+        self.server.tell = inspect.unwrap(main_of('desk')).__globals__['tell']
         with mock.patch('builtins.print', side_effect=BrokenPipeError):
             self.assertEqual(self.status('GET', self.client.token, '', None), 403)
 
     def opened(self, is_opened: bool) -> list[Any]:
         """What a browser is asked for, and what is told on standard error where it comes, or doesn't."""
         asked, printed = list[Any](), list[str]()
-        work = main_of('desk').__globals__
+        work = inspect.unwrap(main_of('desk')).__globals__
         over = mock.Mock(wait=lambda _: False)
         server = mock.Mock(address='http://x/', is_used=is_opened)
         with mock.patch.object(webbrowser, 'open', asked.append), mock.patch('builtins.print', lambda text, **_: printed.append(text)):
@@ -145,8 +147,8 @@ class InABrowser(ToolCase):
     def test_by_the_file(self) -> None:
         """It leads to the page, which is there again after a reload and in a second tab. Another browser is told that there is another
         address, which leads there too."""
-        if path() is None:
-            not_run('how a browser comes to the page of tools/desk, since Chromium is not installed')
+        if why := lacking():
+            not_run(f'how a browser comes to the page of tools/desk: {why}')
             return
         process, address, file = self.begin()
         self.assertEqual(file, f'file://{self.room}/zebludor/{rooms_in(self.room)[0]}/open.html')

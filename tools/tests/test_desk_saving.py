@@ -16,7 +16,8 @@ from typing import Any, Callable
 from unittest import mock
 
 from tests import test_desk
-from tests.browser import CONTROL, Browser, path
+from tests.browser import CONTROL, Browser
+from tests.desk_engine import lacking
 from tests.support import SECONDS, ToolCase, not_run, until
 from tests.test_desk import FOREVER, RUN, Fields
 from tests.test_desk_page import Page
@@ -230,8 +231,7 @@ class Files(test_desk.Served):
 
     def test_two_desks_take_turns(self) -> None:
         """Of two that save at one moment one has saved, and the other is told."""
-        other = Desk(self.room, Given(self.source, self.run_file), drafts.Drafts(self.drafts))
-        self.addCleanup(other.close)
+        other = Desk(Given(self.source, self.run_file), drafts.Drafts(self.drafts))
         self.desk.files = Kept(self.desk.given, self.drafts)
         for at in range(20):
             asked = {'do': 'keep', 'run': RUN, 'sums': self.given()['sums']}
@@ -436,8 +436,8 @@ class OnThePage(ToolCase):
     def setUpClass(cls) -> None:
         room = tempfile.TemporaryDirectory()
         cls.addClassCleanup(room.cleanup)
-        if path() is None:
-            not_run("saving by a page of tools/desk in a browser, since Chromium isn't installed")
+        if why := lacking():
+            not_run(f'saving by a page of tools/desk in a browser: {why}')
             return
         cls.browser = Browser(room.name)
         cls.addClassCleanup(cls.browser.close)

@@ -11,12 +11,11 @@ import subprocess
 import sys
 import unittest
 
-from tests.support import TOOLS, TOP, ToolCase, example, is_there, not_run
+from tests.desk_engine import Engine, has_node
+from tests.support import TOOLS, TOP, ToolCase, example, is_there, not_run, only_if
 from tests.test_dap import Client
 from toolbox import foreign, program
 from toolbox.command import Sorry
-from toolbox.desk.board import Board
-from toolbox.desk.language import Language
 from toolbox.guests import Guest, prepared
 from toolbox.listing import listing_of, own_name
 from toolbox.lsp.diagnosing import diagnostics
@@ -444,11 +443,14 @@ class Lines(ToolCase):
 class Editors(ToolCase):
     """What the desk and the language server know of a source of MASM."""
 
+    @only_if(has_node)
     def test_the_desk_runs_it(self) -> None:
-        board = Board(self.room, LOOP, DEFAULTS, False)
-        self.addCleanup(board.close)
-        self.assertTrue(board.guest.is_one)
-        self.assertEqual([line.number for line in board.listing.lines if line.text.strip() == 'DEC count' and line.address], [10])
+        engine = Engine()
+        self.addCleanup(engine.close)
+        found = engine.ask({'do': 'open', 'source': LOOP, 'run': DEFAULTS})
+        self.assertIn('is a source of MASM', found['services'])
+        line = next(number for number, text in enumerate(LOOP.split('\n'), 1) if text.strip() == 'DEC count')
+        self.assertIn(str(line), found['lines'])
 
     def test_an_editors_debugger_stops_at_its_lines(self) -> None:
         client = Client(self.room)
@@ -461,9 +463,13 @@ class Editors(ToolCase):
         self.assertEqual(client.line(), 11)
         client.leave()
 
+    @only_if(has_node)
     def test_the_desk_underlines_its_lines(self) -> None:
-        self.assertEqual(Language().answer('refused', WRONG, 0, 0), {'refused': [{'line': 3, 'text': NONE}, {'line': 4, 'text': LATER}]})
-        self.assertEqual(Language().answer('refused', LOOP, 0, 0), {'refused': []})
+        engine = Engine()
+        self.addCleanup(engine.close)
+        asked = {'do': 'language', 'what': 'refused', 'source': WRONG}
+        self.assertEqual(engine.ask(asked), {'refused': [{'line': 3, 'text': NONE}, {'line': 4, 'text': LATER}]})
+        self.assertEqual(engine.ask(asked | {'source': LOOP}), {'refused': []})
 
     def test_the_language_server_underlines_its_lines(self) -> None:
         document = Document('file:///it.asm', WRONG, 1, Settings(), lambda: None)

@@ -11,6 +11,7 @@ import unittest
 from unittest import mock
 
 from tests import dosbox
+from tests.desk_engine import named_library
 from tests.support import TOOLS, TOP, ToolCase, example, is_there
 
 from toolbox import guests, loading, program, services
@@ -366,7 +367,7 @@ class Guests(ToolCase):
         path = self.binary('it.exe', exe())
         self.assertIn('--keep NAME', self.called('desk', '--no-open', path, status=2)[1])
         words = [sys.executable, '-S', f'{TOOLS}/desk', '--no-open', path, '--keep', f'{self.room}/kept']
-        with subprocess.Popen(words, stdout=subprocess.PIPE, text=True) as process:
+        with subprocess.Popen(words, stdout=subprocess.PIPE, text=True, env=os.environ | named_library(self.room)) as process:
             assert process.stdout
             self.assertIn('desk: http', process.stdout.readline())
             process.terminate()

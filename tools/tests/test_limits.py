@@ -31,12 +31,9 @@ INNER = {
     'dap.values LONGEST',
     'printing MOST_SHOWN',
     'data_labels MOST_BYTES',
-    'desk.board MOST_LISTED',
-    'desk.board MOST_MARKS',
     'desk.drafts MOST_AT_HAND',
     'desk.drafts MOST_TEXTS',
     'desk.http SECONDS_OF_A_REFUSAL',
-    'desk.sound MOST_SAMPLES',
     'events LONGEST',
     'forms LONGEST',
     'forms LONGEST_CALL',
@@ -67,7 +64,7 @@ INNER = {
 }
 # What reads files of the repository, of the kernel or of the tools' own, or looks at a file that it is about to write: pages, sums,
 # drafts, marks, tables.
-OWN = {'asking', 'batches', 'command', 'crates', 'desk.drafts', 'desk.files', 'desk.pages', 'gdb.door', 'manual', 'proved', 'rooms', 'sources', 'tables'}
+OWN = {'asking', 'batches', 'command', 'crates', 'desk.drafts', 'desk.files', 'desk.pages', 'desk.parts', 'gdb.door', 'manual', 'present', 'proved', 'rooms', 'sources', 'tables'}
 OWN |= {'tools/desk', 'tools/test', 'writing'}
 UNITS = {'MB': 1 << 20, 'KB': 1 << 10}
 
@@ -86,7 +83,7 @@ def assigned(path: str) -> dict[str, str]:
 
 def path_of(module: str) -> str:
     """The file of a crate, tool or module."""
-    if module.startswith('tools/'):
+    if module.startswith(('tools/', 'web/')):
         return f'{TOP}/{module}'
     return f'{TOP}/crates/{module.replace("/", "/src/")}.rt' if '/' in module else f'{TOOLS}/toolbox/{module.replace(".", "/")}.py'
 
@@ -99,7 +96,10 @@ def modules() -> dict[str, str]:
 
 def value_of(module: str, name: str) -> int:
     """What a constant is."""
-    if not module.startswith('tools/') and '/' in module:
+    if module.endswith(('.js', '.mjs')):
+        with open(path_of(module), encoding='utf-8') as file:
+            (text,) = re.findall(rf'\b{name} = ([^,;]*)[,;]', file.read())
+    elif not module.startswith('tools/') and '/' in module:
         with open(path_of(module), encoding='utf-8') as file:
             (text,) = re.findall(rf'const {name}: \w+ = ([^;]*);', file.read())
     else:

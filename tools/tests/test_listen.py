@@ -13,7 +13,9 @@ import sys
 import threading
 import unittest
 from typing import Any
+from unittest import mock
 
+from tests.desk_engine import named_library
 from tests.support import SECONDS, TOOLS, ToolCase, not_run
 from toolbox.desk.http import COOKIE, Server
 
@@ -58,7 +60,7 @@ class Listening(unittest.TestCase):
             self.assertEqual(self.asked(server, at, full, 'POST', 'http://evil.example')[0], 403)
             self.assertEqual(self.asked(server, at, full, 'POST')[0], 403)
             if is_served:
-                self.assertIn(f'script-src http://{full}/{server.token}/main.js;', policy)
+                self.assertIn(f"script-src http://{full}/{server.token}/main.js 'wasm-unsafe-eval';", policy)
 
     def test_one_address(self) -> None:
         server = self.serve('127.0.0.2')
@@ -93,6 +95,10 @@ class Listening(unittest.TestCase):
 
 class Started(ToolCase):
     """The tool as it is started."""
+
+    def setUp(self) -> None:
+        super().setUp()
+        self.enterContext(mock.patch.dict(os.environ, named_library(self.room)))
 
     def begin(self, *words: str) -> tuple[subprocess.Popen[str], str]:
         """Starts it, and gives its address."""

@@ -137,6 +137,12 @@ class Nowhere(ToolCase):
             self.assertNotIn('off: nothing leads out', text)
             self.assertEqual(self.why(Files(*self.program(lines.replace(' JC over\n', ''), 3000))), [])
 
+    def test_a_jam_at_address_zero(self) -> None:
+        """It is told at once, though the processor is there at each of a million clocks."""
+        source, run = self.program(' MOV AX,5\n DIV BL\n HLT', 2_000_000)
+        self.assertEqual(report_of(self.pcboard('run', source, run).stdout).state, 'jammed')
+        self.assertIn('has no quotient', self.called('why', 'run', '--seconds', '20', source, run)[1])
+
     def test_a_delay_is_not_blamed(self) -> None:
         """A loop that will be left, by its count, a key, the timer or a handler, is none that goes nowhere."""
         for lines in (

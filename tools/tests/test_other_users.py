@@ -11,6 +11,7 @@ import unittest
 import urllib.error
 import urllib.request
 
+from tests.desk_engine import named_library
 from tests.support import SECONDS, TOOLS, ToolCase, children, example, is_there, not_run, rooms_in, until
 from tests.test_gdb import Client
 
@@ -88,7 +89,7 @@ class OtherUser(ToolCase):
             stderr=subprocess.PIPE,
             text=True,
             cwd=self.room,
-            env=os.environ | environment,
+            env=os.environ | named_library(self.room) | environment,
         )
         self.addCleanup(process.communicate)
         self.addCleanup(process.kill)

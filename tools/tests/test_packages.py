@@ -21,6 +21,7 @@ from typing import Any, Callable
 from xml.etree import ElementTree
 
 from parts import debian, release, wheel
+from tests.desk_engine import named_library
 from tests.support import SECONDS, TOP, but_progress, is_there, not_run
 from tests.test_dap import Client
 from tests.test_release import MADE, PYTHON, RUN, Unpacked, shown_by_readme
@@ -92,7 +93,7 @@ class Installed(Unpacked):
             stdout=subprocess.PIPE,
             stderr=subprocess.PIPE,
             text=True,
-            env=self.environment(),
+            env=self.environment() | named_library(self.room, False),  # an archive of stand-ins has none
             cwd=self.room,
         ) as process:
             assert process.stdout

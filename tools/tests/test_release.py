@@ -19,12 +19,14 @@ from tests.support import SECONDS, TOP, but_progress, is_there, not_run
 from tests.test_pages import blocks, commands
 from toolbox import program
 from toolbox.crates import Crates
+from toolbox.present import LIBRARY
 from toolbox.proved import PROGRAMS, Made, Proved
 from toolbox.sources import sum_of, sum_of_sources
 
 VERDICT = 'logic=proved functions=1 sum=0123456789abcdef native=nat'
 LIBRARIES = ('zebludor_chips', 'zebludor_program')
 CRATES = {it: {'low', it} for it in ('pcboard', *LIBRARIES)} | {'pcprobe': {'low', 'probe', 'pcprobe'}, 'pcmasm': {'low', 'pcmasm'}}
+CRATES[LIBRARY] = CRATES['zebludor_program']
 NAME = release.name()
 MADE = (f'{NAME}.tar.gz', *(each.name(release.version()) for each in (wheel, debian, vsix)), 'Containerfile')
 HAS_CC = is_there('cc', 'a release', 'gcc')  # without it none is made, and no case here is run
@@ -106,6 +108,7 @@ class Unpacked(Repository):
         os.makedirs(f'{self.top}/stored')
         for name in PROGRAMS:
             shutil.copy(program.path(name), f'{self.top}/stored/{name}')
+        shutil.copy(f'{TOP}/stored/{LIBRARY}', f'{self.top}/stored')
         self.file(
             'top/crates.txt',
             'low:\npcboard: low\nprobe: low\npcprobe: low probe\npcmasm: low\nzebludor_chips staticlib: low\nzebludor_program staticlib: low\n',
@@ -116,7 +119,7 @@ class Unpacked(Repository):
             self.file(f'top/crates/{name}/src/lib.rt', '// nothing\n')
         self.file('top/crates/low/src/lib.rt', '/// Nothing.\npub fn program() -> u8\n    ensures { result ≤ 3 }\n{\n    0\n}\n')
         self.is_real = self.put_libraries()
-        for names in (PROGRAMS, *((it,) for it in LIBRARIES)):
+        for names in ((*PROGRAMS, LIBRARY), *((it,) for it in LIBRARIES)):
             self.note(*names)
 
     def wanted(self) -> str:
@@ -154,7 +157,7 @@ class Unpacked(Repository):
 
     def made(self, name: str) -> str:
         """What is built of a crate."""
-        return f'{self.top}/stored/{name}' if name in PROGRAMS else f'{self.top}/crates/{name}/out/lib{name}.a'
+        return f'{self.top}/stored/{name}' if name in (*PROGRAMS, LIBRARY) else f'{self.top}/crates/{name}/out/lib{name}.a'
 
     def note(self, *names: str, kit: str = KIT) -> None:
         """Writes PROVED beside what is built of these crates, in one folder."""
@@ -258,6 +261,7 @@ class Release(Unpacked):
             'pcprobe',
             'stored/pcmasm',
             'stored/pcprobe',
+            'stored/libzebludor.so',
             'tools/try',
             'python/zebludor.py',
             'c/zebludor.h',
@@ -287,11 +291,11 @@ class Release(Unpacked):
             lines = file.read().splitlines()
         heads = [f'zebludor {release.version()} x86_64-linux', f'kit {KIT}', f'logic {LOGIC}']
         self.assertEqual(lines[:3], heads)
-        made = [(f'{top}/{path}', crate) for path, crate in (*((f'stored/{it}', it) for it in PROGRAMS), *((f'lib/lib{it}.a', it) for it in LIBRARIES))]
+        made = [(f'{top}/{path}', crate) for path, crate in (*((f'stored/{it}', it) for it in (*PROGRAMS, LIBRARY)), *((f'lib/lib{it}.a', it) for it in LIBRARIES))]
         self.assertEqual(
-            lines[3:8], [f'made {os.path.relpath(path, top)} {sum_of(path)} sources {sum_of_sources(CRATES[crate], self.top)}' for path, crate in made]
+            lines[3:9], [f'made {os.path.relpath(path, top)} {sum_of(path)} sources {sum_of_sources(CRATES[crate], self.top)}' for path, crate in made]
         )
-        self.assertEqual(lines[8:], [f'{it}: {VERDICT} of={it}' for it in ('low', 'pcboard', 'pcmasm', 'pcprobe', 'probe', *LIBRARIES)])
+        self.assertEqual(lines[9:], [f'{it}: {VERDICT} of={it}' for it in ('low', 'pcboard', 'pcmasm', 'pcprobe', 'probe', *LIBRARIES)])
 
     def test_sums(self) -> None:
         top = self.unpacked()
@@ -444,7 +448,8 @@ class Lacking(Unpacked):
         put_back = self.change_text('crates/low/src/lib.rt')
         other = 'it was made of other sources than are here'
         self.refused(
-            *(f"stored/{it} isn't taken: {other}; tools/test" for it in PROGRAMS), *(f"{it}.a isn't taken: {other}; dev/build {it}" for it in LIBRARIES)
+            *(f"stored/{it} isn't taken: {other}; tools/test" for it in (*PROGRAMS, LIBRARY)),
+            *(f"{it}.a isn't taken: {other}; dev/build {it}" for it in LIBRARIES)
         )
         put_back()
         self.archive()

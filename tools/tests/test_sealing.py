@@ -9,6 +9,7 @@ from typing import Any
 
 from tests.support import ToolCase, example
 from toolbox import program, sealing
+import zebludor
 
 NOT_ASCII = 'SEGMENT M AT 0F000h\ngo: HLT ; \xe9\nENDS\nSEGMENT R AT 0FFFFh\n JMP FAR go\nENDS\n'
 # A loop that leads nowhere; and before it what lets the speaker take another level each four clocks.
@@ -46,7 +47,8 @@ class Sealing(ToolCase):
         with open(source, encoding='utf-8') as file, open(run, encoding='utf-8') as other:
             self.assertEqual((sealed['texts']['program'], sealed['texts']['run file']), (file.read(), other.read()))
         self.assertEqual(sealed['texts']['report'], self.pcboard('run', source, run).stdout)
-        with open(program.path(), 'rb') as answering:
+        library = zebludor.library()
+        with open(library.path if library else program.path(), 'rb') as answering:
             self.assertEqual(sealed['board']['sum'], hashlib.sha256(answering.read()).hexdigest())
         self.assertEqual((sealed['name'], sealed['hex']), ('hello.asm', False))
         lines = self.checked(sealed)
@@ -87,7 +89,7 @@ class Sealing(ToolCase):
         held = os.environ.get('PCBOARD')
         os.environ['PCBOARD'] = another
         try:
-            self.assertEqual(set(sealing.board()), {'version', 'sum'})
+            self.assertEqual(set(sealing.board(program.path())), {'version', 'sum'})
         finally:
             os.environ.pop('PCBOARD')
             os.environ.update({} if held is None else {'PCBOARD': held})

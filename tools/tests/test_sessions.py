@@ -16,7 +16,7 @@ import subprocess
 import sys
 import traceback
 import unittest
-from dataclasses import dataclass, replace
+from dataclasses import dataclass
 from typing import Iterator
 from unittest import mock
 
@@ -286,7 +286,7 @@ class NearWorker:
     def ask(self, numbers: list[int]) -> Iterator[int]:
         """When the place begins, of each of these."""
         for number in numbers:
-            files = replace(self.plan.files_of(number, self.room), run_file=f'{self.room}/it.json')
+            files = self.plan.files_of(number, self.room)._replace(run_file=f'{self.room}/it.json')
             yield moments.clocks_of(self.plan, files, number, self.plan.asked.place or '')
 
     def end(self) -> None:

@@ -14,7 +14,7 @@ sys.path.insert(0, f'{TOP}/python')
 from zebludor import Fault, NotReturned, Session, Unfit  # noqa: E402  pylint: disable=wrong-import-position
 
 UNIT = f'{EXAMPLES}/unit'
-SECONDS = 20  # of processor, for all values of AX
+SECONDS = 5  # of processor, for a sixteenth of all values of AX, and to begin two sessions
 SOURCE = """SEGMENT MAIN AT 0F600h
 start:  MOV AX,0
         MOV SS,AX

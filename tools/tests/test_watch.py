@@ -4,15 +4,16 @@ from __future__ import annotations
 import os
 import random
 import time
+from typing import Any
 
 from tests import test_gdb
+from tests.desk_engine import Engine, with_node
 from tests.support import ToolCase, children, example, processor_seconds
 from tests.test_dap import Client as Editor
 from tests.test_held import WATCHED, Stepped
 
 from toolbox.command import Sorry
 from toolbox.dap.board import Machine
-from toolbox.desk.board import Board as DeskBoard
 from toolbox.gdb.board import Board
 from toolbox.listing import Listing, listing_of
 from toolbox.program import Files
@@ -342,38 +343,42 @@ class Dap(ToolCase):
         self.assertEqual(client.leave(), 0)
 
 
+@with_node
 class Desk(ToolCase):
-    """The desk's board."""
+    """The board of the desk's page."""
 
     def test_a_byte(self) -> None:
-        source, run = example('ticks')
+        engine, (source, run) = Engine(), example('ticks')
+        self.addCleanup(engine.close)
         with open(source, encoding='utf-8') as file:
-            board = DeskBoard(self.room, file.read(), read_run_file(run), False)
-        self.addCleanup(board.close)
-        self.assertEqual(board.set_stops(['changes B0000', 'halted', 'tick'])['stops'][1], ['changes B0000 1', '', None])
-        with self.assertRaisesRegex(Sorry, 'can be watched'):
-            board.set_stops(['changes FFFFF 2'])
-        board.set_stops(['changes B0000'])
-        view = board.run(3000, False, 0, False)
+            board = engine.ask({'do': 'open', 'source': file.read(), 'run': read_run_file(run)})['board']
+
+        def ask(word: str, **fields: Any) -> Any:
+            return engine.to_the_end({'do': word, 'board': board, **fields})
+
+        def on() -> Any:
+            return ask('run', to=3000, ms=200)
+
+        self.assertEqual(ask('stops', stops=['changes B0000', 'halted', 'tick'])['stops'][1], ['changes B0000 1', '', None])
+        self.assertIn('can be watched', ask('stops', stops=['changes FFFFF 2'])['sorry'])
+        ask('stops', stops=['changes B0000'])
+        view = on()
         self.assertEqual((view['why'], view['clock']), ('stop', 885))
         self.assertIn('B0000 was 00, is 30: clock 884', view['told'])
-        self.assertEqual([board.run(3000, False, 0, False)['clock'] for _ in range(2)], [1010, 1398])
-        view = board.step(0)
+        self.assertEqual([on()['clock'] for _ in range(2)], [1010, 1398])
+        view = ask('step')
         self.assertEqual((view['clock'], view['line']), (1424, 43))
-        view = board.last(0)
+        view = ask('last')
         self.assertEqual((view['clock'], view['told'][:30]), (1398, 'B0000 was 31, is 32: clock 139'))
-        self.assertEqual([board.who(0xB0000, 1, 0)['clock'] for _ in range(2)], [1398, 1398])
-        board.go_to(1300, 0)
-        view = board.who(0xB0000, 2, 0)
+        self.assertEqual([ask('who', address=0xB0000)['clock'] for _ in range(2)], [1398, 1398])
+        ask('go to', clock=1300)
+        view = ask('who', address=0xB0000, count=2)
         self.assertEqual((view['clock'], view['told'].partition(':')[0]), (1010, 'B0000 was 30, is 31'))
-        with self.assertRaisesRegex(Sorry, 'nothing has changed 00500 up to here'):
-            board.who(0x500, 1, 0)
-        self.assertEqual(board.clock, 1010)
-        with self.assertRaisesRegex(Sorry, '15 stops are the most'):
-            board.set_stops([f'changes {at:X}' for at in range(16)])
-        self.assertEqual(board.stops, ['changes B0000 1'])
-        board.set_stops(['byte B0000 32', 'changes B0000'])
+        self.assertIn('nothing has changed 00500 up to here', ask('who', address=0x500)['sorry'])
+        self.assertEqual(ask('look')['clock'], 1010)
+        self.assertIn('15 stops are the most', ask('stops', stops=[f'changes {at:X}' for at in range(16)])['sorry'])
+        ask('stops', stops=['byte B0000 32', 'changes B0000'])
         self.assertEqual(
-            [(answer['clock'], answer['told'][:19]) for answer in (board.run(3000, False, 0, False) for _ in range(2))],
+            [(answer['clock'], answer['told'][:19]) for answer in (on() for _ in range(2))],
             [(1398, 'B0000 was 31, is 32'), (1798, 'B0000 was 32, is 33')],
         )

@@ -3,7 +3,6 @@ from __future__ import annotations
 
 import json
 import os
-from dataclasses import asdict
 from typing import TYPE_CHECKING, Any, Iterable
 
 if TYPE_CHECKING:
@@ -55,6 +54,8 @@ def row_fields(rows: Iterable[Any]) -> list[Fields]:
     """The rows of a class."""
     found = []
     for row in rows:
+        from dataclasses import asdict  # and here alone, since it takes long to load
+
         fields = asdict(row) | {'mark': row.mark, 'of': row.of, 'met': row.met, 'outcomes': [] if row.why else list(map(outcome_fields, row.outcomes))}
         found.append({name: fields[name] for name in ('file', 'met', 'mark', 'of', 'outcomes', 'why', 'same')})
     return found

@@ -4,8 +4,7 @@ from __future__ import annotations
 
 import re
 import struct
-from dataclasses import dataclass, replace
-from typing import Iterator
+from typing import Iterator, NamedTuple
 
 from toolbox.listing import physical
 from toolbox.program import Files, ProbeSession, Session
@@ -19,8 +18,7 @@ LAST_TEXT_MODE, OWN_MODE = 3, 7
 FRAME, LONGEST_NAME = struct.Struct('<6xH4xH4xHH'), 64  # a call's frame: DX, DS, and IP and CS behind its INT; signs
 
 
-@dataclass(frozen=True)
-class Asked:
+class Asked(NamedTuple):
     """A call: its clock, its registers, what its DS:DX names, and where its INT stands; what is told with this place
     for `{place}`, if anything; which bytes have no $; and the file that it wants."""
 
@@ -61,7 +59,7 @@ def text(session: Session, call: Asked) -> Asked:
         return call
     writes = f'which function 09h of INT 21h, called {{place}}, writes: {LONGEST_TEXT:,} signs and more'
     says = f'no $ ends the text at {segment:04X}:{offset:04X}, {writes}'
-    return replace(call, says=says, address=address, count=LONGEST_TEXT)
+    return call._replace(says=says, address=address, count=LONGEST_TEXT)
 
 
 def character(session: Session, call: Asked) -> Asked:
@@ -71,7 +69,7 @@ def character(session: Session, call: Asked) -> Asked:
     if not (0x20 if is_loaded else 0x21) <= sign < 0x7F or call.registers['DX'] & 0xFF and not is_loaded:
         return call
     writes = f'writes DL, and AL has {chr(sign)!r}: the sign goes into DL'
-    return replace(call, says=f'function 02h of INT 21h, called {{place}}, {writes}')
+    return call._replace(says=f'function 02h of INT 21h, called {{place}}, {writes}')
 
 
 def mode(_: Session, call: Asked) -> Asked:
@@ -79,7 +77,7 @@ def mode(_: Session, call: Asked) -> Asked:
     number = call.registers['AX'] & 0x7F
     has = 'this adapter has no graphics and no colours: every mode is 7, text of 25 rows by 80'
     is_text = number <= LAST_TEXT_MODE or number == OWN_MODE
-    return call if is_text else replace(call, says=f'INT 10h, called {{place}}, sets mode {number:02X}h, and {has}')
+    return call if is_text else call._replace(says=f'INT 10h, called {{place}}, sets mode {number:02X}h, and {has}')
 
 
 def missing(session: Session, call: Asked) -> Asked:
@@ -87,7 +85,7 @@ def missing(session: Session, call: Asked) -> Asked:
     name = session.dump(call.named, LONGEST_NAME).partition(b'\0')[0].decode('ascii', 'replace')
     opens = 'function 3Dh of INT 21h, called {place}, opens it: --file puts a file there'
     is_name = name.isprintable() and name.isascii()
-    return replace(call, says=f"{name} isn't on the program's disk, and {opens}", file=name) if is_name else call
+    return call._replace(says=f"{name} isn't on the program's disk, and {opens}", file=name) if is_name else call
 
 
 KINDS = {'dos_write_text': text, 'dos_write_char': character, 'bios_mode': mode, 'dos_no_file': missing}

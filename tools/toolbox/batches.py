@@ -4,42 +4,119 @@ from __future__ import annotations
 import contextlib
 import hashlib
 import json
+import os
 import resource
+import select
 import signal
+import struct
 import subprocess
 import threading
 from collections import deque
 from concurrent.futures import Future, ThreadPoolExecutor
 from dataclasses import dataclass, field
-from typing import Any, Container, Iterable, Iterator
+from typing import IO, Any, Container, Iterable, Iterator
 
+import zebludor
 from zebludor import Ran, fault_in
 
 from toolbox.as_json import report_fields
 from toolbox.command import Sorry, read_bytes
 from toolbox.program import answer_of, path, refusal
 from toolbox.report import report_of
+from toolbox.starting import bind
 from toolbox.threads import want
 
 __all__ = ['Batch', 'Fields', 'answers', 'batch_of', 'ids_in']
 
 Fields = dict[str, Any]
 LONGEST_ANSWER = 1 << 26  # bytes
+HEAD = struct.Struct('<BII')  # of an answer of a worker: its status, and how many bytes of both texts follow; so too of a run
+TOO_LONG = 255
+FORKING = threading.Lock()
 IS_LIMITED = hasattr(resource, 'prlimit')  # by Linux, in processor seconds
 PATIENCE = 10 if IS_LIMITED else 1  # so many times as long may a run last on a busy machine
 AHEAD = 8  # runs for each worker that are begun before the first of them is told
 
 
+class Worker:
+    """A fork of this process that makes runs by the library, one after the other, each within the limits."""
+
+    def __init__(self, library: zebludor.Library, image: bytes, seconds: int, megabytes: int) -> None:
+        parent = os.getpid()
+        with FORKING:  # else another worker would have this one's end of the answers, and no end of them would come
+            runs, self._runs = os.pipe()
+            answers, theirs = os.pipe()
+            self.pid = os.fork()
+            if not self.pid:
+                try:
+                    bind(parent)
+                    signal.signal(signal.SIGINT, signal.SIG_IGN)  # it ends with this process
+                    zebludor.limit_memory(megabytes)
+                    serve(library, image, seconds, open(runs, 'rb'), theirs)
+                finally:
+                    os._exit(1)
+            os.close(runs)
+            os.close(theirs)
+        self._answers = open(answers, 'rb')
+
+    def ran(self, run: bytes, patience: float) -> Ran | None:
+        """What a run comes to, with the status of a signal if that ended the worker; None if it takes longer."""
+        with contextlib.suppress(BrokenPipeError):
+            write(self._runs, HEAD.pack(0, len(run), 0) + run)
+        if not select.select([self._answers], [], [], patience)[0]:
+            return None
+        head = self._answers.read(HEAD.size)
+        if len(head) < HEAD.size:
+            return Ran(os.waitstatus_to_exitcode(os.waitpid(self.pid, 0)[1]), '', '')  # of a signal
+        status, out, err = HEAD.unpack(head)
+        return Ran(status, self._answers.read(out).decode('utf-8', 'replace'), self._answers.read(err).decode('utf-8', 'replace'))
+
+    def kill(self) -> None:
+        """Ends it."""
+        with contextlib.suppress(ProcessLookupError):
+            os.kill(self.pid, signal.SIGKILL)
+
+    def close(self) -> None:
+        """Ends it, and leaves nothing of it."""
+        self.kill()
+        with contextlib.suppress(ChildProcessError):
+            os.waitpid(self.pid, 0)
+        os.close(self._runs)
+        self._answers.close()
+
+
+def serve(library: zebludor.Library, image: bytes, seconds: int, runs: IO[bytes], answers: int) -> None:
+    """In a worker: makes the runs that come, until no more do. The kernel ends it in the midst of one that takes too much time."""
+    while head := runs.read(HEAD.size):
+        run = runs.read(HEAD.unpack(head)[1])
+        signal.setitimer(signal.ITIMER_PROF, seconds)
+        try:
+            status, out, err, _ = zebludor.ran_of(library, image, run, LONGEST_ANSWER)
+        except zebludor.TooLong:
+            status, out, err = TOO_LONG, '', ''
+        signal.setitimer(signal.ITIMER_PROF, 0)
+        octets = out.encode(), err.encode()
+        write(answers, HEAD.pack(status, *map(len, octets)) + b''.join(octets))
+
+
+def write(handle: int, octets: bytes) -> None:
+    """Writes all of them."""
+    while octets:
+        octets = octets[os.write(handle, octets) :]
+
+
 @dataclass
 class Batch:
     """A program for many runs: its image as a file of Intel HEX, a sum of that and of the program that runs it, and how much a run may
-    take; and the processes that are at work."""
+    take; and the processes that are at work, and workers that wait for more."""
 
     image: str
+    octets: bytes
     sum: bytes
     seconds: int
     megabytes: int
-    at_work: set[subprocess.Popen[bytes]] = field(default_factory=set)
+    at_work: set[subprocess.Popen[bytes] | Worker] = field(default_factory=set)
+    idle: list[Worker] = field(default_factory=list)
     is_over: threading.Event = field(default_factory=threading.Event)
 
     def id_of(self, run: bytes) -> str:
@@ -47,7 +124,31 @@ class Batch:
         return hashlib.sha256(self.sum + hashlib.sha256(run).digest()).hexdigest()
 
     def ran(self, run: bytes) -> Ran | str:
-        """What the program answers under a run file, or why it was ended. All runs go by here, so that they can go by another way."""
+        """What the program answers under a run file, or why it was ended. All runs go by here."""
+        library = zebludor.library()
+        return self.by_a_worker(library, run) if library else self.by_a_process(run)
+
+    def by_a_worker(self, library: zebludor.Library, run: bytes) -> Ran | str:
+        """By one that waits, or else a new one."""
+        try:
+            worker = self.idle.pop()
+        except IndexError:
+            worker = Worker(library, self.octets, self.seconds, self.megabytes)
+        self.at_work.add(worker)
+        if self.is_over.is_set():
+            worker.kill()
+        ran = worker.ran(run, PATIENCE * self.seconds)
+        self.at_work.discard(worker)
+        if ran and ran.status >= 0 and not self.is_over.is_set():
+            self.idle.append(worker)
+        else:
+            worker.close()
+        if ran is None or ran.status == -signal.SIGPROF:
+            return f'over {self.seconds} s, and was ended'
+        return f'its answer has more than {LONGEST_ANSWER:,} bytes, and it was ended' if ran.status == TOO_LONG else ran
+
+    def by_a_process(self, run: bytes) -> Ran | str:
+        """By one of the program."""
         words = [path(), 'run', '--hex', '--', self.image, '/dev/stdin']
         with subprocess.Popen(words, stdin=subprocess.PIPE, stdout=subprocess.PIPE, stderr=subprocess.PIPE) as process:
             self.at_work.add(process)
@@ -83,6 +184,8 @@ class Batch:
         self.is_over.set()
         for process in list(self.at_work):
             process.kill()
+        while self.idle:
+            self.idle.pop().close()
 
 
 def limit(process: subprocess.Popen[bytes], seconds: int, megabytes: int) -> None:
@@ -100,7 +203,7 @@ def batch_of(file: str, is_hex: bool, room: str, seconds: int, megabytes: int) -
     with open(image, 'wb') as to:
         to.write(octets)
     sums = hashlib.sha256(octets).digest() + hashlib.sha256(read_bytes(path())).digest()
-    return Batch(image, sums, seconds, megabytes)
+    return Batch(image, octets, sums, seconds, megabytes)
 
 
 def run_of(line: bytes) -> tuple[Fields, bytes]:

@@ -1,68 +1,156 @@
-"""A class's files, each held against a page in a process of its own, side by side, so that none is in another's way."""
+"""A class's files, each held against a page in a fork of this process, side by side, so that none is in another's way."""
 from __future__ import annotations
 
 import argparse
 import contextlib
+import importlib
 import json
 import os
+import select
 import signal
-import subprocess
 import sys
 import tempfile
-from concurrent.futures import Future, ThreadPoolExecutor
-from dataclasses import dataclass, field, replace
+import time
+from collections import deque
+from dataclasses import astuple, dataclass, field, replace
 from itertools import zip_longest
-from typing import Any, Iterator
+from typing import IO, Any, Iterator, NoReturn
 
 from toolbox import feedback, guests, limits, submissions
 from toolbox.as_json import print_answer, row_fields
-from toolbox.command import PYTHON, Sorry, read_bytes, waiting, write_bytes, write_text
+from toolbox.command import Sorry, read_bytes, start, waiting, write_bytes, write_text
 from toolbox.expectations import Outcome, Planned
+from toolbox.judging import judge_file, sum_of
 from toolbox.marks import Row, as_csv, as_junit, cell, line_of, tell_copies
-from toolbox.program import path as program_path
-from toolbox.starting import started
-from toolbox.threads import want
+from toolbox.program import is_hex_name, limit_memory, uninterrupted, want
+from toolbox.starting import bind
 
-HIDDEN = argparse.SUPPRESS
-JUDGE = os.path.join(os.path.dirname(os.path.dirname(os.path.realpath(__file__))), 'judge')
+# What is imported only when it is used, once for all forks.
+USED = ('foreign', 'loading', 'scancodes', 'walk', 'following')
+
+
+@dataclass
+class Work:
+    """A file's judge: a fork of this process, which prints what it finds into a pipe; and the file's row, once it has ended."""
+
+    file: str
+    folder: str | None
+    room: tempfile.TemporaryDirectory[str]
+    process: int = 0
+    out: int = -1
+    err: IO[bytes] | None = None
+    until: float = 0
+    heard: bytes = b''
+    row: Row | None = None
+
+    @property
+    def copy(self) -> str:
+        """What is judged, summed and handed back."""
+        return os.path.join(self.room.name, os.path.basename(self.file))
 
 
 @dataclass
 class Class:
-    """What all rows have in common, and the processes that are at work."""
+    """What all rows have in common, and the forks that are at work, by the pipes that are heard."""
 
-    page: str
     planned: list[Planned]
     given: argparse.Namespace
     folder: str  # below which all files stand
     included: dict[str, bytes]  # what each of them may include besides, by its name
-    at_work: set[subprocess.Popen[Any]] = field(default_factory=set)
+    at_work: dict[int, Work] = field(default_factory=dict)
     served: list[str] = field(default_factory=list)  # the files that have services by their look
-    is_over: bool = False
 
     @property
     def outcomes(self) -> list[Outcome]:
         """What is expected, as of a file that never ran."""
         return [Outcome(one.said(planned.title), '', one.weight, False) for planned in self.planned for one in planned.expectations]
 
-    def row(self, file: str, folder: str | None) -> Row:
-        """A file's row. What is judged, summed and handed back is one copy of it."""
-        with tempfile.TemporaryDirectory(prefix='zebludor-', ignore_cleanup_errors=True) as room:
-            copy = os.path.join(room, os.path.basename(file))
-            try:
-                octets = submissions.octets_of(file, self.folder)
-            except OSError as error:
-                answer: dict[str, Any] = {'why': f"{file} can't be read: {error.strerror}"}
-            else:
-                for name, text in self.included.items():
-                    write_bytes(os.path.join(room, name), text)
-                write_bytes(copy, octets)
-                answer = self.answer(copy, folder)
-            row = self.row_of(file, copy, answer)
-            if folder:
-                feedback.close(folder, row, words_of(self.given), copy)
-                self.hand_out(folder)
-        return row
+    def begin(self, file: str, folder: str | None) -> Work:
+        """Begins to judge a copy of a file. One that can't be read has its row at once."""
+        work = Work(file, folder, tempfile.TemporaryDirectory(prefix='zebludor-', ignore_cleanup_errors=True))
+        try:
+            octets = submissions.octets_of(file, self.folder)
+        except OSError as error:
+            self.finish(work, {'why': f"{file} can't be read: {error.strerror}"})
+            return work
+        for name, text in self.included.items():
+            write_bytes(os.path.join(work.room.name, name), text)
+        write_bytes(work.copy, octets)
+        work.out, theirs = os.pipe()
+        work.err, work.until, parent = tempfile.TemporaryFile(), time.monotonic() + self.given.seconds, os.getpid()
+        work.process = os.fork()
+        if not work.process:
+            self.judge(work, theirs, parent)
+        os.close(theirs)
+        self.at_work[work.out] = work
+        return work
+
+    def judge(self, work: Work, out: int, parent: int) -> NoReturn:
+        """In the fork: judges, prints what is found, and ends. It leads a session of its own, which no Control-C reaches, and is ended
+        with the process that it is a fork of."""
+        try:
+            os.setsid()
+            bind(parent)
+            assert work.err
+            for ours, handle in ((os.open(os.devnull, os.O_RDONLY), 0), (out, 1), (work.err.fileno(), 2)):
+                os.dup2(ours, handle)
+            sys.stdout, sys.stderr = (open(handle, 'w', encoding='utf-8', errors='surrogateescape', closefd=False) for handle in (1, 2))
+            signal.signal(signal.SIGINT, signal.SIG_IGN)
+            signal.signal(signal.SIGTERM, lambda *_: sys.exit(143))
+            start(lambda _: self.print_row(work))
+        except SystemExit as ended:
+            sys.stdout.flush()
+            sys.stderr.flush()
+            os._exit(ended.code if isinstance(ended.code, int) else 1)
+        finally:
+            os._exit(1)
+
+    def print_row(self, work: Work) -> int:
+        """Prints the outcomes and a sum of the file's bytes as JSON; or why there are none."""
+        given, is_hex = self.given, self.given.hex or is_hex_name(work.copy)
+        limit_memory(given.memory or limits.MEMORY)
+        try:
+            guest = guests.guest_of(given, work.copy)
+            handed = feedback.Feedback(work.folder, guest, words_of(given), is_hex) if work.folder else None
+            outcomes = judge_file(self.planned, guest, given.run, is_hex, feedback=handed)
+            print(json.dumps({'outcomes': [astuple(outcome) for outcome in outcomes], 'image': sum_of(guest, is_hex), 'services': guest.is_seen}))
+        except Sorry as sorry:
+            print(json.dumps({'why': str(sorry)}))
+        return 0
+
+    def hear(self) -> None:
+        """Hears what judges at work print, until the first of them has ended or its time is over."""
+        late = min(work.until for work in self.at_work.values())
+        ready = select.select(list(self.at_work), [], [], max(0, late - time.monotonic()))[0]
+        with uninterrupted():
+            for work in [self.at_work[out] for out in ready]:
+                piece = os.read(work.out, 1 << 16)
+                work.heard += piece
+                if not piece:
+                    why = self.ended(work)
+                    self.finish(work, {'why': why} if why else json.loads(work.heard))
+            for work in [work for work in self.at_work.values() if work.until <= time.monotonic()]:
+                end(work.process)
+                self.ended(work)
+                self.finish(work, {'why': f'over {self.given.seconds} s, and was ended'})
+
+    def ended(self, work: Work) -> str:
+        """Why a judge that has ended gave no row; nothing if it did."""
+        del self.at_work[work.out]
+        os.close(work.out)
+        status = os.waitstatus_to_exitcode(os.waitpid(work.process, 0)[1])
+        assert work.err
+        with work.err as err:
+            err.seek(0)
+            return why_not(status, err.read().decode('utf-8', 'replace')) if status else ''
+
+    def finish(self, work: Work, answer: dict[str, Any]) -> None:
+        """Makes a file's row of what was answered, and hands back what the file's student is told."""
+        work.row = self.row_of(work.file, work.copy, answer)
+        if work.folder:
+            feedback.close(work.folder, work.row, words_of(self.given), work.copy)
+            self.hand_out(work.folder)
+        work.room.cleanup()
 
     def hand_out(self, folder: str) -> None:
         """What a submission may include goes into its folder too, so that its commands find it."""
@@ -81,46 +169,20 @@ class Class:
         outcomes = [replace(each, but=own(each.but)) if each.but else each for each in them]
         return Row(file, outcomes, own(answer.get('why', '')), answer.get('image', ''))
 
-    def answer(self, copy: str, folder: str | None) -> dict[str, Any]:
-        """What the judge of a copy answers. It hears no Control-C, so that what is done stays done, and is ended with this process."""
-        given = self.given
-        words = [*words_of(given), *([f'--feedback={folder}'] if folder else [])]
-        words = [PYTHON, '-S', JUDGE, '--row', *words, '--', self.page, copy, *([given.run] if given.run else [])]
-        streams: dict[str, Any] = {'stdin': subprocess.DEVNULL, 'stdout': subprocess.PIPE, 'stderr': subprocess.PIPE}
-        process = started(words, **streams, text=True, errors='replace', start_new_session=True)
-        self.at_work.add(process)
-        if self.is_over:
-            end(process)
-        try:
-            out, err = process.communicate(timeout=given.seconds)
-            answer: dict[str, Any] = json.loads(out) if process.returncode == 0 else {'why': why_not(process.returncode, err)}
-        except subprocess.TimeoutExpired:
-            end(process)
-            process.communicate()
-            answer = {'why': f'over {given.seconds} s, and was ended'}
-        finally:
-            self.at_work.discard(process)
-        if self.is_over and process.returncode:
-            raise BrokenOff
-        return answer
-
     def stop(self) -> None:
-        """Ends what is at work, and what begins from now on."""
-        self.is_over = True
-        for process in list(self.at_work):
-            end(process)
+        """Ends what is at work."""
+        for work in list(self.at_work.values()):
+            end(work.process)
+            self.ended(work)
+            work.room.cleanup()
 
 
-class BrokenOff(Exception):
-    """A file's judge was ended, since no more rows are wanted."""
-
-
-def end(process: subprocess.Popen[Any]) -> None:
+def end(process: int) -> None:
     """Ends a file's judge, which leads a group, and then what it may have left there."""
     with contextlib.suppress(ProcessLookupError, ChildProcessError):
-        os.killpg(process.pid, signal.SIGTERM)
-        os.waitid(os.P_PID, process.pid, os.WEXITED | os.WNOWAIT)  # its number stays its own
-        os.killpg(process.pid, signal.SIGKILL)
+        os.killpg(process, signal.SIGTERM)
+        os.waitid(os.P_PID, process, os.WEXITED | os.WNOWAIT)  # its number stays its own
+        os.killpg(process, signal.SIGKILL)
 
 
 def why_not(status: int, err: str) -> str:
@@ -146,30 +208,30 @@ def included_of(paths: list[str]) -> dict[str, bytes]:
 def rows_of(them: Class, files: list[str], folders: list[str]) -> Iterator[Row]:
     """Each file's row as it is ready, in the order of the files. Once that is broken off, the others that are done come, and what is
     at work is ended."""
-    pool = ThreadPoolExecutor(os.cpu_count() or 1)
-    waited = list[Future[Row]]()
-    for file, folder in zip_longest(files, folders):
-        want()
-        waited.append(pool.submit(them.row, file, folder))
+    todo, waited = deque(zip_longest(files, folders)), deque[Work]()
     try:
-        while waited:
-            row = waited[0].result()
-            del waited[0]
-            yield row
+        while todo or waited:
+            with uninterrupted():
+                while todo and len(them.at_work) < (os.cpu_count() or 1):
+                    waited.append(them.begin(*todo.popleft()))
+            while waited and waited[0].row:
+                yield waited.popleft().row  # type: ignore[misc]
+            if them.at_work:
+                them.hear()
     except KeyboardInterrupt:
         them.stop()
-        pool.shutdown(cancel_futures=True)
-        yield from [future.result() for future in waited if not future.cancelled() and not future.exception()]
+        yield from [work.row for work in waited if work.row]
         raise
     finally:
         them.stop()
-        pool.shutdown(wait=False, cancel_futures=True)
 
 
 def table(page: str, planned: list[Planned], files: list[str], given: argparse.Namespace) -> int:
     """Prints a row for each file, writes what else is asked for, and returns the exit status."""
-    program_path()
-    them = Class(page, planned, given, submissions.folder_of(files), included_of(given.include or []))
+    want()
+    for name in USED:
+        importlib.import_module(f'toolbox.{name}')
+    them = Class(planned, given, submissions.folder_of(files), included_of(given.include or []))
     folders = feedback.folders_of(files, given.feedback) if given.feedback else []
     said, rows = [outcome.said for outcome in them.outcomes], list[Row]()
     has_marks = any(outcome.weight > 1 for outcome in them.outcomes)

@@ -129,6 +129,7 @@ def start(main: Callable[[list[str]], int]) -> None:
     except Exception as error:  # pylint: disable=broad-exception-caught
         silence()
         status = refuse(f'{MISTAKE}: {type(error).__name__}: {error} ({place_of(error)})')
+    gc.freeze()  # Python looks through all objects once more at its end, and nobody needs that
     sys.exit(status)
 
 

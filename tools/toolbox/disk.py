@@ -6,7 +6,6 @@ import contextlib
 import os
 import re
 import struct
-from dataclasses import replace
 from typing import Callable
 
 from toolbox.command import Sorry, read_bytes, write_bytes
@@ -81,7 +80,7 @@ def beside(found: Loaded, name: str, paths: tuple[str, ...] | None, ram: int) ->
     segment, offset = address_of('dos_beside')
     octets = bytes(found.image[BLOCK + at] for at in range(12))
     block = struct.pack('<2s2H', octets[:2], offset, segment) + octets[6:] + octets[2:6]
-    return replace(found, image=found.image | placed(BLOCK, block) | placed(16 * base, laid_out(read_all(paths or ()))))
+    return found._replace(image=found.image | placed(BLOCK, block) | placed(16 * base, laid_out(read_all(paths or ()))))
 
 
 def files_of(dump: Callable[[int, int], bytes], left: Served | None) -> dict[str, bytes]:

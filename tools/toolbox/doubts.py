@@ -2,8 +2,7 @@
 from __future__ import annotations
 
 import re
-from dataclasses import dataclass
-from typing import Iterator, Sequence
+from typing import Iterator, NamedTuple, Sequence
 
 from toolbox.listing import code_of, label_in
 
@@ -27,8 +26,7 @@ LOOKS = {
 NAMES = tuple(LOOKS)
 
 
-@dataclass(frozen=True)
-class Doubt:
+class Doubt(NamedTuple):
     """A warning: its name, its line and columns, from 0, and what the line does and what may be meant."""
 
     name: str

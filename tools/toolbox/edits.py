@@ -5,11 +5,10 @@ from __future__ import annotations
 import re
 from dataclasses import dataclass
 from toolbox.command import Sorry
-from toolbox.dap.board import FLAG_BITS
 from toolbox.dap.values import Expression, Value
 from toolbox.listing import Listing
 from toolbox.places import address_of, check_bracketed, is_address, said
-from toolbox.report import HALVES
+from toolbox.report import FLAGS, HALVES
 from toolbox.session_board import SessionBoard
 from toolbox.watches import value_size
 
@@ -38,12 +37,12 @@ def set_register(board: SessionBoard, name: str, number: int) -> None:
     """A register, a half of one or a flag gets a number."""
     registers, upper = board.registers(), name.upper()
     if upper in HALVES:
-        whole, shift = f'{upper[0]}X', 8 * (upper[1] == 'H')
+        whole, shift = HALVES[upper]
         number = registers[whole] & ~(0xFF << shift) | bytes_of(number, 1)[0] << shift
-    elif upper in FLAG_BITS:
+    elif upper in FLAGS:
         if number not in (0, 1):
             raise Sorry(f'{upper} is a flag: 0 or 1')
-        whole, number = 'FL', registers['FL'] & ~(1 << FLAG_BITS[upper]) | number << FLAG_BITS[upper]
+        whole, number = 'FL', registers['FL'] & ~(1 << FLAGS[upper]) | number << FLAGS[upper]
     else:
         whole = upper
     board.set_register(whole, int.from_bytes(bytes_of(number, 2), 'little'))
@@ -91,7 +90,7 @@ def assign(board: SessionBoard, listing: Listing, text: str) -> str:
 
 def target_of(board: SessionBoard, listing: Listing, text: str) -> Target:
     """What an expression names that can be set: a register, a half of one, a flag, or memory."""
-    if text.upper() in (*board.registers(), *HALVES, *FLAG_BITS):
+    if text.upper() in (*board.registers(), *HALVES, *FLAGS):
         return Target(register=text.upper())
     value = Expression(board, listing, text).value()
     if value.address is None or '[' not in text:

@@ -12,9 +12,7 @@ from zebludor import RANGES as FIELD_RANGES
 from toolbox import limits, program, reading
 from toolbox.command import handed_on, tool, waiting
 from toolbox.faults import Fault, fault_in
-from toolbox.hints import hint_of
 from toolbox.listing import image_of
-from toolbox.messages import TWICE_DEFINED, first_definition
 from toolbox.asking import how
 from toolbox.nowhere import told_of_run
 from toolbox.report import Report
@@ -44,6 +42,8 @@ def of_a_line(path: str, fault: Fault) -> list[str]:
     lines = lines_of(path)
     if not fault.line or not 1 <= fault.line <= len(lines):
         return []
+    from toolbox.hints import hint_of  # which takes long to load, and few runs need
+
     text = lines[fault.line - 1]
     sentences = [f'  {fault.line:5} | {seen(text)}']
     hint = hint_of(text, fault.number, lines) if fault.kind.of == 'source' else of_a_record(text, fault.number)
@@ -59,6 +59,8 @@ def seen(text: str) -> str:
 
 def earlier(lines: list[str], fault: Fault) -> list[str]:
     """The line that defines a name first, where it is defined twice."""
+    from toolbox.messages import TWICE_DEFINED, first_definition
+
     first = first_definition(lines, fault.line) if fault.line and fault.number == TWICE_DEFINED else None
     return [f'  {first:5} | {seen(lines[first - 1])}   <- and here first'] if first else []
 

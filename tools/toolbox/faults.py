@@ -2,13 +2,12 @@
 from __future__ import annotations
 
 import re
-from dataclasses import dataclass
+from typing import NamedTuple
 
 from toolbox.tables import tables
 
 
-@dataclass(frozen=True)
-class Kind:
+class Kind(NamedTuple):
     """A fault's name, whose it is, and what it means."""
 
     name: str
@@ -19,8 +18,7 @@ class Kind:
 KINDS: dict[int, Kind] = {int(number): Kind(**row) for number, row in tables('faults').items()}
 
 
-@dataclass(frozen=True)
-class Fault:
+class Fault(NamedTuple):
     """A fault that the program told."""
 
     number: int

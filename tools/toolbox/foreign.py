@@ -8,8 +8,7 @@ import os
 import re
 import sys
 import tempfile
-from dataclasses import dataclass
-from typing import Iterator
+from typing import Iterator, NamedTuple
 
 from toolbox import reading
 from toolbox.command import Sorry, Unreadable, read_bytes
@@ -26,8 +25,7 @@ AS_OWN = "taken as one of the board's own dialect"
 _told = set[str]()
 
 
-@dataclass(frozen=True)
-class Remark:
+class Remark(NamedTuple):
     """What is told of a line: the path of its text, its number and the line itself, and words."""
 
     path: str
@@ -54,8 +52,7 @@ class Refused(Sorry):
         self.remarks = remarks
 
 
-@dataclass(frozen=True)
-class Translation:
+class Translation(NamedTuple):
     """A source in the dialect: its lines, and the path and the number of the user's line that each of them is made of.
     `texts` has the lines of the user's texts by their paths, the source's first."""
 

@@ -8,7 +8,6 @@ from typing import Iterable, NamedTuple
 
 from zebludor import DEFAULTS, run_file
 
-from toolbox.loading import record
 from toolbox.program import ASKED, Files, ProbeSession
 
 Far = tuple[int, int]
@@ -122,6 +121,8 @@ def place_of(octets: bytes, paragraph: int) -> Far:
 
 def lines_of(some: list[bytes]) -> list[str]:
     """A line of `forms` for each of these bytes."""
+    from toolbox.loading import record  # loaded with all that makes programs ready, if something is asked
+
     records = [record(0, 2, ROM.to_bytes(2, 'big')), *(record(16 * at, 0, octets[:LONGEST]) for at, octets in enumerate(some)), record(0, 1, b'')]
     questions = ['forms %04X:%04X 1' % place_of(octets, paragraph) for paragraph, octets in enumerate(some, ROM)]
     with tempfile.TemporaryDirectory() as room:

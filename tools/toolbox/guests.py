@@ -6,23 +6,21 @@ import argparse
 import contextlib
 import os
 import re
-import subprocess
 import sys
 import tempfile
-from dataclasses import dataclass, replace
-from typing import TYPE_CHECKING, Any, Iterator
+from typing import TYPE_CHECKING, Any, Iterator, NamedTuple
 
 from toolbox import reading
 from toolbox.command import SYMBOLS, Sorry, handed_on, read_bytes, write_bytes
 from toolbox.listing import DIALECT
 from toolbox.program import LAST_CLOCK, Files, Refusal, answer_of, is_hex_name, limited
 from toolbox.runfile import DEFAULTS, read_run_file, text_of, with_run_file
-from toolbox.scancodes import BARE, Stroke, stamped
 from toolbox.services import MOST_RAM, TYPING, is_served
 from toolbox.shown import bounded
 
 if TYPE_CHECKING:
     from toolbox.loading import Loaded
+    from toolbox.scancodes import Stroke
 
 BINARIES = ('.com', '.exe', '.bin')
 COMPILERS = {'nasm': ('nasm', 'nasm'), 'bcc': ('bcc', 'bcc elks-libc')}  # the command, and Debian's packages
@@ -35,8 +33,7 @@ Fields = dict[str, Any]
 LONGEST = 1 << 20  # bytes of a program, which is all that the processor reaches
 
 
-@dataclass(frozen=True)
-class Guest:
+class Guest(NamedTuple):
     """A file as it was given, and how it is taken: the command's tail, as a source with services or by `--com`, the
     language that is said or seen, or without services; whether the look of a source has told that, and whether the
     program refuses it; the folder of what it includes, if that isn't its own; and the files on its disk: by None it
@@ -103,7 +100,7 @@ def guest_of(given: argparse.Namespace, file: str | None = None) -> Guest:
         raise Sorry(f'--bare goes without the words that a program with services has: {WORDS}')
     if said.is_one and is_hex and not given.bare:
         raise Sorry(f'--hex goes without --services and --com, and {name} is no Intel HEX')
-    found = looked_at(replace(said, is_bare=given.bare or not said.is_one and (is_hex or is_hex_name(name))))
+    found = looked_at(said._replace(is_bare=given.bare or not said.is_one and (is_hex or is_hex_name(name))))
     if is_wanting and not (found.is_one or found.is_refused):
         goes = '--args goes' if given.args is not None else '--file and --files-out go'
         raise Sorry(f'{goes} with a .COM or .EXE program, or a source that calls INT 10h, 16h, 20h or 21h')
@@ -134,11 +131,11 @@ def looked_at(guest: Guest) -> Guest:
     if guest.is_bare or not guest.is_source:
         return guest
     if guest.language != OWN and is_masm(guest.file):
-        return replace(guest, language='masm', is_seen=True)
+        return guest._replace(language='masm', is_seen=True)
     if guest.is_served:
         return guest
     look = is_served(guest.file)
-    return replace(guest, is_served=bool(look), is_seen=bool(look), is_refused=look is None)
+    return guest._replace(is_served=bool(look), is_seen=bool(look), is_refused=look is None)
 
 
 def said_of(guest: Guest, file: str, without: str = '--bare', otherwise: str = '--nasm or --dialect') -> str:
@@ -181,7 +178,7 @@ def translated(guest: Guest, ram: int, room: str) -> Loaded:
         refused = next(translation.refused(), None)
         raise (foreign.Refused([refused]) if refused else Sorry(str(sorry).replace(path, guest.file))) from None
     count = len(translation.lines)
-    return replace(found, rows=translation.rows(found.rows[:count]) + found.rows[count:])
+    return found._replace(rows=translation.rows(found.rows[:count]) + found.rows[count:])
 
 
 def of_bytes(guest: Guest, octets: bytes, ram: int, kind: str) -> Loaded:
@@ -213,6 +210,7 @@ def compiled(guest: Guest, room: str) -> str:
         'bcc': ['-Md', '-C-t', '-A-l', f'-A{made}.lst', '-M', f'-I{folder}', '-o', f'{made}.com', guest.file],
     }[guest.language]
     import shutil  # and below symbols: what takes long to load, and few programs need
+    import subprocess
 
     install = f'install it (Debian: apt-get install {package})'
     if not shutil.which(command):
@@ -243,12 +241,30 @@ def with_lines(guest: Guest, found: Loaded, made: str) -> Loaded:
         lines = symbols_of(symbols, found.image)
     except Sorry:
         return found
-    return replace(found, rows=[*foreign.rows_of(guest.file, lines), *found.rows[1:]])
+    return found._replace(rows=[*foreign.rows_of(guest.file, lines), *found.rows[1:]])
 
 
 def typed(guest: Guest, strokes: list[Stroke] | None) -> Fields:
     """The field of the keys that are typed, if any are. To a program with services they come later and more slowly."""
-    return {} if strokes is None else {'keys': stamped(strokes, *(TYPING if guest.is_one else BARE))}
+    if strokes is None:
+        return {}
+    from toolbox.scancodes import BARE, stamped
+
+    return {'keys': stamped(strokes, *(TYPING if guest.is_one else BARE))}
+
+
+def typed_text(guest: Guest, text: str, is_plain: bool) -> Fields:
+    """The same of a text, without shift if it is to be plain."""
+    from toolbox.scancodes import strokes_of
+
+    return typed(guest, strokes_of(text, is_plain))
+
+
+def untranslated() -> type[Sorry]:
+    """What is raised for a source of MASM that isn't translated. An `except` clause asks for it only once something is raised."""
+    from toolbox import foreign
+
+    return foreign.Refused
 
 
 def fields_for(guest: Guest, run_file: str | None, more: Fields | None = None, usual: Fields | None = None) -> Fields:
@@ -302,7 +318,7 @@ def with_own_lines(files: Files) -> Iterator[Files]:
     """The files themselves, or what is made of a source of MASM by its look; nothing is told of that."""
     guest = looked_at(Guest(files.file, is_bare=files.is_hex or bool(files.symbols)))
     with tempfile.TemporaryDirectory(prefix='zebludor-') as room:
-        yield (made_with(guest, fields_for(guest, None), room) if guest.language else None) or files
+        yield (made_with(guest, room) if guest.language else None) or files
 
 
 def tell_of(guest: Guest) -> None:
@@ -320,20 +336,19 @@ def prepared(guest: Guest, files: Files, more: Fields | None = None) -> Iterator
     """The files that a tool runs: `files` themselves, or what is made of them where they need the services; then `more` has fields
     that stand before RUN's. RUN may be missing (empty). A source that the program refuses stays what it is."""
     with tempfile.TemporaryDirectory(prefix='zebludor-') as room:
-        made = made_with(guest, fields_for(guest, files.run_file or None, more), room) if guest.is_one else None
+        made = made_with(guest, room, files.run_file, more) if guest.is_one else None
         if made:
             tell_of(guest)
-            yield replace(made, symbols=files.symbols, source=None) if files.symbols else made
+            yield made._replace(symbols=files.symbols, source=None) if files.symbols else made
             return
         with with_run_file(files) as found:
             yield found
 
 
-def made_with(guest: Guest, fields: Fields, room: str) -> Files | None:
-    """What is made in a folder of a program with services, or None of a source that the program refuses, as it then does by itself."""
-    from toolbox.loading import check_ram
-
-    check_ram(fields['ram'], guest.file)
+def made_with(guest: Guest, room: str, run_file: str | None = None, more: Fields | None = None) -> Files | None:
+    """What is made in a folder of a program with services, by RUN's fields and those that stand before them, or None of a source that the
+    program refuses, as it then does by itself."""
+    fields = fields_for(guest, run_file, more)
     try:
         return written(guest, fields, room)
     except Refusal:

@@ -48,7 +48,7 @@ def with_source(found: Listing, path: str, source: str | None = None) -> Listing
     """A listing with the file that its lines are of: the source that is told, else one beside it."""
     source = source or source_beside(path, found.lines)
     lines = filled([one._replace(source=source) for one in found.lines])
-    return replace(found, lines=lines, at={where: one._replace(source=source) for where, one in found.at.items()}, files={source: lines})
+    return found._replace(lines=lines, at={where: one._replace(source=source) for where, one in found.at.items()}, files={source: lines})
 
 
 def of_places(rows: list[str], found: Listing) -> Listing:
@@ -94,7 +94,7 @@ def with_modules(found: Listing, path: str, rows: list[str]) -> Listing:
     for label, address in (one.groups() for one in map(OF_ANY.match, rows) if one):
         places.setdefault(label, set()).add(address)
     sure = {label: found.labels[label] for label, them in places.items() if len(them) == 1 and label in found.labels}
-    return replace(found, modules=at, files=own, read_data=lambda: variables_of(listings, sure))
+    return found._replace(modules=at, files=own, read_data=lambda: variables_of(listings, sure))
 
 
 def variables_of(listings: dict[str, list[Row]], places: dict[str, tuple[int, int]]) -> list[Datum]:

@@ -5,7 +5,7 @@ import contextlib
 import hashlib
 from typing import Iterator
 
-from toolbox import foreign, guests
+from toolbox import guests
 from toolbox.command import Unreadable, read_bytes
 from toolbox.expectations import Outcome, Planned, Subject
 from toolbox.faults import fault_in
@@ -88,6 +88,8 @@ def sum_of(guest: Guest, is_hex: bool) -> str:
 def image_text(guest: Guest) -> str | None:
     """The Intel HEX of a source, empty if it is refused; None of what is no source, or another compiler's."""
     if guest.language == 'masm':
+        from toolbox import foreign
+
         try:
             return given_text(['asm'], foreign.translation_of(guest.file).text).out
         except foreign.Refused:

@@ -3,9 +3,8 @@ from __future__ import annotations
 
 import os
 import re
-from dataclasses import dataclass, field, replace
 from functools import cached_property
-from typing import TYPE_CHECKING, Callable, Iterable, Iterator, NamedTuple
+from typing import TYPE_CHECKING, Any, Callable, Iterable, Iterator, NamedTuple
 
 from toolbox.command import Sorry, handed_on, read_bytes, read_text
 from toolbox.program import Files, answer_of, given_text
@@ -42,22 +41,29 @@ class Line(NamedTuple):
         return self.dialect or self.text
 
 
-@dataclass(frozen=True)
-class Listing:
+class Parts(NamedTuple):
     """A source's lines, by physical address too, and its labels. Intel HEX has parts of memory that it fills, by where they begin.
     It has lines if its symbols' file is a listing, and by a map with listings beside it those of several files, in `modules`."""
 
-    lines: list[Line] = field(default_factory=list)
-    at: dict[int, Line] = field(default_factory=dict)
-    labels: dict[str, tuple[int, int]] = field(default_factory=dict)
-    parts: dict[int, bytes] = field(default_factory=dict)
-    reserved: set[str] = field(default_factory=set)  # labels of data, by a symbols' file that tells them from those of code
-    absent: set[str] = field(default_factory=set)  # labels of sections without bytes, of which nothing says where they stand
-    files: dict[str, list[Line]] = field(default_factory=dict)  # of Intel HEX the lines of each file, from its first on
-    modules: dict[int, Line] = field(default_factory=dict)  # of several files those that place bytes, by physical address
-    rows: list[Line] = field(default_factory=list)  # of a source of MASM what becomes of it, in the order of the dialect's lines
+    lines: list[Line]
+    at: dict[int, Line]
+    labels: dict[str, tuple[int, int]]
+    parts: dict[int, bytes]
+    reserved: set[str]  # labels of data, by a symbols' file that tells them from those of code
+    absent: set[str]  # labels of sections without bytes, of which nothing says where they stand
+    files: dict[str, list[Line]]  # of Intel HEX the lines of each file, from its first on
+    modules: dict[int, Line]  # of several files those that place bytes, by physical address
+    rows: list[Line]  # of a source of MASM what becomes of it, in the order of the dialect's lines
     read_data: Callable[[], list[Datum]] = list
     read_constants: Callable[[], dict[str, int]] = dict
+
+
+class Listing(Parts):
+    """A listing, of which nothing is known but what is said."""
+
+    def __new__(cls, *said: Any, **named: Any) -> Listing:
+        empty = dict(lines=[], at={}, labels={}, parts={}, reserved=set(), absent=set(), files={}, modules={}, rows=[])
+        return super().__new__(cls, **empty | dict(zip(Parts._fields, said)) | named)
 
     @cached_property
     def data(self) -> list[Datum]:
@@ -211,7 +217,7 @@ def listing_of(files: Files) -> Listing:
         from toolbox.symbols import symbols_of  # which stands on this module
 
         image = image_of(read_text(files.file))
-        return replace(symbols_of(files.symbols, image, files.source) if files.symbols else Listing(), parts=parts_of(image))
+        return (symbols_of(files.symbols, image, files.source) if files.symbols else Listing())._replace(parts=parts_of(image))
     if files.symbols:
         raise Sorry(f'{files.file} is a source, which has its own labels; --symbols goes with --hex')
     rows = answer_of(['asm', '--list', '--', handed_on(files.file)]).split('\n')[:-1]
@@ -223,7 +229,7 @@ def listing_of(files: Files) -> Listing:
     names = [name for name in map(label_in, (each.text for each in lines if ':' in each.text)) if name]
     if names:
         found.labels.update(probed(read_bytes(files.file).decode('utf-8', 'surrogateescape'), names))
-    return replace(found, read_data=lambda: data_of_source(files, found), read_constants=lambda: constants_of_source(found))
+    return found._replace(read_data=lambda: data_of_source(files, found), read_constants=lambda: constants_of_source(found))
 
 
 def data_of_source(files: Files, listing: Listing) -> list[Datum]:
@@ -242,4 +248,4 @@ def constants_of_source(listing: Listing) -> dict[str, int]:
 
 def labels_alone(listing: Listing) -> Listing:
     """A listing of Intel HEX without the lines of its symbols' files."""
-    return replace(listing, lines=[], at={}, files={}, modules={})
+    return listing._replace(lines=[], at={}, files={}, modules={})

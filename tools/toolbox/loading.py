@@ -4,7 +4,7 @@ from __future__ import annotations
 
 import os
 import struct
-from dataclasses import dataclass
+from typing import NamedTuple
 
 from toolbox import services
 from toolbox.command import Sorry, handed_on, tool
@@ -22,8 +22,7 @@ HEADER = struct.Struct('<14H')
 SERVICES_OWN = SPAN // 16  # paragraphs of RAM at its end
 
 
-@dataclass
-class Loaded:
+class Loaded(NamedTuple):
     """A program in memory: its bytes by address, the services before it, the rows of a file of symbols, and the paragraph up to which
     it wants memory."""
 
@@ -228,11 +227,10 @@ def place_of(name: str, image: dict[int, int], start: tuple[int, int], ram: int)
     return psp
 
 
-def check_ram(ram: object, where: str) -> int:
-    """A run file's RAM, if it is enough."""
+def check_ram(ram: object, where: str) -> None:
+    """Refuses RAM of a run file with which the services don't run."""
     if not isinstance(ram, int) or not LEAST_RAM <= ram <= MOST_RAM:
         raise Sorry(f'{where}: the services want {LEAST_RAM} to {MOST_RAM} KB of RAM: "ram":{MOST_RAM}')
-    return ram
 
 
 def hex_of(image: dict[int, int]) -> str:

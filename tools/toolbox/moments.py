@@ -17,7 +17,7 @@ import tempfile
 import threading
 import time
 from bisect import bisect_right
-from dataclasses import dataclass, field, replace
+from dataclasses import dataclass, field
 from typing import Any, Iterator, Sequence
 
 from toolbox.command import PYTHON, Sorry, read_text, tool, write_text
@@ -276,7 +276,7 @@ def lines_at(plan: Plan, moments: list[int], failed: dict[int, Failure]) -> dict
         groups.setdefault((failed[moment].run, *plan.values(moment)[:-1]), []).append(moment)
     with tempfile.TemporaryDirectory() as room:
         for (number, *_), group in groups.items():
-            files = replace(plan.files_of(group[0], room), run_file=f'{room}/run.json')
+            files = plan.files_of(group[0], room)._replace(run_file=f'{room}/run.json')
             write_run(plan, plan.runs[number], files.run_file, group[-1])
             with ProbeSession(files) as session:
                 for moment, last in zip(group, session.latest_at([plan.stamps(each)[-1] for each in group])):
@@ -301,7 +301,7 @@ def last_line(listing: Listing, last: bytes) -> str:
 def without_keys(plan: Plan) -> Failure | None:
     """What isn't met without the keys already."""
     with tempfile.TemporaryDirectory() as room:
-        return failure_of(plan, replace(plan.files, run_file=f'{room}/run.json'), None) if plan.asked.page else None
+        return failure_of(plan, plan.files._replace(run_file=f'{room}/run.json'), None) if plan.asked.page else None
 
 
 def work(plan: Plan, room: str) -> int:
@@ -310,7 +310,7 @@ def work(plan: Plan, room: str) -> int:
     for line in sys.stdin:
         for moment in json.loads(line):
             try:
-                files = replace(plan.files_of(moment, room), run_file=f'{room}/{os.getpid()}.json')
+                files = plan.files_of(moment, room)._replace(run_file=f'{room}/{os.getpid()}.json')
                 found = clocks_of(plan, files, moment, place) if place else failure_of(plan, files, moment)
                 answer: Any = [found.run, found.said, found.but] if isinstance(found, Failure) else found
             except Sorry as sorry:

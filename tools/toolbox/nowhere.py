@@ -8,13 +8,10 @@ from functools import partial
 from itertools import takewhile
 from typing import Any, Iterator
 
-from toolbox import disk
-from toolbox.asked_calls import doubtful
 from toolbox.asking import Raw, Told
 from toolbox.chips import Chips, ends_before, of_chips
 from toolbox.command import Sorry, tool
 from toolbox.doubts import doubts
-from toolbox.following import writer_in
 from toolbox.forms import CALLING, ends_of, ends_with_call, form_of, learn
 from toolbox.later import later
 from toolbox.listing import Line, Listing, code_of, listing_of, physical
@@ -74,7 +71,7 @@ def told_of_run(report: Report, files: Files, listing: Listing | None = None, re
             return [Told(text)]
         was_at_zero = go_to_end(session, report)
         ram_end = ram_end_of(files)
-        served = left_at(session, ram_end)
+        served = left_at(session.dump, ram_end)
         trail = [event_of(line) for line in session.answers(['trail'])]
         is_ended = bool(served and served.phase == 2)
         run = Run(report, files, session, free, listing or listing_of(files), trail, ram_end, mark_of(ram_end) if served else 0, is_ended)
@@ -96,8 +93,12 @@ def by_line(run: Run, place: tuple[int, int]) -> str:
 
 def of_calls(run: Run) -> list[Told]:
     """Calls that ask for what isn't there, each by the first time that its place made it."""
+    if not run.mark:
+        return []
+    from toolbox.asked_calls import doubtful  # and below following, which few runs need
+
     found = dict[str, list[Told]]()
-    for call in doubtful(run.files, run.end) if run.mark else ():
+    for call in doubtful(run.files, run.end):
         remark = call.says.replace('{place}', by_line(run, call.place))
         if remark not in found and not (call.file and is_on_disk(run, call.file)):
             found[remark] = run.tell('asked for', at=call.clock, remark=remark, address=call.address, count=call.count, **call.registers)
@@ -106,8 +107,10 @@ def of_calls(run: Run) -> list[Told]:
 
 def is_on_disk(run: Run, path: str) -> bool:
     """Whether a program's disk has a file at the run's end. One that was written over has none."""
+    from toolbox import disk  # which few programs use
+
     with contextlib.suppress(Sorry):
-        return re.sub(r'^(.:)?[\\/]?', '', path.upper()) in disk.files_of(run.session.dump, left_at(run.session, run.ram_end))
+        return re.sub(r'^(.:)?[\\/]?', '', path.upper()) in disk.files_of(run.session.dump, left_at(run.session.dump, run.ram_end))
     return False
 
 
@@ -150,6 +153,8 @@ def text_of(event: Event) -> str:
 
 def last_change(run: Run, condition: str, before: int | None = None) -> Event | None:
     """What wrote where a stop on writes or changes was met last, at the run's end or before a clock."""
+    from toolbox.following import writer_in
+
     with ProbeSession(run.files) as session:
         session.go_to(run.report.clock if before is None else before)
         session.stop(condition)
@@ -428,7 +433,7 @@ def of_a_loop(run: Run) -> list[Told]:
     """Whether the same few instructions come in turn, of which one jumps by a condition, and what leads out of them."""
     period = period_of(run.trail) if run.report.state == 'running' else 0
     turn = sorted(run.trail[-period:], key=lambda event: (event.segment, event.offset)) if period else []
-    if not any(map(is_conditional, turn)):
+    if 'branch' not in map(done_by, turn):
         return []
     values = {'count': period, 'rows': '\n'.join(f'  {run.place(event)}' for event in turn)}
     first, last = run.trail[-period - 1].clock, run.trail[-1].clock
@@ -450,8 +455,9 @@ def is_left(run: Run, turn: list[Event], is_of_ports: bool) -> bool:
     clock, places = run.report.clock, {(event.segment, event.offset) for event in turn}
     if clock + A_SECOND > LAST_CLOCK:
         return False
-    ways = {(event.segment, (event.offset + len(event.octets)) % 0x10000) for event in turn if is_conditional(event)}
-    ways |= {way for event in turn if is_conditional(event) for way in [target_of(event)] if way}
+    branches = [event for event in turn if done_by(event) == 'branch']
+    ways = {(event.segment, (event.offset + len(event.octets)) % 0x10000) for event in branches}
+    ways |= {way for way in map(target_of, branches) if way}
     with ProbeSession(run.files) as session:
         session.go_to(clock)
         for command in (
@@ -472,11 +478,6 @@ def is_left(run: Run, turn: list[Event], is_of_ports: bool) -> bool:
 def target_of(event: Event) -> tuple[int, int] | None:
     """The place that a jump or call has in its own bytes, if it is one."""
     return form_of(event.octets).target((event.segment, event.offset))
-
-
-def is_conditional(event: Event) -> bool:
-    """Whether an instruction jumps by a condition."""
-    return done_by(event) == 'branch'
 
 
 def of_a_round(run: Run, period: int) -> str | None:

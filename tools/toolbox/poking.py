@@ -2,7 +2,7 @@
 from __future__ import annotations
 
 import re
-from dataclasses import dataclass, replace
+from dataclasses import dataclass
 
 from toolbox.command import Sorry, write_text
 from toolbox.listing import image_of, listing_of
@@ -21,7 +21,7 @@ class Count:
     def poked(self, files: Files, text: str, value: int, path: str) -> Files:
         """The files with a copy at this path that loads a value."""
         write_text(path, self._in_hex(files, text, value) if files.is_hex else self._in_source(files, text, value))
-        return replace(files, file=path)
+        return files._replace(file=path)
 
     def _in_source(self, files: Files, text: str, value: int) -> str:
         """A source in which the constant is another."""

@@ -1,20 +1,20 @@
-"""The program itself: where it stands, runs of it, and sessions of `debug` on a pipe."""
+"""The program itself: where it stands, runs of it, and sessions. zebludor.py chooses whether a process answers or the library."""
 from __future__ import annotations
 
 import contextlib
 import re
-import select
 import signal
-import subprocess
 import threading
-from dataclasses import dataclass, replace
-from typing import Any, Iterator, NoReturn
+from typing import TYPE_CHECKING, Any, Iterator, NamedTuple, NoReturn
 
 import zebludor
-from zebludor import LAST_CLOCK, TOP, Ran, Unfit, is_hex_name, limit_memory, limited
+from zebludor import LAST_CLOCK, TOP, Ran, Unfit, apart, is_hex_name, limit_memory, limited
 
 from toolbox.command import UNREADABLE_STATUS, Sorry, Unreadable, handed_on, read_bytes, tool, write_bytes
 from toolbox.threads import is_alone
+
+if TYPE_CHECKING:
+    import subprocess
 
 __all__ = [
     'BEFORE_START',
@@ -26,6 +26,7 @@ __all__ = [
     'Refusal',
     'Session',
     'answer_of',
+    'apart',
     'copied',
     'given_text',
     'is_hex_name',
@@ -35,6 +36,8 @@ __all__ = [
     'refusal',
     'refused',
     'run',
+    'uninterrupted',
+    'want',
 ]
 MOST_READ = 1 << 26  # bytes of an answer
 ASKED = 200  # questions that are asked at once: their answers fit in the pipe
@@ -51,13 +54,20 @@ def path(name: str = 'pcboard') -> str:
         raise Sorry(str(unfit)) from None
 
 
+def want() -> None:
+    """Refuses if there is neither a program nor the library."""
+    if not zebludor.library():
+        path()
+
+
 def run(words: list[str], given: bytes = b'', name: str = 'pcboard') -> Ran:
     """Runs a program to its end."""
-    path(name)
     try:
         return zebludor.ran(words, given, MOST_READ, name)
-    except Unfit as unfit:
+    except zebludor.TooLong as unfit:
         raise Sorry(f'{unfit}; the speaker changes often there, so a smaller budget has less') from None
+    except Unfit as unfit:
+        raise Sorry(str(unfit)) from None
 
 
 def given_text(words: list[str], text: str) -> Ran:
@@ -65,8 +75,7 @@ def given_text(words: list[str], text: str) -> Ran:
     return run([*words, '--', '/dev/stdin'], text.encode('utf-8', 'surrogateescape'))
 
 
-@dataclass(frozen=True)
-class Files:
+class Files(NamedTuple):
     """What a board is built from: a source or Intel HEX, and a run file; and of Intel HEX the file that tells its symbols, and the source
     that it was made of, if its lines are told."""
 
@@ -84,7 +93,7 @@ class Files:
 
 def copied(files: Files, room: str) -> Files:
     """Copies of the files in a folder: a session that is begun anew is of the same program, whatever is edited meanwhile."""
-    made = replace(files, file=f'{room}/file', run_file=f'{room}/run')
+    made = files._replace(file=f'{room}/file', run_file=f'{room}/run')
     for path, to in ((files.file, made.file), (files.run_file, made.run_file)):
         write_bytes(to, read_bytes(path))
     return made
@@ -125,7 +134,10 @@ class Session(zebludor.Dialogue):
     name, task = 'pcboard', ['debug']
 
     def __init__(self, files: Files) -> None:
-        super().__init__([*self.task, *files.words('')[1:]], path(self.name))
+        try:
+            super().__init__([*self.task, *files.words('')[1:]], self.name)
+        except Unfit as unfit:
+            raise Sorry(str(unfit)) from None
 
     def started(self, words: list[str], **how: Any) -> subprocess.Popen[bytes]:
         """Its process. One that a thread starts, as the desk's do, ends with this one, however that ends."""
@@ -147,7 +159,7 @@ class Session(zebludor.Dialogue):
 
     def is_answered(self, seconds: float | None) -> bool:
         """Whether the answer, or the end, of what was begun comes within so many seconds, or without a limit."""
-        return bool(select.select([self._out], [], [], seconds)[0])
+        return self.way.is_answered(seconds)
 
     def stop(self, condition: str) -> str:
         """Adds a stop, and returns its answer; a refusal as a sentence."""
@@ -220,18 +232,27 @@ class ProbeSession(Session):
     def answered(self, commands: list[str]) -> bytes:
         """What commands are answered; a refusal as a sentence. An interrupt comes before or after the question, or while the answer is
         waited for; then that one is passed when another is asked for."""
+        if self.way.is_within:
+            self._send('\n'.join(commands))
+            self.is_idle = True
+            return self._unfaulty(self.way.out.read())
         with uninterrupted():
             self._owed += 1
             self._send('\n'.join([*commands, ENDING, '']))
         while not (self._heard.endswith(ENDED) and self._heard.count(ENDED) == self._owed):
             self.is_answered(None)
             with uninterrupted():
-                piece = self._out.read1(1 << 16)  # type: ignore[attr-defined]
+                piece = self.way.out.read1(1 << 16)  # type: ignore[attr-defined]
                 self._heard += piece
             if not piece:
                 self._ended()
         octets = bytes(self._heard).split(ENDED)[self._owed - 1]
         self._owed, self._heard, self.is_idle = 0, bytearray(), True
+        return self._unfaulty(octets)
+
+    @staticmethod
+    def _unfaulty(octets: bytes) -> bytes:
+        """Answers without a refusal."""
         if octets.startswith(b'fault') or b'\nfault' in octets:
             raise Sorry(f'pcprobe refuses: {octets[octets.index(b"fault") :].splitlines()[0].decode("ascii")}')
         return octets

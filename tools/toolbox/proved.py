@@ -20,7 +20,7 @@ LIBRARY, LIBRARY_FILES = 'zebludor_program', {'zebludor.wasm': 'wasm', 'libzeblu
 STORED = f'{TOP}/stored'
 REMEMBERED = f'{CACHE}/zebludor/verdicts'
 VERDICT = 'logic=proved '
-TEXT = re.compile(r'kit (\S+)\nlogic (\S+)\n((?:made \S+ \S+ sources \S+\n)*)((?:target .*\n(?:trusted .*\n)*)*)((?:\w+: .*\n)*)(?:changed \S+ \S+\n)*')
+TEXT = re.compile(r'kit (\S+)\nlogic (\S+)\n((?:made \S+ \S+ sources \S+\n)*)((?:target .*\n(?:trusted .*\n)*)*)((?:\w+: .*\n)*)((?:changed \S+ \S+\n)*)')
 
 
 @dataclass(frozen=True)
@@ -42,11 +42,12 @@ class Proved:
     made: dict[str, Made]
     verdicts: dict[str, str]
     target: str = ''
+    changed: str = ''  # the lines in which a package tells that it has changed a file, as strip does
 
     def text(self) -> str:
         made = ''.join(f'made {name} {file.sum} sources {file.sources}\n' for name, file in self.made.items())
         verdicts = ''.join(f'{name}: {verdict}\n' for name, verdict in sorted(self.verdicts.items()))
-        return f'kit {self.kit}\nlogic {self.logic}\n{made}{self.target}{verdicts}'
+        return f'kit {self.kit}\nlogic {self.logic}\n{made}{self.target}{verdicts}{self.changed}'
 
     def of(self, path: str) -> Made | None:
         """What it tells of this file; None where that is nothing, or of other bytes."""
@@ -66,7 +67,7 @@ def read(folder: str) -> Proved | None:
     made = (line.split() for line in parts[3].splitlines())
     verdicts = (line.partition(': ') for line in parts[5].splitlines())
     files_made = {name: Made(its_sum, sources) for _, name, its_sum, _, sources in made}
-    return Proved(parts[1], parts[2], files_made, {name: line for name, _, line in verdicts}, parts[4])
+    return Proved(parts[1], parts[2], files_made, {name: line for name, _, line in verdicts}, parts[4], parts[6])
 
 
 def out(name: str) -> str:

@@ -1,15 +1,14 @@
 """The report, as python/zebludor.py reads it, and what isn't one told as the tools tell it."""
 from __future__ import annotations
 
-from zebludor import COLUMNS, FLAGS, REGISTERS, ROWS, Fault, Report, Unfit, read_report, registers_of
+from zebludor import COLUMNS, FLAGS, HALVES, REGISTERS, ROWS, Fault, Report, Unfit, read_report, registers_of
 
 from toolbox.command import Sorry, tool
 
-__all__ = ['A_SECOND', 'COLUMNS', 'HALVES', 'HERTZ', 'NANOSECONDS', 'REGISTERS', 'ROWS', 'Report', 'registers_of', 'report_of', 'value_in']
+__all__ = ['A_SECOND', 'COLUMNS', 'FLAGS', 'HALVES', 'HERTZ', 'NANOSECONDS', 'REGISTERS', 'ROWS', 'Report', 'registers_of', 'report_of', 'value_in']
 # The real board's clock is a third of 14.318180 MHz.
 HERTZ = 14318180 / 3
 NANOSECONDS, A_SECOND = 210, 4_772_727  # of a clock, and in clocks
-HALVES = [letter + half for letter in 'ABCD' for half in 'LH']
 
 
 def report_of(text: str, name: str = 'standard input') -> Report:
@@ -27,5 +26,6 @@ def value_in(registers: dict[str, int], name: str) -> int:
     if name in FLAGS:
         return registers['FL'] >> FLAGS[name] & 1
     if name in HALVES:
-        return registers[name[0] + 'X'] >> (8 if name[1] == 'H' else 0) & 0xFF
+        whole, shift = HALVES[name]
+        return registers[whole] >> shift & 0xFF
     return registers[name]

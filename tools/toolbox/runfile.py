@@ -6,7 +6,6 @@ import contextlib
 import json
 import os
 import tempfile
-from dataclasses import replace
 from typing import Any, ContextManager, Iterator
 
 from zebludor import CHOICES, DEFAULTS, FIRST_CHOICES, run_file as text_of
@@ -48,7 +47,7 @@ def with_fields(files: Files, fields: dict[str, Any]) -> Iterator[Files]:
         path = os.path.join(room, 'run.json')
         with open(path, 'w', encoding='utf-8') as file:
             file.write(text_of(fields))
-        yield replace(files, run_file=path)
+        yield files._replace(run_file=path)
 
 
 def with_run_file(files: Files) -> ContextManager[Files]:

@@ -2,7 +2,7 @@
 from __future__ import annotations
 
 import re
-from dataclasses import dataclass
+from typing import NamedTuple
 
 from toolbox.command import Sorry
 
@@ -47,8 +47,7 @@ SIGNS |= {sign: (row + place, True) for row, _, shifted in ROWS for place, sign 
 SIGNS |= {' ': (0x39, False), '\n': (0x1C, False), '\t': (0x0F, False)}
 
 
-@dataclass(frozen=True)
-class Stroke:
+class Stroke(NamedTuple):
     """Keys that go down in their order and come up in the contrary one; or a pause of so many clocks."""
 
     codes: tuple[int, ...] = ()

@@ -38,9 +38,8 @@ def digest(text: str) -> str:
     return hashlib.sha256(octets_of(text)).hexdigest()
 
 
-def board() -> dict[str, Any]:
-    """The board that answers here: its version and the SHA-256 of the program, and what PROVED tells of it, if that is its sum."""
-    path = program.path()
+def board(path: str) -> dict[str, Any]:
+    """The board that answers here: its version and the SHA-256 of the program or library, and what PROVED tells of it, if that is its sum."""
     its_sum = sum_of(path)
     found: dict[str, Any] = {'version': zebludor.__version__, 'sum': its_sum}
     for folder in (os.path.dirname(path), proved.STORED):
@@ -55,8 +54,12 @@ def seal(files: Files, path: str, name: str) -> list[str]:
     """Runs a program, and writes its seal where no file is; returns what to print."""
     if os.path.lexists(path):
         raise Sorry(f'{path} is there already')
-    texts = dict(zip(TEXTS, (read_exactly(files.file), read_exactly(files.run_file), program.answer_of(files.words('run')))))
-    sealed = {'kind': KIND, 'name': os.path.basename(name), 'hex': files.is_hex, 'board': board()}
+    words = files.words('run')
+    ran = program.run(words)
+    if ran.status:
+        raise program.refused(words, ran)
+    texts = dict(zip(TEXTS, (read_exactly(files.file), read_exactly(files.run_file), ran.out)))
+    sealed = {'kind': KIND, 'name': os.path.basename(name), 'hex': files.is_hex, 'board': board(ran.by)}
     sealed |= {'sums': {each: digest(text) for each, text in texts.items()}, 'texts': texts}
     octets = (json.dumps(sealed, indent=1) + '\n').encode()
     if len(octets) > LONGEST_REPORT:
@@ -106,7 +109,7 @@ def outcomes(path: str) -> tuple[list[Outcome], list[str]]:
     if fault and fault.kind.name == 'Memory':
         raise Sorry('\n'.join([answer, *limits.of_memory()]))
     found.append(Outcome('the report is what this board answers, to the byte', differing(sealed['texts']['report'], answer)))
-    of_board = of_verdicts(sealed['board'])
+    of_board = of_verdicts(sealed['board'], board(ran.by))
     return (found, [of_board]) if isinstance(of_board, str) else ([*found, of_board], [])
 
 
@@ -120,9 +123,8 @@ def differing(sealed: str, answer: str) -> str | None:
     return f'line {at + 1}: sealed {shown[0]!r}, here {shown[1]!r}'
 
 
-def of_verdicts(sealed: dict[str, Any]) -> Outcome | str:
+def of_verdicts(sealed: dict[str, Any], here: dict[str, Any]) -> Outcome | str:
     """Whether what was proved of the board here is as sealed; or a note that it is another board."""
-    here = board()
     if sealed['sum'] != here['sum']:
         return f'another program answers here: {here["sum"]}, and sealed it was {sealed["sum"]}'
     what = [each for each in ('version', 'kit', 'logic', 'sources', 'verdicts') if sealed.get(each) != here.get(each)]

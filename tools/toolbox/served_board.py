@@ -25,7 +25,7 @@ class ServedBoard(SessionBoard):
 
     def left(self) -> Served | None:
         """What the services have left here, or None."""
-        return left_at(self, self.ram_end) if self.ram_end else None
+        return left_at(self.dump, self.ram_end) if self.ram_end else None
 
     def ending(self) -> str:
         """How the program has ended, in words, or nothing."""

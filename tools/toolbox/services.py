@@ -6,17 +6,13 @@ import contextlib
 import functools
 import re
 import struct
-from dataclasses import dataclass
-from typing import TYPE_CHECKING, Callable, Iterator, NamedTuple
+from typing import Callable, Iterator, NamedTuple
 
 from toolbox import reading
 from toolbox.command import Sorry
 from toolbox.listing import image_of, line_of, placed_labels
 from toolbox.program import TOP, Files, Session, answer_of, run
 from toolbox.runfile import read_run_file
-
-if TYPE_CHECKING:
-    from toolbox.walk import Talker
 
 LEAST_RAM, MOST_RAM, SPAN = 144, 640, 0x10000
 KEPT = 0xFC00  # so many bytes of what was written; behind them stands the rest
@@ -124,8 +120,7 @@ class Call(NamedTuple):
         return f'{place} ({self.times:,} times)' if self.times > 1 else place
 
 
-@dataclass(frozen=True)
-class Served:
+class Served(NamedTuple):
     """What the services left at a clock: whether the program runs (phase 1) or has ended (2), how, with which exit code
     and when; how many bytes it wrote, and those that were kept; how many calls weren't served, and the first 24 of
     other places or functions; how many keys found the buffer full; the paragraph of the disk of files, or 0."""
@@ -187,7 +182,7 @@ def at_the_end(files: Files, clock: int) -> Iterator[tuple[Session, Served | Non
         ended = session.clock if session.go(clock).startswith('stop') else None
         if ended is not None:
             session.go(min(CLOCKS_OF_AN_END, clock - ended))
-        yield session, left_at(session, ram_end_of(files), ended)
+        yield session, left_at(session.dump, ram_end_of(files), ended)
 
 
 def ram_end_of(files: Files) -> int:
@@ -201,18 +196,17 @@ def mark_of(ram_end: int) -> int:
     return ram_end - SPAN + KEPT + 2
 
 
-def left_at(session: Talker, ram_end: int, ended: int | None = None) -> Served | None:
-    """What the services left where a session stands, of a program that ended at a clock, or None where they aren't in ROM, or haven't
-    begun."""
+def left_at(dump: Callable[[int, int], bytes], ram_end: int, ended: int | None = None) -> Served | None:
+    """What the services left in a board's memory, of a program that ended at a clock, or None where they aren't in ROM, or haven't begun."""
     base = ram_end - SPAN
-    if not 1024 * LEAST_RAM <= ram_end <= 1024 * MOST_RAM or session.dump(SIGNED, len(SIGNATURE)) != SIGNATURE:
+    if not 1024 * LEAST_RAM <= ram_end <= 1024 * MOST_RAM or dump(SIGNED, len(SIGNATURE)) != SIGNATURE:
         return None
-    state = session.dump(base + KEPT, 0x30)
+    state = dump(base + KEPT, 0x30)
     mark, phase, how, code, written, notes, *first, lost, paragraph = struct.unpack('<HHBBI6H24xH', state)
     if mark != MARK:
         return None
-    output = session.dump(base, min(written, KEPT)) if written else b''
-    listed = session.dump(base + KEPT + LIST[0], LIST[1] * LIST[2].size) if notes else b''
+    output = dump(base, min(written, KEPT)) if written else b''
+    listed = dump(base + KEPT + LIST[0], LIST[1] * LIST[2].size) if notes else b''
     calls = [call for call in map(Call._make, LIST[2].iter_unpack(listed)) if call.times]
     if notes and not calls:  # an image of earlier services, which have no list
         calls = [Call(*first, notes)]

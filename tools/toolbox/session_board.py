@@ -13,7 +13,7 @@ from toolbox.forms import Far
 from toolbox.listing import physical
 from toolbox.places import Event, event_of
 from toolbox.faults import fault_in
-from toolbox.program import BEFORE_START, LAST_CLOCK, Files, ProbeSession, Refusal
+from toolbox.program import BEFORE_START, LAST_CLOCK, Files, ProbeSession, Refusal, apart
 from toolbox.report import registers_of
 from toolbox.runfile import add_keys
 from toolbox.watches import changed, watched_by
@@ -106,7 +106,8 @@ class SessionBoard:
         self._halts = dict[int, bool]()  # whether HLT stands at an address of ROM
         self.changes, self.undone = Changes(), list[str]()  # the latter: what ways back undid, in words
         self._forget()
-        self._session = ProbeSession(files)
+        with apart():
+            self._session = ProbeSession(files)
         try:
             self._session.many('regs')
         except BaseException:
@@ -395,7 +396,8 @@ class SessionBoard:
         to, them, ended, changes = self.clock if clock is None else clock, list(stops), None, Changes()
         deeds = [one for one in (self.changes.deeds if deeds is None else deeds) if one[0] <= to and not (files and one[1].startswith('key'))]
         is_other, files = files is not None, files or self.files
-        session = ProbeSession(files)
+        with apart():
+            session = ProbeSession(files)
         try:
             try:
                 changes.make(deeds, lambda clock: self._run_by_pieces(session, clock), lambda command: refused(session.one(command)))

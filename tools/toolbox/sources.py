@@ -3,7 +3,7 @@ from __future__ import annotations
 
 import hashlib
 import os
-from typing import Iterable
+from typing import Callable, Iterable
 
 from toolbox.crates import KIT, TOP, Crates
 
@@ -32,7 +32,7 @@ def sum_of(path: str) -> str:
         return hashlib.sha256(file.read()).hexdigest()
 
 
-def sum_of_sources(names: Iterable[str], top: str = TOP) -> str:
+def sum_of_sources(names: Iterable[str], top: str = TOP, sum_of: Callable[[str], str] = sum_of) -> str:
     """The sum of all that a program of these crates is made of, as `./pcboard --version` tells it: of a list that `sha256sum`
     would write, a line for each file, in the order of their paths from the repository on."""
     paths = sorted(os.path.relpath(path, top) for path in [f'{top}/crates.txt', *files(names, top)])

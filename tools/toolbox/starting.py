@@ -16,6 +16,13 @@ PR_SET_PDEATHSIG = 1
 _LIBRARY = ctypes.CDLL(None)
 
 
+def bind(parent: int) -> None:
+    """In a new process: its end is bound to its parent's, which may have ended already."""
+    _LIBRARY.prctl(PR_SET_PDEATHSIG, signal.SIGKILL)
+    if os.getppid() != parent:
+        os._exit(1)
+
+
 class Starter:
     """The thread that starts processes."""
 
@@ -42,10 +49,7 @@ class Starter:
                 answers.put(error)
 
     def _bind(self) -> None:
-        """In the new process: its end is bound to this one's, which may have ended already."""
-        _LIBRARY.prctl(PR_SET_PDEATHSIG, signal.SIGKILL)
-        if os.getppid() != self.process:
-            os._exit(1)
+        bind(self.process)
 
 
 _LOCK = threading.Lock()

@@ -5,7 +5,6 @@ from __future__ import annotations
 
 import os
 import re
-from dataclasses import replace
 from itertools import takewhile
 
 from toolbox import nasm_data
@@ -51,7 +50,7 @@ def symbols_of(given: str, image: dict[int, int], source: str | None = None) -> 
     elif filled and all(re.match(r' *\d{1,7} ', row) for row in filled):
         found = with_source(of_nasm(filled, far, ram), path)
         places = found.labels
-        found = replace(found, read_data=lambda: nasm_data.data_in(filled, places), read_constants=lambda: nasm_data.constants_in(filled))
+        found = found._replace(read_data=lambda: nasm_data.data_in(filled, places), read_constants=lambda: nasm_data.constants_in(filled))
     elif filled and re.match(OURS, filled[0]) and all(re.match(OURS, row) or FAR_LABEL.fullmatch(row) for row in filled):
         found = with_source(of_ours(rows), path, source)
     else:
@@ -223,9 +222,9 @@ def finished(found: Listing, image: dict[int, int]) -> Listing:
         if line.address:
             at.setdefault(physical(*line.address), line)
     modules = {where: as_loaded(source_line) for where, source_line in found.modules.items()}
-    whole = replace(found, lines=lines, at=at, files=files, modules=modules, rows=list(map(as_loaded, found.rows)))
+    whole = found._replace(lines=lines, at=at, files=files, modules=modules, rows=list(map(as_loaded, found.rows)))
     has_dialect = whole.rows or found.read_data is list and lines
     if not has_dialect:
         return whole
     constants = (lambda: nasm_data.constants_among(line.text for line in lines)) if not whole.rows else whole.read_constants
-    return replace(whole, read_data=lambda: data_of(whole, lambda: image), read_constants=constants)
+    return whole._replace(read_data=lambda: data_of(whole, lambda: image), read_constants=constants)

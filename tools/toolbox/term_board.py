@@ -2,7 +2,6 @@
 from __future__ import annotations
 
 import time
-from dataclasses import replace
 from typing import Callable
 
 from toolbox.command import Sorry, write_text
@@ -103,7 +102,7 @@ class Live(Machine):
         count = len(fields['keys']) - len(kept)
         if count:
             write_text(f'{files.run_file}~', text_of(fields | {'keys': kept}))
-            self.begin_anew(self.stops, files=replace(files, run_file=f'{files.run_file}~'))
+            self.begin_anew(self.stops, files=files._replace(run_file=f'{files.run_file}~'))
         return count
 
     def back_by(self, times: int) -> None:

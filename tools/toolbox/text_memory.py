@@ -3,7 +3,7 @@ which it shows."""
 from __future__ import annotations
 
 import functools
-from dataclasses import dataclass
+from typing import NamedTuple
 
 from toolbox.chips import Chips
 from toolbox.program import Files, ProbeSession
@@ -12,8 +12,7 @@ from toolbox.report import COLUMNS, Report
 TEXT_MEMORY, WORDS = 0xB0000, 2048
 
 
-@dataclass(frozen=True)
-class Cell:
+class Cell(NamedTuple):
     """A cell as the display shows it (IBM PC Technical Reference, "IBM Monochrome Display and Parallel Printer Adapter")."""
 
     sign: str

@@ -3,9 +3,8 @@ from __future__ import annotations
 
 import re
 from bisect import bisect_right
-from dataclasses import dataclass, field
 from functools import cached_property
-from typing import Any, Iterator, Protocol
+from typing import Any, Iterator, NamedTuple
 
 from zebludor import Happening, happening_of
 
@@ -26,23 +25,6 @@ WAKES = 0x300  # IF and TF
 ROM, TEXT, TEXT_END, SERVICES = 0xF0000, 0xB0000, 0xB0FFF, 0xF6000
 COLOUR, COLOUR_END = 0xB8000, 0xC0000
 DATA = ('DB', 'DW', 'DD')
-
-
-class Talker(Protocol):
-    """What answers the debugger's commands at a clock: a session, or the board of another tool."""
-
-    @property
-    def clock(self) -> int:
-        """Where it stands."""
-
-    def one(self, command: str) -> str:
-        """The line that answers a command."""
-
-    def many(self, command: str) -> list[str]:
-        """The lines that answer a command."""
-
-    def dump(self, address: int, count: int) -> bytes:
-        """Bytes from a physical address on."""
 
 
 def statement_of(line: Line | None) -> str:
@@ -66,13 +48,13 @@ def has_pushed(event: Event) -> bool:
     return event.entry is not None or form_of(event.octets).pushes
 
 
-@dataclass
 class Part:
     """What happened in some clocks without a gap: what began, and which of it wrote where, and read which port."""
 
-    events: list[Event] = field(default_factory=list)
-    writes: list[tuple[int, int, int]] = field(default_factory=list)  # which event, where, and what
-    reads: list[tuple[int, int, int]] = field(default_factory=list)  # so too, from which port
+    def __init__(self) -> None:
+        self.events = list[Event]()
+        self.writes = list[tuple[int, int, int]]()  # which event, where, and what
+        self.reads = list[tuple[int, int, int]]()  # so too, from which port
 
     @staticmethod
     def of(lines: list[bytes]) -> Part:
@@ -93,20 +75,23 @@ class Part:
         return part
 
 
-@dataclass
-class Run:
+class State(NamedTuple):
     """A run at its end: report, trail, the source's lines, RAM's end. One with services is looked at from where its program begins. Of its
     two sessions one stands at the end, and one goes about without stops."""
 
     report: Report
     files: Files
-    session: Talker
+    session: ProbeSession
     free: ProbeSession
     listing: Listing
     trail: list[Event]
     ram_end: int = 0
     mark: int = 0  # where the services note that the program runs
     is_ended: bool = False  # whether they have ended it
+
+
+class Run(State):
+    """Such a run, and what is found of it, each when it is asked for."""
 
     def tell(self, name: str, event: Event | None = None, **values: Any) -> list[Told]:
         """A sentence; of an event with its clock, its place, and its beginning in `trail` and `events`."""
@@ -265,5 +250,6 @@ def go_to_end(session: ProbeSession, report: Report) -> int | None:
     session.stop('break 0:0')
     answer = session.go(report.clock)
     was = session.clock if answer.startswith('stop') and session.dump(0, 2) == b'\0\0' else None
-    session.go_to(report.clock)
+    if session.clock < report.clock:  # past the stop, which a processor that has jammed there meets at each clock
+        session.lines(report.clock - session.clock, 'keys')
     return was

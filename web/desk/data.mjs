@@ -78,7 +78,7 @@ export function constantsOf(lines) {
 }
 
 // What terms joined by + and - come to; null if one isn't known.
-function sumOf(text, known) {
+export function sumOf(text, known) {
   let [sum, sign, isTerm] = [0, 1, false];
   for (const [, mark, word] of text.matchAll(/\s*(?:([-+])|('[^']{1,4}'|[^-+\s]+))/g)) {
     const number = word === undefined ? 0 : (known.get(word) ?? numberIn(word));

@@ -5,12 +5,12 @@ import {Chips, endsBefore, factsOf} from './chips.mjs';
 import {constantsOf, dataOf, valuesOf} from './data.mjs';
 import {kindOfSource, takenAs} from './guest.mjs';
 import {NAMES, stamped, strokesOf} from './keys.mjs';
-import {Listing, addressOf, answerOf, codeOf, farOf, hexOfSource, imageOf, lineAt, listingOf, numberOf,
-  partsOf} from './listing.mjs';
+import {addressOf, answerOf, farOf, hexOfSource, imageOf, lineAt, listingOf, listingOfHex,
+  numberOf} from './listing.mjs';
 import {LAST_CLOCK, Paused, breakAt, placeOf, withKeys} from './machine.mjs';
 import {TYPING} from './services.mjs';
 import {MOST_SAMPLES, Speaker} from './sound.mjs';
-import {Session, Sorry, far, grouped, hex, hexOf, physical, runText} from './session.mjs';
+import {Session, Sorry, far, grouped, hex, hexOf, patience, physical, runText} from './session.mjs';
 import {assign} from './values.mjs';
 import {bytesAt, watchOf, watchedBy, whatWasSeen} from './watches.mjs';
 import {whyOf} from './why.mjs';
@@ -21,7 +21,7 @@ const AHEAD = 1000, GAP = 1000, HOLD = 500, PAUSE = 1500, MOST_TYPED = 1000, MOS
 const FARTHEST = 50_000_000; // clocks of a step: ten of the board's seconds
 const STACK_WORDS = 16, CLOCKS_OF_HLT = 2, LOOKS_WITHOUT_ATTRIBUTES = 4, CODE_ROWS = 48, CODE_BEFORE = 40,
   MOST_STOPS = 15;
-const MARKED_AT_ONCE = 1_000_000, MARKS_SECONDS = 2, MOST_MARKS = 1000, MOST_LISTED = 500, PARTS = 4096;
+const MARKED_AT_ONCE = 1_000_000, MOST_MARKS = 1000, MOST_LISTED = 500, PARTS = 4096;
 const MOST_REPORTED = 200_000_000; // clocks; a report of more takes too long
 const ORDER = ['break', 'changes', 'sound', 'byte', 'halted']; // of the stops that hold at a clock the first is told
 const TOO_MANY_TYPED = `${grouped(MOST_TYPED)} are the most, and none was typed`;
@@ -34,20 +34,19 @@ function isKeyList(given) {
 }
 
 export class Board {
-  constructor(library, data, {source, run, isHex, isBare}) {
+  constructor(library, data, {source, run, isHex, how, includes}) {
     this.library = library;
     this.fields = Object.fromEntries(Object.entries(run).filter(([name]) => name !== 'keys'));
     const given = 'keys' in run ? {keys: run.keys} : {};
     this.keys = isKeyList(run.keys) ? run.keys.map(([stamp, code]) => ({stamp, code, turn: -1})) : [];
-    Object.assign(this, {isHex, isEnded: false, until: Infinity, job: null, rested: now()});
+    Object.assign(this, {source, isHex, isEnded: false, until: Infinity, job: null, rested: now()});
     Object.assign(this, {screenNumber: 0, rows: [], screen: null, looks: 0, count: 1, stops: [], held: [-1, []]});
     Object.assign(this, {furthest: 0, wasAt: 0, turn: 0, beganAt: 0, speakers: new Speaker([], 0),
       ofTheRun: [[0, 0], {}]});
-    this.kind = isHex || isBare ? '' : kindOfSource(library, source);
-    const made = takenAs(library, source, this.fields, data, this.kind);
-    this.listing = made?.listing ?? (isHex ? new Listing() : listingOf(library, source));
-    if (isHex) this.listing.parts = partsOf(imageOf(source));
-    else this.readData(source, made?.image);
+    this.kind = isHex ? '' : kindOfSource(library, source, how);
+    const made = takenAs(library, source, this.fields, data, this.kind, {args: how.args, includes});
+    this.listing = made?.listing ?? (isHex ? listingOfHex(source, how.symbols) : listingOf(library, source));
+    if (!isHex) this.readData(source, made?.image);
     const files = {text: made?.text ?? source, isHex: Boolean(made) || isHex, run: {...this.fields, ...given}};
     this.machine = new Machine(library, files, this.listing, () => this.poll(), () => this.breathe());
   }
@@ -378,9 +377,7 @@ export class Board {
     if (!text && rows.every(([at]) => at !== IP)) rows = this.machine.listed([CS, IP], CODE_ROWS);
     const code = rows.map(([at, octets, said]) => {
       const label = [...this.listing.labels].find(([, [para, there]]) => para === segment && there === at)?.[0] ?? '';
-      const line = this.listing.at.get(physical(segment, at)), source = line
-        ? `${line.number}: ${codeOf(line.text).trim()}` : '';
-      return [far(segment, at), label, hexOf(octets), said, source];
+      return [far(segment, at), label, hexOf(octets), said, this.listing.textAt(physical(segment, at))];
     });
     return {clock: this.clock, code};
   }
@@ -390,7 +387,7 @@ export class Board {
   codeBefore(segment, here) {
     const known = [...this.listing.labels.values(),
       ...[...this.machine.known.values()].map(it => [it.segment, it.offset])];
-    for (const line of this.listing.at.values()) known.push(line.address);
+    known.push(...[...this.listing.at.values()].map(line => line.address), ...this.listing.begun);
     const near = known.filter(([para, at]) => para === segment && here - at >= 0 && here - at <= CODE_BEFORE);
     return near.reduce((least, [, at]) => Math.min(least, at), here);
   }
@@ -413,6 +410,13 @@ export class Board {
     } finally {
       await this.machine.returnTo(mark);
     }
+  }
+
+  // What a report of the run up to here would tell, and of which files; nothing of a board that was changed.
+  standing() {
+    const {clock, machine, source, isHex: hex} = this, state = this.chipsNow().value('processor', 'state');
+    const screen = machine.many('screen'), registers = machine.registers(), {run} = machine.files;
+    return machine.changes.deeds.length ? {} : {source, hex, run, clock, registers, state, screen};
   }
 
   // The program's labels of data, with what memory holds there.
@@ -548,7 +552,8 @@ export class Board {
 
   // The interrupts of the run, and up to which clock they were looked for.
   async interrupts(until) {
-    const deadline = now() + 1000 * MARKS_SECONDS, found = [], session = new Session(this.library, this.machine.files);
+    const deadline = now() + 1000 * patience.seconds, found = [];
+    const session = new Session(this.library, this.machine.files);
     try {
       while (session.clock < until && now() < deadline && found.length <= MOST_MARKS) {
         for (const line of session.lines(Math.min(MARKED_AT_ONCE, until - session.clock), 'entries')) {
@@ -601,11 +606,13 @@ function base64(octets) {
   for (let at = 0; at < octets.length; at += 0x8000) text += String.fromCharCode(...octets.subarray(at, at + 0x8000));
   return btoa(text);
 }
-// Others are heard before it goes on; a message is no slower than that, as a timer may be.
+// Others are heard before it goes on: by a message, which is no slower than that, as a timer may be; node has a call
+// for it, and hands on many messages before it hears others.
 const channel = new MessageChannel(), waiting = [];
 channel.port1.onmessage = () => waiting.shift()();
 channel.port1.unref?.();
-export function rest(go) {
+function byMessage(go) {
   waiting.push(go);
   channel.port2.postMessage(0);
 }
+export const rest = globalThis.setImmediate ?? byMessage;

@@ -2,11 +2,11 @@
 import {noteSentences} from './chips.mjs';
 import {Board, rest} from './desk_board.mjs';
 import {noteFaults} from './faults.mjs';
-import {Remarks, kindOfSource, refusedOfMasm} from './guest.mjs';
+import {Remarks, Wanted, isMasm, refusedOfMasm, rowsOfLine} from './guest.mjs';
 import {noteHints} from './hints.mjs';
-import {Language} from './language.mjs';
+import {Language, block} from './language.mjs';
 import {messagesOf, refusalsOf} from './refusals.mjs';
-import {Gone, LAST_CLOCK, Refused, Sorry, far} from './session.mjs';
+import {Gone, LAST_CLOCK, Refused, Sorry, far, patience} from './session.mjs';
 
 const PATIENCE = 250, LONGEST_SOURCE = 1 << 20, MOST_REMARKS = 20;
 const MOST_MEMORY = 512 << 20; // bytes that the library has at most: what asks for more is refused it
@@ -36,12 +36,14 @@ function numbers(given, least, most) {
 const clockIn = (fields, name, usual) => numbers([want(fields, name, 'number', usual)], 0, 2 * LAST_CLOCK)[0];
 
 export class Engine {
-  // `make` makes an instance of the library, another one after a trap; `data` is what the page has of the repository.
-  constructor(make, data) {
-    Object.assign(this, {make, data, board: null, count: 0});
+  // `make` makes an instance of the library, another one after a trap; `data` is what the page has of the repository;
+  // `include` finds a text that stands beside the source, {name, bytes} or null.
+  constructor(make, data, include = async () => null) {
+    Object.assign(this, {make, data, include, board: null, count: 0});
     noteFaults(data.faults);
     noteHints(data.hints);
     noteSentences(data.sentences);
+    patience.seconds = data.seconds ?? patience.seconds;
     this.begin();
   }
 
@@ -90,11 +92,12 @@ export class Engine {
   // A board of a source and a run file, at clock 0; or why it is refused.
   async open(fields) {
     const source = want(fields, 'source', 'string'), run = want(fields, 'run', 'object');
-    const isHex = want(fields, 'hex', 'boolean', false), isBare = want(fields, 'bare', 'boolean', false);
+    const isHex = want(fields, 'hex', 'boolean', false), how = want(fields, 'how', 'object', {});
     if (source.length > 2 * LONGEST_SOURCE) throw new Sorry('the source has more than 1,048,576 bytes');
     await this.leaveOff();
     try {
-      this.board = new Board(this.library, this.data, {source, run, isHex, isBare});
+      this.board = await this.including(includes =>
+        new Board(this.library, this.data, {source, run, isHex, how, includes}));
     } catch (error) {
       if (error instanceof Remarks) return {refused: error.them.slice(0, MOST_REMARKS).map(it => ({...it, of: ''}))};
       if (!(error instanceof Sorry)) throw error;
@@ -105,7 +108,23 @@ export class Engine {
     const placed = board.listing.lines.filter(line => line.address && !isHex);
     const lines = Object.fromEntries(placed.map(line => [line.number, far(...line.address)]));
     const view = await board.view('there', 0);
-    return {board: board.name, lines, budget: board.budget, services: SAID[board.kind] ?? '', ...view};
+    const isSeen = board.kind && !(board.kind === 'masm' ? how.language : how.services);
+    const services = isSeen ? `${SAID[board.kind]}${how.otherwise?.[board.kind] ?? ''}` : '';
+    return {board: board.name, lines, budget: board.budget, services, ...view};
+  }
+
+  // Does what may want texts that a source includes: once one is wanted it is looked for beside the source, and all is
+  // done again.
+  async including(work) {
+    const beside = new Map();
+    for (;;) {
+      try {
+        return work({ours: this.data.includes, beside});
+      } catch (error) {
+        if (!(error instanceof Wanted)) throw error;
+        beside.set(error.file.toLowerCase(), await this.include(error.file));
+      }
+    }
   }
 
   // What is under way ends before another board begins.
@@ -118,15 +137,19 @@ export class Engine {
   }
 
   // What the editor asks of its text.
-  language(fields) {
+  async language(fields) {
     const source = want(fields, 'source', 'string'), what = want(fields, 'what', 'string');
     const place = numbers([want(fields, 'line', 'number', 0), want(fields, 'column', 'number', 0)], 0, LONGEST_SOURCE);
     if (source.length > LONGEST_SOURCE || !['hover', 'completion', 'refused'].includes(what))
       throw new Unfit('hover, completion or refused is wanted, of a source');
-    if (what !== 'refused') return this.words.answer(what, source, ...place);
-    const isMasm = kindOfSource(this.library, source) === 'masm';
-    if (!isMasm) return {refused: messagesOf(this.library, source, true)};
-    return {refused: refusedOfMasm(this.library, source, this.data.includes).map(it => ({...it, line: it.line ?? 1}))};
+    if (what === 'completion') return this.words.answer(what, source, ...place);
+    const isOther = isMasm(this.library, source);
+    if (!isOther && what === 'hover') return this.words.answer(what, source, ...place);
+    if (!isOther) return {refused: messagesOf(this.library, source, true)};
+    return this.including(includes => {
+      if (what === 'hover') return {html: block(rowsOfLine(this.library, source, includes, place[0] + 1))};
+      return {refused: refusedOfMasm(this.library, source, includes).map(it => ({...it, line: it.line ?? 1}))};
+    });
   }
 }
 
@@ -217,6 +240,7 @@ const OF_BOARD = {
   chips: board => doing(board, () => board.chips()),
   data: board => doing(board, async () => board.data()),
   why: board => doing(board, () => board.why()),
+  standing: board => doing(board, async () => board.standing()),
   stops(board, fields) {
     const stops = want(fields, 'stops', 'list');
     if (stops.length > 1000 || !stops.every(stop => typeof stop === 'string'))

@@ -9,7 +9,7 @@ const GENERAL = ['AX', 'CX', 'DX', 'BX', 'BP', 'SI', 'DI'];
 const PREFIXES = new Set([0x26, 0x2e, 0x36, 0x3e, 0xf0, 0xf2, 0xf3]);
 const ROM = 0xf000, PARAGRAPHS = 1 << 12; // its first paragraph, and how many it has: each for one instruction's bytes
 const RUN = {version: 1, ram: 64, sw1: 0, sw2: 0, budget: 1, keys: []};
-const LINE = /^\S+ (\w+) does (\S+) to (.+) sp (\S+) sets (\S+) alters /;
+const LINE = /^\S+ (\w+) does (\S+) to (.+) sp (\S+) sets (\S+) alters .* clocks (\S+) (\S+)$/;
 const LONGEST = 13, MOST_KNOWN = 1 << 16;
 const known = new Map();
 
@@ -18,15 +18,18 @@ export const signed = value => ((((value + 0x8000) % 0x10000) + 0x10000) % 0x100
 
 // What a line of `forms` tells of the instruction that these bytes begin with; one that has more bytes isn't theirs.
 // `sp` is null if its bytes don't tell by how much it moves SP; of one that may enter an interrupt it is what is so if
-// it does. One that `isFollowed` has to do with the stack, or with where a routine ends.
+// it does. One that `isFollowed` has to do with the stack, or with where a routine ends; a branch leads `by` so many
+// bytes from where it begins, and one that enters an interrupt, or may, to that `type`'s handler.
 function formIn(line, octets) {
-  const [, shown, does, to, moves, sets] = LINE.exec(line), names = sets.split(',');
+  const [, shown, does, to, moves, sets, ...clocks] = LINE.exec(line), names = sets.split(',');
   if (does === 'nothing' || 2 * octets.length < shown.length) return {octets: octets.subarray(0, 0), does: 'nothing'};
   const sp = moves === 'loads' ? null : parseInt(moves, 10), loadsStack = sp === null || names.includes('SS');
   const isPlain = PLAIN.includes(does) || (does === 'jump' && to !== 'register');
   const popsRegister = sp === 2 && names.some(name => GENERAL.includes(name));
   const isFollowed = !isPlain || loadsStack || sp !== 0;
-  return {octets: octets.subarray(0, shown.length / 2), does, sp, loadsStack, popsRegister, isFollowed};
+  const by = does === 'branch' ? signed(parseInt(to.slice(5), 16)) : null;
+  const type = to.startsWith('vector') ? parseInt(to.slice(7), 16) : null, own = octets.subarray(0, shown.length / 2);
+  return {octets: own, does, type, by, sp, loadsStack, popsRegister, isFollowed, clocks};
 }
 
 function ask(library, some) {

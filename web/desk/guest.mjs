@@ -12,7 +12,7 @@ const CALL = /^.{10}CD(10|16|20|21) .*?\s(?:\w+\s*:\s*)?INT\s/im, RESET = 0xffff
 const SERVICES_OWN = 0x1000, PSP = 0x100, ENVIRONMENT = 0xe0, ROOM_BEFORE = PSP - ENVIRONMENT + 1;
 const DIALECT = /^[ \t]*(?:\w+[ \t]*:[ \t]*)?SEGMENT[ \t]+\w+[ \t]+AT\b/im, MADE = /^[.?]+\d+$/, MOST_INCLUDED = 64;
 const THEIRS = 'from F6000h on all is theirs';
-const NAME = 'SOURCE';
+const NAME = 'SOURCE', TAIL = 126;
 const FILE_CALLS = /\xB4[\x3C-\x43\x4E\x4F\x56]|\xB8[^][\x3C-\x43\x4E\x4F\x56]/, DISK_KB = 192;
 const decoder = new TextDecoder(), encoder = new TextEncoder(), latin = new TextDecoder('latin1');
 
@@ -24,9 +24,19 @@ export class Remarks extends Sorry {
   }
 }
 
-// How a source is taken: `masm`, `served` or neither.
-export function kindOfSource(library, source) {
-  if (isMasm(library, source)) return 'masm';
+// A text that a source includes, and that wasn't looked for beside it yet.
+export class Wanted extends Sorry {
+  constructor(name) {
+    super(`the source includes ${name}`);
+    this.file = name;
+  }
+}
+
+// How a source is taken: `masm`, `served` or neither; by its look, if no word says it.
+export function kindOfSource(library, source, {bare, services, language} = {}) {
+  if (bare) return '';
+  if (language === 'masm' || (language !== 'dialect' && isMasm(library, source))) return 'masm';
+  if (services) return 'served';
   if (!/\bINT\b/i.test(source)) return '';
   try {
     return !imageOf(hexOfSource(library, source)).has(RESET) && CALL.test(rowsOfSource(library, source).join('\n'))
@@ -38,10 +48,11 @@ export function kindOfSource(library, source) {
 }
 
 // Whether what stands in a text shows that it is a source of MASM.
-const isMasm = (library, source) => !DIALECT.test(source) && !otherIn(library, encoder.encode(source));
+export const isMasm = (library, source) => !DIALECT.test(source) && !otherIn(library, encoder.encode(source));
 
-// A source of MASM in the dialect: its lines, and where each comes from.
-export function translationOf(library, source, includes) {
+// A source of MASM in the dialect: its lines, and where each comes from. It includes what stands beside it, by small
+// letters, and what is ours.
+export function translationOf(library, source, {ours, beside}) {
   const texts = [{name: NAME, bytes: source}];
   for (;;) {
     const {status, out, err} = library.masm(texts, true, true), said = placesIn(decoder.decode(err));
@@ -50,11 +61,16 @@ export function translationOf(library, source, includes) {
       throw said.length ? new Remarks(said.map(remarkOf)) : new Sorry(decoder.decode(err).trim() || 'no translation');
     if (!wanted) return placesIn(decoder.decode(out));
     if (texts.length > MOST_INCLUDED) throw new Sorry(`the source includes more than ${MOST_INCLUDED} files`);
-    const found = Object.keys(includes).find(name => name.toLowerCase() === wanted[1].toLowerCase());
-    const ours = Object.keys(includes).sort().join(', ');
-    if (!found) throw new Sorry(`the source includes ${wanted[1]}, which isn't here; of our own there is ${ours}`);
-    texts.push({name: found, bytes: includes[found]});
+    texts.push(includedBy(wanted[1], ours, beside));
   }
+}
+function includedBy(wanted, ours, beside) {
+  const key = wanted.toLowerCase();
+  if (!beside.has(key)) throw new Wanted(wanted);
+  const name = Object.keys(ours).find(it => it.toLowerCase() === key), names = Object.keys(ours).sort().join(', ');
+  if (beside.get(key)) return beside.get(key);
+  if (!name) throw new Sorry(`the source includes ${wanted}, which isn't beside it; of our own there is ${names}`);
+  return {name, bytes: ours[name]};
 }
 function placesIn(answer) {
   const rows = answer.split('\n').map(row =>
@@ -83,17 +99,29 @@ export function refusedOfMasm(library, source, includes) {
   try {
     return [...refusedOf(library, translationOf(library, source, includes))];
   } catch (error) {
+    if (error instanceof Wanted) throw error;
     if (error instanceof Remarks) return error.them;
     if (error instanceof Sorry) return [{line: null, text: error.message}];
     throw error;
   }
 }
 
-// The program of a source of MASM.
-function translated(library, source, data, ram) {
-  const rows = translationOf(library, source, data.includes);
+// The rows of the dialect's listing that come of a line of a source of MASM; none, if a line is refused.
+export function rowsOfLine(library, source, includes, number) {
   try {
-    const found = loaded(library, textOf(rows), data, ram);
+    const rows = translationOf(library, source, includes), listed = rowsOfSource(library, textOf(rows));
+    return listed.filter((_, n) => rows[n].name === NAME && rows[n].line === number);
+  } catch (error) {
+    if (error instanceof Wanted || !(error instanceof Sorry)) throw error;
+    return [];
+  }
+}
+
+// The program of a source of MASM.
+function translated(library, source, data, more) {
+  const rows = translationOf(library, source, more.includes);
+  try {
+    const found = loaded(library, textOf(rows), data, more);
     return {...found, listing: ownListing(found, rows, ownLines(source))};
   } catch (error) {
     const {value} = error instanceof Refused ? refusedOf(library, rows).next() : {};
@@ -125,7 +153,7 @@ function ownListing({rows, labels}, places, own) {
 // A source of the dialect with the services. It begins where its far jump at FFFF:0000 leads, which gives way to
 // theirs, else with its first byte. One that begins at offset 100h of a segment whose first 256 bytes are free is laid
 // out as a .COM program; else the PSP stands after the source's last byte in RAM.
-function loaded(library, text, data, ram) {
+function loaded(library, text, data, {ram, args}) {
   const image = imageOf(hexOfSource(library, text));
   const rows = rowsOfSource(library, text).map((row, n) => lineOf(n + 1, row));
   const reset = [...image.keys()].filter(at => at >= RESET).sort((a, b) => a - b), octet = n => image.get(RESET + n);
@@ -136,7 +164,7 @@ function loaded(library, text, data, ram) {
   for (const at of reset) image.delete(at);
   if (!image.size) throw new Sorry('the source has no bytes but at FFFF:0000');
   const psp = placeOfPsp(image, start, ram), environment = psp - ROOM_BEFORE + 1;
-  put(image, 16 * psp, prefix(psp, environment));
+  put(image, 16 * psp, prefix(psp, environment, tailOf(args ?? '')));
   put(image, 16 * environment, [...ascii('COMSPEC=C:\\COMMAND.COM\x00\x00\x01\x00C:\\IT.ASM'), 0]);
   put(image, BLOCK, words(psp, start[1], start[0], 0xfffe, psp, environment));
   const labels = new Map([['start', start]]);
@@ -172,8 +200,17 @@ function placeOfPsp(image, start, ram) {
   throw new Sorry(`the source has a byte at ${hex(last, 5)}h: ${room}`);
 }
 
-// The program segment prefix, of a command without a tail. The services set the end of memory in it.
-function prefix(psp, environment) {
+// A command's tail as DOS hands it on: a blank before what was typed, unless it has one or fills the room, and the
+// return after it.
+function tailOf(args) {
+  if (!/^[ -~]*$/.test(args)) throw new Sorry('--args takes printable ASCII');
+  if (args.length > TAIL) throw new Sorry(`--args takes ${TAIL} characters at most, and here are ${args.length}`);
+  const tail = !args || args.startsWith(' ') || args.length === TAIL ? args : ` ${args}`;
+  return [tail.length, ...ascii(tail), 0x0d];
+}
+
+// The program segment prefix. The services set the end of memory in it.
+function prefix(psp, environment, tail) {
   const octets = new Uint8Array(256);
   octets.set([0xcd, 0x20, 0, 0, 0, 0x9a, 0xf0, 0xfe, 0x1d, 0xf0]);
   octets.set(words(psp), 0x16);
@@ -183,7 +220,7 @@ function prefix(psp, environment) {
   octets.set(words(20, 0x18), 0x32);
   octets.set([0xcd, 0x21, 0xcb], 0x50);
   octets.fill(0x20, 0x5d, 0x68).fill(0x20, 0x6d, 0x78);
-  octets.set([0, 0x0d], 0x80);
+  octets.set(tail, 0x80);
   return octets;
 }
 
@@ -221,14 +258,13 @@ export function record(offset, kind, data) {
 }
 
 // What a source becomes, with its listing: {text, isHex, listing, image, kind}. Its run's fields may get all the RAM
-// that there can be.
-export function takenAs(library, source, fields, data, kind) {
+// that there can be. `more` has the command's tail, and what it may include.
+export function takenAs(library, source, fields, data, kind, more) {
   if (!kind) return null;
   if (typeof fields.ram === 'number' && fields.ram < LEAST_RAM) fields.ram = MOST_RAM;
   if (!Number.isInteger(fields.ram) || fields.ram > MOST_RAM)
     throw new Sorry(`the services want ${LEAST_RAM} to ${MOST_RAM} KB of RAM: "ram":${MOST_RAM}`);
-  const found = kind === 'masm' ? translated(library, source, data, fields.ram)
-    : loaded(library, source, data, fields.ram);
+  const found = (kind === 'masm' ? translated : loaded)(library, source, data, {...more, ram: fields.ram});
   const whole = imageOf(found.hex), listing = found.listing ?? servedListing(found);
   for (const line of new Set([...listing.lines, ...listing.at.values(), ...listing.rows]))
     if (line.address) asLoaded(line, whole);

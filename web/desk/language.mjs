@@ -1,7 +1,10 @@
 // What the editor asks of its text: what a word means, and what completes one. The tables of instructions, ports and
 // words are those that the editors have.
+import {clocksTold} from './clocks.mjs';
+import {formOf} from './forms.mjs';
 import {codeOf, labelIn, listingOf, ownLines} from './listing.mjs';
-import {Sorry, far, hexOf} from './session.mjs';
+import {Straight, writtenTo} from './ports.mjs';
+import {Sorry, far, hex, hexOf} from './session.mjs';
 
 const CONSTANT = /^\s*([A-Za-z_]\w*)\s+EQU\b\s*(.*)/i, SEGMENT = /^\s*SEGMENT\s+([A-Za-z_]\w*)\s+AT\s+(\S+)/i;
 const MOST_USES = 20, ADDRESSING = ['BX', 'BP', 'SI', 'DI'], SHORT_PORT = 0xff;
@@ -9,6 +12,7 @@ const NUMBER = /^(?:[0-9][0-9A-F]*h|[01]+b|\d+)$/i;
 
 const plain = text => text.replace(/[&<>"']/g, sign => `&#${sign.charCodeAt(0)};`);
 const paragraph = text => `<p>${text}</p>`, coded = text => `<code>${plain(text)}</code>`;
+export const block = rows => (rows.length ? `<pre>${plain(rows.join('\n'))}</pre>` : '');
 
 // The names that a source defines, by their small letters: each with its line, what it is, and that line's text.
 function namesIn(lines) {
@@ -45,18 +49,6 @@ function commentOf(lines, at) {
   return found.length ? found.join(' ') : own;
 }
 
-// The port that DX has at a line, as far as lines before it that are always come from above tell; or null.
-function portBefore(lines, line) {
-  for (let at = line; at >= 0; at--) {
-    const code = codeOf(lines[at]), found = at < line && /\bMOV\s+DX\s*,\s*([0-9][0-9A-F]*h|\d+)\s*$/i.exec(code);
-    if (found) return numberIn(found[1]);
-    const isElse = /\bDX\b/i.test(code.replace(/\b(?:IN|OUT)\b.*/i, ''))
-      || /\b(?:CALL|INT|RET\w*|IRET|JMP|MUL|DIV)\b/i.test(code);
-    if (labelIn(lines[at]) || (at < line && isElse)) return null;
-  }
-  return null;
-}
-
 export class Language {
   constructor(library, data) {
     Object.assign(this, {library, data, source: null, listing: null});
@@ -81,13 +73,14 @@ export class Language {
     if (what === 'completion') return {items: this.completion(names, (lines[line] ?? '').slice(0, column))};
     const text = lines[line] ?? '', code = codeOf(text), start = column - /\w*$/.exec(text.slice(0, column))[0].length;
     const word = /^\w*/.exec(text.slice(start))[0];
-    const isInText = (text.slice(0, start).split("'").length - 1) % 2 === 1, isCode = word && start < code.length
-      && !isInText;
-    return {html: isCode ? this.hover(source, lines, names, line, word, start) : ''};
+    const isInText = (text.slice(0, start).split("'").length - 1) % 2 === 1, isCode = word && start < code.length;
+    const sign = isInText ? /^'.'/.exec(text.slice(start - 1)) : null;
+    if (sign) return {html: paragraph(`${coded(sign[0])} ${asNumber(sign[0].charCodeAt(1))}`)};
+    return {html: isCode && !isInText ? this.hover(source, lines, names, line, word, start) : ''};
   }
 
   formsOf(word) {
-    return this.data.forms[word.toUpperCase()] ?? [];
+    return this.data.rows.filter(row => row.names.some(name => name.split(' ')[0] === word.toUpperCase()));
   }
 
   hover(source, lines, names, line, word, start) {
@@ -102,13 +95,15 @@ export class Language {
       : '');
   }
 
-  // What it does, and the line's bytes.
+  // What it does, the line's bytes and clocks, and the flags.
   ofMnemonic(word, row) {
     const [form] = this.formsOf(word), does = form
       ? paragraph(`<b>${plain(word.toUpperCase())}</b> ${plain(form.does)}`) : '';
-    if (!row?.address) return does;
-    const flags = form ? paragraph(`Flags that change: ${plain(form.flags || 'none')}`) : '';
-    return does + paragraph(coded(`${far(...row.address)} ${hexOf(row.shown)}`)) + flags;
+    const found = row?.address && form ? formOf(this.library, row.shown) : null;
+    if (!found?.octets.length) return does;
+    const clocks = [0, 1].map(table => paragraph(`Clocks by C${table + 1}: ${plain(clocksTold(found, table))}`));
+    const flags = paragraph(`Flags that change: ${plain(form.flags || 'none')}`);
+    return does + paragraph(coded(`${far(...row.address)} ${hexOf(row.shown)}`)) + clocks.join('') + flags;
   }
 
   // The mnemonic's forms, as a table.
@@ -122,12 +117,17 @@ export class Language {
     return rows.length ? `<div class="wide"><table>${head}${rows.join('')}</table></div>` : '';
   }
 
-  // The chip and register that IN or OUT reaches.
+  // The chip and register that IN or OUT reaches, and what the byte says that is written there.
   ofPort(lines, line) {
-    const found = /\b(?:IN\s+A[LX]\s*,\s*|OUT\s+)(DX|[0-9][0-9A-F]*h|\d+)\b/i.exec(codeOf(lines[line]));
-    const port = found && (/^DX$/i.test(found[1]) ? portBefore(lines, line) : numberIn(found[1]));
-    if (!found || port === null) return '';
-    return paragraph(`port ${port.toString(16).toUpperCase()}h: ${plain(this.data.ports[port] ?? 'nothing answers')}`);
+    const straight = new Straight(lines, this.words), port = straight.portOf(line), before = straight.bytesBefore(line);
+    if (port === null) return '';
+    const found = [`port ${hex(port)}h: ${this.data.ports[port] ?? 'nothing answers'}`];
+    for (const [at, octet] of straight.bytesOut(line)) {
+      const says = writtenTo(at, octet, before, this.data.modes), where = at === port ? 'there' : `at port ${hex(at)}h`;
+      if (says) found.push(`${hex(octet, 2)}h ${where}: ${says}`);
+      before.push([at, octet]);
+    }
+    return found.map(it => paragraph(plain(it))).join('');
   }
 
   // A label's address, its comment or first bytes, and its uses.

@@ -54,7 +54,7 @@ export function placedLabels(lines) {
 
 export class Listing {
   constructor(lines = [], labels = new Map()) {
-    Object.assign(this, {lines, labels, at: new Map(), parts: [], rows: []});
+    Object.assign(this, {lines, labels, at: new Map(), parts: [], rows: [], texts: new Map(), begun: [], absent: []});
     Object.assign(this, {readData: () => [], readConstants: () => new Map()});
     for (const line of lines) {
       const at = line.address && physical(...line.address);
@@ -84,6 +84,12 @@ export class Listing {
       && address < first + octets.length);
   }
 
+  // What the source has at a physical address: a line's number and text, or nothing.
+  textAt(address) {
+    const line = this.at.get(address);
+    return line ? `${line.number}: ${codeOf(line.text).trim()}` : (this.texts.get(address) ?? '');
+  }
+
   // `label` or `label+N` for an address: the nearest label at or before it in the same paragraph, or nothing.
   labelBefore(segment, offset) {
     let best = null;
@@ -95,6 +101,8 @@ export class Listing {
 
   // A label's segment and offset; upper and lower case are one.
   labelOf(name) {
+    if (this.absent.includes(name.toLowerCase()))
+      throw new Sorry(`${name} is not in the image: --symbols FILE,ram=PARAGRAPH tells where its section stands`);
     for (const [label, at] of this.labels) if (label.toLowerCase() === name.toLowerCase()) return at;
     return null;
   }
@@ -147,6 +155,19 @@ export function imageOf(text) {
   }
   return found;
 }
+
+// The listing of Intel HEX, with what a file of symbols tells, if it was read for the same bytes: labels, labels of
+// sections without bytes, the source's text beside a place, and data.
+export function listingOfHex(text, symbols) {
+  const found = new Listing(), image = imageOf(text);
+  found.parts = partsOf(image);
+  if (!symbols || !isSame(image, imageOf(symbols.of))) return found;
+  const {labels, absent, texts, data} = symbols;
+  Object.assign(found, {labels: new Map(labels), absent, begun: texts.map(([place]) => place), readData: () => data});
+  found.texts = new Map(texts.map(([place, shown]) => [physical(...place), shown]));
+  return found;
+}
+const isSame = (one, other) => one.size === other.size && [...one].every(([at, octet]) => other.get(at) === octet);
 
 // The parts of memory that bytes fill, each as long as it goes: [first, bytes].
 export function partsOf(image) {

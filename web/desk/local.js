@@ -1,53 +1,34 @@
-/* How a page without a server asks: an engine in a Worker of its own, which is ended if it answers nothing for long.
-   Files are the system's, by the handles that a browser gives; drafts stay in the browser; and a link has all of a
-   program in itself. */
+/* How a page without a server asks: an engine in a Worker of its own. Files are the system's, by the handles that a
+   browser gives; drafts stay in the browser; and a link has all of a program in itself. */
 import {run_text} from '../../tools/toolbox/desk/page/asking.js';
+import {engine_of} from '../../tools/toolbox/desk/page/engine.js';
 export const isAlone = true;
-const PATIENCE = 30000, DRAFT = 'zebludor kept ', MOST_LINKED = 1 << 21, CONTEXT = 3;
-const TOO_LONG = 'the engine answered nothing for 30 s, and was ended';
-let worker = null, count = 0, waiting = new Map();
+const DRAFT = 'zebludor kept ', MOST_LINKED = 1 << 21, CONTEXT = 3;
 
-/* The engine. */
+/* The engine, whose text, library and tables stand packed in the page. */
 const octets_in = id => Uint8Array.from(atob(document.getElementById(id).textContent), it => it.charCodeAt(0));
-function begin_engine() {
-  const engine = document.getElementById('the-engine').textContent;
-  const place = URL.createObjectURL(new Blob([engine], {type: 'text/javascript'}));
-  worker = new Worker(place);
-  URL.revokeObjectURL(place);
-  worker.onmessage = ({data}) => {
-    const its = waiting.get(data.number);
-    if (!its) return;
-    waiting.delete(data.number);
-    clearTimeout(its.timer);
-    if (data.error === undefined) its.go(data.answer); else its.fail(new Error(data.error));
-  };
-  worker.onerror = event => end(event.message || 'the engine has ended');
-  worker.postMessage({library: octets_in('the-library'), has: octets_in('the-has')});
-}
-/* Ends the engine: who waits is told that the board is gone, and the next question begins another one. */
-function end(why) {
-  worker?.terminate();
-  worker = null;
-  for (const {go, timer} of waiting.values()) { clearTimeout(timer); go({gone: why}); }
-  waiting = new Map();
-}
-function engine_of(question) {
-  if (!worker) begin_engine();
-  const number = ++count;
-  return new Promise((go, fail) => {
-    waiting.set(number, {go, fail, timer: setTimeout(() => end(TOO_LONG), PATIENCE)});
-    worker.postMessage({number, question});
-  });
-}
+const unpacked = id => new Response(new Blob([octets_in(id)]).stream().pipeThrough(new DecompressionStream('gzip')));
+const ENGINE = {
+  async begun() {
+    const [library, has] = await Promise.all(['the-library', 'the-has'].map(id => unpacked(id).arrayBuffer()));
+    const engine = document.getElementById('the-engine').textContent;
+    const place = URL.createObjectURL(new Blob([engine], {type: 'text/javascript'})), worker = new Worker(place);
+    URL.revokeObjectURL(place);
+    worker.postMessage({library, has}, [library, has]);
+    return worker;
+  },
+  include: async () => null,
+};
+const of_engine = question => engine_of(question, ENGINE);
 
 /* What is asked, by its word. */
 export async function answer_of(question) {
   const own = ANSWERS[question.do];
-  return own ? own(question) : engine_of(question);
+  return own ? own(question) : of_engine(question);
 }
 export function tell_last(question) { answer_of(question).catch(() => {}); }
 const ANSWERS = {
-  async hello(question) { return {...await engine_of(question), given: await given_now(), drafts: drafts()}; },
+  async hello(question) { return {...await of_engine(question), given: await given_now(), drafts: drafts()}; },
   'keep draft': keep_draft,
   'drop draft': async ({id}) => { localStorage.removeItem(DRAFT + id); return {}; },
   async draft({id, source}) {
@@ -116,7 +97,7 @@ async function given_now() {
   const fields = run ? JSON.parse(run.text) : {};
   if (run && (typeof fields !== 'object' || Array.isArray(fields) || !fields))
     throw new Error(`${handles.run.name} is no run file: it is no JSON object`);
-  const {defaults} = await engine_of({do: 'hello'});
+  const {defaults} = await of_engine({do: 'hello'});
   return {
     name, file: name, 'run file': run ? handles.run.name : null, source: source.text, run: {...defaults, ...fields},
     hex: /\.hex$/i.test(name), sums: [source.sum, run ? run.sum : null], note: '', settled: {},

@@ -2,7 +2,9 @@
 // session; a long way is gone in pieces, between which `poll` may end it.
 import {Changes} from './changes.mjs';
 import {faultIn} from './faults.mjs';
-import {BEFORE_START, Gone, LAST_CLOCK, MEMORY, Session, Sorry, bytesOf, hex, hexOf, physical} from './session.mjs';
+import {
+  BEFORE_START, Gone, LAST_CLOCK, MEMORY, Session, Sorry, bytesOf, hex, hexOf, physical, unrefused,
+} from './session.mjs';
 import {changedAt, watchedBy} from './watches.mjs';
 
 const MOST_STOPS = 16, MOST_LISTED = 4096, MOST_PASSED = 64, SET_AT_ONCE = 16;
@@ -25,11 +27,6 @@ const SET_REFUSED = {
 // The run is to end where it is.
 export class Paused extends Sorry {}
 
-// An answer that isn't a refusal, but for one that is expected.
-export function unrefused(answer) {
-  if (answer.startsWith('fault') && answer !== BEFORE_START) throw new Sorry(`the debugger refuses: ${answer}`);
-  return answer;
-}
 export const breakAt = ([segment, offset]) => `break ${hex(segment)}:${hex(offset)}`;
 // Its CS:IP, or null of a stop of another kind.
 export function placeOf(stop) {
@@ -81,17 +78,15 @@ export class SessionBoard {
   // Questions
 
   answer(command) {
-    return this.session.one(command);
+    return this.session.answer(command);
   }
 
   one(command) {
-    return unrefused(this.answer(command));
+    return this.session.one(command);
   }
 
   many(command) {
-    const lines = this.session.many(command);
-    if (lines.length === 1) unrefused(lines[0]);
-    return lines;
+    return this.session.many(command);
   }
 
   dump(address, count) {
@@ -249,7 +244,7 @@ export class SessionBoard {
         for (const [at, command] of deeds) {
           if (at > clock || (files && command.startsWith('key'))) continue;
           await this.runByPieces(session, at);
-          unrefused(session.one(command));
+          session.one(command);
           changes.take(at, command);
         }
         await this.runByPieces(session, clock);
@@ -257,7 +252,7 @@ export class SessionBoard {
         if (!(error instanceof Paused) || session.clock <= this.clock) throw error;
         ended = error;
       }
-      for (const stop of stops) unrefused(session.one(stop));
+      for (const stop of stops) session.one(stop);
     } catch (error) {
       session.close();
       throw error;
@@ -292,7 +287,7 @@ export class SessionBoard {
   // A session without stops goes on to this clock.
   async runByPieces(session, end) {
     while (session.clock < end) {
-      unrefused(session.go(Math.min(PIECE, end - session.clock)));
+      session.go(Math.min(PIECE, end - session.clock));
       await this.poll();
     }
   }
@@ -306,7 +301,7 @@ export class SessionBoard {
   // Goes on to the session's next stop, at most to this clock, and returns it.
   async goOn(end) {
     while (this.clock < end) {
-      const met = this.stopIn(unrefused(this.session.go(Math.min(PIECE, end - this.clock))));
+      const met = this.stopIn(this.session.go(Math.min(PIECE, end - this.clock)));
       if (met) return met;
       await this.poll();
     }
@@ -404,10 +399,10 @@ export class SessionBoard {
       while (end > first) {
         const low = Math.max(first, end - length);
         this.back(low);
-        const isMet = end - 1 > low && unrefused(this.session.go(end - 1 - low)).startsWith('stop');
+        const isMet = end - 1 > low && this.session.go(end - 1 - low).startsWith('stop');
         if (isMet) {
           this.pastStops(end);
-          return this.stopIn(unrefused(this.session.one('back stop')));
+          return this.stopIn(this.session.one('back stop'));
         }
         if (low === first) {
           const met = this.firstStop(low);
@@ -429,7 +424,7 @@ export class SessionBoard {
   firstStop(low) {
     this.back(low);
     this.lines(1, 'keys');
-    return this.stopIn(unrefused(this.session.one('back stop')));
+    return this.stopIn(this.session.one('back stop'));
   }
 
   // Goes back to a clock, or on to it past all stops.

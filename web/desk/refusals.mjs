@@ -3,9 +3,9 @@
 import {kindOf, told} from './faults.mjs';
 import {hintOf, isStatement, isWord} from './hints.mjs';
 import {codeOf, labelIn, ownLines, rowsOfSource} from './listing.mjs';
-import {Refused, Sorry} from './session.mjs';
+import {Refused, Sorry, patience} from './session.mjs';
 
-const MOST = 20, SECONDS = 2, NO_SEGMENT = 11, TWICE = 6, SHORT_OF_A_LINE = [8, 9, 10, 12];
+const MOST = 20, NO_SEGMENT = 11, TWICE = 6, SHORT_OF_A_LINE = [8, 9, 10, 12];
 const DEFINING = /^(?:EQU|D[BWDQT]|RES[BWDQ]|PROC|LABEL|MACRO|SEGMENT|STRUC|TIMES)$/i;
 const OPENING = /^\s*(\w+\s*:\s*)?SEGMENT\b/i;
 
@@ -109,7 +109,7 @@ export function whatToDo(lines, fault) {
 // The refused lines, each with what to do: the first twenty, and with the fault's name, if they aren't told as they are
 // typed.
 export function messagesOf(library, source, isTyped = false) {
-  const lines = ownLines(source), found = [], until = Date.now() + 1000 * SECONDS;
+  const lines = ownLines(source), found = [], until = Date.now() + 1000 * patience.seconds;
   for (const [fault, isAfter] of refusedIn(library, source)) {
     const after = isAfter ? ' (where the refused lines above are blank)' : '', name = isTyped ? ''
       : `${kindOf(fault.number).name}: `;

@@ -4,6 +4,7 @@ export const MEMORY = 1 << 20;
 export const BEFORE_START = 'fault 54 BeforeStart';
 const ORDER = ['version', 'ram', 'sw1', 'sw2', 'budget', 'keys', 'timer', 'clocks'];
 const MOST_DUMPED = 4096;
+export const patience = {seconds: 2}; // a search that may be long ends after so many
 const decoder = new TextDecoder(), encoder = new TextEncoder();
 
 // What the user can mend, as a sentence.
@@ -25,6 +26,12 @@ export function runText(fields) {
   return `${JSON.stringify(Object.fromEntries(names.map(it => [it, fields[it]])))}\n`;
 }
 
+// An answer that isn't a refusal, but for one that is expected.
+export function unrefused(answer) {
+  if (answer.startsWith('fault') && answer !== BEFORE_START) throw new Sorry(`the debugger refuses: ${answer}`);
+  return answer;
+}
+
 export class Session {
   // Of files {text, isHex, run}, of which `run` has the run file's fields.
   constructor(library, files) {
@@ -43,8 +50,8 @@ export class Session {
     this.handle = null;
   }
 
-  // The lines of an answer.
-  many(command) {
+  // What a command is answered, also a refusal, as lines.
+  heard(command) {
     if (!this.handle) throw new Gone('the board has ended');
     const text = decoder.decode(this.library.command(this.handle, command).text);
     const lines = text.split('\n');
@@ -52,11 +59,22 @@ export class Session {
     return lines;
   }
 
-  // The line that answers a command.
-  one(command) {
-    const [line] = this.many(command), found = / ?clock (\d+)$/.exec(line);
+  // The line that answers a command, also a refusal.
+  answer(command) {
+    const [line] = this.heard(command), found = / ?clock (\d+)$/.exec(line);
     if (found) this.clock = Number(found[1]);
     return line;
+  }
+
+  // The line that answers a command, and the lines, if it isn't refused.
+  one(command) {
+    return unrefused(this.answer(command));
+  }
+
+  many(command) {
+    const lines = this.heard(command);
+    if (lines.length) unrefused(lines[0]);
+    return lines;
   }
 
   go(clocks) {
@@ -79,7 +97,6 @@ export class Session {
   // What happens in so many clocks, past all stops, as lines of the probe's events.
   lines(clocks, kinds) {
     const found = this.many(`events ${clocks} ${kinds}`), last = found.pop();
-    if (last.startsWith('fault')) throw new Sorry(`pcprobe refuses: ${last}`);
     this.clock = Number(last.slice(6));
     return found;
   }

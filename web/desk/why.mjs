@@ -3,7 +3,9 @@
 // found what may have been so.
 import {Chips, endsBefore, factsOf, filled, rowOf} from './chips.mjs';
 import {codeOf} from './listing.mjs';
-import {BEFORE_START, Session, Sorry, far, hexOf, physical} from './session.mjs';
+import {ofLoop} from './loop.mjs';
+import {Session, far, hexOf, physical} from './session.mjs';
+import {ofZero} from './zero.mjs';
 
 const A_SECOND = 4_772_727, REACH = 20_000_000, LAST = 2 ** 40, ZEROS = 4, TEXT_MEMORY = 0xb0000, CELLS = 2000;
 const CALLED = /\bINT\s+(10|16|1A|20|21)h/i;
@@ -20,10 +22,7 @@ class Run {
   answers(commands) {
     const session = new Session(this.library, this.files);
     try {
-      const lines = commands.flatMap(command => session.many(command));
-      const fault = lines.find(line => line.startsWith('fault ') && line !== BEFORE_START);
-      if (fault) throw new Sorry(`pcprobe refuses: ${fault}`);
-      return lines;
+      return commands.flatMap(command => session.many(command));
     } finally {
       session.close();
     }
@@ -122,6 +121,8 @@ export async function whyOf(library, board, listing) {
   if (board.clock > REACH || board.ending() || board.changes.deeds.length) return [];
   const run = new Run(library, board, listing), isJammed = run.chips.state === 'jammed';
   const end = isJammed ? ofJam(run) : ofBlank(run);
-  const found = [...end, ...ofZeros(run), ...ofColours(run), ...(await ofChips(run))];
+  const zero = ofZero(run), row = run.trail.length ? textOf(run.trail.at(-1)) : '';
+  const astray = zero.length ? zero : [...ofZeros(run), ...(isJammed ? [] : ofLoop(run, row))];
+  const found = [...end, ...astray, ...ofColours(run), ...(await ofChips(run))];
   return found.flatMap(text => text.split('\n'));
 }

@@ -10,7 +10,7 @@ ghost use Rattle.mda_text.specs.Screen.{cell, character_at, character_of, glyph,
 ghost use Rattle.mda_text.specs.Marks.{after_mark, number_after, is_changed, changed_cells};
 
 use crate::changes::ChangedCells;
-use crate::registers::Registers;
+use crate::registers::{RASTER_CLOCKS, RETRACE_START, Registers};
 use crate::snapshot::{SECTION_BYTES, Snapshot};
 use board_types::address::TEXT_SIZE;
 use board_types::timed::Timed;
@@ -40,12 +40,6 @@ pub const CELL_COUNT: u16 = 2000;
 
 /// How many words text memory has: a code and an attribute each.
 pub(crate) const WORD_COUNT: u32 = 2048;
-
-/// The beam is back where it was after this number of processor clocks.
-const RASTER_CLOCKS: u64 = 259;
-
-/// The beam goes back in the clocks of the raster from this one on.
-const RETRACE_START: u64 = 219;
 
 /// The adapter, with the characters that its last mark kept, and a copy of what that mark found in text memory.
 #[derive(Drop)]
@@ -359,16 +353,11 @@ impl Mda {
         self.beam % RASTER_CLOCKS
     }
 
-    /// The byte that the status port 3BAh gives: bit 0 is 1 while the beam goes back, in the last 40 of 259 clocks,
-    /// and the upper four bits are always 1.
+    /// The byte that the status port 3BAh gives.
     fn status(&self) -> u8
         ensures { result ≡ status self.now }
     {
-        if self.raster() >= RETRACE_START {
-            0xF1
-        } else {
-            0xF0
-        }
+        self.registers_after(0).status()
     }
 }
 

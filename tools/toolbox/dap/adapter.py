@@ -10,10 +10,11 @@ import subprocess
 from typing import Any, Callable
 
 from toolbox import guests
+from toolbox.chips import Chips
 from toolbox.command import PYTHON, Sorry
 from toolbox.conditions import Asked, count_of
 from toolbox.dap import console
-from toolbox.dap.board import ENDS, IF, MOST_BREAKPOINTS, Machine
+from toolbox.dap.board import ENDS, MOST_BREAKPOINTS, Machine
 from toolbox.dap.sources import Sources, path_in
 from toolbox.dap.values import Disassembly, Expression, is_code
 from toolbox.dap.variables import Variables
@@ -255,7 +256,7 @@ class Adapter:
         guest = self.guest(given, is_hex)
         run_file = self.run_file(given, guest)
         symbols = os.path.realpath(path) if (path := field(given, 'symbols', str, '')) else None
-        made = guests.made_with(guest, guests.fields_for(guest, run_file), self.room) if guest.is_one else None
+        made = guests.made_with(guest, self.room, run_file) if guest.is_one else None
         files = made or copied(Files(self.program, run_file, is_hex, symbols), self.room)
         try:
             budget, listing = budget_of(files), listing_of(files)
@@ -490,9 +491,7 @@ class Adapter:
     def exception(self, begun: int) -> tuple[str, str] | None:
         """What is wanted beside breakpoints, if the run from a clock on came to it; the board is where that began then."""
         board = self.board()
-        kind = board.state() if self.filters else 'running'
-        if kind == 'halted':
-            kind = kind if board.registers()['FL'] & IF else 'halted for good'
+        kind = Chips(board.chips()).state if self.filters else 'running'
         if 'key lost' in self.filters and (clock := first_lost(board, begun)):
             board.go_to(clock)
             return 'exception', f'clock {clock}: {FILTERS["key lost"]}'

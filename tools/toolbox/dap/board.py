@@ -23,7 +23,6 @@ FIRST_PIECE = 1000  # clocks that are followed at first
 ENDS = {'jammed': 'the processor has jammed, and nothing returned', 'halted for good': 'halted with interrupts off, and nothing returned'}
 IF = 0x200
 Run = Callable[[Collection[str], int], 'str | None']
-FLAG_BITS = {'OF': 11, 'DF': 10, 'IF': 9, 'TF': 8, 'SF': 7, 'ZF': 6, 'AF': 4, 'PF': 2, 'CF': 0}
 
 
 class Machine(FollowedBoard):

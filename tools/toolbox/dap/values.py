@@ -7,10 +7,10 @@ from dataclasses import dataclass
 
 from toolbox.command import Sorry
 from toolbox.conditions import COMPARISONS
-from toolbox.dap.board import FLAG_BITS, Machine
+from toolbox.dap.board import Machine
 from toolbox.listing import Line, Listing, code_of, label_in, physical
 from toolbox.places import address_of, check_bracketed, check_segment, far_of, is_address, said, value_number
-from toolbox.report import HALVES, value_in
+from toolbox.report import FLAGS, HALVES, value_in
 from toolbox.session_board import NONE, SessionBoard
 
 TOKEN = re.compile(r"\s*(\w+|'[^']'|&&|\|\||[=!<>]=|<>|[-+*:\[\]()=<>!&])", re.A)
@@ -162,7 +162,7 @@ class Expression:
         upper = word.upper()
         if upper in self.registers:
             return Value(self.registers[upper])
-        if upper in (*HALVES, *FLAG_BITS):
+        if upper in (*HALVES, *FLAGS):
             return Value(value_in(self.registers, upper), 1)
         if upper == 'SEG' and self.words:
             return Value(far_of(self.listing, self.words.pop(0))[0])

@@ -5,12 +5,13 @@ import re
 from typing import Any, Callable
 
 from toolbox.command import Sorry
-from toolbox.dap.board import FLAG_BITS, Machine
+from toolbox.dap.board import Machine
 from toolbox.dap.values import Value
 from toolbox.data_labels import Datum
 from toolbox.edits import Target
 from toolbox.listing import physical
 from toolbox.printing import all_shown, shown, sized, type_of, values_of, variable_in
+from toolbox.report import FLAGS
 
 Fields = dict[str, Any]
 SCOPES = ('Registers', 'Flags', 'Board', 'Data', 'Stack', 'Screen')  # by their references, from 1 on
@@ -85,7 +86,7 @@ class Variables:
 
     def _flags_of(self) -> dict[str, int]:
         flags = self._board.registers()['FL']
-        return {name: flags >> bit & 1 for name, bit in FLAG_BITS.items()}
+        return {name: flags >> bit & 1 for name, bit in reversed(FLAGS.items())}
 
     def _registers(self) -> list[Fields]:
         shown = {name: f'{one:04X}h' for name, one in self._board.registers().items()}

@@ -1,4 +1,4 @@
-"""The server of tools/desk: one page with its modules and one place to ask, on 127.0.0.1 alone unless another address is said, for the
+"""The server of tools/desk: one page with its parts and one place to ask, on 127.0.0.1 alone unless another address is said, for the
 browser that first opens an address with a token, and has a cookie from then on. What isn't the page's own request is refused: another
 host or origin, no token, no cookie, any other path, too much at once."""
 from __future__ import annotations
@@ -44,19 +44,19 @@ class Refused(Exception):
 
 
 def policy_of(page: str, scripts: list[str]) -> str:
-    """The page's content security policy: its own style by its sum, its modules by their addresses, and requests to where it
-    comes from."""
+    """The page's content security policy: its own style by its sum, its modules and those of its Worker by their addresses, WebAssembly,
+    and requests to where it comes from."""
     styles = ' '.join(
         f"'sha256-{base64.b64encode(hashlib.sha256(style.encode()).digest()).decode()}'" for style in re.findall('<style>(.*?)</style>', page, re.S)
     )
     return (
-        f"default-src 'none'; script-src {' '.join(scripts)}; style-src {styles}; connect-src 'self'; img-src data:; "
+        f"default-src 'none'; script-src {' '.join(scripts)} 'wasm-unsafe-eval'; style-src {styles}; connect-src 'self'; img-src data:; "
         "base-uri 'none'; form-action 'none'; frame-ancestors 'none'"
     )
 
 
 class Server(http.server.ThreadingHTTPServer):
-    """Serves a page with its modules, by their names, and hands what it asks to `answer`."""
+    """Serves a page with its modules, by their names, and its other parts, each with its kind, and hands what it asks to `answer`."""
 
     daemon_threads, block_on_close, request_queue_size = True, False, 128
 
@@ -68,6 +68,7 @@ class Server(http.server.ThreadingHTTPServer):
         port: int = 0,
         host: str = HOST,
         tell: Callable[[str], None] = lambda _: None,
+        others: dict[str, tuple[str, bytes]] | None = None,
     ) -> None:
         self.answer, self.host, self.page, self.modules, self.tell = answer, host, page, tuple(modules), tell
         self.address_family = socket.AF_INET6 if ':' in host else socket.AF_INET
@@ -78,7 +79,8 @@ class Server(http.server.ThreadingHTTPServer):
         self._lock, self._reading = threading.Lock(), dict[Any, float]()
         self._strangers, self._known = dict[Any, float](), set[Any]()
         super().__init__((host, port), Handler)
-        self.parts = {'': ('text/html', page.encode())} | {name: ('text/javascript', text.encode()) for name, text in modules.items()}
+        texts = {'': ('text/html', page)} | {name: ('text/javascript', text) for name, text in modules.items()}
+        self.parts = {name: (f'{kind}; charset=utf-8', text.encode()) for name, (kind, text) in texts.items()} | (others or {})
 
     def named(self, host: str) -> str:
         """An address with the port, as requests name it."""
@@ -239,18 +241,18 @@ class Handler(http.server.BaseHTTPRequestHandler):
         super().finish()
 
     def do_GET(self) -> None:  # pylint: disable=invalid-name
-        """The page, or one of its modules."""
+        """The page, or one of its parts."""
         try:
             token, name = self._checked(is_asking=False)
         except Refused as refused:
             self._refuse(refused)
             return
         self.server.reads(self.connection, False)
-        kind, text = self.server.parts[name]
+        kind, octets = self.server.parts[name]
         more = [('Content-Security-Policy', self.server.policy(self.headers['Host'], token))]
         if not name:
             more.append(('Set-Cookie', f'{COOKIE}={self.server.cookie}; Path=/{token}/; HttpOnly; SameSite=Lax'))
-        self._reply(200, f'{kind}; charset=utf-8', text, more)
+        self._reply(200, kind, octets, more)
 
     def do_POST(self) -> None:  # pylint: disable=invalid-name
         """A question."""

@@ -3,6 +3,7 @@
 import {$, hex, say} from './asking.js';
 import {acts, move, put_stops, stops} from './board.js';
 import {edit_in_place} from './edit.js';
+import {later, look_on} from './timeline.js';
 let bytesChosen = null, opener = null;
 /* An element of bytes of memory, so many from an address on. */
 export function opens_menu(element, address, count) {
@@ -28,6 +29,7 @@ function close_menu(isBack = true) {
   if ($('byte-menu').hidden) return;
   $('byte-menu').hidden = true;
   if (isBack && opener) opener.focus();
+  later(look_on);
 }
 $('byte-stop').onclick = () => {
   const [address, count] = bytesChosen, place = `changes ${hex(address, 5)} ${count}`, before = stops.length;
@@ -43,8 +45,8 @@ $('byte-who').onclick = () => {
   acts(() => move('who', {address, count}));
 };
 $('byte-set').onclick = () => {
-  const at = address > 0xFFFF ? `[0${hex(address, 5)}h]` : `0:[0${hex(address, 4)}h]`;
   const one = opener, [address, count] = bytesChosen, shown = one.textContent, kept = [...one.childNodes];
+  const at = address > 0xFFFF ? `[0${hex(address, 5)}h]` : `0:[0${hex(address, 4)}h]`;
   close_menu();
   edit_in_place(one, `${count === 2 ? 'WORD' : 'BYTE'} ${at}`, /^[0-9A-F]{2}$/.test(shown) ? shown : '',
     true, () => one.replaceChildren(...kept));

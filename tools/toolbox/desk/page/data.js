@@ -2,6 +2,7 @@
 import {$, ask, hex, number} from './asking.js';
 import {board, followed} from './board.js';
 import {opens_menu, with_menus} from './byte.js';
+import {is_edited} from './edit.js';
 import {to_line} from './editor.js';
 import {redraw_registers} from './processor.js';
 export let lastValues = {}, base = 0;
@@ -93,7 +94,7 @@ export async function draw_data() {
   if (!board) return;
   const answer = await ask('data', {board}).then(followed);
   if (answer.sorry) { $('data-list').textContent = answer.sorry; return; }
-  if (!answer.data) return;
+  if (!answer.data || is_edited()) return;
   $('data-list').replaceChildren(...answer.data.map(drawn_label));
   if (!answer.data.length) $('data-list').textContent = 'No label of the source stands at DB, DW or DD.';
 }

@@ -1,16 +1,19 @@
 /* A register or a byte changed in place, and the last change undone. */
 import {$} from './asking.js';
 import {acts, move, running, working} from './board.js';
+import {later, look_on} from './timeline.js';
 /* An element that is edited by a click. */
 export function edited(element, opened) {
   element.title = 'click to change it';
   element.classList.add('edited');
   element.onclick = event => { if (event.target === element) opened(); };
 }
+/* Whether a field or a byte's menu is open: what has it isn't drawn anew meanwhile. */
+export const is_edited = () => !$('byte-menu').hidden || document.querySelector('.byte input, .edited input') !== null;
 /* A field stands in an element's place until Enter, which changes what it names, or Escape. */
-export function edit_in_place(element, place, shown, isHex, end) {
+export function edit_in_place(element, place, shown, isHex, redraw) {
   if (running || working) return;
-  const field = document.createElement('input');
+  const field = document.createElement('input'), end = () => { redraw(); later(look_on); };
   field.value = shown;
   field.className = 'mono';
   field.size = Math.max(shown.length, 4);

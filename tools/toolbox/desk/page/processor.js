@@ -3,7 +3,7 @@ import {$, ask, hex} from './asking.js';
 import {act, acts, board, followed, go_to, running, view, working} from './board.js';
 import {opens_menu, with_menus} from './byte.js';
 import {base, forget_data, in_base} from './data.js';
-import {edit_in_place, edited} from './edit.js';
+import {edit_in_place, edited, is_edited} from './edit.js';
 import {assembled, to_line} from './editor.js';
 import {fit} from './screen.js';
 const FLAGS = [['OF', 11], ['DF', 10], ['IF', 9], ['TF', 8], ['SF', 7], ['ZF', 6], ['AF', 4], ['PF', 2], ['CF', 0]];
@@ -85,7 +85,7 @@ export async function draw_memory() {
   if (!board) return;
   const answer = await ask('memory', {board, place: $('place').value, count: 256}).then(followed);
   if (answer.sorry) { $('bytes').textContent = answer.sorry; return; }
-  if (!answer.bytes) return;
+  if (!answer.bytes || is_edited()) return;
   const octets = answer.bytes.match(/../g).map(it => parseInt(it, 16)), before = memoryBefore
     && memoryBefore.address === answer.address ? memoryBefore.octets : null;
   const made = document.createDocumentFragment();

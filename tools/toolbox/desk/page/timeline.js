@@ -3,6 +3,7 @@ import {$, ask, counted, number, say} from './asking.js';
 import {act, acts, board, go_to, running, show, view, working} from './board.js';
 import {draw_code} from './code.js';
 import {draw_data} from './data.js';
+import {is_edited} from './edit.js';
 import {draw_chips, draw_memory} from './processor.js';
 import {draw_sound, speaker} from './sound.js';
 export let marks = null, met = [], timer = 0, drawn = 0;
@@ -12,7 +13,7 @@ export function begin_line() { marks = null; drawnSpeaker = null; met = []; zoom
 export function later(action) { clearTimeout(timer); timer = setTimeout(action, 120); }
 /* Behind each look that isn't followed by another at once: memory, and the marks of the time line. */
 export function look_on() {
-  if (running || working || !board || !view) return;
+  if (running || working || !board || !view || is_edited()) return;
   if (!$('memory').hidden) act(draw_memory);
   if (!$('chips').hidden) act(draw_chips);
   if (!$('data').hidden) act(draw_data);
