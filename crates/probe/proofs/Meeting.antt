@@ -15,6 +15,7 @@ use Rattle.board_plain.specs.Trail.{trail_next}
 use Rattle.board.specs.declared.one_turn.Begun.{Begun}
 use Rattle.board.specs.OneTurn.{HaveSameWires, IsOneTurn}
 use Rattle.board.specs.HeldBack.{IsHeldBack}
+use Rattle.board.proofs.OneTurn.{MostTurns, more_turns}
 use Rattle.board.proofs.Ticking.{first_clock, first_seen}
 use Rattle.debugger_meaning.specs.Stands.{SessionState}
 use Rattle.events.specs.declared.access.Access.{Access}
@@ -27,6 +28,7 @@ use Rattle.probe.specs.declared.seen.Seen.{Seen}
 use Rattle.probe.specs.declared.seen.Turn.{Turn}
 use Rattle.probe.specs.declared.watched.Watched.{Watched}
 use Rattle.probe.specs.Looked.{HasEnded, LooksOn, RanShort, RanToStop}
+use Rattle.probe.specs.Making.{FewTurns}
 use Rattle.probe.specs.Met.{asked_by, asked_with_stop, IsCopy, IsCovered, is_met, is_stop_met, met, writes_to}
 use Rattle.probe.specs.ProbeStops.{happens, meeting, meeting_at, meets, NoneMet, standing, stands}
 use Rattle.probe.specs.Seen.{asked_in, IsMade, seen_of}
@@ -378,6 +380,30 @@ told_of stops turn accesses t u b next to old new number are asked before after 
       copied = copied;
     })
 
+-- the turns of a run to a stop: the first one, of one clock, needn't be paid for by work
+
+turns_first : (edges : Bool) (begun : Option Begun) (within to end : ℕ) (s t u : BoardState) (n : ℕ) → t.turns ≡ s.turns
+    → (turn : IsOneTurn edges within to t u begun) → MostTurns 2 end s u (n + turn.passed)
+turns_first edges begun within to end s t u n same turn =
+    let one = turn.turns in record { before_end = λ early. omega (arith, one, same); whole = omega (arith, one, same) }
+
+turns_later : (edges : Bool) (begun : Option Begun) (within to end : ℕ) (s t u : BoardState) (n : ℕ) → MostTurns 2 end s t n → Ran n s t → to ≡ end
+    → (turn : IsOneTurn edges within to t u begun) → MostTurns 2 end s u (n + turn.passed)
+turns_later edges begun within to end s t u n so_far ran at =
+    subst (λ e. (turn : IsOneTurn edges within e t u begun) → MostTurns 2 end s u (n + turn.passed)) (sym at)
+    (λ turn. more_turns within 2 end n s t u so_far ran turn)
+
+turns_on : (edges : Bool) (begun : Option Begun) (within to end : ℕ) (s t u : BoardState) (n k : ℕ) → (n ≡ 0 → t.turns ≡ s.turns) → MostTurns 2 end s t n
+    → Ran n s t → (turn : IsOneTurn edges within to t u begun) → (0 < n → to ≡ end) → turn.passed ≡ k → MostTurns 2 end s u (n + k)
+turns_on edges begun within to end s t u n k none so_far ran turn at is =
+    subst (λ j. MostTurns 2 end s u (n + j)) is (elim (cases_lt 0 n) [
+      | inl later ↦ turns_later edges begun within to end s t u n so_far ran (at later) turn
+      | inr first ↦ turns_first edges begun within to end s t u n (none (omega (arith, first))) turn
+    ])
+
+few : {end : ℕ} {s t : BoardState} (n : ℕ) → MostTurns 2 end s t n → FewTurns n s t
+few n turns = let whole = turns.whole in omega (arith, whole)
+
 -- a run so far that has met no stop
 
 pub record Met (stops : List Stop) (end : ℕ) (s t : SessionState) (watches : List Watched) : Type 0 where
@@ -386,6 +412,8 @@ pub record Met (stops : List Stop) (end : ℕ) (s t : SessionState) (watches : L
   pub within : clock_of t.board.plain ≤ end
   pub stops_stay : t.stops ≡ s.stops
   pub first : t.first ≡ s.first
+  pub turns : MostTurns 2 end s.board t.board passed
+  pub unturned : passed ≡ 0 → t.board.turns ≡ s.board.turns
   pub none : NoneMet stops passed s.board.plain
   pub stops_are : stops_of watches ≡ stops
   pub copies : AreCopies watches t.board.plain
@@ -399,6 +427,8 @@ met_none stops end s watches few within are copies watched = record {
   within = within;
   stops_stay = refl;
   first = refl;
+  turns = record { before_end = λ early. omega arith; whole = omega arith };
+  unturned = λ start. refl;
   none = λ j some least. absurd (omega (arith, some, least));
   stops_are = are;
   copies = copies;
@@ -447,13 +477,16 @@ last_none stops n p more none here j some within =
 
 pub met_more : (stops : List Stop) (end : ℕ) (s t u : SessionState) (old new : List Watched)
     → (so_far : Met stops end s t old) → (turn : Turned stops t.board u.board new None) → (so_far.passed ≡ 0 → turn.passed ≡ 1)
-    → clock_of u.board.plain ≤ end → u.stops ≡ t.stops → u.first ≡ t.first → KeepsStops old new → Met stops end s u new
-met_more stops end s t u old new so_far turn first within stay same keeps = record {
+    → MostTurns 2 end s.board u.board (so_far.passed + turn.passed) → clock_of u.board.plain ≤ end → u.stops ≡ t.stops → u.first ≡ t.first
+    → KeepsStops old new → Met stops end s u new
+met_more stops end s t u old new so_far turn first turns within stay same keeps = record {
   passed = so_far.passed + turn.passed;
   ran = runs_join so_far.passed turn.passed s.board t.board u.board so_far.ran turn.ran;
   within = within;
   stops_stay = stay ∙ so_far.stops_stay;
   first = same ∙ so_far.first;
+  turns = turns;
+  unturned = λ start. let some = turn.some in absurd (omega (arith, start, some));
   none = none_on stops so_far.passed turn.passed s.board.plain t.board.plain so_far.ran.plain so_far.none
       (last_none stops turn.passed t.board.plain turn.some (none_between stops end s t u old new None so_far turn first) turn.there);
   stops_are = keeps.stops ∙ so_far.stops_are;
@@ -463,10 +496,12 @@ met_more stops end s t u old new so_far turn first within stay same keeps = reco
 
 pub ran_to_stop : (stops : List Stop) (end : ℕ) (s t u : SessionState) (old new : List Watched) (number : ℕ)
     → (so_far : Met stops end s t old) → (turn : Turned stops t.board u.board new (Some number)) → (so_far.passed ≡ 0 → turn.passed ≡ 1)
-    → clock_of u.board.plain ≤ end → u.stops ≡ t.stops → u.first ≡ t.first → RanToStop stops end s u (Some number)
-ran_to_stop stops end s t u old new number so_far turn first within stay same =
+    → MostTurns 2 end s.board u.board (so_far.passed + turn.passed) → clock_of u.board.plain ≤ end → u.stops ≡ t.stops → u.first ≡ t.first
+    → RanToStop stops end s u (Some number)
+ran_to_stop stops end s t u old new number so_far turn first turns within stay same =
     let some = turn.some in record {
       passed = so_far.passed + turn.passed;
+      turns = few (so_far.passed + turn.passed) turns;
       ran = runs_join so_far.passed turn.passed s.board t.board u.board so_far.ran turn.ran;
       within = within;
       kept = stay ∙ so_far.stops_stay;
@@ -486,6 +521,7 @@ ran_to_end stops end s t watches so_far past =
     let within = so_far.within in record {
       passed = so_far.passed;
       ran = so_far.ran;
+      turns = few so_far.passed so_far.turns;
       within = so_far.within;
       kept = so_far.stops_stay;
       first = so_far.first;
@@ -497,6 +533,7 @@ pub ran_short : (stops : List Stop) (end clock : ℕ) (s t u : SessionState) (wa
 ran_short stops end clock s t u watches so_far before same held is = subst (λ (v : SessionState). RanShort stops end s v clock) (sym same) (record {
   passed = so_far.passed;
   ran = so_far.ran;
+  turns = few so_far.passed so_far.turns;
   before_end = before;
   changes_next = held.changes_next;
   full = held.full;
@@ -510,17 +547,19 @@ ran_short stops end clock s t u watches so_far before same held is = subst (λ (
 
 pub ran_some : (stops : List Stop) (end : ℕ) (s t u : SessionState) (old new : List Watched) (number : Option ℕ)
     → is_some number ≡ true → (so_far : Met stops end s t old) → (turn : Turned stops t.board u.board new number)
-    → (so_far.passed ≡ 0 → turn.passed ≡ 1) → clock_of u.board.plain ≤ end → u.stops ≡ t.stops → u.first ≡ t.first → RanToStop stops end s u number
-ran_some stops end s t u old new None some so_far turn first within stay same = let never : false ≡ true = some in absurd (cc)
-ran_some stops end s t u old new (Some number) some so_far turn first within stay same =
-    ran_to_stop stops end s t u old new number so_far turn first within stay same
+    → (so_far.passed ≡ 0 → turn.passed ≡ 1) → MostTurns 2 end s.board u.board (so_far.passed + turn.passed) → clock_of u.board.plain ≤ end
+    → u.stops ≡ t.stops → u.first ≡ t.first → RanToStop stops end s u number
+ran_some stops end s t u old new None some so_far turn first turns within stay same = let never : false ≡ true = some in absurd (cc)
+ran_some stops end s t u old new (Some number) some so_far turn first turns within stay same =
+    ran_to_stop stops end s t u old new number so_far turn first turns within stay same
 
 pub met_none_more : (stops : List Stop) (end : ℕ) (s t u : SessionState) (old new : List Watched) (number : Option ℕ)
     → is_some number ≡ false → (so_far : Met stops end s t old) → (turn : Turned stops t.board u.board new number) → (so_far.passed ≡ 0 → turn.passed ≡ 1)
-    → clock_of u.board.plain ≤ end → u.stops ≡ t.stops → u.first ≡ t.first → KeepsStops old new → Met stops end s u new
-met_none_more stops end s t u old new None none so_far turn first within stay same keeps =
-    met_more stops end s t u old new so_far turn first within stay same keeps
-met_none_more stops end s t u old new (Some number) none so_far turn first within stay same keeps = let never : true ≡ false = none in absurd (cc)
+    → MostTurns 2 end s.board u.board (so_far.passed + turn.passed) → clock_of u.board.plain ≤ end → u.stops ≡ t.stops → u.first ≡ t.first
+    → KeepsStops old new → Met stops end s u new
+met_none_more stops end s t u old new None none so_far turn first turns within stay same keeps =
+    met_more stops end s t u old new so_far turn first turns within stay same keeps
+met_none_more stops end s t u old new (Some number) none so_far turn first turns within stay same keeps = let never : true ≡ false = none in absurd (cc)
 
 -- a turn from a run's start is one clock
 pub first_once : (stops : List Stop) (to : ℕ) (t u : BoardState) (new : List Watched) (number : Option ℕ)
@@ -536,21 +575,27 @@ pub looks_on : (stops : List Stop) (turn : Turn) (accesses : List Access) (next 
     → accesses ≡ accesses_next t.board.plain → next ≡ turn.before.clock + 1 → IsOneTurn (not turn.asked.wires) next to t.board u.board turn.begun
     → (clock_of b.plain ≡ turn.before.clock + 1 → LooksOn turn accesses b old new number)
     → (turn.before.clock + 1 < clock_of b.plain → number ≡ standing (stops_of old) b.plain) → (turn.before.clock + 1 < clock_of b.plain → new ≡ old)
-    → start ≡ clock_of s.board.plain → (turn.before.clock ≡ start → to ≡ turn.before.clock + 1) → to ≤ end
-    → (there : Turned stops t.board u.board new number) × ((so_far.passed ≡ 0 → there.passed ≡ 1) × (clock_of u.board.plain ≤ end))
+    → start ≡ clock_of s.board.plain → (turn.before.clock ≡ start → to ≡ turn.before.clock + 1) → (start < turn.before.clock → to ≡ end) → to ≤ end
+    → (there : Turned stops t.board u.board new number)
+    × ((so_far.passed ≡ 0 → there.passed ≡ 1) × (MostTurns 2 end s.board u.board (so_far.passed + there.passed) × (clock_of u.board.plain ≤ end)))
 looks_on stops turn accesses next to end start s t u b old new number
-    so_far asked before after here noted at one looks leap copied from first within =
+    so_far asked before after here noted at one looks leap copied from first later within =
     let here_is : turn.before.clock ≡ clock_of t.board.plain = ap (λ (x : Seen). x.clock) before ∙ seen_clock turn.asked t.board.plain in
     let there = turned stops turn accesses t.board u.board old new number so_far.stops_are
     (told_of stops turn accesses t.board u.board b next to old new number so_far.stops_are asked before after here noted at one looks leap copied)
     so_far.copies so_far.watched in
     let before_end = one.before_end in
     let clock = one.ran.clock in
-    let gone = so_far.ran.clock in (
+    let gone = so_far.ran.clock in
+    let there_clock = there.ran.clock in (
       there,
       (
         (λ none. first_once stops to t.board u.board new number there (omega (arith, before_end, clock))
             (first (omega (arith, here_is, gone, none, from)) ∙ ap (λ n. n + 1) here_is)),
-        omega (arith, before_end, clock, within),
+        (
+          turns_on (not turn.asked.wires) turn.begun next to end s.board t.board u.board so_far.passed there.passed so_far.unturned so_far.turns
+              so_far.ran one (λ some. later (omega (arith, here_is, gone, some, from))) (omega (arith, clock, there_clock)),
+          omega (arith, before_end, clock, within),
+        ),
       ),
     )

@@ -19,7 +19,8 @@ use Rattle.debugger_meaning.specs.Stands.{SessionState, Shown, shown_of, StandsA
 use Rattle.probe_texts.specs.declared.stops.Stop.{Stop}
 use Rattle.probe_texts.specs.declared.stops.Stop.TheVariants.{Standing, When, Changes}
 use Rattle.probe.specs.Looked.{answer_at, FindsNoStop, HasEnded, RanShort, RanToStop, ShortOfMemory, with_number}
-use Rattle.probe.specs.Probe.{AddsStop, conditions_of, gone_by, GoesBackToStop, GoesOn, ProbeState, RefusesBackToStop, RefusesGoing, session_of, StopsShort}
+use Rattle.probe.specs.Making.{FewTurns}
+use Rattle.probe.specs.Probe.{AddsStop, conditions_of, gone_by, GoesBackToStop, GoesOn, HasFewTurns, ProbeState, RefusesBackToStop, RefusesGoing, session_of, StopsShort}
 use Rattle.probe_texts.specs.Requests.{is_standing}
 use Rattle.probe.specs.ProbeStops.{EndsAt, IsEndOf, meeting_at, met_from, MetLast, NoneMet, NoneMetFrom}
 use Rattle.std.proofs.lemmas.List.{length-map, map-append}
@@ -53,25 +54,33 @@ ends_of stops n s end are is = subst (λ xs. IsEndOf xs n s end) (sym are) (here
 none_of : (stops : List Stop) (n : ℕ) (s : Plain) → stops ≡ map Standing (conditions_of stops) → NoStop (conditions_of stops) n s → NoneMet stops n s
 none_of stops n s are is = subst (λ xs. NoneMet xs n s) (sym are) (none_here (conditions_of stops) n s is)
 
-goes_on : (n : ℕ) (old new : SessionState) (stops : List Stop) (answer : Answer) → stops ≡ map Standing (conditions_of stops)
-    → old.stops ≡ conditions_of stops → Goes n old new answer → GoesOn n (probe_of old stops) (probe_of new stops) answer
-goes_on n old new stops answer are is goes = record {
+-- a run of whose turns nothing is said
+no_other : (stops : List Stop) (n : ℕ) (old new : SessionState) → list_all is_standing stops ≡ true → HasFewTurns n (probe_of old stops) (probe_of new stops)
+no_other stops n old new all = λ other. let never : true ≡ false = sym all ∙ other in absurd (cc)
+
+goes_on : (n : ℕ) (old new : SessionState) (stops : List Stop) (answer : Answer) → list_all is_standing stops ≡ true
+    → stops ≡ map Standing (conditions_of stops) → old.stops ≡ conditions_of stops → Goes n old new answer
+    → GoesOn n (probe_of old stops) (probe_of new stops) answer
+goes_on n old new stops answer all are is goes = record {
   stopped = goes.stopped;
   within = goes.runs.within;
   ends = ends_of stops n old.board.plain goes.stopped are (subst (λ xs. IsStopOf xs n old.board.plain goes.stopped) is goes.runs.stop);
   ran = goes.runs.ran;
+  turns = no_other stops (run_length n old.board.plain goes.stopped) old new all;
   stops = refl;
   first = goes.first;
   answer_is = goes.answer_is;
 }
 
-stops_short : (n clock : ℕ) (old new : SessionState) (stops : List Stop) → stops ≡ map Standing (conditions_of stops) → old.stops ≡ conditions_of stops
-    → FindsNoMemory old.stops n old.board new.board clock → new.first ≡ old.first → StopsShort n (probe_of old stops) (probe_of new stops) clock
-stops_short n clock old new stops are is finds first = record {
+stops_short : (n clock : ℕ) (old new : SessionState) (stops : List Stop) → list_all is_standing stops ≡ true → stops ≡ map Standing (conditions_of stops)
+    → old.stops ≡ conditions_of stops → FindsNoMemory old.stops n old.board new.board clock → new.first ≡ old.first
+    → StopsShort n (probe_of old stops) (probe_of new stops) clock
+stops_short n clock old new stops all are is finds first = record {
   within = finds.within;
   early = finds.early;
   none_passed = none_of stops (clock_of new.board.plain - clock_of old.board.plain) old.board.plain are
       (subst (λ xs. NoStop xs (clock_of new.board.plain - clock_of old.board.plain) old.board.plain) is finds.none_passed);
+  turns = no_other stops (clock_of new.board.plain - clock_of old.board.plain) old new all;
   stops = refl;
   first = first;
   clock_is = finds.clock_is;
@@ -80,23 +89,23 @@ stops_short n clock old new stops are is finds first = record {
 same_probe : (old new : SessionState) (stops : List Stop) → new ≡ old → probe_of new stops ≡ probe_of old stops
 same_probe old new stops same = ap (λ (s : SessionState). probe_of s stops) same
 
-refuses_going : (n : ℕ) (old new : SessionState) (stops : List Stop) (fault : DebugFault) → stops ≡ map Standing (conditions_of stops)
-    → old.stops ≡ conditions_of stops → RefusesGo n old new fault → RefusesGoing n (probe_of old stops) (probe_of new stops) fault
-refuses_going n old new stops ClockLimit are is refuses = (refuses.0.0, λ i. record { first = refuses.2 i; board = refuses.0.1 i; stops = stops })
-refuses_going n old new stops BadScan are is refuses = absurd refuses.0
-refuses_going n old new stops StampsFall are is refuses = absurd refuses.0
-refuses_going n old new stops BadCommand are is refuses = absurd refuses.0
-refuses_going n old new stops TooManyStops are is refuses = absurd refuses.0
-refuses_going n old new stops (Memory None) are is refuses = absurd refuses.0
-refuses_going n old new stops (Memory (Some clock)) are is refuses = stops_short n clock old new stops are is refuses.0 refuses.2
-refuses_going n old new stops BeforeStart are is refuses = absurd refuses.0
-refuses_going n old new stops NoCell are is refuses = absurd refuses.0
+refuses_going : (n : ℕ) (old new : SessionState) (stops : List Stop) (fault : DebugFault) → list_all is_standing stops ≡ true
+    → stops ≡ map Standing (conditions_of stops) → old.stops ≡ conditions_of stops → RefusesGo n old new fault → RefusesGoing n (probe_of old stops) (probe_of new stops) fault
+refuses_going n old new stops ClockLimit all are is refuses = (refuses.0.0, λ i. record { first = refuses.2 i; board = refuses.0.1 i; stops = stops })
+refuses_going n old new stops BadScan all are is refuses = absurd refuses.0
+refuses_going n old new stops StampsFall all are is refuses = absurd refuses.0
+refuses_going n old new stops BadCommand all are is refuses = absurd refuses.0
+refuses_going n old new stops TooManyStops all are is refuses = absurd refuses.0
+refuses_going n old new stops (Memory None) all are is refuses = absurd refuses.0
+refuses_going n old new stops (Memory (Some clock)) all are is refuses = stops_short n clock old new stops all are is refuses.0 refuses.2
+refuses_going n old new stops BeforeStart all are is refuses = absurd refuses.0
+refuses_going n old new stops NoCell all are is refuses = absurd refuses.0
 
 pub goes_standing : (n : ℕ) (old new : SessionState) (stops : List Stop) (result : Result Answer DebugFault)
     → list_all is_standing stops ≡ true → old.stops ≡ conditions_of stops → MatchResult result (Goes n old new) (RefusesGo n old new)
     → MatchResult result (GoesOn n (probe_of old stops) (probe_of new stops)) (RefusesGoing n (probe_of old stops) (probe_of new stops))
-goes_standing n old new stops (Ok answer) all is goes = goes_on n old new stops answer (all_standing stops all) is goes
-goes_standing n old new stops (Err fault) all is refuses = refuses_going n old new stops fault (all_standing stops all) is refuses
+goes_standing n old new stops (Ok answer) all is goes = goes_on n old new stops answer all (all_standing stops all) is goes
+goes_standing n old new stops (Err fault) all is refuses = refuses_going n old new stops fault all (all_standing stops all) is refuses
 
 -- a way back
 
@@ -174,6 +183,7 @@ goes_to_stop n end number old new stops answer within at ran is =
         clock = clock;
       };
       ran = subst (λ k. Ran k old.board new.board) (sym length_is) ran.ran;
+      turns = λ other. subst (λ k. FewTurns k old.board new.board) (sym length_is) ran.turns;
       stops = refl;
       first = ran.first;
       answer_is = is;
@@ -189,6 +199,7 @@ goes_to_end n end old new stops answer within at ran is =
       within = within;
       ends = subst (λ k. NoneMet stops k old.board.plain) whole ran.ended.1;
       ran = subst (λ k. Ran k old.board new.board) whole ran.ran;
+      turns = λ other. subst (λ k. FewTurns k old.board new.board) whole ran.turns;
       stops = refl;
       first = ran.first;
       answer_is = is;
@@ -215,6 +226,7 @@ goes_short n end old new stops (Memory (Some clock)) within at short =
         full = short.full;
       };
       none_passed = subst (λ k. NoneMet stops k old.board.plain) (omega (arith, gone)) short.none;
+      turns = λ other. subst (λ k. FewTurns k old.board new.board) (omega (arith, gone)) short.turns;
       stops = refl;
       first = short.first;
       clock_is = short.clock_is;

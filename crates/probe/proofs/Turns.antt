@@ -364,3 +364,36 @@ looked_next turn new begun t u b within end is seen room few limit here one =
 pub first_by : (last before : Seen) (start to : ℕ) → before ≡ last → (last.clock ≡ start → to ≡ last.clock + 1) → before.clock ≡ start
     → to ≡ before.clock + 1
 first_by last before start to is first = subst (λ (x : Seen). x.clock ≡ start → to ≡ x.clock + 1) (sym is) first
+
+-- the end of a later one
+pub later_by : (last before : Seen) (start to end : ℕ) → before ≡ last → (start < last.clock → to ≡ end) → start < before.clock → to ≡ end
+later_by last before start to end is later = subst (λ (x : Seen). start < x.clock → to ≡ end) (sym is) later
+
+-- what isn't asked for isn't seen
+
+pub waiting_unasked : (asked : Asked) (x : Seen) (p q : Plain) → x ≡ seen_of asked p → asked.keys ≡ false → x.waiting ≡ waiting_seen asked.keys q
+unfolding seen_of
+waiting_unasked asked x p q is unasked =
+    ap (λ (y : Seen). y.waiting) is ∙ ap (λ k. waiting_seen k p) unasked ∙ ap (λ k. waiting_seen k q) (sym unasked)
+
+pub levels_unasked : (asked : Asked) (x : Seen) (p q : Plain) → x ≡ seen_of asked p → asked.wires ≡ false → x.levels ≡ levels_seen asked.wires q
+unfolding seen_of
+levels_unasked asked x p q is unasked =
+    ap (λ (y : Seen). y.levels) is ∙ ap (λ k. levels_seen k p) unasked ∙ ap (λ k. levels_seen k q) (sym unasked)
+
+-- what is seen after a turn, part by part
+pub next_is : (old : Turn) (begun : Option Begun) (b : Plain) (clock : ℕ) (state : State) (was is : ℕ) (left got : Option Levels)
+    → clock ≡ clock_of b → state ≡ state_of b → was ≡ old.after.waiting → is ≡ waiting_seen old.asked.keys b → left ≡ old.after.levels
+    → got ≡ levels_seen old.asked.wires b → record {
+      asked = old.asked;
+      before = record { clock = old.after.clock; state = old.after.state; waiting = was; levels = left };
+      begun = begun;
+      after = record { clock = clock; state = state; waiting = is; levels = got };
+    } ≡ next_turn old begun b
+unfolding seen_of
+next_is old begun b clock state was is left got at in_state waited waits levels_left levels_got = λ i. record {
+  asked = old.asked;
+  before = record { clock = old.after.clock; state = old.after.state; waiting = waited i; levels = levels_left i };
+  begun = begun;
+  after = record { clock = at i; state = in_state i; waiting = waits i; levels = levels_got i };
+}

@@ -16,6 +16,7 @@ use Rattle.events.specs.Accesses.{accesses_next}
 use Rattle.probe.specs.declared.seen.Turn.{Turn}
 use Rattle.probe_texts.specs.declared.stops.Stop.{Stop}
 use Rattle.probe.specs.declared.watched.Watched.{Watched}
+use Rattle.probe.specs.Making.{FewTurns}
 use Rattle.probe.specs.Met.{met}
 use Rattle.probe.specs.ProbeStops.{meeting_at, NoneMet, NoneMetFrom, standing}
 use Rattle.probe.specs.Seen.{IsMade, asked_in}
@@ -38,6 +39,7 @@ HasEnded stops end passed s (Some number) =
 pub record RanToStop (stops : List Stop) (end : ℕ) (old new : SessionState) (number : Option ℕ) : Type 0 where
   pub passed : ℕ
   pub ran : Ran passed old.board new.board
+  pub turns : FewTurns passed old.board new.board
   pub within : clock_of new.board.plain ≤ end
   pub kept : new.stops ≡ old.stops
   pub first : new.first ≡ old.first
@@ -47,6 +49,7 @@ pub record RanToStop (stops : List Stop) (end : ℕ) (old new : SessionState) (n
 pub record RanShort (stops : List Stop) (end : ℕ) (old new : SessionState) (clock : ℕ) : Type 0 where
   pub passed : ℕ
   pub ran : Ran passed old.board new.board
+  pub turns : FewTurns passed old.board new.board
   pub before_end : clock_of new.board.plain < end
   pub changes_next : speaker_level (after_clock new.board.plain) ≢ speaker_level new.board.plain
   pub full : new.board.room ≡ 0

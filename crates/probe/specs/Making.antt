@@ -11,9 +11,9 @@ use Rattle.debugger_meaning.specs.declared.fault.DebugFault.TheVariants.{TooMany
 use Rattle.debugger_meaning.specs.Session.{IsText}
 use Rattle.debugger_meaning.specs.Stands.{SessionState, shown_of, StandsAt}
 
--- in n clocks a board makes no more turns than its work asks for
+-- in n clocks a board makes no more turns than its work asks for: three times that, and three more
 abbrev pub FewTurns : ℕ → BoardState → BoardState → Type 0
-FewTurns n old new = new.turns ≤ old.turns + 3 * work_in old.plain n + 2
+FewTurns n old new = new.turns ≤ old.turns + 3 * work_in old.plain n + 3
 
 -- n clocks pass, and the text is shown; the stops stay
 pub record Makes (n : ℕ) (text : List ℕ) (old new : SessionState) (answer : Answer) : Type 0 where

@@ -1,7 +1,8 @@
 -- What a probe is, and how it answers a line.
 -- To be believed by callers of this crate: the headline does not rest on it.
-use Rattle.std.specs.Prelude.{ℕ, ◌≡◌, ◌+◌, ◌-◌, ◌<◌, ◌≤◌, ◌^◌, IsTrue, List, [], ◌∷◌}
+use Rattle.std.specs.Prelude.{ℕ, ◌≡◌, ◌+◌, ◌-◌, ◌<◌, ◌≤◌, ◌^◌, false, IsTrue, List, [], ◌∷◌}
 use Rattle.std.specs.Prelude.{◌++◌, length, Option, None, Some, Result, MatchResult}
+use Rattle.std.specs.List.{list_all}
 use Rattle.board_plain.specs.declared.stop.Condition.{Condition}
 use Rattle.board_plain.specs.declared.stop.Stop.{Stop as End}
 use Rattle.board_plain.specs.Board.{BoardState, Ran, StoppedEarly}
@@ -19,8 +20,9 @@ use Rattle.probe_texts.specs.declared.stops.Request.TheVariants.{Add, Go, BackSt
 use Rattle.probe_texts.specs.declared.stops.Stop.{Stop}
 use Rattle.probe_texts.specs.declared.stops.Stop.TheVariants.{Standing, When, Changes}
 use Rattle.probe.specs.Moments.{AnswersTrial}
-use Rattle.probe_texts.specs.Requests.{asks_changes, request_of}
+use Rattle.probe_texts.specs.Requests.{asks_changes, is_standing, request_of}
 use Rattle.probe.specs.InquirySession.{AnswersProbe}
+use Rattle.probe.specs.Making.{FewTurns}
 use Rattle.probe.specs.ProbeStops.{IsEndOf, MetLast, NoneMet, NoneMetFrom}
 
 -- a probe: what its first board showed, the board as it stands now, and the stops
@@ -68,12 +70,17 @@ RefusesStop stop old new (Memory (Some clock)) = ⊥
 RefusesStop stop old new BeforeStart = ⊥
 RefusesStop stop old new NoCell = ⊥
 
+-- a run that waits for more than conditions makes few turns; the session's own search finds conditions
+abbrev pub HasFewTurns : ℕ → ProbeState → ProbeState → Type 0
+HasFewTurns n old new = list_all is_standing old.stops ≡ false → FewTurns n old.board new.board
+
 -- a run of at most n clocks, up to the first one after the start at which a stop is met
 pub record GoesOn (n : ℕ) (old new : ProbeState) (answer : Answer) : Type 0 where
   pub stopped : Option End
   pub within : clock_of old.board.plain + n ≤ 2 ^ 40
   pub ends : IsEndOf old.stops n old.board.plain stopped
   pub ran : Ran (run_length n old.board.plain stopped) old.board new.board
+  pub turns : HasFewTurns (run_length n old.board.plain stopped) old new
   pub stops : new.stops ≡ old.stops
   pub first : new.first ≡ old.first
   pub answer_is : answer ≡ told_of stopped (clock_of new.board.plain)
@@ -84,6 +91,7 @@ pub record StopsShort (n : ℕ) (old new : ProbeState) (clock : ℕ) : Type 0 wh
   pub within : clock_of old.board.plain + n ≤ 2 ^ 40
   pub early : StoppedEarly n old.board new.board
   pub none_passed : NoneMet old.stops (clock_of new.board.plain - clock_of old.board.plain) old.board.plain
+  pub turns : HasFewTurns (clock_of new.board.plain - clock_of old.board.plain) old new
   pub stops : new.stops ≡ old.stops
   pub first : new.first ≡ old.first
   pub clock_is : clock ≡ clock_of new.board.plain

@@ -76,6 +76,7 @@ fn asked_with(asked: Asked, stop: &Stop) -> Asked
 pub(crate) fn turn_end(clock: u64, start: u64, end: Clock) -> Clock
     requires { clock < end }
     ensures first { clock ≡ start → result ≡ clock + 1 }
+    ensures after { start < clock → result ≡ end }
     ensures later { clock < result }
     ensures within { result ≤ end }
 {

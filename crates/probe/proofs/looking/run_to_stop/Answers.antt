@@ -10,7 +10,7 @@ use Rattle.probe.specs.Met.{asked_by}
 use Rattle.probe.specs.Seen.{next_turn, seen_of}
 use Rattle.probe.specs.Watched.{AreCopies, stops_of}
 use Rattle.probe.proofs.Meeting.{looks_on, met_none, met_none_more, ran_short, ran_some, ran_to_end}
-use Rattle.probe.proofs.Turns.{first_by, looked_next, next_of, one_of}
+use Rattle.probe.proofs.Turns.{first_by, later_by, looked_next, next_of, one_of}
 use Rattle.probe.proofs.looking.run_to_stop.Goals as goal
 
 pub turns-init : goal.turns-init
@@ -80,9 +80,10 @@ returns-then-is_some-clause-ran c =
     (one_of c.turns.turn turn c.in-Ok.begun c.board-in-turns-3.result.now.plain c.next_clock-next.result c.turn_end-to.result
     t.board u.board is c.in-Ok.ensures.ok) c.found-number.ensures.clock c.found-number.ensures.leap c.found-number.ensures.copied
     first_start (first_by c.turns.turn.after turn.before c.get-start.result c.turn_end-to.result after.stood c.turn_end-to.ensures.first)
+    (later_by c.turns.turn.after turn.before c.get-start.result c.turn_end-to.result c.args.end after.stood c.turn_end-to.ensures.after)
     c.turn_end-to.ensures.within in
     ran_some stops c.args.end s t u c.turns.watches c.found-number.new.watches c.found-number.result
-    (sym c.is_some.ensures ∙ c.if-is_some.true) c.turns.invariant.met on.0 on.1.0 on.1.1 c.in-Ok.ensures.stops c.in-Ok.ensures.first
+    (sym c.is_some.ensures ∙ c.if-is_some.true) c.turns.invariant.met on.0 on.1.0 on.1.1.0 on.1.1.1 c.in-Ok.ensures.stops c.in-Ok.ensures.first
 
 pub returns-then-is_some-clause-keeps : goal.returns-then-is_some-clause-keeps
 returns-then-is_some-clause-keeps c =
@@ -110,10 +111,11 @@ turns-preserved c =
     (one_of c.turns.turn turn c.in-Ok.begun c.board-in-turns-3.result.now.plain c.next_clock-next.result c.turn_end-to.result
     t.board u.board is c.in-Ok.ensures.ok) c.found-number.ensures.clock c.found-number.ensures.leap c.found-number.ensures.copied
     first_start (first_by c.turns.turn.after turn.before c.get-start.result c.turn_end-to.result after.stood c.turn_end-to.ensures.first)
+    (later_by c.turns.turn.after turn.before c.get-start.result c.turn_end-to.result c.args.end after.stood c.turn_end-to.ensures.after)
     c.turn_end-to.ensures.within in
     record {
       met = met_none_more stops c.args.end s t u c.turns.watches c.found-number.new.watches c.found-number.result (sym c.is_some.ensures ∙ c.if-is_some.false)
-          c.turns.invariant.met on.0 on.1.0 on.1.1 c.in-Ok.ensures.stops c.in-Ok.ensures.first c.found-number.ensures.keeps;
+          c.turns.invariant.met on.0 on.1.0 on.1.1.0 on.1.1.1 c.in-Ok.ensures.stops c.in-Ok.ensures.first c.found-number.ensures.keeps;
       asked = after.asked ∙ c.turns.invariant.asked;
       before = (t.board.plain, after.before);
       after = after.after ∙ ap (λ (b : BoardState). seen_of turn.asked b.plain) c.board-in-turns-3.ensures.board;

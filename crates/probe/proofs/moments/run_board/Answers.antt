@@ -8,7 +8,7 @@ use Rattle.probe.specs.Seen.{seen_of}
 use Rattle.probe.specs.Watched.{stops_of}
 use Rattle.probe.proofs.Meeting.{looks_on, met_none, met_none_more, ran_some}
 use Rattle.probe.proofs.Trying.{trail_stays}
-use Rattle.probe.proofs.Turns.{first_by, looked_next, next_of, one_of}
+use Rattle.probe.proofs.Turns.{first_by, later_by, looked_next, next_of, one_of}
 use Rattle.probe.proofs.moments.run_board.Goals as goal
 
 pub turns-init : goal.turns-init
@@ -44,9 +44,10 @@ returns-then-is_some-clause-ran c =
     (one_of c.turns.turn turn c.in-Ok.begun c.run_turn.new.self.plain c.next_clock-next.result c.turn_end-to.result c.turns.board c.run_turn.new.self
     c.next.ensures.turn c.in-Ok.ensures.ok) c.found-number.ensures.clock c.found-number.ensures.leap c.found-number.ensures.copied
     (c.get-start.ensures.value ∙ c.clock.ensures)
-    (first_by c.turns.turn.after turn.before c.get-start.result c.turn_end-to.result after.stood c.turn_end-to.ensures.first) c.turn_end-to.ensures.within in
+    (first_by c.turns.turn.after turn.before c.get-start.result c.turn_end-to.result after.stood c.turn_end-to.ensures.first)
+    (later_by c.turns.turn.after turn.before c.get-start.result c.turn_end-to.result c.args.end after.stood c.turn_end-to.ensures.after) c.turn_end-to.ensures.within in
     ran_some stops c.args.end s t u c.turns.watches c.found-number.new.watches c.found-number.result
-    (sym c.is_some.ensures ∙ c.if-is_some.true) c.turns.invariant.met on.0 on.1.0 on.1.1 refl refl
+    (sym c.is_some.ensures ∙ c.if-is_some.true) c.turns.invariant.met on.0 on.1.0 on.1.1.0 on.1.1.1 refl refl
 
 pub turns-preserved : goal.turns-preserved
 turns-preserved c =
@@ -64,10 +65,11 @@ turns-preserved c =
     (one_of c.turns.turn turn c.in-Ok.begun c.run_turn.new.self.plain c.next_clock-next.result c.turn_end-to.result c.turns.board c.run_turn.new.self
     c.next.ensures.turn c.in-Ok.ensures.ok) c.found-number.ensures.clock c.found-number.ensures.leap c.found-number.ensures.copied
     (c.get-start.ensures.value ∙ c.clock.ensures)
-    (first_by c.turns.turn.after turn.before c.get-start.result c.turn_end-to.result after.stood c.turn_end-to.ensures.first) c.turn_end-to.ensures.within in
+    (first_by c.turns.turn.after turn.before c.get-start.result c.turn_end-to.result after.stood c.turn_end-to.ensures.first)
+    (later_by c.turns.turn.after turn.before c.get-start.result c.turn_end-to.result c.args.end after.stood c.turn_end-to.ensures.after) c.turn_end-to.ensures.within in
     record {
       met = met_none_more stops c.args.end s t u c.turns.watches c.found-number.new.watches c.found-number.result
-          (sym c.is_some.ensures ∙ c.if-is_some.false) c.turns.invariant.met on.0 on.1.0 on.1.1 refl refl c.found-number.ensures.keeps;
+          (sym c.is_some.ensures ∙ c.if-is_some.false) c.turns.invariant.met on.0 on.1.0 on.1.1.0 on.1.1.1 refl refl c.found-number.ensures.keeps;
       asked = after.asked ∙ c.turns.invariant.asked;
       before = (c.turns.board.plain, after.before);
       after = after.after;
