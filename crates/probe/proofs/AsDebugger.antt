@@ -1,13 +1,12 @@
 -- A probe whose stops are all conditions answers as the debugger does.
-use Rattle.std.proofs.Common.{◌≡◌, ℕ, ◌+◌, ◌-◌, ◌<◌, ◌≤◌, false, true, List, [], ◌∷◌, ◌++◌, length, map}
+use Rattle.std.proofs.Common.{◌≡◌, ℕ, ◌+◌, ◌-◌, false, true, List, [], ◌∷◌, ◌++◌, length, map}
 use Rattle.std.proofs.Common.{Option, None, Some, Result, Ok, Err, refl, sym, ap, ◌∙◌, subst, arith}
 use Rattle.std.specs.Prelude.{MatchResult}
 use Rattle.std.proofs.lemmas.List.{length-map, map-append}
 use Rattle.board_plain.specs.declared.stop.Condition.{Condition}
 use Rattle.board_plain.specs.declared.stop.Condition.TheVariants as conditions
-use Rattle.board_plain.specs.declared.stop.Stop.{Stop as End}
 use Rattle.board_plain.specs.Plain.{Plain, after_clocks, clock_of}
-use Rattle.board_plain.specs.Stops.{holding, IsStopOf, NoStop}
+use Rattle.board_plain.specs.Stops.{holding, NoStop}
 use Rattle.debugger_meaning.specs.declared.answer.Answer.{Answer}
 use Rattle.debugger_meaning.specs.declared.answer.Answer.TheVariants as answers
 use Rattle.debugger_meaning.specs.declared.command.Command.{Command}
@@ -16,8 +15,7 @@ use Rattle.debugger_meaning.specs.declared.fault.DebugFault.{DebugFault}
 use Rattle.debugger_meaning.specs.declared.fault.DebugFault.TheVariants.{BadScan, StampsFall, ClockLimit, BadCommand, TooManyStops, Memory, BeforeStart, NoCell}
 use Rattle.debugger_meaning.specs.Back.{GoesBackTo, RefusesBackTo}
 use Rattle.debugger_meaning.specs.Commands.{command_of}
-use Rattle.debugger_meaning.specs.Session.{Answers, AnswersLine, AnswersStop, Goes, RefusesGo}
-use Rattle.debugger_meaning.specs.Stands.{SessionState}
+use Rattle.debugger_meaning.specs.Session.{AnswersLine, AnswersStop, Goes, RefusesGo}
 use Rattle.probe_texts.specs.declared.inquiry.Inquiry.{Inquiry}
 use Rattle.probe_texts.specs.declared.stops.Stop.{Stop}
 use Rattle.probe_texts.specs.declared.stops.Stop.TheVariants.{Standing}
@@ -25,7 +23,7 @@ use Rattle.probe_texts.specs.Inquiry.{inquiry_of}
 use Rattle.probe.specs.ProbeLaws.{AnswersAsDebugger, OnlyStand}
 use Rattle.probe.specs.Probe.{AddsStop, AnswersUnless, conditions_of, GoesBackToStop, GoesOn}
 use Rattle.probe.specs.Probe.{ProbeState, RefusesBackToStop, RefusesGoing, RefusesStop, session_of}
-use Rattle.probe_texts.specs.Requests.{request_by, request_in, request_of, request_with, stop_of, trial_of}
+use Rattle.probe_texts.specs.Requests.{request_by, request_in, request_with, stop_of}
 use Rattle.probe.specs.InquirySession.{AnswersOr}
 use Rattle.probe.specs.ProbeStops.{IsEndOf, met_from, NoneMet}
 use Rattle.probe.proofs.Probes.{conditions_more}

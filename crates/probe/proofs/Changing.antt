@@ -1,28 +1,23 @@
 -- Bytes that change, by the writes of a clock and a copy of what was there before it.
-use Rattle.std.proofs.Common.{◌≡◌, ◌≢◌, ℕ, zero, suc, ◌+◌, ◌-◌, ◌<◌, ◌≤◌, Bool, true, false, if◌then◌else◌, not, List, []}
-use Rattle.std.proofs.Common.{◌∷◌, ◌++◌, length, map, get_or, inl, inr, Option, None, Some, refl, sym, ap, ◌∙◌, subst, arith}
-use Rattle.std.specs.Prelude.{◌||◌, ◌&&◌, ◌==◌, ◌⊎◌, IsTrue, nat_eq, nat_le, nat_lt, fold, slice_get}
+use Rattle.std.proofs.Common.{◌≡◌, ℕ, zero, suc, ◌+◌, ◌-◌, ◌<◌, ◌≤◌, Bool, true, false, if◌then◌else◌, not, List, []}
+use Rattle.std.proofs.Common.{◌∷◌, ◌++◌, length, map, get_or, inl, inr, Option, None, Some, refl, sym, ap, ◌∙◌, arith}
+use Rattle.std.specs.Prelude.{◌||◌, ◌&&◌, ◌==◌, ◌⊎◌, nat_le, nat_lt, fold, slice_get}
 use Rattle.std.specs.List.{flat_map, list_any, range_with_len}
 use Rattle.std.proofs.lemmas.Bool.Decides.{nat_tests}
 use Rattle.std.proofs.lemmas.List.Folds.{list_any-append, list_any_at, list_any_none}
 use Rattle.std.proofs.lemmas.List.FromFn.{get_or-range_with_len, length-range_with_len, map-range_with_len_more}
 use Rattle.std.proofs.lemmas.List.{map-id}
 use Rattle.std.proofs.lemmas.Option.{slice_get-get_or}
-use Rattle.board_types.proofs.Iterate.{gathered_more, gathered_zero, iterate_more, iterate_zero}
-use Rattle.board_plain.specs.Plain.{Plain, after_clock, after_clocks, byte_of, clock_of, state_of}
-use Rattle.board_plain.specs.Trail.{trail_next}
-use Rattle.board_plain.specs.declared.trail.TrailEntry.{TrailEntry}
+use Rattle.board_plain.specs.Plain.{Plain, after_clock, byte_of, clock_of}
 use Rattle.events.specs.declared.access.Access.{Access}
 use Rattle.events.specs.declared.access.Access.TheVariants.{Write, In, Out}
-use Rattle.events.specs.declared.event.Event.{Event}
-use Rattle.events.specs.declared.event.Event.TheVariants.{Began, Became, Keyed, Reached, Wired}
+use Rattle.events.specs.declared.event.Event.TheVariants.{Reached}
 use Rattle.events.specs.Accesses.{accesses_next}
-use Rattle.events.specs.Events.{events_in, events_next}
 use Rattle.events.specs.ClockLaws.{byte_after, written_by}
-use Rattle.events.proofs.Told.{byte_of_clock, written_next}
+use Rattle.events.proofs.Told.{byte_of_clock}
 use Rattle.wiring.specs.Ports.{is_writable}
 use Rattle.probe.specs.declared.bytes.Copied.{Copied}
-use Rattle.probe.specs.Met.{AreRenewed, HasRoom, IsCopy, IsOneRenewed, differs_from, differs_copied, copied_at, one_differs, write_differs, writes_to}
+use Rattle.probe.specs.Met.{AreRenewed, IsCopy, differs_from, differs_copied, copied_at, one_differs, write_differs, writes_to}
 use Rattle.probe.specs.ProbeStops.{any_differs}
 
 -- an address that isn't written keeps its byte

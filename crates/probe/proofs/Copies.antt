@@ -1,8 +1,8 @@
 -- The copies of stops' bytes are made anew or renewed, one after another.
-use Rattle.std.proofs.Common.{◌≡◌, ◌≢◌, ℕ, ◌+◌, ◌<◌, ◌≤◌, List, length, length-set, map, get_or, get_or-set_other, set, refl, sym, ap, ◌∙◌, subst, arith}
+use Rattle.std.proofs.Common.{◌≡◌, ◌≢◌, ℕ, ◌+◌, ◌<◌, ◌≤◌, List, length, length-set, get_or, get_or-set_other, set, refl, sym, ◌∙◌, subst, arith}
 use Rattle.std.specs.Prelude.{All}
 use Rattle.std.specs.List.{AllWithin}
-use Rattle.std.proofs.lemmas.List.Elements.{All-from_all_within, All-set, AllWithin-from_all, AllWithin-more_set, AllWithin-none, AllWithin-set}
+use Rattle.std.proofs.lemmas.List.Elements.{All-set, AllWithin-from_all, AllWithin-more_set, AllWithin-none}
 use Rattle.std.proofs.Math.Seq.{map-set_same}
 use Rattle.board_plain.specs.Plain.{Plain, after_clock}
 use Rattle.events.specs.declared.access.Access.{Access}
@@ -11,7 +11,7 @@ use Rattle.probe.specs.declared.bytes.Copied.{Copied}
 use Rattle.probe_texts.specs.declared.stops.Stop.{Stop}
 use Rattle.probe_texts.specs.declared.stops.Stop.TheVariants.{Standing, When, Changes}
 use Rattle.probe.specs.declared.watched.Watched.{Watched}
-use Rattle.probe.specs.Met.{AreRenewed, HasRoom, IsCopy, IsCovered}
+use Rattle.probe.specs.Met.{AreRenewed, IsCopy, IsCovered}
 use Rattle.std.specs.List.{list_all}
 use Rattle.std.proofs.lemmas.List.Folds.{list_all-map}
 use Rattle.probe_texts.specs.Requests.{is_standing}

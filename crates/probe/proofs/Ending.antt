@@ -1,17 +1,15 @@
 -- A run with stops ends in one way alone, and goes on.
-use Rattle.std.proofs.Common.{◌≡◌, ℕ, zero, suc, ◌+◌, ◌-◌, ◌<◌, ◌≤◌, List, Option, Some, None, inl, inr, refl, sym, ap, subst, ◌∙◌, arith}
-use Rattle.std.proofs.lemmas.Bool.{cases_lt}
-use Rattle.board_types.proofs.Iterate.{iterate_add}
+use Rattle.std.proofs.Common.{◌≡◌, ℕ, ◌+◌, ◌-◌, ◌<◌, ◌≤◌, List, Option, Some, None, refl, sym, ap, subst, ◌∙◌, arith}
 use Rattle.board_types.specs.declared.keys.StampedKey.{StampedKey}
 use Rattle.board_plain.specs.declared.stop.Stop.{Stop as End}
-use Rattle.board_plain.specs.Plain.{Plain, after_clock, after_clocks, clock_of}
+use Rattle.board_plain.specs.Plain.{Plain, after_clocks, clock_of}
 use Rattle.events.proofs.KeyToCome.{key_waits}
 use Rattle.events.specs.WithKey.{with_key}
 use Rattle.probe_texts.specs.declared.moments_text.Second.{Second}
 use Rattle.probe_texts.specs.declared.moments_text.Trial.{Trial}
 use Rattle.probe.specs.Moments.{key_tried, second_tried, with_second, with_tried}
 use Rattle.probe_texts.specs.declared.stops.Stop.{Stop}
-use Rattle.probe.specs.ProbeStops.{EndsAt, IsEndOf, meeting, meeting_at, NoneMet}
+use Rattle.probe.specs.ProbeStops.{EndsAt, IsEndOf, meeting_at, NoneMet}
 use Rattle.probe.proofs.Waiting.{clock_same, meeting_waits, none_waited, none_waits}
 use Rattle.probe.proofs.Meeting.{met_on, none_on}
 

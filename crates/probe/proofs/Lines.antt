@@ -1,6 +1,6 @@
 -- Lines of events that are heard, one after another.
 use Rattle.std.proofs.Common.{◌≡◌, ℕ, ◌+◌, Bool, true, false, List, [], ◌∷◌, ◌++◌, refl, sym, ap, ◌∙◌, append-nil}
-use Rattle.std.specs.Prelude.{◌||◌, IfOk, OnErr, OnOk, Result, Ok, Err, filter}
+use Rattle.std.specs.Prelude.{◌||◌, IfOk, OnErr, OnOk, Result, Ok, Err}
 use Rattle.std.specs.List.{flat_map, list_any}
 use Rattle.std.proofs.lemmas.List.Concat.{flat_map-append}
 use Rattle.std.proofs.lemmas.List.Folds.{list_any-append}
@@ -12,7 +12,7 @@ use Rattle.probe.specs.Seen.{asked_in}
 use Rattle.probe_texts.specs.declared.asked.Asked.{Asked}
 use Rattle.probe_texts.specs.declared.kinds.Kind.{Kind}
 use Rattle.probe_texts.specs.declared.kinds.Kind.TheVariants.{Wires}
-use Rattle.probe_texts.specs.Asked.{asked_with, asks, nothing_asked}
+use Rattle.probe_texts.specs.Asked.{asked_with, nothing_asked}
 use Rattle.probe_texts.specs.Listed.{event_line, is_listed, listed_lines}
 use Rattle.probe_texts.specs.Signals.{signal_line}
 use Rattle.probe_texts.proofs.Asking.{lines_asked, listed_asked, signals_asked}

@@ -1,5 +1,5 @@
 -- Runs of some clocks, whatever the stops are, of which a visitor sees each turn.
-use Rattle.std.proofs.Common.{◌≡◌, Bool, ℕ, ◌+◌, ◌-◌, ◌<◌, ◌≤◌, ◌^◌, not, List, Option, Some, Result, Ok, Err, refl, sym, ap, ◌∙◌, subst, arith}
+use Rattle.std.proofs.Common.{◌≡◌, Bool, ℕ, ◌+◌, ◌≤◌, ◌^◌, not, List, Option, Some, Result, Ok, Err, refl, sym, ◌∙◌, subst, arith}
 use Rattle.std.specs.Prelude.{MatchResult, length}
 use Rattle.board_plain.proofs.Runs.{ran_none, runs_join}
 use Rattle.board_plain.specs.Board.{BoardState, Ran}

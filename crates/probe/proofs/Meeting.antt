@@ -1,6 +1,6 @@
 -- A turn in which a stop is looked for, and the search so far.
-use Rattle.std.proofs.Common.{◌≡◌, ◌≢◌, ℕ, zero, suc, ◌+◌, ◌-◌, ◌<◌, ◌≤◌, ◌^◌, Bool, true, false, cond, not, inl, inr, List}
-use Rattle.std.proofs.Common.{[], ◌∷◌, ◌++◌, length, map, get_or, Option, None, Some, refl, sym, ap, ◌∙◌, subst, arith}
+use Rattle.std.proofs.Common.{◌≡◌, ℕ, zero, suc, ◌+◌, ◌-◌, ◌<◌, ◌≤◌, Bool, true, false, cond, not, inl, inr, List}
+use Rattle.std.proofs.Common.{[], ◌∷◌, ◌++◌, length, map, Option, None, Some, refl, sym, ap, ◌∙◌, subst, arith}
 use Rattle.std.specs.Prelude.{◌⊎◌, ◌||◌, All, IsTrue, filter, fold, is_some}
 use Rattle.std.specs.List.{list_any, position_from}
 use Rattle.std.proofs.lemmas.Bool.{cases_lt}
@@ -27,13 +27,13 @@ use Rattle.probe.specs.declared.bytes.Copied.{Copied}
 use Rattle.probe.specs.declared.seen.Seen.{Seen}
 use Rattle.probe.specs.declared.seen.Turn.{Turn}
 use Rattle.probe.specs.declared.watched.Watched.{Watched}
-use Rattle.probe.specs.Looked.{HasEnded, LooksOn, RanShort, RanToStop}
+use Rattle.probe.specs.Looked.{LooksOn, RanShort, RanToStop}
 use Rattle.probe.specs.Making.{FewTurns}
 use Rattle.probe.specs.Met.{asked_by, asked_with_stop, IsCopy, IsCovered, is_met, is_stop_met, met, writes_to}
-use Rattle.probe.specs.ProbeStops.{happens, meeting, meeting_at, meets, NoneMet, standing, stands}
+use Rattle.probe.specs.ProbeStops.{meeting, meeting_at, meets, NoneMet, standing, stands}
 use Rattle.probe.specs.Seen.{asked_in, IsMade, seen_of}
 use Rattle.probe.specs.Watched.{AreCopies, IsWatched, KeepsStops, stops_of}
-use Rattle.probe.proofs.Changing.{byte_stays, changes_seen, copy_renewed, nothing_changes}
+use Rattle.probe.proofs.Changing.{byte_stays, changes_seen, nothing_changes}
 use Rattle.probe.proofs.Turns.{quiet_clock, same_levels, seen_clock}
 use Rattle.probe_texts.specs.declared.asked.Asked.{Asked}
 use Rattle.probe_texts.specs.declared.stops.Stop.{Stop}

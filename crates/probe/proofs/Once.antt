@@ -1,7 +1,7 @@
 -- Each moment is in one range, and there is one list of ranges.
-use Rattle.std.proofs.Common.{◌≡◌, ◌≢◌, ℕ, zero, suc, ◌+◌, ◌-◌, ◌<◌, ◌≤◌, Bool, true, false, cond, inl}
+use Rattle.std.proofs.Common.{◌≡◌, ℕ, ◌+◌, ◌<◌, ◌≤◌, Bool, true, false, cond, inl}
 use Rattle.std.proofs.Common.{inr, List, [], ◌∷◌, Option, None, Some, refl, sym, ap, ◌∙◌, subst, arith}
-use Rattle.std.specs.Prelude.{count_by, IfSome, nat_le, ◌&&◌}
+use Rattle.std.specs.Prelude.{count_by, IfSome}
 use Rattle.std.specs.Option.{option_map}
 use Rattle.std.proofs.lemmas.Bool.{cases_lt}
 use Rattle.std.proofs.lemmas.Bool.Decides.{nat_tests}
@@ -12,7 +12,7 @@ use Rattle.probe_texts.specs.declared.moments_text.Ends.{Ends}
 use Rattle.probe_texts.specs.declared.moments_text.Moments.{Moments}
 use Rattle.probe_texts.specs.declared.moments_text.Trial.{Trial}
 use Rattle.probe_texts.specs.declared.stops.Stop.{Stop}
-use Rattle.probe.specs.Moments.{AreAlike, AreRanges, DiffersNext, EndsWith, IsAmong, IsReached, stop_number, with_tried}
+use Rattle.probe.specs.Moments.{AreAlike, AreRanges, IsAmong, IsReached, stop_number, with_tried}
 use Rattle.probe.specs.MomentLaws.{EachMomentOnce, OneListOfRanges, PastTheEndAlike, stands_in}
 use Rattle.probe.proofs.Ending.{one_end, past_tried, past_tried_back}
 

@@ -1,5 +1,5 @@
 -- A line that has nothing to do with stops leaves a session's stops as they are.
-use Rattle.std.proofs.Common.{◌≡◌, ℕ, List, [], ◌∷◌, Option, None, Some, Result, Ok, Err, refl, sym, ap, ◌∙◌, subst}
+use Rattle.std.proofs.Common.{◌≡◌, ℕ, List, [], ◌∷◌, Option, None, Some, Result, Ok, Err, refl, ap, ◌∙◌, subst}
 use Rattle.debugger_meaning.specs.declared.answer.Answer.{Answer}
 use Rattle.debugger_meaning.specs.declared.command.Command.{Command}
 use Rattle.debugger_meaning.specs.declared.command.Command.TheVariants as commands
@@ -10,12 +10,10 @@ use Rattle.board_plain.specs.declared.stop.Condition.TheVariants.{Free}
 use Rattle.std.specs.Prelude.{MatchResult}
 use Rattle.debugger_meaning.specs.Back.{GoesBack, GoesBackTo, RefusesBack, RefusesBackTo}
 use Rattle.debugger_meaning.specs.Commands.{command_of}
-use Rattle.debugger_meaning.specs.Session.{Answers, AnswersLine, Goes, RefusesGo, RefusesStep}
+use Rattle.debugger_meaning.specs.Session.{AnswersLine, Goes, RefusesGo, RefusesStep}
 use Rattle.debugger_meaning.specs.Stands.{SessionState}
 use Rattle.probe_texts.specs.declared.inquiry.Inquiry.{Inquiry}
 use Rattle.probe_texts.specs.declared.inquiry.Inquiry.TheVariants as inquiries
-use Rattle.probe_texts.specs.declared.stops.Request.{Request}
-use Rattle.probe_texts.specs.declared.stops.Request.TheVariants.{Add, Go, BackStop}
 use Rattle.probe_texts.specs.declared.moments_text.Trial.{Trial}
 use Rattle.probe_texts.specs.declared.stops.Stop.{Stop}
 use Rattle.probe_texts.specs.Inquiry.{inquiry_of}

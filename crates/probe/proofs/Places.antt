@@ -1,7 +1,7 @@
 -- The first place of a list at which a test passes.
 use Rattle.std.proofs.Common.{◌≡◌, ℕ, zero, suc, ◌+◌, ◌<◌, Bool, true, false, cond, inl, inr, List, []}
-use Rattle.std.proofs.Common.{◌∷◌, length, map, get_or, Option, Some, None, refl, ap, ◌∙◌, subst, arith}
-use Rattle.std.specs.List.{list_any, position_from}
+use Rattle.std.proofs.Common.{◌∷◌, length, map, get_or, Some, None, refl, ap, ◌∙◌, arith}
+use Rattle.std.specs.List.{position_from}
 use Rattle.std.proofs.lemmas.Bool.{cases_lt}
 
 pub there_first : {K : Type 0} (t : K → Bool) (i n : ℕ) (xs : List K) (e : K)

@@ -5,8 +5,7 @@ use Rattle.std.specs.Prelude.{◌&&◌, MatchResult}
 use Rattle.std.specs.List.{list_all}
 use Rattle.board_plain.specs.declared.stop.Condition.{Condition}
 use Rattle.board_plain.specs.declared.stop.Stop.{Stop as End}
-use Rattle.board_plain.specs.Board.{BoardState, Ran}
-use Rattle.board_plain.specs.Lasts.{HeldLast, NoneHeld}
+use Rattle.board_plain.specs.Board.{Ran}
 use Rattle.board_plain.specs.Plain.{Plain, after_clocks, clock_of}
 use Rattle.board_plain.specs.Stops.{holding, IsStopOf, NoStop, run_length}
 use Rattle.debugger_meaning.specs.declared.answer.Answer.{Answer}
@@ -14,15 +13,15 @@ use Rattle.debugger_meaning.specs.declared.answer.Answer.TheVariants as answers
 use Rattle.debugger_meaning.specs.declared.fault.DebugFault.{DebugFault}
 use Rattle.debugger_meaning.specs.declared.fault.DebugFault.TheVariants.{BadScan, StampsFall, ClockLimit, BadCommand, TooManyStops, Memory, BeforeStart, NoCell}
 use Rattle.debugger_meaning.specs.Back.{GoesBack, GoesBackTo, RefusesBack, RefusesBackTo}
-use Rattle.debugger_meaning.specs.Session.{AnswersStop, FindsNoMemory, Goes, RefusesGo, told_of}
-use Rattle.debugger_meaning.specs.Stands.{SessionState, Shown, shown_of, StandsAt}
+use Rattle.debugger_meaning.specs.Session.{AnswersStop, FindsNoMemory, Goes, RefusesGo}
+use Rattle.debugger_meaning.specs.Stands.{SessionState, StandsAt}
 use Rattle.probe_texts.specs.declared.stops.Stop.{Stop}
 use Rattle.probe_texts.specs.declared.stops.Stop.TheVariants.{Standing, When, Changes}
-use Rattle.probe.specs.Looked.{answer_at, FindsNoStop, HasEnded, RanShort, RanToStop, ShortOfMemory, with_number}
+use Rattle.probe.specs.Looked.{answer_at, FindsNoStop, RanToStop, ShortOfMemory, with_number}
 use Rattle.probe.specs.Making.{FewTurns}
-use Rattle.probe.specs.Probe.{AddsStop, conditions_of, gone_by, GoesBackToStop, GoesOn, HasFewTurns, ProbeState, RefusesBackToStop, RefusesGoing, session_of, StopsShort}
+use Rattle.probe.specs.Probe.{AddsStop, conditions_of, gone_by, GoesBackToStop, GoesOn, HasFewTurns, ProbeState, RefusesBackToStop, RefusesGoing, StopsShort}
 use Rattle.probe_texts.specs.Requests.{is_standing}
-use Rattle.probe.specs.ProbeStops.{EndsAt, IsEndOf, meeting_at, met_from, MetLast, NoneMet, NoneMetFrom}
+use Rattle.probe.specs.ProbeStops.{IsEndOf, met_from, MetLast, NoneMet}
 use Rattle.std.proofs.lemmas.List.{length-map, map-append}
 use Rattle.std.proofs.lemmas.List.Elements.{All-push}
 use Rattle.probe.specs.declared.watched.Watched.{Watched}

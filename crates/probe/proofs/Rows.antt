@@ -1,7 +1,6 @@
 -- Counts worked out by hand: five beginnings in 100 clocks, of an instruction that runs twice, of one after which an
 -- interrupt comes, and of the interrupt.
 use Rattle.std.proofs.Common.{◌≡◌, List, [], ◌∷◌, ◌++◌, None, Some, refl, true, false}
-use Rattle.std.specs.Prelude.{codes}
 use Rattle.board.specs.declared.one_turn.Begun.{Begun}
 use Rattle.probe.specs.Counts.{count_line, lines_of, next_clock, numbers_of, place_name, place_of, type_name, type_of}
 use Rattle.events.specs.declared.event.Event.TheVariants.{Wired}

@@ -1,10 +1,10 @@
 -- A search for the last clock at which a stop was met.
 use Rattle.std.proofs.Common.{◌≡◌, ◌≢◌, ℕ, zero, suc, ◌+◌, ◌-◌, ◌<◌, ◌≤◌, ◌^◌, Bool, true, false, if◌then◌else◌}
 use Rattle.std.proofs.Common.{inl, inr, List, length, Option, None, Some, refl, sym, ap, ◌∙◌, subst, arith}
-use Rattle.std.specs.Prelude.{◌⊎◌, ◌==◌, All, IsTrue, max}
+use Rattle.std.specs.Prelude.{◌⊎◌, ◌==◌, All, max}
 use Rattle.std.proofs.lemmas.Bool.Decides.{nat_tests}
 use Rattle.std.proofs.lemmas.Bool.{cases_lt}
-use Rattle.board_types.proofs.Iterate.{iterate_add, iterate_zero}
+use Rattle.board_types.proofs.Iterate.{iterate_zero}
 use Rattle.board_plain.proofs.Runs.{ran_none, runs_join}
 use Rattle.board_plain.specs.Board.{BoardState, Ran}
 use Rattle.board_plain.specs.Plain.{Plain, after_clock, after_clocks, clock_of}

@@ -1,15 +1,15 @@
 -- Stops that are conditions are the board's.
-use Rattle.std.proofs.Common.{◌≡◌, ℕ, zero, suc, ◌+◌, ◌-◌, ◌≤◌, Bool, cond, List, [], ◌∷◌, map, Option, None, Some, refl, sym, ap, ◌∙◌}
+use Rattle.std.proofs.Common.{◌≡◌, ℕ, zero, suc, ◌+◌, ◌-◌, cond, List, [], ◌∷◌, map, Option, None, Some, refl, sym, ap, ◌∙◌}
 use Rattle.std.specs.List.{position_from}
 use Rattle.board_types.proofs.Iterate.{iterate_zero}
 use Rattle.board_plain.specs.declared.stop.Condition.{Condition}
 use Rattle.board_plain.specs.declared.stop.Stop.{Stop as End}
 use Rattle.board_plain.specs.Plain.{Plain, after_clock, after_clocks}
-use Rattle.board_plain.specs.Stops.{holding, holds, IsStopOf, NoStop, StopsAt}
+use Rattle.board_plain.specs.Stops.{holding, holds, IsStopOf, NoStop}
 use Rattle.probe_texts.specs.declared.stops.Stop.{Stop}
 use Rattle.probe_texts.specs.declared.stops.Stop.TheVariants.{Standing}
 use Rattle.probe.specs.ProbeLaws.{StandingEndsAlike, StandingMetAlike}
-use Rattle.probe.specs.ProbeStops.{EndsAt, IsEndOf, meeting, meeting_at, meets, NoneMet, standing, stands}
+use Rattle.probe.specs.ProbeStops.{IsEndOf, meeting, meeting_at, meets, NoneMet, standing, stands}
 
 standing_from : (conditions : List Condition) (i : ℕ) (before now : Plain)
     → position_from (λ (stop : Stop). meets stop before now) i (map Standing conditions) ≡ position_from (λ condition. holds condition now) i conditions

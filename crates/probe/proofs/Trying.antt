@@ -1,6 +1,6 @@
 -- A key that is tried at one clock after another.
-use Rattle.std.proofs.Common.{◌≡◌, Bool, true, false, ℕ, ◌+◌, ◌-◌, ◌<◌, ◌≤◌, List, [], ◌∷◌, ◌++◌, length, Option, None, Some, refl, sym, ap, ◌∙◌, subst, arith}
-use Rattle.std.specs.Prelude.{All, Contains, ◌||◌, is_some, nat_eq}
+use Rattle.std.proofs.Common.{◌≡◌, Bool, true, false, ℕ, ◌+◌, ◌-◌, ◌<◌, ◌≤◌, List, [], ◌∷◌, ◌++◌, length, Option, None, Some, sym, ap, ◌∙◌, subst, arith}
+use Rattle.std.specs.Prelude.{All, ◌||◌, is_some, nat_eq}
 use Rattle.std.proofs.lemmas.Bool.Decides.{nat_tests}
 use Rattle.std.proofs.lemmas.List.Elements.{All-cons, All-contains, All-head, All-nil, All-tail}
 use Rattle.board_plain.proofs.LastEntries.{last_within}
@@ -21,7 +21,7 @@ use Rattle.probe_texts.specs.declared.moments_text.Trial.{Trial}
 use Rattle.probe.specs.MomentLaws.{IsAnswerOf, MomentsAreRuns, TakesSecond}
 use Rattle.probe.specs.Moments.{AreAlike, AreRanges, IsAmong, key_tried, second_tried, with_second, with_tried}
 use Rattle.probe.specs.Probe.{conditions_of, session_of}
-use Rattle.probe.specs.ProbeStops.{IsEndOf, NoneMet}
+use Rattle.probe.specs.ProbeStops.{IsEndOf}
 use Rattle.probe_texts.specs.Requests.{HasBytes}
 use Rattle.board_plain.specs.Plain.{Plain, after_clock, after_clocks, clock_of}
 use Rattle.probe_texts.specs.declared.stops.Stop.{Stop}

@@ -1,18 +1,12 @@
 -- The events of a turn are those that are told of it.
-use Rattle.keyboard.specs.QueueParts.{after_sending, has_room, sends}
-use Rattle.std.proofs.Common.{◌≡◌, ℕ, zero, suc, ◌+◌, ◌-◌, ◌<◌, ◌≤◌, ◌^◌, Bool, true, false, cond, if◌then◌else◌, not, List, [], ◌∷◌, ◌++◌}
-use Rattle.std.proofs.Common.{length, map, drop, Option, None, Some, refl, sym, ap, ◌∙◌, subst, arith, append_assoc, append-nil}
-use Rattle.std.specs.Prelude.{◌==◌, IsTrue, filter, fold, nat_eq, slice_get}
-use Rattle.std.specs.Bool.{beq}
-use Rattle.std.specs.List.{flat_map}
-use Rattle.std.specs.Option.{option_to_list}
-use Rattle.std.proofs.lemmas.Bool.Decides.{nat_tests}
+use Rattle.std.proofs.Common.{◌≡◌, ℕ, zero, suc, ◌+◌, ◌-◌, ◌<◌, ◌≤◌, ◌^◌, Bool, true, false, if◌then◌else◌, not, List, [], ◌∷◌, ◌++◌}
+use Rattle.std.proofs.Common.{length, map, drop, Option, None, Some, refl, sym, ap, ◌∙◌, subst, arith, append-nil}
+use Rattle.std.specs.Prelude.{IsTrue, filter, slice_get}
 use Rattle.std.proofs.lemmas.List.{length-append, drop-append-le}
 use Rattle.std.proofs.lemmas.List.Elements.{filter-append}
 use Rattle.std.proofs.lemmas.Option.{slice_get-get_or}
 use Rattle.std.proofs.Math.Seq.{get_or-append_seam}
 use Rattle.board_types.proofs.Iterate.{gathered_add, gathered_more, gathered_zero, iterate_add, iterate_more, iterate_zero}
-use Rattle.board_types.specs.Bits.{has_bit}
 use Rattle.board_types.specs.Iterate.{gathered}
 use Rattle.board_types.specs.LineLevel.{is_high}
 use Rattle.board_types.specs.declared.state.State.{State}
@@ -27,21 +21,14 @@ use Rattle.board_plain.specs.declared.trail.TrailEvent.TheVariants.{Instruction,
 use Rattle.board.proofs.Leap.{none_gathered}
 use Rattle.board.specs.declared.one_turn.Begun.{Begun}
 use Rattle.board.specs.OneTurn.{begun_of, HaveSameWires, IsOneTurn, type_of}
-use Rattle.keyboard.specs.Keyboard as keys
-use Rattle.keyboard.specs.Keyboard.{KeyboardState, after_clearing}
-use Rattle.ppi8255.specs.Ppi.{lines_b}
-use Rattle.wiring.specs.Chips.{ChipsState}
-use Rattle.wiring.specs.Wires.{after_arrivals, after_key_settling, after_settling}
 use Rattle.events.specs.declared.access.Access.{Access}
 use Rattle.events.specs.declared.event.Event.{Event}
-use Rattle.events.specs.declared.event.Event.TheVariants.{Began, Became, Keyed, Reached, Wired}
-use Rattle.events.specs.declared.event.KeyEvent.TheVariants.{Arrives, IsLost, IsLatched}
+use Rattle.events.specs.declared.event.Event.TheVariants.{Began, Reached}
 use Rattle.events.specs.declared.event.Wire.{Wire}
 use Rattle.events.specs.declared.event.Wire.TheVariants.{Out0, Out2, Ir0, Ir1, Int, Speaker}
 use Rattle.events.specs.Accesses.{accesses_next}
-use Rattle.events.specs.Events.{all_wires, arrival_events, chips_reached, code_latched, codes_next, events_in, events_next, is_same_state}
-use Rattle.events.specs.Events.{key_events, latch_events, level_of, settling_events, state_events, unwired_next, wire_event, wire_events}
-use Rattle.events.proofs.Queue.{arrived_keyboard, gathered_in, next_chips, reached_queue}
+use Rattle.events.specs.Events.{codes_next, events_in, events_next}
+use Rattle.events.specs.Events.{unwired_next, wire_events}
 use Rattle.probe.specs.declared.seen.Seen.{Seen}
 use Rattle.probe.specs.declared.seen.Turn.{Turn}
 use Rattle.probe.specs.Seen.{IsLooked, IsMade, asked_in, keys_told, levels_seen, next_turn, seen_of, waiting_seen}

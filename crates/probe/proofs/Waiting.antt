@@ -1,6 +1,6 @@
 -- A key that is still to come changes nothing that a stop looks at before its stamp.
-use Rattle.std.proofs.Common.{◌≡◌, ℕ, zero, suc, ◌+◌, ◌-◌, ◌<◌, ◌≤◌, Bool, true, false, cond, not, if◌then◌else◌}
-use Rattle.std.proofs.Common.{List, [], ◌∷◌, ◌++◌, map, Option, None, Some, refl, sym, ap, ◌∙◌, arith}
+use Rattle.std.proofs.Common.{◌≡◌, ℕ, ◌+◌, ◌-◌, ◌<◌, ◌≤◌, Bool, true, false, cond, not, if◌then◌else◌}
+use Rattle.std.proofs.Common.{List, [], ◌∷◌, ◌++◌, map, Some, refl, sym, ap, ◌∙◌, arith}
 use Rattle.std.specs.Prelude.{nat_le, nat_eq, filter, ◌==◌}
 use Rattle.std.specs.Bool.{beq}
 use Rattle.std.specs.List.{flat_map, list_any, position_from}
@@ -10,10 +10,9 @@ use Rattle.board_types.specs.declared.keys.StampedKey.{StampedKey}
 use Rattle.board_plain.proofs.Clocks.{clocks_go_by}
 use Rattle.board_plain.specs.declared.stop.Condition.{Condition}
 use Rattle.board_plain.specs.declared.stop.Condition.TheVariants.{Free, At, Byte, Sound, Halted}
-use Rattle.board_plain.specs.Plain.{Plain, after_clock, after_clocks, byte_of, clock_of, codes_at, is_free, next_act, speaker_level, state_of}
+use Rattle.board_plain.specs.Plain.{Plain, after_clock, after_clocks, byte_of, clock_of, codes_at, next_act, speaker_level, state_of}
 use Rattle.board_plain.specs.Stops.{holds}
 use Rattle.board_plain.specs.Trail.{trail_next}
-use Rattle.events.specs.declared.event.Event.{Event}
 use Rattle.events.specs.declared.event.Event.TheVariants.{Began, Reached, Wired}
 use Rattle.events.specs.declared.event.Wire.{Wire}
 use Rattle.events.specs.declared.event.Wire.TheVariants.{Out0, Out2, Ir0, Ir1, Int, Speaker}
@@ -21,11 +20,10 @@ use Rattle.events.specs.Accesses.{accesses_next}
 use Rattle.events.specs.Events.{all_wires, chips_reached, codes_next, events_next, key_events, level_of, state_events, unwired_next, wire_event}
 use Rattle.events.proofs.KeyToCome.{key_waits}
 use Rattle.events.specs.WithKey.{inserted, with_key}
-use Rattle.probe_texts.specs.declared.kinds.Kind.{Kind}
 use Rattle.probe_texts.specs.declared.stops.Stop.{Stop}
 use Rattle.probe_texts.specs.declared.stops.Stop.TheVariants.{Standing, When, Changes}
 use Rattle.probe_texts.specs.Listed.{is_listed}
-use Rattle.probe.specs.ProbeStops.{any_differs, happens, meeting, meeting_at, meets, NoneMet}
+use Rattle.probe.specs.ProbeStops.{meeting, meeting_at, meets, NoneMet}
 
 -- the codes of other clocks are the same
 

@@ -1,7 +1,7 @@
 -- What holds of counts, of stops that are conditions, and of probes.
 -- Laws: claims above the definitions, each proved as the contract of a function.
 use Rattle.std.specs.Prelude.{ℕ, ◌≡◌, ◌+◌, ◌-◌, ◌≤◌, ◌↔◌, List, [], ◌∷◌, ◌++◌, fold}
-use Rattle.std.specs.Prelude.{length, map, Option, None, Some, Result, Ok, Err, sum_by}
+use Rattle.std.specs.Prelude.{length, map, Option, None, Some, Result, Ok, sum_by}
 use Rattle.board.specs.declared.one_turn.Begun.{Begun}
 use Rattle.board.specs.OneTurn.{begun_in}
 use Rattle.board_plain.specs.declared.stop.Condition.{Condition}

@@ -1,6 +1,6 @@
 -- Stops on conditions at a clock, and on what happens in the clock that leads to it.
 -- To be believed by callers of this crate: the headline does not rest on it.
-use Rattle.std.specs.Prelude.{ℕ, ◌≡◌, ◌+◌, ◌-◌, ◌<◌, ◌≤◌, ◌^◌, ◌==◌, Bool, false, not, List, Option, None, Some}
+use Rattle.std.specs.Prelude.{ℕ, ◌≡◌, ◌+◌, ◌-◌, ◌<◌, ◌≤◌, ◌==◌, Bool, false, not, List, Option, None, Some}
 use Rattle.std.proofs.Common.{zero, suc}
 use Rattle.std.specs.List.{list_any, position_from, range_with_len}
 use Rattle.board_plain.specs.declared.stop.Stop.{Stop as End}

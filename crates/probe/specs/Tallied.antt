@@ -1,7 +1,7 @@
 -- The tallies of what began in a run.
 -- For proofs alone: no public contract rests on it.
 use Rattle.std.specs.Prelude.{ℕ, zero, suc, ◌≡◌, ◌+◌, ◌<◌, ◌≤◌, Bool, List, []}
-use Rattle.std.specs.Prelude.{◌∷◌, ◌++◌, count_by, Option, None, Some, IfSome}
+use Rattle.std.specs.Prelude.{◌++◌, count_by, Option, None, Some, IfSome}
 use Rattle.std.specs.BTreeMap.{BTreeMap, get}
 use Rattle.std.specs.Option.{option_to_list}
 use Rattle.std.specs.Ordering.{nat_cmp}

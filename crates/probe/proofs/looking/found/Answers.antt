@@ -1,4 +1,3 @@
-use Rattle.std.proofs.Common.{◌≡◌, ◌∙◌, refl, sym, arith}
 use Rattle.probe.proofs.Copies.{keeps_none}
 use Rattle.probe.proofs.looking.found.Goals as goal
 

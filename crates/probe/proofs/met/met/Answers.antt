@@ -1,4 +1,4 @@
-use Rattle.std.proofs.Common.{◌<◌, ◌∙◌, Bool, Some, length, sym, ap, arith}
+use Rattle.std.proofs.Common.{◌∙◌, Bool, Some, sym, ap, arith}
 use Rattle.probe.specs.declared.watched.Watched.{Watched}
 use Rattle.probe.specs.Met.{is_met, met}
 use Rattle.probe.specs.Seen.{asked_in}

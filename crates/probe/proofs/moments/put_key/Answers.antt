@@ -1,6 +1,5 @@
 -- The board's keys, with one more.
 use Rattle.std.proofs.Common.{◌≡◌, ap, ◌∙◌}
-use Rattle.board_plain.specs.Board.{BoardState}
 use Rattle.events.specs.WithKey.{with_key}
 use Rattle.probe.proofs.Counting.{number_of}
 use Rattle.probe.proofs.moments.put_key.Goals as goal

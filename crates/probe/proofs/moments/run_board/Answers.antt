@@ -1,5 +1,5 @@
 -- A run to a stop, a turn at a time.
-use Rattle.std.proofs.Common.{◌+◌, ◌<◌, sym, ap, refl, ◌∙◌, arith}
+use Rattle.std.proofs.Common.{◌+◌, sym, ap, refl, ◌∙◌, arith}
 use Rattle.debugger_meaning.specs.Stands.{SessionState, session_about}
 use Rattle.probe.specs.declared.seen.Seen.{Seen}
 use Rattle.probe.specs.declared.seen.Turn.{Turn}

@@ -1,8 +1,7 @@
 -- The board's own search runs it.
-use Rattle.std.proofs.Common.{◌≡◌, ◌-◌, sym, subst, ap₂, ◌∙◌}
+use Rattle.std.proofs.Common.{◌-◌, sym, subst, ap₂, ◌∙◌}
 use Rattle.std.specs.Prelude.{All, List}
 use Rattle.board_plain.specs.declared.stop.Condition.{Condition}
-use Rattle.board_plain.specs.Plain.{clock_of}
 use Rattle.board_plain.specs.Stops.{HasAddress, run_length}
 use Rattle.probe.proofs.Trying.{have_addresses, runs_standing, trail_stays}
 use Rattle.probe.proofs.moments.run_standing.Goals as goal

@@ -1,7 +1,7 @@
 -- The rest is one range, or the key is tried at this clock.
 use Rattle.std.proofs.Common.{◌≡◌, ◌+◌, ◌<◌, ◌≤◌, Bool, List, true, false, ap, sym, subst, ◌∙◌, arith}
 use Rattle.std.specs.Prelude.{◌||◌, is_some, nat_eq}
-use Rattle.board_plain.specs.Plain.{Plain, clock_of}
+use Rattle.board_plain.specs.Plain.{clock_of}
 use Rattle.probe_texts.specs.declared.moments_text.Moments.{Moments}
 use Rattle.probe_texts.specs.declared.stops.Stop.{Stop}
 use Rattle.probe.specs.Moments.{AreRanges}

@@ -1,4 +1,4 @@
-use Rattle.std.proofs.Common.{◌≡◌, [], false, true, ap, sym, ◌∙◌}
+use Rattle.std.proofs.Common.{◌≡◌, false, true, ap, ◌∙◌}
 use Rattle.std.specs.Option.{option_to_list}
 use Rattle.probe_texts.specs.Told.{begun_seen, type_asked}
 use Rattle.probe_texts.proofs.Hearing.{none_heard, on_ok_then, same_heard}

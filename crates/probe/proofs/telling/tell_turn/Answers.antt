@@ -1,4 +1,4 @@
-use Rattle.std.proofs.Common.{◌≡◌, ◌+◌, ◌^◌, ◌≤◌, ap, sym, ◌∙◌}
+use Rattle.std.proofs.Common.{◌≡◌, ◌+◌}
 use Rattle.board_plain.specs.Trail.{trail_in}
 use Rattle.probe_texts.proofs.Hearing.{five_heard, on_ok_then, same_heard}
 use Rattle.probe.proofs.Counting.{number_of}

@@ -1,4 +1,4 @@
-use Rattle.std.proofs.Common.{◌<◌, ◌≤◌, length, get_or, arith}
+use Rattle.std.proofs.Common.{get_or, arith}
 use Rattle.std.proofs.lemmas.List.Elements.{AllWithin-none}
 use Rattle.probe.specs.declared.watched.Watched.{Watched}
 use Rattle.probe.proofs.Copies.{Copies, copies_all, copies_more, keeps_more, keeps_none}

@@ -1,4 +1,4 @@
-use Rattle.std.proofs.Common.{◌<◌, ◌≤◌, length, arith}
+use Rattle.std.proofs.Common.{arith}
 use Rattle.probe.proofs.Copies.{keeps_more, keeps_none, renewed_all, renewed_more, renewed_none}
 use Rattle.probe.proofs.watched.renew_bytes.Goals as goal
 

@@ -1,4 +1,4 @@
-use Rattle.std.proofs.Common.{◌≡◌, None, sym, ap, ◌∙◌, subst}
+use Rattle.std.proofs.Common.{◌≡◌, None, sym, ◌∙◌, subst}
 use Rattle.probe.specs.Probe.{AnswersUnless, ProbeState}
 use Rattle.probe_texts.specs.Requests.{request_of}
 use Rattle.probe.specs.Watched.{stops_of}

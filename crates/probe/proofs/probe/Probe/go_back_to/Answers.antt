@@ -1,9 +1,8 @@
-use Rattle.std.proofs.Common.{◌≡◌, ◌≤◌, ◌<◌, ◌-◌, ◌+◌, length, refl, sym, ap, ◌∙◌, subst, arith}
+use Rattle.std.proofs.Common.{◌≡◌, ◌-◌, sym, ap, ◌∙◌, subst, arith}
 use Rattle.std.specs.Prelude.{MatchResult}
 use Rattle.board_plain.specs.Board.{BoardState}
 use Rattle.board_plain.specs.Plain.{clock_of}
-use Rattle.probe.specs.Probe.{gone_by, GoesBackToStop, ProbeState, RefusesBackToStop}
-use Rattle.probe.specs.ProbeStops.{MetLast}
+use Rattle.probe.specs.Probe.{GoesBackToStop, ProbeState, RefusesBackToStop}
 use Rattle.probe.specs.Watched.{stops_of}
 use Rattle.probe.proofs.Passing.{back_keep}
 use Rattle.probe.proofs.Probes.{goes_back_by, probe_of}

@@ -1,5 +1,5 @@
 -- The stops stay, and the answer is about the board as it stands.
-use Rattle.std.proofs.Common.{◌≤◌, All, length, refl, sym, ap, ◌∙◌, subst, arith}
+use Rattle.std.proofs.Common.{All, refl, sym, ap, ◌∙◌, subst, arith}
 use Rattle.std.proofs.lemmas.List.{length-map}
 use Rattle.board_plain.specs.Board.{BoardState}
 use Rattle.probe.specs.declared.watched.Watched.{Watched}

@@ -1,8 +1,8 @@
-use Rattle.std.proofs.Common.{◌≡◌, ◌≤◌, length, refl, ap, sym, ◌∙◌, subst, arith, Option, Some, false, true}
+use Rattle.std.proofs.Common.{◌≡◌, ◌≤◌, length, refl, ap, sym, ◌∙◌, subst, arith, Option, Some}
 use Rattle.board_plain.specs.Plain.{Plain}
 use Rattle.keyboard.specs.Keyboard.{KeyboardState}
 use Rattle.probe.specs.declared.seen.Turn.{Turn}
-use Rattle.probe.specs.Seen.{levels_seen, next_turn, seen_of, waiting_seen}
+use Rattle.probe.specs.Seen.{levels_seen, next_turn, waiting_seen}
 use Rattle.probe_texts.specs.declared.telling.Levels.{Levels}
 use Rattle.probe.proofs.Turns.{levels_unasked, next_is, waiting_unasked}
 use Rattle.probe.proofs.seen.Turn.next.Goals as goal
