@@ -1,8 +1,8 @@
 -- Events have the clocks of their kinds, and stand in the order of a clock's parts.
 use Rattle.keyboard.specs.QueueParts.{has_room}
-use Rattle.std.proofs.Common.{◌≡◌, ℕ, zero, suc, ◌+◌, ◌≤◌, Bool, true, false, if◌then◌else◌, List, [], ◌∷◌, ◌++◌, map}
-use Rattle.std.proofs.Common.{Option, None, Some, refl, sym, ap, ◌∙◌, append-nil, arith}
-use Rattle.std.specs.Prelude.{◌==◌, ◌&&◌, IsTrue, nat_eq, nat_le}
+use Rattle.std.proofs.Common.{◌≡◌, ℕ, ◌+◌, Bool, true, false, if◌then◌else◌, List, [], ◌∷◌, ◌++◌, map}
+use Rattle.std.proofs.Common.{Option, None, Some, refl, ◌∙◌, append-nil, arith}
+use Rattle.std.specs.Prelude.{nat_eq}
 use Rattle.std.specs.Bool.{beq}
 use Rattle.std.specs.List.{flat_map}
 use Rattle.std.proofs.lemmas.Bool.Decides.{nat_tests}
@@ -17,7 +17,7 @@ use Rattle.events.specs.declared.event.Event.TheVariants.{Became, Began, Keyed, 
 use Rattle.events.specs.declared.event.KeyEvent.TheVariants.{Arrives, IsLost, IsLatched}
 use Rattle.events.specs.declared.event.Wire.{Wire}
 use Rattle.events.specs.Accesses.{accesses_next}
-use Rattle.events.specs.Events.{all_wires, arrival_events, chips_reached, codes_next, events_next, latch_events, level_of, wire_event}
+use Rattle.events.specs.Events.{all_wires, arrival_events, chips_reached, codes_next, latch_events, level_of, wire_event}
 use Rattle.events.specs.OrderLaws.{ClocksAreTold, misdated}
 use Rattle.events.proofs.Parts.{joined, none_if, none_in}
 use Rattle.events.proofs.Told.{keeps_state, latched_next}

@@ -1,33 +1,18 @@
 -- What becomes of keys' codes, against the keyboard.
 use Rattle.keyboard.specs.QueueParts.{after_sending, count_after_loss, has_room, sends}
 use Rattle.std.proofs.Common.{◌≡◌, ℕ, zero, suc, ◌+◌, Bool, true, false, if◌then◌else◌, List, []}
-use Rattle.std.proofs.Common.{◌∷◌, ◌++◌, None, refl, sym, ap, ◌∙◌, subst, append_assoc, append-nil}
+use Rattle.std.proofs.Common.{◌∷◌, ◌++◌, None, refl, sym, ap, ◌∙◌, append_assoc, append-nil}
 use Rattle.std.specs.Prelude.{drop, fold, slice_get}
 use Rattle.std.specs.List.{flat_map}
 use Rattle.std.proofs.lemmas.List.Sums.{fold-append}
 use Rattle.board_types.specs.Bits.{has_bit}
 use Rattle.board_types.specs.Iterate.{gathered, iterate}
-use Rattle.board_types.specs.declared.choice.ClockTable.{ClockTable}
-use Rattle.execute_meaning.specs.Cpu.{CpuState}
-use Rattle.execute_meaning.specs.Boundaries.{after_enter}
-use Rattle.execute_meaning.specs.declared.boundary.Cause.{Cause}
-use Rattle.execute_meaning.specs.declared.boundary.Cause.TheVariants as causes
-use Rattle.execute_meaning.proofs.Writes.{again_keeps_any, enter_keeps_any, step_keeps_any}
 use Rattle.keyboard.specs.Keyboard as keys
 use Rattle.keyboard.specs.Keyboard.{KeyboardState, after_clearing}
-use Rattle.memory.specs.Regions.{is_text_address}
 use Rattle.ppi8255.specs.Ppi.{lines_b}
 use Rattle.wiring.specs.Chips.{ChipsState}
-use Rattle.wiring.specs.Ports.{after_input, after_output, after_port_read, after_port_write, chips_bus, port_at, with_byte}
-use Rattle.wiring.specs.declared.port.Port.{Port}
-use Rattle.wiring.specs.declared.port.Port.TheVariants as ports
-use Rattle.wiring.specs.Wires as wires
-use Rattle.wiring.specs.Wires.{after_acknowledge, after_arrival, after_arrivals, after_key_settling, after_settling}
-use Rattle.board_plain.specs.declared.act.Act.{Act}
-use Rattle.board_plain.specs.declared.act.Act.TheVariants.{Nothing, Request, SingleStep, Iteration, Instruction}
-use Rattle.board_plain.specs.Plain.{Plain, after_act, after_clock, after_clocks, chips_after_clock, clock_of, codes_at, lost_codes, next_act, state_of}
+use Rattle.board_plain.specs.Plain.{Plain, after_clock, after_clocks, clock_of, lost_codes, state_of}
 use Rattle.board_plain.specs.Trail.{trail_next}
-use Rattle.board_plain.proofs.Clocks.{clock_of_act}
 use Rattle.events.specs.declared.event.Event.TheVariants.{Became, Began, Keyed, Reached}
 use Rattle.events.specs.declared.event.KeyEvent.TheVariants.{Arrives, IsLost}
 use Rattle.events.specs.Accesses.{accesses_next}

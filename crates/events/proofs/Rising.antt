@@ -2,27 +2,25 @@
 use Rattle.keyboard.specs.QueueParts.{has_room}
 use Rattle.std.proofs.Common.{◌≡◌, ℕ, zero, suc, ◌+◌, ◌≤◌, Bool, true, false, if◌then◌else◌, List, [], ◌∷◌, ◌++◌, map}
 use Rattle.std.proofs.Common.{Option, None, Some, refl, sym, ap, ◌∙◌, subst, arith}
-use Rattle.std.specs.Prelude.{◌&&◌, IsTrue, nat_le}
+use Rattle.std.specs.Prelude.{◌&&◌, nat_le}
 use Rattle.std.specs.Bool.{beq}
 use Rattle.std.specs.List.{flat_map}
 use Rattle.std.proofs.lemmas.Bool.Decides.{nat_tests}
 use Rattle.board_types.proofs.Iterate.{gathered_more, gathered_zero}
-use Rattle.board_types.specs.declared.state.State.{State}
 use Rattle.board_plain.proofs.Clocks.{clocks_go_by}
 use Rattle.keyboard.specs.Keyboard as keys
 use Rattle.keyboard.specs.Keyboard.{KeyboardState}
 use Rattle.board_plain.specs.Plain.{Plain, after_clock, after_clocks, clock_of, next_act, state_of}
 use Rattle.board_plain.specs.Trail.{entry_at, event_of, trail_next}
 use Rattle.board_plain.specs.declared.trail.TrailEvent.{TrailEvent}
-use Rattle.events.specs.declared.access.Access.{Access}
 use Rattle.events.specs.declared.event.Event.{Event}
 use Rattle.events.specs.declared.event.Event.TheVariants.{Became, Began, Keyed, Reached, Wired}
-use Rattle.events.specs.declared.event.KeyEvent.TheVariants.{Arrives, IsLost, IsLatched}
+use Rattle.events.specs.declared.event.KeyEvent.TheVariants.{Arrives, IsLost}
 use Rattle.events.specs.declared.event.Wire.{Wire}
 use Rattle.events.specs.declared.event.Wire.TheVariants.{Out0, Out2, Ir0, Ir1, Int, Speaker}
 use Rattle.events.specs.Accesses.{accesses_next}
 use Rattle.events.specs.Events.{all_wires, arrival_events, chips_reached, codes_next, events_in, events_next, latch_events, level_of}
-use Rattle.events.specs.Events.{state_events, unwired_next, wire_event}
+use Rattle.events.specs.Events.{unwired_next, wire_event}
 use Rattle.events.specs.OrderLaws.{clock_at, clocks_at, ClocksNeverFall, OrderIsTold, place_of, place_of_wire, places_of, rises_from}
 use Rattle.events.proofs.Parts.{arrived_of, became_of, began_of, reached_of, settled_of, wired_of}
 use Rattle.events.proofs.Told.{keeps_state, latched_next}

@@ -8,7 +8,7 @@ use Rattle.wiring.specs.Chips.{ChipsState}
 use Rattle.wiring.specs.Speaker.{is_speaker_high}
 use Rattle.wiring.specs.WiringLaws.{WiresAgree}
 use Rattle.wiring.proofs.Agreement.{settled_agree}
-use Rattle.board_plain.specs.BoardLaws.{MayTakeRequest, WiresHold}
+use Rattle.board_plain.specs.BoardLaws.{WiresHold}
 use Rattle.board_plain.specs.Plain.{Plain, speaker_level}
 use Rattle.board_plain.proofs.Requests.{request_is_taken}
 use Rattle.events.specs.Events.{level_of}

@@ -18,7 +18,7 @@ use Rattle.isa.specs.declared.register.SegmentRegister.{SegmentRegister}
 use Rattle.execute_machine.specs.Locations.{Machine, machine, with_value_at}
 use Rattle.execute_machine.specs.RegisterFile.{Registers}
 use Rattle.execute_machine.specs.Registers.{with_byte_register, with_word_register}
-use Rattle.execute_machine.specs.Stack.{after_entry, after_entry_pushes, after_push, after_vector}
+use Rattle.execute_machine.specs.Stack.{after_entry, after_vector}
 use Rattle.execute_machine.specs.Sums.{with_difference}
 use Rattle.execute_strings.specs.StringMeaning.{after_cmps, after_element, after_iteration, after_lods, after_movs, after_scas, after_stos, goes_on}
 use Rattle.execute_meaning.specs.declared.boundary.Boundary.{Boundary}

@@ -1,7 +1,7 @@
 -- Wires and states are what their events say.
 use Rattle.std.proofs.Common.{◌≡◌, ℕ, zero, suc, ◌+◌, Bool, true, false, not, if◌then◌else◌, List, [], ◌∷◌, ◌++◌}
 use Rattle.std.proofs.Common.{refl, sym, ap, ◌∙◌, append-nil, arith}
-use Rattle.std.specs.Prelude.{◌&&◌, IsTrue, fold}
+use Rattle.std.specs.Prelude.{◌&&◌}
 use Rattle.std.specs.Bool.{beq}
 use Rattle.std.specs.List.{flat_map}
 use Rattle.std.proofs.lemmas.List.Concat.{flat_map-append}
@@ -12,16 +12,13 @@ use Rattle.board_types.specs.declared.state.State.{State}
 use Rattle.board_types.specs.declared.state.State.TheVariants.{Running, Halted, Jammed}
 use Rattle.board_plain.specs.Plain.{Plain, after_clock, after_clocks, clock_of, state_of}
 use Rattle.board_plain.specs.Trail.{trail_next}
-use Rattle.ppi8255.specs.Ppi.{lines_b}
-use Rattle.wiring.specs.Chips.{ChipsState}
-use Rattle.wiring.specs.Wires.{after_arrivals}
 use Rattle.events.specs.declared.event.Event.TheVariants.{Became, Began, Reached, Wired}
 use Rattle.events.specs.declared.event.Wire.{Wire}
 use Rattle.events.specs.declared.event.Wire.TheVariants.{Out0, Out2, Ir0, Ir1, Int, Speaker}
 use Rattle.events.specs.Accesses.{accesses_next}
-use Rattle.events.specs.Events.{all_wires, chips_reached, code_latched, codes_next, events_next, is_same_state, level_of, wire_event}
+use Rattle.events.specs.Events.{all_wires, chips_reached, codes_next, events_next, is_same_state, level_of, wire_event}
 use Rattle.events.specs.LevelLaws.{alternates, became_by, is_wire, newest, StatesAreTold, turned_by, WiresAlternate, WiresAreTold}
-use Rattle.events.proofs.Parts.{joined, none_arrives, none_if, none_in, none_latched, none_wired, told_in, wired_of}
+use Rattle.events.proofs.Parts.{joined, none_arrives, none_if, none_in, none_latched, none_wired, told_in}
 use Rattle.events.proofs.Told.{keeps_state, latched_next}
 
 -- what holds of the newest value after each clock holds after n clocks
