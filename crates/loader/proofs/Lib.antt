@@ -2,6 +2,7 @@ pub mod Entries
 pub mod Fields
 pub mod HexLines
 pub mod LaterBytes
+pub mod LinesLeft
 pub mod Loaded
 pub mod Neighbours
 pub mod OneImage

@@ -29,7 +29,7 @@ gets_none a (e ∷ es) h = elim (cases_lt a e.0) [
     some_none : (b : ℕ) → Some b ≡ None → ⊥
     some_none b is = cc
 
-head_below : (e : ℕ × ℕ) (es : List (ℕ × ℕ)) → IsStrictlySortedBy nat_cmp (keys_of (e ∷ es)) → AllByRecursion (λ y. nat_cmp e.0 y ≡ Less) (keys_of es)
+pub head_below : (e : ℕ × ℕ) (es : List (ℕ × ℕ)) → IsStrictlySortedBy nat_cmp (keys_of (e ∷ es)) → AllByRecursion (λ y. nat_cmp e.0 y ≡ Less) (keys_of es)
 unfolding IsStrictlySortedBy
 head_below e es sorted = sorted.0
 

@@ -7,7 +7,6 @@ ghost use Rattle.loader.specs.HexText.{bytes_from, checksum, hex_text, longest_r
 
 use crate::hex_record::sum;
 use arrayvec::ArrayVec;
-use board_types::address::ADDRESS_COUNT;
 use board_types::image::Image;
 use std::io::Write;
 use thiserror::Error;
@@ -25,22 +24,22 @@ pub enum WriteFault {
 /// Writes the Intel HEX text of an image, to save an assembled program: in upper case, in the order of addresses, with
 /// a record of its paragraph before each bank of 65,536 bytes that is in use, and in each record the longest run of up
 /// to 16 bytes. Fails if the writer does; how much it has taken by then isn't said.
-#[tactic(auto, unfolding(crate::specs::HexText::hex_text))]
 pub fn write_hex<W: Write>(image: &Image, to: &mut W) -> Result<(), WriteFault>
     ensures { OnOk result (Appends (W.contents to.old) (W.contents to.new) (hex_text image.now)) }
 {
     let mut bank = None;
-    let mut address = 0;
-    while address < ADDRESS_COUNT {
-        if image.get(address).is_none() {
-            address += 1;
+    let mut skip = 0;
+    for (address, _) in image.iter() {
+        if 0 < skip {
+            skip -= 1;
             continue;
         }
+        let address = *address;
         let row = row_at(image, address);
         let text = row_text(bank, address, row.as_slice());
         write_text(to, text.as_slice())?;
         bank = Some(address / BANK_SIZE);
-        address += row.len() as u32;
+        skip = row.len() - 1;
     }
     write_text(to, b":00000001FF\n")
 }

@@ -1,83 +1,72 @@
-use Rattle.std.proofs.Common.{◌≡◌, ◌∙◌, ◌++◌, [], None, Some, ap, append_assoc, arith, length, sym, subst, ℕ, Option, Bool, true, false, refl}
-use Rattle.std.specs.Prelude.{Result, Ok, Err, OnOk, is_some, not}
+use Rattle.std.proofs.Common.{◌≡◌, ◌∙◌, ◌++◌, ◌∷◌, ◌<◌, [], ap, arith, length, suc, subst, ℕ, ◌-◌}
+use Rattle.std.specs.Prelude.{Result, Ok, Err, OnOk}
 use Rattle.std.specs.Io.KnownBytes.{Appends}
-use Rattle.std.specs.Map.{keys_of}
-use Rattle.std.proofs.lemmas.List.Elements.{recursion_from_All}
-use Rattle.board_types.specs.Image.{IsImage, IsLoadable, image_byte}
 use Rattle.std.proofs.KnownBytes.{Appends-nil, Appends-trans}
-use Rattle.loader.specs.HexText.{end_line, bytes_from, hex_text, hex_lines, row_lines, longest_run}
-use Rattle.loader.proofs.Runs.{from_end, from_first, gets_none, row_before, some_row}
+use Rattle.loader.specs.HexText.{bytes_from, end_line, longest_run, row_lines}
+use Rattle.loader.proofs.LinesLeft.{left_first, left_from, left_row, left_row_some, left_skipped, left_whole, left_within}
 use Rattle.loader.proofs.hex_writer.write_hex.Goals as goal
 
-none_is : (o : Option ℕ) (answer : Bool) → is_some o ≡ not answer → answer ≡ true → o ≡ None
-none_is None answer tells is = refl
-none_is (Some b) answer tells is = absurd (differs (tells ∙ ap not is))
-  where
-    differs : true ≡ false → ⊥
-    differs same = cc
-
-some_is : (o : Option ℕ) (answer : Bool) → is_some o ≡ not answer → answer ≡ false → (b : ℕ) × (o ≡ Some b)
-some_is None answer tells is = absurd (differs (tells ∙ ap not is))
-  where
-    differs : false ≡ true → ⊥
-    differs same = cc
-some_is (Some b) answer tells is = (b, refl)
-
 pub loop-address-init : goal.loop-address-init
-unfolding hex_text
-loop-address-init g c = record {
-  is_image = λ some. absurd (omega (arith, some));
-  text = ([], Appends-nil _, ap (hex_lines None 0) (from_first c.args.image.now));
-}
+loop-address-init g c =
+    let start : c.into_iter-address-iterator.result ≡ c.args.image.now =
+    c.into_iter-address-iterator.ensures.into_iter_gives ∙ c.iter-address-items.ensures.entries in
+    rw start (record { is_image = c.iter-address-items.ensures.is_image; text = ([], Appends-nil _, left_first c.args.image.now) })
 
-pub loop-address-preserved-then-is_none : goal.loop-address-preserved-then-is_none
-loop-address-preserved-then-is_none g c =
-    let none : image_byte c.args.image.now c.loop-address.address ≡ None =
-    sym c.get.ensures.byte ∙ none_is c.get.result c.is_none.result c.is_none.ensures c.if-is_none.true in
-    let t = c.loop-address.invariant.text in record {
-      is_image = λ some. c.get.ensures.is_image;
-      text = (t.0, t.1, ap (λ r. t.0 ++ hex_lines c.loop-address.bank 0 r) (sym (gets_none c.loop-address.address c.args.image.now none)) ∙ t.2);
+pub loop-address-preserved-then-skip-gt0 : goal.loop-address-preserved-then-skip-gt0
+loop-address-preserved-then-skip-gt0 g c =
+    let t = (rw c.in-Some.ensures.steps at c.loop-address.invariant.text) in
+    let one : c.loop-address.skip ≡ suc (c.loop-address.skip - 1) = omega (arith, c.if-skip-gt0.true) in record {
+      is_image = c.loop-address.invariant.is_image;
+      text = (t.0, t.1, left_skipped _ _ _ _ _ _ (c.in-Some.address.now, c.in-Some.field-0-1.now) one t.2);
     }
 
-pub loop-address-smaller : goal.loop-address-smaller
-loop-address-smaller g c =
-    let there = some_is c.get.result c.is_none.result c.is_none.ensures c.if-is_none.false in
-    let some : image_byte c.args.image.now c.loop-address.address ≡ Some there.0 = sym c.get.ensures.byte ∙ there.1 in
-    let size : c.len.result ≡ length (longest_run (bytes_from c.args.image.now c.loop-address.address) c.loop-address.address 16) =
-    c.len.ensures.value ∙ ap length c.row_at-row.ensures in
-    omega (arith, size, some_row c.loop-address.address there.0 c.args.image.now c.get.ensures.is_image.rising some, c.loop-address-test.true)
+pub row_at-row-requires : goal.row_at-row-requires
+row_at-row-requires g c =
+    let t = (rw c.in-Some.ensures.steps at c.loop-address.invariant.text) in
+    left_within _ _ _ _ _ c.in-Some.address.now c.in-Some.field-0-1.now c.loop-address.invariant.is_image t.2
+
+pub row_text-text-requires-clause-address : goal.row_text-text-requires-clause-address
+row_text-text-requires-clause-address g c =
+    let t = (rw c.in-Some.ensures.steps at c.loop-address.invariant.text) in
+    left_within _ _ _ _ _ c.in-Some.address.now c.in-Some.field-0-1.now c.loop-address.invariant.is_image t.2
+
+pub overflow_sub-skip-in-loop-address : goal.overflow_sub-skip-in-loop-address
+overflow_sub-skip-in-loop-address g c =
+    let image = c.args.image.now in
+    let a : ℕ = c.in-Some.address.now in
+    let t = (rw c.in-Some.ensures.steps at c.loop-address.invariant.text) in
+    let is = left_from _ _ _ _ _ a c.in-Some.field-0-1.now c.loop-address.invariant.is_image t.2 in
+    let size : c.len-skip.result ≡ length (longest_run (bytes_from image a) a 16) = c.len-skip.ensures.value ∙ ap length c.row_at-row.ensures in
+    let some : 0 < length (longest_run (bytes_from image a) a 16) = left_row_some image c.next.new.self a c.in-Some.field-0-1.now is in
+    omega (arith, size, some)
 
 pub loop-address-preserved : goal.loop-address-preserved
 loop-address-preserved g c =
     let image = c.args.image.now in
-    let a : ℕ = c.loop-address.address in
+    let a : ℕ = c.in-Some.address.now in
+    let b : ℕ = c.in-Some.field-0-1.now in
     let bank = c.loop-address.bank in
-    let there = some_is c.get.result c.is_none.result c.is_none.ensures c.if-is_none.false in
-    let some : image_byte image a ≡ Some there.0 = sym c.get.ensures.byte ∙ there.1 in
+    let t = (rw c.in-Some.ensures.steps at c.loop-address.invariant.text) in
+    let from : bytes_from image a ≡ (a, b) ∷ c.next.new.self = left_from _ _ _ _ _ a b c.loop-address.invariant.is_image t.2 in
     let row = longest_run (bytes_from image a) a 16 in
-    let size : c.len.result ≡ length row = c.len.ensures.value ∙ ap length c.row_at-row.ensures in
+    let size : c.len-skip.result ≡ length row = c.len-skip.ensures.value ∙ ap length c.row_at-row.ensures in
     let is : c.as_slice-in-loop-address.result.now ≡ row_lines bank a row =
     c.as_slice-in-loop-address.ensures.value ∙ c.row_text-text.ensures ∙ ap (row_lines bank a) (c.as_slice.ensures.value ∙ c.row_at-row.ensures) in
-    let t = c.loop-address.invariant.text in
     let wrote : Appends (g.W.Write.contents c.loop-address.to) (g.W.Write.contents c.write_text.new.to) (row_lines bank a row) =
-    subst (λ bytes. Appends (g.W.Write.contents c.loop-address.to) (g.W.Write.contents c.write_text.new.to) bytes) is c.in_ok-write_text.ensures in record {
-      is_image = λ past. c.get.ensures.is_image;
+    subst (λ bytes. Appends (g.W.Write.contents c.loop-address.to) (g.W.Write.contents c.write_text.new.to) bytes) is c.in_ok-write_text.ensures in
+    let none : c.loop-address.skip ≡ 0 = omega (arith, c.if-skip-gt0.false) in record {
+      is_image = c.loop-address.invariant.is_image;
       text = (
         t.0 ++ row_lines bank a row,
         Appends-trans _ _ _ t.0 (row_lines bank a row) t.1 wrote,
-        rw size
-            (append_assoc t.0 (row_lines bank a row) _ ∙ ap (λ r. t.0 ++ r) (sym (row_before a there.0 image bank c.get.ensures.is_image.rising some)) ∙ t.2),
+        rw size (left_row image c.next.new.self bank c.loop-address.skip t.0 a b none from t.2),
       );
     }
 
 pub returns : goal.returns
 returns g c =
-    let image = c.args.image.now in
-    let t = c.loop-address.invariant.text in
-    let is_image : IsImage image = c.loop-address.invariant.is_image (omega (arith, c.loop-address-test.false)) in
-    let none : bytes_from image c.loop-address.address ≡ [] =
-    from_end c.loop-address.address image (recursion_from_All IsLoadable (keys_of image) is_image.loadable) c.loop-address-test.false in
-    let whole : t.0 ++ end_line ≡ hex_text image = ap (λ r. t.0 ++ hex_lines c.loop-address.bank 0 r) (sym none) ∙ t.2 in
+    let t = (rw c.in-None.ensures.steps.0 at c.loop-address.invariant.text) in
+    let whole = left_whole c.args.image.now c.loop-address.bank c.loop-address.skip t.0 t.2 in
     ended c.write_text-2.result (λ wrote. subst (λ bytes. Appends (g.W.Write.contents c.args.to.now) (g.W.Write.contents c.write_text-2.new.to) bytes) whole
     (Appends-trans _ _ _ t.0 end_line t.1 wrote))
     c.write_text-2.ensures
