@@ -71,22 +71,6 @@ pub codes_none : (next clock : ℕ) (keys : List StampedKey) → Awaits next clo
 codes_none next clock keys awaits =
     none_due clock (take next keys) (λ i d within e. let past = awaits.past i d within in absurd (omega (arith, past, e)))
 
--- one more of them has arrived
-pub arrived_more : (next index clock : ℕ) (keys : List StampedKey) (d : StampedKey)
-    → Arrived next index clock keys → index < length keys → (get_or keys index d).stamp ≡ clock → Arrived next (index + 1) clock keys
-arrived_more next index clock keys d so_far within is = record {
-  from = let f = so_far.from in omega arith;
-  within = omega (arith, within);
-  due = λ j e inside.
-      elim (eqb_tells j index) [
-        | inl here ↦
-            let stamp : (get_or keys j e).stamp ≡ clock =
-            ap (λ i. (get_or keys i e).stamp) here.1 ∙ ap (λ (k : StampedKey). k.stamp) (get_or_default keys index e d within) ∙ is in
-            omega arith
-        | inr before ↦ so_far.due j e (omega (arith, inside, before.1))
-      ];
-}
-
 -- the key at `index` isn't due, so none after it is
 later_than : (next index clock : ℕ) (keys : List StampedKey) (d : StampedKey) → IsInOrder keys → Awaits next clock keys → next ≤ index
     → index < length keys → (get_or keys index d).stamp ≢ clock → (j : ℕ) (e : StampedKey) → index ≤ j → j < length keys → clock + 1 ≤ (get_or keys j e).stamp
@@ -123,15 +107,6 @@ arrived_before next index clock keys d in_order awaits so_far within differs =
     let later = later_than next index clock keys d in_order awaits so_far.from within differs in record {
       awaits = awaits_from index (clock + 1) keys so_far.within so_far.due later;
       codes = none_after index clock keys later;
-    }
-
-pub arrived_all : (next clock : ℕ) (keys : List StampedKey) → Arrived next (length keys) clock keys → AllArrived (length keys) clock keys
-arrived_all next clock keys so_far =
-    let later : (j : ℕ) (e : StampedKey) → length keys ≤ j → j < length keys → clock + 1 ≤ (get_or keys j e).stamp = λ j e after inside.
-    absurd (omega (arith, after, inside)) in
-    record {
-      awaits = awaits_from (length keys) (clock + 1) keys so_far.within so_far.due later;
-      codes = none_after (length keys) clock keys later;
     }
 
 -- the keys between those before a clock and those after it are the clock's
@@ -178,18 +153,6 @@ earlier_than index clock keys d in_order within before j e up_to =
           let stamp : (get_or keys j e).stamp ≡ (get_or keys index e).stamp = ap (λ i. (get_or keys i e).stamp) here.1 in omega (arith, stamp, same, before)
       | inr apart ↦ let order = in_order.stamps j index e (omega (arith, up_to, apart.1)) within in omega (arith, order, same, before)
     ]
-
--- before clock 0 nothing has arrived
-pub awaits_first : (keys : List StampedKey) → Awaits 0 0 keys
-awaits_first keys = awaits_from 0 0 keys (omega arith) (λ j d within. absurd (omega (arith, within))) (λ j d from within. omega arith)
-
--- codes that arrive after others
-pub arrived_after : (s t : ChipsState) (codes : List ℕ) (code : ℕ) → t ≡ after_arrivals s codes → after_arrival t code ≡ after_arrivals s (codes ++ code ∷ [])
-arrived_after s t codes code so_far = ap (λ u. after_arrival u code) so_far ∙ sym (fold-append after_arrival s codes (code ∷ []))
-
--- what awaits a clock, said of the clock before it
-pub awaits_on : (next clock late : ℕ) (keys other : List StampedKey) → Awaits next late keys → keys ≡ other → late ≡ clock + 1 → Awaits next (clock + 1) other
-awaits_on next clock late keys other awaits same is = subst (λ ks. Awaits next (clock + 1) ks) same (subst (λ c. Awaits next c keys) is awaits)
 
 -- clocks at which none comes
 pub awaits_later : (next clock n late : ℕ) (keys : List StampedKey) → Awaits next (clock + 1) keys

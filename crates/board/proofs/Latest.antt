@@ -153,15 +153,3 @@ looked_between unwatched stops end true s t u last here waits passing looked is 
     subst (λ h. Looked stops end s u (found_at last h (clock_of u.plain - 1))) (sym none)
     (looked_whole unwatched stops end s t u last (waits refl).0 passing looked (is ∙ none) before on)
 looked_between unwatched stops end false s t u last here waits passing looked is before on = looked_short stops end s t u last here looked is before on
-
--- at the end of a run: what holds there is later than what was found
-pub found_last : (stops : List Condition) (end count : ℕ) (s t : BoardState) (last : Option (ℕ × ℕ)) (here : Option ℕ)
-    → Looked stops end s t last → end ≡ clock_of s.plain + count → end ≤ clock_of t.plain → holding stops t.plain ≡ here
-    → IsLastOf stops (count + 1) s.plain (found_at last here (clock_of t.plain))
-found_last stops end count s t last here looked is past holds =
-    let gone = looked.so_far.ran.clock in
-    let within = looked.so_far.within in
-    subst (λ n. IsLastOf stops n s.plain (found_at last here (clock_of t.plain))) (omega (arith, gone, within, is, past))
-    (last_more stops looked.so_far.passed 1 (clock_of t.plain) s.plain t.plain last here looked.so_far.ran.plain looked.last_is (omega arith)
-    (λ i below. ap (λ k. holding stops (after_clocks t.plain k)) (omega (arith, below)) ∙ ap (holding stops) (iterate_zero after_clock t.plain) ∙ holds)
-    (omega (arith, gone)))

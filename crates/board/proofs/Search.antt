@@ -169,14 +169,6 @@ stop_found stops end count s t number clock searched is here at =
     stops_here stops count (n - 1) s t number clock (omega (arith, some, gone, within, is)) searched.none
     (subst (λ k. Ran k s t) (omega (arith, some)) searched.so_far.ran) here at
 
--- none holds up to the end
-pub none_found : (stops : List Condition) (end count : ℕ) (s t : BoardState) → (searched : Searched stops end s t)
-    → end ≡ clock_of s.plain + count → end ≤ clock_of t.plain → holding stops t.plain ≡ None → NoStop stops count s.plain
-none_found stops end count s t searched is past here =
-    let gone = searched.so_far.ran.clock in
-    let within = searched.so_far.within in
-    subst (λ k. NoStop stops k s.plain) (omega (arith, gone, within, is, past)) (none_here stops end s t searched here)
-
 -- a search that is held back
 pub record HeldSearch (stops : List Condition) (count : ℕ) (s u : BoardState) : Type 0 where
   pub run : HeldRun count s u
@@ -225,14 +217,6 @@ pub record NotFound (stops : List Condition) (count : ℕ) (s t : BoardState) : 
   pub none : NoStop stops count s.plain
   pub ran : Ran count s t
   pub counts : Counts s t
-
-pub not_found : (stops : List Condition) (end count : ℕ) (s t : BoardState)
-    → Searched stops end s t → end ≡ clock_of s.plain + count → end ≤ clock_of t.plain → holding stops t.plain ≡ None → NotFound stops count s t
-not_found stops end count s t searched is past here = record {
-  none = none_found stops end count s t searched is past here;
-  ran = ran_whole 2 end count s t searched.so_far is past;
-  counts = counted 2 end s t searched.so_far (omega arith);
-}
 
 -- no clocks
 pub nothing_found : (stops : List Condition) (count : ℕ) (s t : BoardState) → length s.trail ≤ 32 → count ≡ 0 → t ≡ s → NotFound stops count s t

@@ -229,18 +229,6 @@ held_run spare end count s t u so_far few is before held =
       enough = λ fits. not_held count n s t u less so_far.ran held fits;
     }
 
--- a run to its end
-pub record WholeRun (count : ℕ) (s t : BoardState) : Type 0 where
-  pub ran : Ran count s t
-  pub counts : Counts s t
-
-pub whole_run : (spare end count : ℕ) (s t : BoardState) → SoFar spare end s t
-    → spare ≤ 2 → end ≡ clock_of s.plain + count → end ≤ clock_of t.plain → WholeRun count s t
-whole_run spare end count s t so_far few is past = record {
-  ran = ran_whole spare end count s t so_far is past;
-  counts = counted spare end s t so_far few;
-}
-
 -- an act that ends with the next clock
 pub act_alone : (old new : BoardState) → IsActOn (clock_of old.plain + 1) old new → IsTickOn old new × (1 ≤ work_next old.plain)
 act_alone old new act =

@@ -38,17 +38,6 @@ same_level Low High same = absurd (cc)
 same_level High Low same = absurd (cc)
 same_level High High same = refl
 
-no_work : (p : Plain) → next_act p ≡ Nothing → (after_clock p).chips.pit.counter_0.out ≡ p.chips.pit.counter_0.out
-    → (after_clock p).chips.pit.counter_2.out ≡ p.chips.pit.counter_2.out → codes_at p.keys (clock_of p + 1) ≡ [] → work_next p ≡ 0
-unfolding work_next steps_next edges_next keys_next
-no_work p nothing same_0 same_2 no_codes =
-    let steps : steps_of (next_act p) ≡ 0 = ap steps_of nothing in
-    let jams : jams_of (next_act p) ≡ 0 = ap jams_of nothing in
-    let edge_0 = same_level p.chips.pit.counter_0.out (after_clock p).chips.pit.counter_0.out same_0 in
-    let edge_2 = same_level p.chips.pit.counter_2.out (after_clock p).chips.pit.counter_2.out same_2 in
-    let codes : length (codes_at p.keys (clock_of p + 1)) ≡ 0 = ap length no_codes in
-    omega (arith, steps, jams, edge_0, edge_2, codes)
-
 pub no_step : (p : Plain) → next_act p ≡ Nothing → steps_next p ≡ 0
 unfolding steps_next
 no_step p nothing = ap steps_of nothing
@@ -61,53 +50,9 @@ none_in_all step cost (suc n) s none =
     let last = none n (omega arith) in
     ap (λ k. total step cost k s) more ∙ total_more step cost n s ∙ omega (arith, before, last)
 
-out_0_at : (s : Plain) (n k : ℕ) → k ≤ n → WiresHold s.chips → AreUneventful s n → (after_clocks s k).chips.pit.counter_0.out ≡ s.chips.pit.counter_0.out
-out_0_at s n k within holds are_uneventful =
-    let less = are_uneventful_for s n k within are_uneventful in
-    ap (λ (p : Plain). p.chips.pit.counter_0.out) (board_leaps k s holds less) ∙ out_0_stays s k less
-
-out_2_at : (s : Plain) (n k : ℕ) → k ≤ n → WiresHold s.chips → AreUneventful s n → (after_clocks s k).chips.pit.counter_2.out ≡ s.chips.pit.counter_2.out
-out_2_at s n k within holds are_uneventful =
-    let less = are_uneventful_for s n k within are_uneventful in
-    ap (λ (p : Plain). p.chips.pit.counter_2.out) (board_leaps k s holds less) ∙ out_2_stays s k less
-
-keys_of_leap : (s : Plain) (n : ℕ) → (after_leap s n).keys ≡ s.keys
-unfolding after_leap
-keys_of_leap s n = refl
-
-codes_then : (p : Plain) (keys : List StampedKey) (clock : ℕ) → p.keys ≡ keys → clock_of p ≡ clock → codes_at keys (clock + 1) ≡ []
-    → codes_at p.keys (clock_of p + 1) ≡ []
-codes_then p keys clock same is none = ap (λ ks. codes_at ks (clock_of p + 1)) same ∙ ap (λ c. codes_at keys (c + 1)) is ∙ none
-
-no_codes : (s : Plain) (n i : ℕ) → i < n → NoKeyComes s n → codes_at s.keys (clock_of s + i + 1) ≡ []
-unfolding clock_of
-no_codes s n i before no_key = none_comes s.keys s.chips.clock n i before no_key
-
-codes_in_leap : (s : Plain) (n i : ℕ) → i < n → WiresHold s.chips → AreUneventful s n → codes_at (after_clocks s i).keys (clock_of (after_clocks s i) + 1) ≡ []
-codes_in_leap s n i before holds are_uneventful =
-    let leap = board_leaps i s holds (are_uneventful_for s n i (omega (arith, before)) are_uneventful) in
-    codes_then (after_clocks s i) s.keys (clock_of s + i)
-    (ap (λ (p : Plain). p.keys) leap ∙ keys_of_leap s i) (ap clock_of leap ∙ clock_of_leap s i) (no_codes s n i before are_uneventful.no_key)
-
-one_leap : (s : Plain) (n i : ℕ) → WiresHold s.chips → AreUneventful s n → i < n → work_next (after_clocks s i) ≡ 0
-one_leap s n i holds are_uneventful before =
-    let next = iterate_more after_clock i s in
-    no_work (after_clocks s i) (does_nothing s n i holds are_uneventful before)
-    (ap (λ (p : Plain). p.chips.pit.counter_0.out) (sym next) ∙ out_0_at s n (i + 1) (omega (arith, before)) holds are_uneventful
-    ∙ sym (out_0_at s n i (omega (arith, before)) holds are_uneventful))
-    (ap (λ (p : Plain). p.chips.pit.counter_2.out) (sym next) ∙ out_2_at s n (i + 1) (omega (arith, before)) holds are_uneventful
-    ∙ sym (out_2_at s n i (omega (arith, before)) holds are_uneventful))
-    (codes_in_leap s n i before holds are_uneventful)
-
-pub none_to_do : (s : Plain) (n : ℕ) → WiresHold s.chips → AreUneventful s n → work_in s n ≡ 0
-none_to_do s n holds are_uneventful = none_in_all after_clock work_next n s (λ i before. one_leap s n i holds are_uneventful before)
-
 pub none_to_step : (s : Plain) (n : ℕ) → WiresHold s.chips → AreUneventful s n → steps_in s n ≡ 0
 none_to_step s n holds are_uneventful =
     none_in_all after_clock steps_next n s (λ i before. no_step (after_clocks s i) (does_nothing s n i holds are_uneventful before))
-
-pub first_has_none : (s : Plain) (n : ℕ) → 1 ≤ n → WiresHold s.chips → AreUneventful s n → work_next s ≡ 0
-first_has_none s n some holds are_uneventful = ap work_next (sym (iterate_zero after_clock s)) ∙ one_leap s n 0 holds are_uneventful (omega (arith, some))
 
 -- what the processor does is work
 

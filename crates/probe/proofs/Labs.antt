@@ -7,11 +7,8 @@ use Rattle.std.specs.Prelude.{get_or, All}
 use Rattle.std.proofs.lemmas.List.Elements.{All-append, All-cons, All-drop, All-nil, All-pop, All-same}
 use Rattle.probe.specs.LabLaws.{ChangeBegins, LabsStand, LabStands, LabWalk, NoWayBackBefore, UndoGoesBack}
 use Rattle.board_plain.proofs.LastEntries.{last_of_few}
-use Rattle.board_plain.specs.Plain.{Plain, clock_of}
+use Rattle.board_plain.specs.Plain.{clock_of}
 use Rattle.board_plain.specs.Trail.{last}
-use Rattle.board_plain.specs.declared.change.Change.TheVariants as changes
-use Rattle.board_plain.specs.Changes.{with_cell_byte}
-use Rattle.board_plain.proofs.Changing.{clock_of_changed}
 use Rattle.debugger_meaning.specs.declared.answer.Answer.{Answer}
 use Rattle.debugger_meaning.specs.declared.answer.Answer.TheVariants.{Clock}
 use Rattle.debugger_meaning.specs.declared.fault.DebugFault.{DebugFault}
@@ -19,14 +16,13 @@ use Rattle.debugger_meaning.specs.declared.fault.DebugFault.TheVariants.{BadScan
 use Rattle.debugger_meaning.specs.Stands.{SessionState, Shown, shown_of, Stands, StandsAfter}
 use Rattle.debugger_meaning.proofs.Standing.{few_of, stands_none}
 use Rattle.probe_texts.specs.declared.wishes.Edit.{Edit}
-use Rattle.probe_texts.specs.declared.wishes.Edit.TheVariants as edits
 use Rattle.probe_texts.specs.declared.wishes.Wish.{Wish}
 use Rattle.probe_texts.specs.declared.wishes.Wish.TheVariants.{Set, Undo}
 use Rattle.probe_texts.specs.Requests.{request_of}
 use Rattle.probe_texts.specs.Wishes.{wish_of}
 use Rattle.probe.proofs.Walking.{answered}
-use Rattle.probe.specs.Lab.{AnswersUnlessWished, AnswersWish, belongs, earlier_with, edited, lab_about, LabState}
-use Rattle.probe.specs.Lab.{left_by, RefusesSet, Sets, shown_edited, takes_edit, Undoes, with_bytes}
+use Rattle.probe.specs.Lab.{AnswersUnlessWished, AnswersWish, belongs, earlier_with, lab_about, LabState}
+use Rattle.probe.specs.Lab.{left_by, RefusesSet, Sets, shown_edited, takes_edit, Undoes}
 use Rattle.probe.specs.Probe.{ProbeState}
 
 -- of seventeen the oldest goes
@@ -36,16 +32,6 @@ less_one xs ys long is = let one : length xs - 16 ≡ 1 = omega (arith, long) in
 
 pub one_more : {A : Type 0} (xs : List A) (x : A) → length (xs ++ x ∷ []) ≡ length xs + 1
 one_more xs x = length-append xs (x ∷ [])
-
--- no change takes a clock
-bytes_clock : (address : ℕ) (bytes : List ℕ) (s : Plain) → clock_of (with_bytes address bytes s) ≡ clock_of s
-bytes_clock address [] s = refl
-bytes_clock address (byte ∷ bytes) s =
-    bytes_clock (address + 1) bytes (with_cell_byte s address byte) ∙ clock_of_changed (changes.Byte address byte) s
-
-pub clock_of_edited : (edit : Edit) (s : Plain) → clock_of (edited edit s) ≡ clock_of s
-clock_of_edited (edits.Register register word) s = clock_of_changed (changes.Register register word) s
-clock_of_edited (edits.Bytes address bytes) s = bytes_clock address bytes.items s
 
 -- a change that belongs to the last one is made at the first clock
 pub starts : (s : LabState) → belongs s ≡ true → clock_of s.now.board.plain ≡ clock_of s.now.first.plain

@@ -1,9 +1,8 @@
 -- Lines of events that are heard, one after another.
-use Rattle.std.proofs.Common.{◌≡◌, ℕ, ◌+◌, Bool, true, false, List, [], ◌∷◌, ◌++◌, refl, sym, ap, ◌∙◌, append-nil}
-use Rattle.std.specs.Prelude.{◌||◌, IfOk, OnErr, OnOk, Result, Ok, Err}
-use Rattle.std.specs.List.{flat_map, list_any}
+use Rattle.std.proofs.Common.{◌≡◌, ℕ, ◌+◌, true, false, List, [], ◌∷◌, ◌++◌, sym, ap, ◌∙◌, append-nil}
+use Rattle.std.specs.Prelude.{IfOk, OnErr, OnOk, Result, Ok, Err}
+use Rattle.std.specs.List.{flat_map}
 use Rattle.std.proofs.lemmas.List.Concat.{flat_map-append}
-use Rattle.std.proofs.lemmas.List.Folds.{list_any-append}
 use Rattle.board_plain.specs.Plain.{Plain, after_clock, after_clocks}
 use Rattle.board_types.proofs.Iterate.{gathered_add, gathered_zero}
 use Rattle.events.specs.declared.event.Event.{Event}
@@ -60,17 +59,6 @@ no_lines kinds s = sym (ap (listed_lines kinds) (gathered_zero after_clock event
 
 pub no_signals : (s : Plain) → [] ≡ flat_map signal_line (events_in s 0)
 no_signals s = sym (ap (flat_map signal_line) (gathered_zero after_clock events_next s))
-
-or_false : (b : Bool) → (b || false) ≡ b
-or_false true = refl
-or_false false = refl
-
--- one event more is met
-pub met_more : (kinds : List Kind) (e : Event) (events : List Event) (met more : Bool) → more ≡ (met || is_listed kinds e)
-    → met ≡ list_any (is_listed kinds) events → more ≡ list_any (is_listed kinds) (events ++ e ∷ [])
-met_more kinds e events met more is so_far =
-    is ∙ ap (λ b. b || is_listed kinds e) so_far ∙ ap (λ b. list_any (is_listed kinds) events || b) (sym (or_false (is_listed kinds e)))
-    ∙ sym (list_any-append (is_listed kinds) events (e ∷ []))
 
 -- what may not fail has been told
 pub never_fails : {E : Type 0} (r : Result Unit E) (A : Type 0) → OnErr r ⊥ → OnOk r A → A

@@ -1,7 +1,7 @@
 -- A probe whose stops are all conditions does as its session does; and what a search says of a probe with others.
-use Rattle.std.proofs.Common.{◌≡◌, ℕ, ◌+◌, ◌-◌, ◌<◌, ◌≤◌, ◌^◌, Bool, true, false, List, [], ◌∷◌, ◌++◌, length, map}
-use Rattle.std.proofs.Common.{Option, None, Some, Result, Ok, Err, refl, sym, ap, ◌∙◌, subst, arith, append-nil}
-use Rattle.std.specs.Prelude.{◌&&◌, MatchResult}
+use Rattle.std.proofs.Common.{◌≡◌, ℕ, ◌+◌, ◌-◌, ◌<◌, ◌≤◌, ◌^◌, true, false, List, [], ◌∷◌, ◌++◌, length, map}
+use Rattle.std.proofs.Common.{Option, None, Some, Result, Ok, Err, refl, sym, ap, ◌∙◌, subst, arith}
+use Rattle.std.specs.Prelude.{MatchResult}
 use Rattle.std.specs.List.{list_all}
 use Rattle.board_plain.specs.declared.stop.Condition.{Condition}
 use Rattle.board_plain.specs.declared.stop.Stop.{Stop as End}
@@ -31,10 +31,6 @@ use Rattle.arrayvec.proofs.ArrayVecLemmas.{items-with_items}
 use Rattle.probe.proofs.Standing.{here, met_alike, none_here}
 
 -- stops that are all conditions are their conditions
-
-both_true : (a b : Bool) → (a && b) ≡ true → (a ≡ true) × (b ≡ true)
-both_true true b is = (refl, is)
-both_true false b is = let never : false ≡ true = is in absurd (cc)
 
 pub all_standing : (stops : List Stop) → list_all is_standing stops ≡ true → stops ≡ map Standing (conditions_of stops)
 all_standing [] all = refl
@@ -357,9 +353,6 @@ condition_added condition old new (Ok answer) few is = λ i. record { first = is
 condition_added condition old new (Err fault) few is =
     let full = is.full in absurd (omega (arith, few, full))
 
-pub none_added : (old : SessionState) → old ≡ record old { stops = old.stops ++ [] }
-none_added old = ap (λ (xs : List Condition). record old { stops = xs }) (sym (append-nil old.stops))
-
 -- a run's end
 
 pub goes_found : (n end : ℕ) (old new : SessionState) (stops : List Stop) (found : Option ℕ)
@@ -394,10 +387,6 @@ probe_on old new watches more is same keeps = record {
   conditions = same ∙ is.conditions ∙ ap conditions_of (sym keeps.stops);
   watched = keeps.watched;
 }
-
-pub same_stops : (session : SessionState) (watches more : List Watched) → KeepsStops watches more
-    → probe_of session (stops_of more) ≡ probe_of session (stops_of watches)
-same_stops session watches more keeps = ap (probe_of session) keeps.stops
 
 -- stops whose copies were made anew in their places
 

@@ -130,10 +130,6 @@ holds_same (Byte address value) s key = refl
 holds_same Sound s key = refl
 holds_same Halted s key = refl
 
-byte_same : (s : Plain) (key : StampedKey) (address : ℕ) → byte_of (with_key s key) address ≡ byte_of s address
-unfolding byte_of with_key
-byte_same s key address = refl
-
 differs_same : (address : ℕ) (s t : Plain) (key : StampedKey) (ks : List ℕ)
     → list_any (λ k. not (byte_of (with_key s key) (address + k) == byte_of (with_key t key) (address + k))) ks
     ≡ list_any (λ k. not (byte_of s (address + k) == byte_of t (address + k))) ks
