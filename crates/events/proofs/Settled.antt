@@ -1,5 +1,5 @@
 -- What each level is once the wires have settled.
-use Rattle.std.proofs.Common.{◌≡◌, Bool, true, false, refl, sym, ap, subst, ◌∙◌}
+use Rattle.std.proofs.Common.{◌≡◌, Bool, true, false, refl, sym, subst}
 use Rattle.std.specs.Prelude.{◌&&◌}
 use Rattle.board_types.specs.Bits.{has_bit}
 use Rattle.board_types.specs.LineLevel.{from_bool, is_high}
@@ -12,7 +12,7 @@ use Rattle.board_plain.specs.BoardLaws.{WiresHold}
 use Rattle.board_plain.specs.Plain.{Plain, speaker_level}
 use Rattle.board_plain.proofs.Requests.{request_is_taken}
 use Rattle.events.specs.Events.{level_of}
-use Rattle.events.specs.LevelLaws.{LevelsAreTold}
+use Rattle.events.specs.LevelLaws.{LevelsAreTold, with_processor}
 
 agree : (c : ChipsState) → WiresHold c → WiresAgree c
 agree c hold = subst WiresAgree hold.settled (settled_agree c hold.fixed.lines)
@@ -20,9 +20,6 @@ agree c hold = subst WiresAgree hold.settled (settled_agree c hold.fixed.lines)
 level_back : (b : Bool) → is_high (from_bool b) ≡ b
 level_back true = refl
 level_back false = refl
-
-both_on : (b c : Bool) → b ≡ true → c ≡ (b && c)
-both_on b c is = sym (ap (λ x. x && c) is)
 
 sounds : (s : Plain) → is_high (speaker_level s) ≡ (has_bit (lines_b s.chips.ppi) 1 && is_high s.chips.pit.counter_2.out)
 unfolding speaker_level is_speaker_high
@@ -32,9 +29,12 @@ pub levels_are_told : LevelsAreTold
 unfolding level_of
 levels_are_told s hold = record {
   out_0 = sym (agree s.chips hold).ir0;
-  out_2 = λ gated. both_on (has_bit (lines_b s.chips.ppi) 1) (is_high s.chips.pit.counter_2.out) gated ∙ sym (sounds s);
+  out_2 = refl;
   ir_0 = (agree s.chips hold).ir0;
   ir_1 = (agree s.chips hold).ir1;
-  int = λ may. ((λ taken. ((request_is_taken s).0 taken).0), (λ asked. (request_is_taken s).1 (asked, may)));
+  int = λ cpu may. (
+    (λ taken. ((request_is_taken (with_processor s cpu)).0 taken).0),
+    (λ asked. (request_is_taken (with_processor s cpu)).1 (asked, may)),
+  );
   speaker = sounds s;
 }

@@ -39,7 +39,7 @@ use Rattle.wiring.specs.Wires.{after_acknowledge}
 use Rattle.board_plain.specs.declared.act.Act.{Act}
 use Rattle.board_plain.specs.declared.act.Act.TheVariants.{Nothing, Request, SingleStep, Iteration, Instruction}
 use Rattle.board_plain.specs.Plain.{Plain, act_at, after_act, after_clock, after_clocks, chips_after_clock, is_free, next_act}
-use Rattle.events.specs.ShadowLaws.{DifferInRequests, lets_steps, ShadowsChangeNothing}
+use Rattle.events.specs.ShadowLaws.{DifferInRequests, ShadowsChangeNothing}
 
 abbrev is_enabled : Registers → Bool
 is_enabled r = r.flags.interrupt_enable
@@ -158,12 +158,12 @@ act_alike table a b p busy chips (Instruction decoded) off = step_alike chips_bu
 
 -- what a free processor does
 
-single_let : (a : Shadow) → IsTrue (lets_steps a) → lets_single_steps a ≡ true
+single_let : (a : Shadow) → IsTrue (lets_single_steps a) → lets_single_steps a ≡ true
 single_let NoShadow lets = refl
 single_let Requests lets = refl
 single_let Interrupts lets = lets
 
-same_boundary : (p : CpuState) (a b : Shadow) (asked : Bool) → is_enabled p.registers ≡ false → IsTrue (lets_steps a) → IsTrue (lets_steps b)
+same_boundary : (p : CpuState) (a b : Shadow) (asked : Bool) → is_enabled p.registers ≡ false → IsTrue (lets_single_steps a) → IsTrue (lets_single_steps b)
     → boundary_of (shadowed p b) asked ≡ boundary_of (shadowed p a) asked
 unfolding boundary_of
 same_boundary p a b asked off one other =
@@ -184,7 +184,7 @@ same_act_at p a b chips boundaries.Instruction = refl
 abbrev with_shadow : Plain → Shadow → Plain
 with_shadow s a = record s { cpu = shadowed s.cpu a }
 
-same_act : (s : Plain) (a b : Shadow) → is_enabled s.cpu.registers ≡ false → IsTrue (lets_steps a) → IsTrue (lets_steps b)
+same_act : (s : Plain) (a b : Shadow) → is_enabled s.cpu.registers ≡ false → IsTrue (lets_single_steps a) → IsTrue (lets_single_steps b)
     → next_act (with_shadow s b) ≡ next_act (with_shadow s a)
 unfolding next_act
 same_act s a b off one other =
@@ -207,7 +207,7 @@ later s acted = record {
   clocks = s.clocks;
 }
 
-still_alike : (s : Plain) (a b : Shadow) (x y : StepResult ChipsState) → IsTrue (lets_steps a) → IsTrue (lets_steps b) → Alike a b x y
+still_alike : (s : Plain) (a b : Shadow) (x y : StepResult ChipsState) → IsTrue (lets_single_steps a) → IsTrue (lets_single_steps b) → Alike a b x y
     → Outcome (later s x) (later s y)
 still_alike s a b x y one other (inl same) = inl (ap (later s) (sym same))
 still_alike s a b x y one other (inr only) =
@@ -216,11 +216,11 @@ still_alike s a b x y one other (inr only) =
     inr (record {
       alone = λ i. record { cpu = cpu i; busy = only.clocks i - 1; chips = chips_after_clock (only.bus i) s.keys; keys = s.keys; clocks = s.clocks };
       disabled = only.disabled;
-      one = subst (λ c. IsTrue (lets_steps c)) (sym only.has) one;
-      other = subst (λ c. IsTrue (lets_steps c)) (sym shadow) other;
+      one = subst (λ c. IsTrue (lets_single_steps c)) (sym only.has) one;
+      other = subst (λ c. IsTrue (lets_single_steps c)) (sym shadow) other;
     })
 
-one_clock : (s : Plain) (a b : Shadow) → is_enabled s.cpu.registers ≡ false → IsTrue (lets_steps a) → IsTrue (lets_steps b)
+one_clock : (s : Plain) (a b : Shadow) → is_enabled s.cpu.registers ≡ false → IsTrue (lets_single_steps a) → IsTrue (lets_single_steps b)
     → Outcome (after_clock (with_shadow s a)) (after_clock (with_shadow s b))
 unfolding after_clock
 one_clock s a b off one other =

@@ -17,7 +17,8 @@ use Rattle.events.specs.declared.event.Wire.{Wire}
 use Rattle.events.specs.declared.event.Wire.TheVariants.{Out0, Out2, Ir0, Ir1, Int, Speaker}
 use Rattle.events.specs.Accesses.{accesses_next}
 use Rattle.events.specs.Events.{all_wires, chips_reached, codes_next, events_next, is_same_state, level_of, wire_event}
-use Rattle.events.specs.LevelLaws.{alternates, became_by, is_wire, newest, StatesAreTold, turned_by, WiresAlternate, WiresAreTold}
+use Rattle.events.specs.LevelLaws.{alternates, became_by, is_state, is_wire, newest, StatesAlternate, StatesAreTold}
+use Rattle.events.specs.LevelLaws.{turned_by, WiresAlternate, WiresAreTold}
 use Rattle.events.proofs.Parts.{joined, none_arrives, none_if, none_in, none_latched, none_wired, told_in}
 use Rattle.events.proofs.Told.{keeps_state, latched_next}
 
@@ -100,34 +101,36 @@ both_true : (a b : Bool) → (a && b) ≡ true → (a ≡ true) × (b ≡ true)
 both_true true b is = (refl, is)
 both_true false b is = let never : false ≡ true = is in absurd (cc)
 
-alternates_on : (level : Bool) (xs ys : List Bool) → alternates level xs ≡ true → alternates (newest level xs) ys ≡ true → alternates level (xs ++ ys) ≡ true
-alternates_on level [] ys first later = later
-alternates_on level (x ∷ xs) ys first later =
-    let parts = both_true (not (beq level x)) (alternates x xs) first in
-    and_true (not (beq level x)) (alternates x (xs ++ ys)) parts.0 (alternates_on x xs ys parts.1 later)
+alternates_on : {A : Type 0} (same : A → A → Bool) (before : A) (xs ys : List A) → alternates same before xs ≡ true
+    → alternates same (newest before xs) ys ≡ true → alternates same before (xs ++ ys) ≡ true
+alternates_on same before [] ys first later = later
+alternates_on same before (x ∷ xs) ys first later =
+    let parts = both_true (not (same before x)) (alternates same x xs) first in
+    and_true (not (same before x)) (alternates same x (xs ++ ys)) parts.0 (alternates_on same x xs ys parts.1 later)
 
-alternates_once : (before after : Bool) → alternates before (turned before after) ≡ true
+-- what differs from the value before in each clock does so in n clocks
+alternates_in : {A : Type 0} (same : A → A → Bool) (value : Plain → A) (seen : Plain → List A) → ((p : Plain) → newest (value p) (seen p) ≡ value (after_clock p))
+    → ((p : Plain) → alternates same (value p) (seen p) ≡ true) → (s : Plain) (n : ℕ) → alternates same (value s) (gathered after_clock seen n s) ≡ true
+alternates_in same value seen each once s zero = ap (alternates same (value s)) (gathered_zero after_clock seen s)
+alternates_in same value seen each once s (suc n) =
+    let more : suc n ≡ n + 1 = omega arith in
+    let p : Plain = after_clocks s n in
+    ap (λ k. alternates same (value s) (gathered after_clock seen k s)) more
+    ∙ ap (alternates same (value s)) (gathered_more after_clock seen n s)
+    ∙ alternates_on same (value s) (gathered after_clock seen n s) (seen p) (alternates_in same value seen each once s n)
+    (ap (λ v. alternates same v (seen p)) (newest_in value seen each s n) ∙ once p)
+
+alternates_once : (before after : Bool) → alternates beq before (turned before after) ≡ true
 alternates_once true true = refl
 alternates_once true false = refl
 alternates_once false true = refl
 alternates_once false false = refl
 
-alternates_in : (wire : Wire) (s : Plain) (n : ℕ) → alternates (level_of s wire) (gathered after_clock (turned_next wire) n s) ≡ true
-alternates_in wire s zero = ap (alternates (level_of s wire)) (gathered_zero after_clock (turned_next wire) s)
-alternates_in wire s (suc n) =
-    let more : suc n ≡ n + 1 = omega arith in
-    let p : Plain = after_clocks s n in
-    let so_far : List Bool = gathered after_clock (turned_next wire) n s in
-    ap (λ k. alternates (level_of s wire) (gathered after_clock (turned_next wire) k s)) more
-    ∙ ap (alternates (level_of s wire)) (gathered_more after_clock (turned_next wire) n s)
-    ∙ alternates_on (level_of s wire) so_far (turned_next wire p) (alternates_in wire s n)
-    (ap (λ l. alternates l (turned_next wire p))
-    (newest_in (λ q. level_of q wire) (turned_next wire) (λ q. newest_turned (level_of q wire) (level_of (after_clock q) wire)) s n)
-    ∙ alternates_once (level_of p wire) (level_of (after_clock p) wire))
-
 pub wires_alternate : WiresAlternate
 wires_alternate s n wire =
-    ap (alternates (level_of s wire)) (told_in (turned_by wire) (turned_next wire) (turned_of_clock wire) s n) ∙ alternates_in wire s n
+    ap (alternates beq (level_of s wire)) (told_in (turned_by wire) (turned_next wire) (turned_of_clock wire) s n)
+    ∙ alternates_in beq (λ p. level_of p wire) (turned_next wire) (λ p. newest_turned (level_of p wire) (level_of (after_clock p) wire))
+    (λ p. alternates_once (level_of p wire) (level_of (after_clock p) wire)) s n
 
 -- the processor's state
 
@@ -167,3 +170,20 @@ pub states_are_told : StatesAreTold
 states_are_told s n =
     sym (ap (newest (state_of s)) (told_in became_by became_next became_of_clock s n)
     ∙ newest_in state_of became_next (λ p. newest_became (state_of p) (state_of (after_clock p))) s n)
+
+differs_became : (before after : State) → alternates is_state before (became before after) ≡ true
+differs_became Running Running = refl
+differs_became Running Halted = refl
+differs_became Running Jammed = refl
+differs_became Halted Running = refl
+differs_became Halted Halted = refl
+differs_became Halted Jammed = refl
+differs_became Jammed Running = refl
+differs_became Jammed Halted = refl
+differs_became Jammed Jammed = refl
+
+pub states_alternate : StatesAlternate
+states_alternate s n =
+    ap (alternates is_state (state_of s)) (told_in became_by became_next became_of_clock s n)
+    ∙ alternates_in is_state state_of became_next (λ p. newest_became (state_of p) (state_of (after_clock p)))
+    (λ p. differs_became (state_of p) (state_of (after_clock p))) s n

@@ -1,7 +1,7 @@
 -- What happens in a plain board's clocks, against memory, the trail, the speaker's list and the keyboard.
 -- Laws: claims above the definitions, each proved as the contract of a function.
 use Rattle.keyboard.specs.QueueParts.{count_after_loss}
-use Rattle.std.specs.Prelude.{ℕ, ◌≡◌, ◌==◌, Bool, ◌&&◌, if◌then◌else◌, List, [], ◌∷◌, ◌++◌, fold}
+use Rattle.std.specs.Prelude.{ℕ, ◌≡◌, ◌+◌, ◌==◌, Bool, ◌&&◌, if◌then◌else◌, List, [], ◌∷◌, ◌++◌, fold}
 use Rattle.std.specs.List.{flat_map}
 use Rattle.board_types.specs.Iterate.{gathered}
 use Rattle.board_types.specs.LineLevel.{from_bool}
@@ -15,7 +15,15 @@ use Rattle.events.specs.declared.event.Event.{Event}
 use Rattle.events.specs.declared.event.Event.TheVariants.{Began, Keyed, Reached, Wired}
 use Rattle.events.specs.declared.event.KeyEvent.TheVariants.{Arrives, IsLatched, IsLost}
 use Rattle.events.specs.declared.event.Wire.TheVariants.{Speaker}
-use Rattle.events.specs.Events.{codes_next, events_in}
+use Rattle.events.specs.Events.{codes_next, events_in, events_next}
+
+-- the events of some clocks and of more are those of the first, and then those of the others; of one clock they are its own
+abbrev pub EventsAddUp : Type 0
+EventsAddUp =
+    (s : Plain) (n m : ℕ) → events_in s (n + m) ≡ events_in s n ++ events_in (after_clocks s n) m
+
+abbrev pub OneClockIsTold : Type 0
+OneClockIsTold = (s : Plain) → events_in s 1 ≡ events_next s
 
 -- the address and the byte of a write
 abbrev pub written_by : Event → List (ℕ × ℕ)

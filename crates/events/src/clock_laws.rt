@@ -1,10 +1,16 @@
 //! What holds of the events of a plain board's clocks.
 ghost use Rattle.events.specs.KeyLaws.{KeyStandsInOrder, KeyToComeWaits, KeyWasThere, ListsStay};
-ghost use Rattle.events.specs.LevelLaws.{LevelsAreTold, StatesAreTold, WiresAlternate, WiresAreTold};
+ghost use Rattle.events.specs.LevelLaws.{LevelsAreTold, StatesAlternate, StatesAreTold, WiresAlternate, WiresAreTold};
 ghost use Rattle.events.specs.OrderLaws.{ClocksAreTold, ClocksNeverFall, OrderIsTold};
-ghost use Rattle.events.specs.PortLaws.{AccessesAreTold};
+ghost use Rattle.events.specs.PortLaws.{AccessesAreTold, ReadsAreTold};
 ghost use Rattle.events.specs.ShadowLaws.{ShadowsChangeNothing};
-ghost use Rattle.events.specs.ClockLaws.{CodesAreTold, LossesAreTold, MemoryIsWritten, QueueIsTold, SpeakerIsTold, TrailIsTold};
+ghost use Rattle.events.specs.ClockLaws.{CodesAreTold, EventsAddUp, LossesAreTold, MemoryIsWritten, OneClockIsTold, QueueIsTold, SpeakerIsTold, TrailIsTold};
+
+/// The events of some clocks are those of each of them, in order: what holds of a clock's events holds of a run's.
+pub fn events_add_up()
+    ensures more { EventsAddUp }
+    ensures one { OneClockIsTold }
+{}
 
 /// Memory after some clocks is memory before them with the bytes of their write events, in order, put wherever an
 /// address takes bytes: a list of writes misses nothing that changes memory.
@@ -34,9 +40,11 @@ pub fn keys_are_told()
 {}
 
 /// The accesses of a clock, made in order by the board's own reads and writes, leave its chips and memory as the
-/// processor's part of the clock leaves them: a list of accesses misses none, and has no other.
+/// processor's part of the clock leaves them, and each byte that is read of a port is the one that the board gives then: a
+/// list of accesses misses none that changes anything, and has each at its place.
 pub fn accesses_are_told()
-    ensures { AccessesAreTold }
+    ensures accesses { AccessesAreTold }
+    ensures reads { ReadsAreTold }
 {}
 
 /// The level of each wire after some clocks is the one before them, turned by each of the wire's events to the level that
@@ -48,10 +56,11 @@ pub fn wires_are_told()
     ensures settled { LevelsAreTold }
 {}
 
-/// The processor's state after some clocks is the one that the last event of it says: a list of states misses no halt,
-/// wake or jam.
+/// The processor's state after some clocks is the one that the last event of it says, and each of these events brings
+/// another state: a list of states misses no halt, wake or jam, and has none twice.
 pub fn states_are_told()
-    ensures { StatesAreTold }
+    ensures states { StatesAreTold }
+    ensures turns { StatesAlternate }
 {}
 
 /// Each event of a clock has the clock that its kind has: what the processor does the one that begins, keys and wires the
@@ -80,8 +89,8 @@ pub fn key_stands_in_order()
     ensures { KeyStandsInOrder }
 {}
 
-/// Two boards with IF 0 that differ only in whether requests are kept off differ in nothing else later, so what an
-/// interrupt's entry keeps off changes no run.
+/// Two boards with IF 0 that differ only in whether requests are kept off differ in nothing else at any later clock: what
+/// an interrupt's entry keeps off changes nothing of the board but itself.
 pub fn shadows_change_nothing()
     ensures { ShadowsChangeNothing }
 {}
