@@ -17,7 +17,8 @@ use Rattle.events.specs.declared.event.KeyEvent.TheVariants.{Arrives, IsLatched,
 use Rattle.events.specs.declared.event.Wire.TheVariants.{Speaker}
 use Rattle.events.specs.Events.{codes_next, events_in, events_next}
 
--- the events of some clocks and of more are those of the first, and then those of the others; of one clock they are its own
+-- the events of some clocks and of more are those of the first, and then those of the others; of one clock they are
+-- its own
 abbrev pub EventsAddUp : Type 0
 EventsAddUp =
     (s : Plain) (n m : ℕ) → events_in s (n + m) ≡ events_in s n ++ events_in (after_clocks s n) m

@@ -10,6 +10,7 @@ mod Standing
 mod Changing
 mod Copies
 mod Places
+mod Hearing
 mod Meeting
 mod Searching
 mod Probes

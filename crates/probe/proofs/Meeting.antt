@@ -29,7 +29,7 @@ use Rattle.probe.specs.declared.seen.Turn.{Turn}
 use Rattle.probe.specs.declared.watched.Watched.{Watched}
 use Rattle.probe.specs.Looked.{LooksOn, RanShort, RanToStop}
 use Rattle.probe.specs.Making.{FewTurns}
-use Rattle.probe.specs.Met.{asked_by, asked_with_stop, IsCopy, IsCovered, is_met, is_stop_met, met, writes_to}
+use Rattle.probe.specs.Met.{asked_by, asked_with_stop, IsCopy, IsCovered, is_met, is_stop_met, met, waits_for, writes_to}
 use Rattle.probe.specs.ProbeStops.{meeting, meeting_at, meets, NoneMet, standing, stands}
 use Rattle.probe.specs.Seen.{asked_in, IsMade, seen_of}
 use Rattle.probe.specs.Watched.{AreCopies, IsWatched, KeepsStops, stops_of}
@@ -62,11 +62,6 @@ or_right true b is = refl
 or_right false b is = is
 
 -- what some stops together wait for
-
-abbrev waits_for : Event → Stop → Bool
-waits_for e (Standing condition) = false
-waits_for e (When kinds) = is_listed kinds.items e
-waits_for e (Changes address count) = false
 
 stop_grows : (a : Asked) (stop : Stop) (e : Event) → (asks a e || waits_for e stop) ≡ true → asks (asked_with_stop a stop) e ≡ true
 stop_grows a (Standing condition) e is = unless (asks a e) is

@@ -2,7 +2,7 @@
 -- For proofs alone: no public contract rests on it.
 use Rattle.std.proofs.Common.{get_or}
 use Rattle.std.specs.Prelude.{ℕ, ◌≡◌, ◌+◌, ◌-◌, ◌<◌, ◌==◌, ◌≤◌, ◌^◌, ◌⊎◌, Bool, true, false, not, ◌&&◌}
-use Rattle.std.specs.Prelude.{nat_le, nat_lt, if◌then◌else◌, List, Option, None, Some, fold, length, slice_get}
+use Rattle.std.specs.Prelude.{min, nat_le, nat_lt, if◌then◌else◌, List, Option, None, Some, fold, length, slice_get}
 use Rattle.std.specs.List.{list_any, position_from}
 use Rattle.board_plain.specs.Plain.{Plain, byte_of}
 use Rattle.board_plain.specs.Stops.{holds}
@@ -102,6 +102,39 @@ is_met watched events accesses t = is_stop_met watched.stop watched.copied event
 -- the least number, from 1, of a stop that is met
 unfoldable pub met : List Watched → List Event → List Access → Plain → Option ℕ
 met watches events accesses t = position_from (λ watched. is_met watched events accesses t) 1 watches
+
+-- a stop waits for an event, or for one of some events
+abbrev pub waits_for : Event → Stop → Bool
+waits_for e (Standing condition) = false
+waits_for e (When kinds) = is_listed kinds.items e
+waits_for e (Changes address count) = false
+
+abbrev pub hears : List Event → Stop → Bool
+hears events (Standing condition) = false
+hears events (When kinds) = list_any (is_listed kinds.items) events
+hears events (Changes address count) = false
+
+-- a stop is met by what stands at a clock, or by bytes that these accesses have changed
+abbrev pub is_there : Stop → Copied → List Access → Plain → Bool
+is_there (Standing condition) copied accesses t = holds condition t
+is_there (When kinds) copied accesses t = false
+is_there (Changes address count) copied accesses t = one_differs address count accesses copied t
+
+-- the least numbers of such stops
+unfoldable pub waiting_for : Event → List Watched → Option ℕ
+waiting_for e watches = position_from (λ watched. waits_for e watched.stop) 1 watches
+
+unfoldable pub heard : List Watched → List Event → Option ℕ
+heard watches events = position_from (λ watched. hears events watched.stop) 1 watches
+
+unfoldable pub present : List Watched → List Access → Plain → Option ℕ
+present watches accesses t = position_from (λ watched. is_there watched.stop watched.copied accesses t) 1 watches
+
+-- the smaller of two numbers, or the one that there is
+abbrev pub earlier : Option ℕ → Option ℕ → Option ℕ
+earlier (Some a) (Some b) = Some (min a b)
+earlier (Some a) None = Some a
+earlier None b = b
 
 -- what some stops have to look for
 abbrev pub asked_with_stop : Asked → Stop → Asked
