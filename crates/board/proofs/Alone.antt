@@ -1,6 +1,6 @@
 -- Clocks in which the chips alone go on: what a board is after them, and that nothing is seen of them.
 use Rattle.wiring.specs.EachWire.{is_requested}
-use Rattle.std.proofs.Common.{◌≡◌, ℕ, ◌+◌, ◌-◌, ◌<◌, ◌≤◌, inl, inr, false, ◌&&◌, List, refl, sym, ap, ◌∙◌, arith}
+use Rattle.std.proofs.Common.{◌≡◌, ℕ, ◌+◌, ◌-◌, ◌<◌, ◌≤◌, inl, inr, ◌&&◌, List, refl, sym, ap, ◌∙◌, arith}
 use Rattle.std.specs.Prelude.{nat_eq}
 use Rattle.board_types.proofs.Iterate.{iterate_more}
 use Rattle.board_types.specs.Bits.{has_bit}
