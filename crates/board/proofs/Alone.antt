@@ -1,15 +1,28 @@
 -- Clocks in which the chips alone go on: what a board is after them, and that nothing is seen of them.
 use Rattle.wiring.specs.EachWire.{is_requested}
-use Rattle.std.proofs.Common.{◌≡◌, ℕ, ◌+◌, ◌-◌, ◌<◌, ◌≤◌, inl, inr, false, List, refl, sym, ap, ◌∙◌, arith}
+use Rattle.std.proofs.Common.{◌≡◌, ℕ, ◌+◌, ◌-◌, ◌<◌, ◌≤◌, inl, inr, ◌&&◌, List, refl, sym, ap, ◌∙◌, arith}
 use Rattle.std.specs.Prelude.{nat_eq}
-use Rattle.board_types.proofs.Iterate.{iterate_more, iterate_zero}
-use Rattle.board_types.specs.LineLevel.{from_bool}
+use Rattle.board_types.proofs.Iterate.{iterate_more}
+use Rattle.board_types.specs.Bits.{has_bit}
+use Rattle.board_types.specs.LineLevel.{from_bool, is_high}
+use Rattle.board_types.specs.Timed.{IsSteady}
+use Rattle.board_types.specs.declared.line.Line.{Line}
 use Rattle.execute_meaning.specs.Boundaries.{boundary_of}
 use Rattle.execute_meaning.specs.declared.boundary.Boundary.TheVariants as boundaries
+use Rattle.pit8253.proofs.PitTicks.{each_counter}
+use Rattle.pit8253.specs.Counter.{after_ticks, out_of}
+use Rattle.pit8253.specs.Pit.{PitState}
+use Rattle.ppi8255.specs.Ppi.{lines_b}
 use Rattle.wiring.proofs.Clocks.{clock_of_clocks}
-use Rattle.wiring.proofs.Alone.{keyboard_of_clocks, low_alone}
+use Rattle.wiring.proofs.Alone.{keyboard_of_clocks, low_alone, low_now}
 use Rattle.wiring.proofs.Inhibited.{request_stays}
+use Rattle.wiring.proofs.Speaker.{ppi_of_clocks}
+use Rattle.wiring.proofs.Ticks.{clocks_tick}
+use Rattle.wiring.specs.Chips.{ChipsState}
+use Rattle.wiring.specs.Edges.{ticks_between}
+use Rattle.wiring.specs.Speaker.{is_speaker_high}
 use Rattle.wiring.specs.Wires as wires
+use Rattle.wiring.specs.Wires.{after_settling}
 use Rattle.board_plain.specs.declared.act.Act.TheVariants.{Nothing}
 use Rattle.board_plain.specs.declared.stop.Condition.{Condition}
 use Rattle.board_plain.specs.BoardLaws.{WiresHold}
@@ -18,7 +31,7 @@ use Rattle.board_plain.specs.Stops.{holding}
 use Rattle.board_plain.specs.Trail.{trail_next}
 use Rattle.board_plain.specs.Work.{steps_next}
 use Rattle.board_plain.proofs.Quiet.{go_on_alone, nothing_by}
-use Rattle.board.specs.UnseenClocks.{BeginsNothing, IsAlone, IsUnseen, StaysIdleDespiteTimer, passed_by}
+use Rattle.board.specs.UnseenClocks.{BeginsNothing, IsAlone, IsUnseen, KeepsLevel, StaysIdleDespiteTimer, passed_by}
 use Rattle.board.proofs.Leap.{LooksSame, busy_by, busy_still, bytes_stay, free_still, holding_same, idle_clocks, none_gathered, not_free, nothing_begins}
 use Rattle.board.proofs.Ticking.{no_change}
 use Rattle.board.proofs.Uneventful.{quiet_clock}
@@ -48,14 +61,25 @@ unfolding passed_by
 does_nothing s n i holds alone before =
     ap next_act (alone_leaps s n i (omega (arith, before)) holds alone) ∙ idle_act s n i before holds alone.idle
 
--- the speaker stays low
-low : (s : Plain) (n k : ℕ) → k ≤ n → WiresHold s.chips → IsAlone s n → speaker_level (after_clocks s k) ≡ from_bool false
-unfolding speaker_level passed_by
-low s n k within holds alone = ap speaker_level (alone_leaps s n k within holds alone) ∙ ap from_bool (low_alone s.chips k alone.alone)
+-- the speaker stays low, or OUT2 stays, and with it the speaker's level
+
+out_2_stays : (c : ChipsState) (n k : ℕ) → k ≤ n → after_settling c ≡ c → IsSteady after_ticks out_of c.pit.counter_2 (ticks_between c.clock (c.clock + n))
+    → (wires.after_clocks c k).pit.counter_2.out ≡ c.pit.counter_2.out
+out_2_stays c n k within settled steady =
+    let ticks : ℕ = ticks_between c.clock (c.clock + k) in
+    ap (λ (p : PitState). p.counter_2.out) (clocks_tick c k settled ∙ each_counter ticks c.pit) ∙ steady ticks (omega (arith, within))
+
+speaker_stays : (c : ChipsState) (n k : ℕ) → k ≤ n → WiresHold c → KeepsLevel c n → is_speaker_high (wires.after_clocks c k) ≡ is_speaker_high c
+unfolding is_speaker_high
+speaker_stays c n k within holds (inl off) = low_alone c k (record { speaker_off = off; keys = holds.keys }) ∙ sym (low_now c off)
+speaker_stays c n k within holds (inr steady) =
+    ap (λ p. has_bit (lines_b p) 1 && is_high (wires.after_clocks c k).pit.counter_2.out) (ppi_of_clocks c k)
+    ∙ ap (λ (out : Line). has_bit (lines_b c.ppi) 1 && is_high out) (out_2_stays c n k within holds.settled steady)
 
 level_stays : (s : Plain) (n k : ℕ) → k ≤ n → WiresHold s.chips → IsAlone s n → speaker_level (after_clocks s k) ≡ speaker_level s
+unfolding speaker_level passed_by
 level_stays s n k within holds alone =
-    low s n k within holds alone ∙ sym (low s n 0 (omega arith) holds alone) ∙ ap speaker_level (iterate_zero after_clock s)
+    ap speaker_level (alone_leaps s n k within holds alone) ∙ ap from_bool (speaker_stays s.chips n k within holds alone.level)
 
 -- no condition changes, short of the end
 

@@ -23,8 +23,10 @@ use Rattle.board.specs.Arrivals.{Awaits, IsNextStamp}
 use Rattle.board_plain.specs.BoardLaws.{NoKeyComes, WiresHold}
 use Rattle.board.specs.UneventfulClocks.{AreDeadlines, IsFreeClock, IsLastToLeap, IsMaximal, AreUneventful, StaysIdle, acts_before, last_of, after_leap}
 use Rattle.board_plain.specs.Plain.{Plain, act_at, clock_of, codes_at, is_free, next_act}
+use Rattle.board_plain.specs.Work.{work_next}
 use Rattle.board_plain.proofs.Codes.{codes_append, codes_more}
 use Rattle.board.proofs.KeyOrder.{past_at, to_come_at}
+use Rattle.board.proofs.Leap.{leap_by}
 use Rattle.board.proofs.Works.{edge_0_works, edge_2_works, keys_come}
 
 -- a last clock is before every deadline of a source that acts before it, and not after any other
@@ -158,10 +160,12 @@ maximal_by : (s : Plain) (end : ℕ) (d : DeadlinesState) (source : Source) (at 
     → deadline_of d source ≡ Some at → s.chips.clock + n ≡ last_of (acts_before source) at → AreUneventful s n → IsMaximal (end - s.chips.clock) s n
 maximal_by s end d Counter0 at n holds deadlines due is are_uneventful =
     let edge : TurnsIn s.chips.pit.counter_0 s.chips.clock at = subst (λ p. IsEdgeOf s.chips.pit.counter_0 s.chips.clock p) due deadlines.counter_0 in
-    let first = edge.later in inr (inr (edge_0_works s n at holds are_uneventful (omega (arith, first, is)) edge))
+    let first = edge.later in
+    inr (inr (subst (λ (t : Plain). 1 ≤ work_next t) (sym (leap_by n s holds are_uneventful)) (edge_0_works s n at holds (omega (arith, first, is)) edge)))
 maximal_by s end d Counter2 at n holds deadlines due is are_uneventful =
     let edge : TurnsIn s.chips.pit.counter_2 s.chips.clock at = subst (λ p. IsEdgeOf s.chips.pit.counter_2 s.chips.clock p) due deadlines.counter_2 in
-    let first = edge.later in inr (inr (edge_2_works s n at holds are_uneventful (omega (arith, first, is)) edge))
+    let first = edge.later in
+    inr (inr (subst (λ (t : Plain). 1 ≤ work_next t) (sym (leap_by n s holds are_uneventful)) (edge_2_works s n at holds (omega (arith, first, is)) edge)))
 maximal_by s end d Keys at n holds deadlines due is are_uneventful =
     let next : IsNextStamp s.chips.clock s.keys (Some at) = subst (λ p. IsNextStamp s.chips.clock s.keys p) due deadlines.keys in
     let first = next.0 in inr (inr (keys_come (after_leap s n) (keys_then s n at (omega (arith, first, is)) next.2)))

@@ -71,7 +71,7 @@ pub may_leap : (s : Plain) (n to : ℕ) (p : Option ℕ) → to ≡ s.chips.cloc
     → IsNextStamp s.chips.clock s.keys p → ComesAfter to p → GoUnseen s.chips to → MayLeap s n
 may_leap s n to p is idle next after (inl quiet) = inl (quiet_leaps s n to p is idle next after quiet)
 may_leap s n to p is idle next after (inr alone) =
-    inr (record { idle = idle; no_key = no_key s n p next (subst (λ k. ComesAfter k p) is after); alone = alone })
+    inr (record { idle = idle; no_key = no_key s n p next (subst (λ k. ComesAfter k p) is after); level = inl alone.speaker_off })
 
 pub unseen_for : (c : ChipsState) (to sooner : ℕ) → sooner ≤ to → GoUnseen c to → GoUnseen c sooner
 unseen_for c to sooner within (inl quiet) = inl (quiet_for c to sooner within quiet)

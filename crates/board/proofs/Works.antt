@@ -12,12 +12,12 @@ use Rattle.pit8253.proofs.PitTicks.{each_counter}
 use Rattle.pit8253.specs.Counter as one
 use Rattle.pit8253.specs.Pit as pit
 use Rattle.pit8253.specs.Pit.{PitState}
-use Rattle.wiring.proofs.Leap.{settled_leap}
+use Rattle.pit8253.specs.Counter.{CounterState}
+use Rattle.wiring.proofs.Clocks.{clock_of_clocks}
 use Rattle.wiring.proofs.Settling.{settles_once}
-use Rattle.wiring.proofs.Ticks.{clocks_tick}
+use Rattle.wiring.proofs.Ticks.{clocks_tick, settled_later}
 use Rattle.wiring.specs.Chips.{ChipsState}
 use Rattle.wiring.specs.Edges.{ticks_between, TurnsIn}
-use Rattle.wiring.specs.Leap as leaps
 use Rattle.wiring.specs.Wires as wires
 use Rattle.wiring.specs.Wires.{after_arrival, after_arrivals, after_key_settling, after_settling}
 use Rattle.wiring.specs.EachWire.{after_gate_wire}
@@ -25,6 +25,7 @@ use Rattle.board_plain.specs.declared.act.Act.{Act}
 use Rattle.board_plain.specs.declared.act.Act.TheVariants.{Nothing, Request, SingleStep, Iteration, Instruction}
 use Rattle.board_plain.specs.BoardLaws.{NoKeyComes, WiresHold}
 use Rattle.board.specs.UneventfulClocks.{AreUneventful, is_idle, after_leap}
+use Rattle.board.specs.UnseenClocks.{passed_by}
 use Rattle.board_plain.specs.Plain.{Plain, act_at, after_act, after_clock, after_clocks, chips_after_clock, clock_of, codes_at, next_act}
 use Rattle.board_plain.specs.Work.{edges_next, edges_of, jams_of, keys_next, steps_in, steps_next, steps_of, work_in, work_next}
 use Rattle.board.proofs.Leap.{board_leaps, clock_of_leap, does_nothing, are_uneventful_for, out_0_stays, out_2_stays}
@@ -157,38 +158,58 @@ chips_next p nothing =
 ticks_add : (p : PitState) (a b c : ℕ) → a + b ≡ c → pit.after_ticks (pit.after_ticks p a) b ≡ pit.after_ticks p c
 ticks_add p a b c is = sym (iterate_add pit.after_tick a b p) ∙ ap (λ k. pit.after_ticks p k) is
 
--- the timer at the end of the clock after those that may be leapt over
-pit_then : (s : Plain) (n : ℕ) → WiresHold s.chips → AreUneventful s n → next_act (after_leap s n) ≡ Nothing
-    → (after_clock (after_leap s n)).chips.pit ≡ pit.after_ticks s.chips.pit (ticks_between s.chips.clock (s.chips.clock + n + 1))
-unfolding after_leap
-pit_then s n holds are_uneventful nothing =
-    let c : ChipsState = leaps.after_leap s.chips n in
-    ap (λ (t : ChipsState). t.pit) (chips_next (after_leap s n) nothing)
-    ∙ pit_of_clock c s.keys (settled_leap n s.chips holds.settled are_uneventful.out_0)
+-- the timer after unseen clocks, and at the end of the clock after them
+
+pit_of_passed : (s : Plain) (n : ℕ) → WiresHold s.chips
+    → (passed_by s n).chips.pit ≡ pit.after_ticks s.chips.pit (ticks_between s.chips.clock (s.chips.clock + n))
+unfolding passed_by
+pit_of_passed s n holds = clocks_tick s.chips n holds.settled
+
+pit_then : (s : Plain) (n : ℕ) → WiresHold s.chips → next_act (passed_by s n) ≡ Nothing
+    → (after_clock (passed_by s n)).chips.pit ≡ pit.after_ticks s.chips.pit (ticks_between s.chips.clock (s.chips.clock + n + 1))
+unfolding passed_by
+pit_then s n holds nothing =
+    let c : ChipsState = wires.after_clocks s.chips n in
+    ap (λ (t : ChipsState). t.pit) (chips_next (passed_by s n) nothing)
+    ∙ pit_of_clock c s.keys (settled_later n s.chips holds.settled)
+    ∙ ap (λ k. pit.after_ticks c.pit (ticks_between k (k + 1))) (clock_of_clocks n s.chips)
+    ∙ ap (λ p. pit.after_ticks p (ticks_between (s.chips.clock + n) (s.chips.clock + n + 1))) (pit_of_passed s n holds)
     ∙ ticks_add s.chips.pit (ticks_between s.chips.clock (s.chips.clock + n)) (ticks_between (s.chips.clock + n) (s.chips.clock + n + 1))
     (ticks_between s.chips.clock (s.chips.clock + n + 1)) (omega arith)
 
-pub edge_0_works : (s : Plain) (n at : ℕ) → WiresHold s.chips → AreUneventful s n
-    → at ≡ s.chips.clock + n + 1 → TurnsIn s.chips.pit.counter_0 s.chips.clock at → 1 ≤ work_next (after_leap s n)
-edge_0_works s n at holds are_uneventful is edge =
-    unless_it_acts (after_leap s n) (is_idle (next_act (after_leap s n))) refl (λ nothing.
-    turn_0_works (after_leap s n) (λ same.
+-- up to the clock of an edge OUT stays
+stays_by : (c : CounterState) (clock n at : ℕ) → at ≡ clock + n + 1 → TurnsIn c clock at
+    → (one.after_ticks c (ticks_between clock (clock + n))).out ≡ c.out
+stays_by c clock n at is edge =
+    let fourth = edge.ticks in edge.turns.before (ticks_between clock (clock + n)) (omega (arith, is, fourth))
+
+pub edge_0_works : (s : Plain) (n at : ℕ) → WiresHold s.chips
+    → at ≡ s.chips.clock + n + 1 → TurnsIn s.chips.pit.counter_0 s.chips.clock at → 1 ≤ work_next (passed_by s n)
+edge_0_works s n at holds is edge =
+    unless_it_acts (passed_by s n) (is_idle (next_act (passed_by s n))) refl (λ nothing.
+    turn_0_works (passed_by s n) (λ same.
     edge.turns.turns
     (ap (λ k. (one.after_ticks s.chips.pit.counter_0 (ticks_between s.chips.clock k)).out) is
     ∙ sym (ap (λ (q : PitState). q.counter_0.out) (each_counter (ticks_between s.chips.clock (s.chips.clock + n + 1)) s.chips.pit))
-    ∙ sym (ap (λ (q : PitState). q.counter_0.out) (pit_then s n holds are_uneventful nothing))
-    ∙ same ∙ out_0_stays s n are_uneventful)))
+    ∙ sym (ap (λ (q : PitState). q.counter_0.out) (pit_then s n holds nothing))
+    ∙ same
+    ∙ ap (λ (q : PitState). q.counter_0.out)
+    (pit_of_passed s n holds ∙ each_counter (ticks_between s.chips.clock (s.chips.clock + n)) s.chips.pit)
+    ∙ stays_by s.chips.pit.counter_0 s.chips.clock n at is edge)))
 
-pub edge_2_works : (s : Plain) (n at : ℕ) → WiresHold s.chips → AreUneventful s n
-    → at ≡ s.chips.clock + n + 1 → TurnsIn s.chips.pit.counter_2 s.chips.clock at → 1 ≤ work_next (after_leap s n)
-edge_2_works s n at holds are_uneventful is edge =
-    unless_it_acts (after_leap s n) (is_idle (next_act (after_leap s n))) refl (λ nothing.
-    turn_2_works (after_leap s n) (λ same.
+pub edge_2_works : (s : Plain) (n at : ℕ) → WiresHold s.chips
+    → at ≡ s.chips.clock + n + 1 → TurnsIn s.chips.pit.counter_2 s.chips.clock at → 1 ≤ work_next (passed_by s n)
+edge_2_works s n at holds is edge =
+    unless_it_acts (passed_by s n) (is_idle (next_act (passed_by s n))) refl (λ nothing.
+    turn_2_works (passed_by s n) (λ same.
     edge.turns.turns
     (ap (λ k. (one.after_ticks s.chips.pit.counter_2 (ticks_between s.chips.clock k)).out) is
     ∙ sym (ap (λ (q : PitState). q.counter_2.out) (each_counter (ticks_between s.chips.clock (s.chips.clock + n + 1)) s.chips.pit))
-    ∙ sym (ap (λ (q : PitState). q.counter_2.out) (pit_then s n holds are_uneventful nothing))
-    ∙ same ∙ out_2_stays s n are_uneventful)))
+    ∙ sym (ap (λ (q : PitState). q.counter_2.out) (pit_then s n holds nothing))
+    ∙ same
+    ∙ ap (λ (q : PitState). q.counter_2.out)
+    (pit_of_passed s n holds ∙ each_counter (ticks_between s.chips.clock (s.chips.clock + n)) s.chips.pit)
+    ∙ stays_by s.chips.pit.counter_2 s.chips.clock n at is edge)))
 
 -- a clock has one step at most
 one_of_act : (a : Act) → steps_of a ≤ 1

@@ -1,16 +1,21 @@
 -- Clocks in which the processor does nothing and of which nothing is seen before they end, and leaps over them: no wire
--- changes in them, or the chips go on alone, whatever the timer does.
+-- changes in them, or the chips alone go on, and the speaker's level stays.
 -- For proofs alone: no public contract rests on it.
 use Rattle.wiring.specs.EachWire.{is_requested}
-use Rattle.std.specs.Prelude.{ℕ, ◌≡◌, ◌+◌, ◌-◌, ◌<◌, ◌≤◌, ◌⊎◌, List, [], Bool, true, min, Option, None, Some}
+use Rattle.std.specs.Prelude.{ℕ, ◌≡◌, ◌+◌, ◌-◌, ◌<◌, ◌≤◌, ◌⊎◌, List, [], Bool, true, false, min, Option, None, Some}
+use Rattle.board_types.specs.Bits.{has_bit}
+use Rattle.board_types.specs.Timed.{IsSteady}
 use Rattle.board_types.specs.declared.choice.ClockTable.{ClockTable}
 use Rattle.board_types.specs.declared.keys.StampedKey.{StampedKey}
 use Rattle.cached_chips.specs.QuietChips.{IsQuiet}
 use Rattle.execute_meaning.specs.Boundaries.{boundary_of}
 use Rattle.execute_meaning.specs.Cpu.{CpuState}
 use Rattle.execute_meaning.specs.declared.boundary.Boundary.TheVariants as boundaries
+use Rattle.pit8253.specs.Counter.{after_ticks, out_of}
+use Rattle.ppi8255.specs.Ppi.{lines_b}
 use Rattle.wiring.specs.Alone.{GoesOnAlone, IsTimerInhibited}
 use Rattle.wiring.specs.Chips.{ChipsState}
+use Rattle.wiring.specs.Edges.{ticks_between}
 use Rattle.wiring.specs.Wires as wires
 use Rattle.board_plain.specs.declared.stop.Condition.{Condition}
 use Rattle.board_plain.specs.BoardLaws.{NoKeyComes, WiresHold}
@@ -39,11 +44,18 @@ StaysIdleDespiteTimer s n = (n ≤ s.busy) ⊎ ((s.busy ≡ 0) × BeginsNothing 
 abbrev pub TimerBeginsNothing : Plain → Type 0
 TimerBeginsNothing s = (1 ≤ s.busy) ⊎ ((boundaries.Nothing ≡ boundary_of s.cpu true) ⊎ IsTimerInhibited s.chips)
 
--- n clocks in which the processor stays idle whatever the timer does, no key comes, and the chips go on alone
+-- for n clocks the timer leaves the speaker's level as it is: port B holds the speaker low, or OUT2 stays
+abbrev pub KeepsLevel : ChipsState → ℕ → Type 0
+KeepsLevel s n =
+    (has_bit (lines_b s.ppi) 1 ≡ false)
+    ⊎ IsSteady after_ticks out_of s.pit.counter_2 (ticks_between s.clock (s.clock + n))
+
+-- n clocks in which the processor stays idle whatever the timer does, no key comes, and the speaker's level stays: the
+-- chips alone go on
 pub record IsAlone (s : Plain) (n : ℕ) : Type 0 where
   pub idle : StaysIdleDespiteTimer s n
   pub no_key : NoKeyComes s n
-  pub alone : GoesOnAlone s.chips
+  pub level : KeepsLevel s.chips n
 
 -- n unseen clocks: a leap may pass over them
 abbrev pub MayLeap : Plain → ℕ → Type 0
@@ -71,7 +83,7 @@ pub record IsUnseen (s : Plain) (n : ℕ) (t : Plain) : Type 0 where
   pub cpu : (k : ℕ) → k ≤ n → (after_clocks s k).cpu ≡ s.cpu
   pub keyboard : (k : ℕ) → k ≤ n → (after_clocks s k).chips.keyboard ≡ s.chips.keyboard
 
--- the clock `end`, or the last one before a stamp if that is earlier
+-- the clock `end`, or the last one before a stamp or an edge if that is earlier
 abbrev pub last_before : Option ℕ → ℕ → ℕ
 last_before None end = end
 last_before (Some at) end = min end (at - 1)

@@ -13,13 +13,13 @@ use board_types::clock::Clock;
 use board_types::keys::StampedKey;
 use cached_chips::cached::CachedChips;
 
-/// The clock up to which a leap may go that ends by `end`: the last one before the next key's stamp, if that is
-/// earlier.
+/// The clock up to which a leap may go that ends by `end`: the last one before `at`, the next key's stamp or an edge of
+/// the timer, if that is earlier.
 #[inline(always)]
-pub(crate) fn before_stamp(stamp: Option<Clock>, end: u64) -> u64
-    ensures { result ≡ last_before stamp end }
+pub(crate) fn last_before(at: Option<Clock>, end: u64) -> u64
+    ensures { result ≡ last_before at end }
 {
-    match stamp {
+    match at {
         Some(at) => end.min(at.get().saturating_sub(1)),
         None => end,
     }
@@ -34,7 +34,7 @@ pub(crate) fn board_quiet_to(busy: u16, chips: &CachedChips, arrived: &Arrived) 
     if busy != 0 {
         return 0;
     }
-    before_stamp(arrived.next, chips.unrequested_to())
+    last_before(arrived.next, chips.unrequested_to())
 }
 
 /// Makes the chips' part of the last step of a run by slots, of `busy` clocks, which leads past the run's bound: up to
