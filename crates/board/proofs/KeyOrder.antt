@@ -5,15 +5,12 @@ use Rattle.std.specs.Prelude.{All}
 use Rattle.std.proofs.Math.Seq.{take-add}
 use Rattle.std.proofs.lemmas.Bool.Decides.{eqb_tells}
 use Rattle.std.proofs.lemmas.Grind.{common_steps}
-use Rattle.std.proofs.lemmas.List.Sums.{fold-append}
 use Rattle.std.proofs.lemmas.List.{get_or-drop, get_or-take, get_or_default, length-take, length-drop, take-append-drop}
 use Rattle.board_types.specs.declared.keys.StampedKey.{StampedKey}
 use Rattle.board_types.specs.Keys.{IsInOrder}
 use Rattle.board.specs.Arrivals.{Awaits, HaveArrived, IsNextStamp}
 use Rattle.board.specs.UneventfulClocks.{ComesAfter}
 use Rattle.board.specs.declared.arrivals.Arrived.{Arrived as SoFar}
-use Rattle.wiring.specs.Chips.{ChipsState}
-use Rattle.wiring.specs.Wires.{after_arrival, after_arrivals}
 use Rattle.board_plain.specs.BoardLaws.{NoKeyComes}
 use Rattle.board_plain.specs.Plain.{Plain, clock_of, codes_at}
 use Rattle.board_plain.proofs.Codes.{codes_append, none_due}

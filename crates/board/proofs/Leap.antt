@@ -27,7 +27,6 @@ use Rattle.wiring.specs.Edges.{ticks_between}
 use Rattle.wiring.specs.Ports.{byte_at}
 use Rattle.wiring.specs.Speaker.{is_speaker_high}
 use Rattle.wiring.specs.Wires as wires
-use Rattle.wiring.specs.Wires.{after_settling}
 use Rattle.board_plain.specs.declared.act.Act.{Act}
 use Rattle.board_plain.specs.declared.act.Act.TheVariants.{Nothing}
 use Rattle.board_plain.specs.declared.stop.Condition.{Condition}

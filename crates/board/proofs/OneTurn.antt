@@ -4,7 +4,7 @@ use Rattle.std.proofs.Common.{length, map, Option, None, refl, sym, ap, ◌∙�
 use Rattle.std.proofs.lemmas.Bool.Decides.{nat_tests}
 use Rattle.std.specs.Prelude.{◌⊎◌, nat_lt, IfOk, IfSome, IsTrue, OnOk, Result, Ok, Err}
 use Rattle.std.specs.Option.{option_to_list}
-use Rattle.board_types.proofs.Iterate.{iterate_add, iterate_zero, gathered_add, total_add, total_zero}
+use Rattle.board_types.proofs.Iterate.{iterate_add, iterate_zero, gathered_add, total_add}
 use Rattle.board_plain.specs.Board.{BoardState, Ran}
 use Rattle.board_plain.specs.Plain.{Plain, after_clock, after_clocks, clock_of, next_act}
 use Rattle.board_plain.specs.Trail.{entry_at, event_of, trail_in, trail_next, start_of}

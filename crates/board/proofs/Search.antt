@@ -18,7 +18,7 @@ use Rattle.board_plain.specs.Work.{work_next}
 use Rattle.board_plain.proofs.Runs.{ran_none}
 use Rattle.board_plain.proofs.Stopping.{no_stop_more, no_stop_none}
 use Rattle.board.proofs.Stopped.{none_passed, none_there, not_held_before_stop, ran_to_stop, stops_here}
-use Rattle.board.proofs.Turns.{Counts, HeldRun, SoFar, before_rest, following, counted, held_run, not_counted, ran_whole, so_far_first}
+use Rattle.board.proofs.Turns.{Counts, HeldRun, SoFar, before_rest, following, counted, held_run, not_counted, so_far_first}
 use Rattle.board.proofs.Turns.{so_far_leap, so_far_none, so_far_tick, steps_lead, act_alone, one_more, short_moves, turn_moves}
 
 -- a run so far that passed no stop; at its clock it hasn't looked for one

@@ -23,13 +23,12 @@ use Rattle.wiring.specs.Wires.{after_arrival, after_arrivals, after_key_settling
 use Rattle.wiring.specs.EachWire.{after_gate_wire}
 use Rattle.board_plain.specs.declared.act.Act.{Act}
 use Rattle.board_plain.specs.declared.act.Act.TheVariants.{Nothing, Request, SingleStep, Iteration, Instruction}
-use Rattle.board_plain.specs.BoardLaws.{NoKeyComes, WiresHold}
+use Rattle.board_plain.specs.BoardLaws.{WiresHold}
 use Rattle.board.specs.UneventfulClocks.{AreUneventful, is_idle, after_leap}
 use Rattle.board.specs.UnseenClocks.{passed_by}
 use Rattle.board_plain.specs.Plain.{Plain, act_at, after_act, after_clock, after_clocks, chips_after_clock, clock_of, codes_at, next_act}
-use Rattle.board_plain.specs.Work.{edges_next, edges_of, jams_of, keys_next, steps_in, steps_next, steps_of, work_in, work_next}
-use Rattle.board.proofs.Leap.{board_leaps, clock_of_leap, does_nothing, are_uneventful_for, out_0_stays, out_2_stays}
-use Rattle.board_plain.proofs.Quiet.{none_comes}
+use Rattle.board_plain.specs.Work.{edges_next, edges_of, jams_of, keys_next, steps_in, steps_next, steps_of, work_next}
+use Rattle.board.proofs.Leap.{does_nothing}
 
 -- none in a clock that may be leapt over
 

@@ -1,5 +1,5 @@
 //! The IPs at which a run may have to look for a stop.
-ghost use Rattle.std.specs.Prelude.{ℕ, ◌≡◌, ◌+◌, ◌<◌, ◌≤◌, IsTrue};
+ghost use Rattle.std.specs.Prelude.{ℕ, ◌+◌, ◌<◌, ◌≤◌, IsTrue};
 ghost use Rattle.board_types.specs.Address.{offset_after};
 
 /// What a run watches for.

@@ -1,4 +1,4 @@
-use Rattle.std.proofs.Common.{◌≡◌, ◌+◌, ℕ, sym, ap, ◌∙◌, subst, arith}
+use Rattle.std.proofs.Common.{◌+◌, ℕ, sym, subst, arith}
 use Rattle.board_plain.specs.BoardLaws.{WiresHold}
 use Rattle.board_plain.proofs.Changing.{cell_holds}
 use Rattle.board.specs.Arrivals.{HaveArrived}
