@@ -109,7 +109,8 @@ alternates_on same before (x ∷ xs) ys first later =
     and_true (not (same before x)) (alternates same x (xs ++ ys)) parts.0 (alternates_on same x xs ys parts.1 later)
 
 -- what differs from the value before in each clock does so in n clocks
-alternates_in : {A : Type 0} (same : A → A → Bool) (value : Plain → A) (seen : Plain → List A) → ((p : Plain) → newest (value p) (seen p) ≡ value (after_clock p))
+alternates_in : {A : Type 0} (same : A → A → Bool) (value : Plain → A) (seen : Plain → List A)
+    → ((p : Plain) → newest (value p) (seen p) ≡ value (after_clock p))
     → ((p : Plain) → alternates same (value p) (seen p) ≡ true) → (s : Plain) (n : ℕ) → alternates same (value s) (gathered after_clock seen n s) ≡ true
 alternates_in same value seen each once s zero = ap (alternates same (value s)) (gathered_zero after_clock seen s)
 alternates_in same value seen each once s (suc n) =

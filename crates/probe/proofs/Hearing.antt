@@ -7,7 +7,7 @@ use Rattle.events.specs.declared.access.Access.{Access}
 use Rattle.events.specs.declared.event.Event.{Event}
 use Rattle.probe.specs.declared.bytes.Copied.{Copied}
 use Rattle.probe.specs.declared.watched.Watched.{Watched}
-use Rattle.probe.specs.Met.{earlier, heard, hears, is_stop_met, is_there, met, present, waiting_for, waits_for}
+use Rattle.probe.specs.Met.{earlier, heard, hears, is_stop_met, is_there, met, met_here, waiting_for, waits_for}
 use Rattle.probe_texts.specs.declared.stops.Stop.{Stop}
 use Rattle.probe_texts.specs.declared.stops.Stop.TheVariants.{Standing, When, Changes}
 use Rattle.probe_texts.specs.Listed.{is_listed}
@@ -53,8 +53,8 @@ one_heard watches events e =
     ∙ either_first (λ (w : Watched). hears events w.stop) (λ (w : Watched). waits_for e w.stop) 1 watches
 
 pub all_met : (watches : List Watched) (events : List Event) (accesses : List Access) (t : Plain)
-    → met watches events accesses t ≡ earlier (heard watches events) (present watches accesses t)
-unfolding met heard present
+    → met watches events accesses t ≡ earlier (heard watches events) (met_here watches accesses t)
+unfolding met heard met_here
 all_met watches events accesses t =
     (λ i. position_from (λ (w : Watched). met_or w.stop w.copied events accesses t i) 1 watches)
     ∙ either_first (λ (w : Watched). hears events w.stop) (λ (w : Watched). is_there w.stop w.copied accesses t) 1 watches

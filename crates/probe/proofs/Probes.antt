@@ -85,7 +85,8 @@ same_probe : (old new : SessionState) (stops : List Stop) → new ≡ old → pr
 same_probe old new stops same = ap (λ (s : SessionState). probe_of s stops) same
 
 refuses_going : (n : ℕ) (old new : SessionState) (stops : List Stop) (fault : DebugFault) → list_all is_standing stops ≡ true
-    → stops ≡ map Standing (conditions_of stops) → old.stops ≡ conditions_of stops → RefusesGo n old new fault → RefusesGoing n (probe_of old stops) (probe_of new stops) fault
+    → stops ≡ map Standing (conditions_of stops) → old.stops ≡ conditions_of stops → RefusesGo n old new fault
+    → RefusesGoing n (probe_of old stops) (probe_of new stops) fault
 refuses_going n old new stops ClockLimit all are is refuses = (refuses.0.0, λ i. record { first = refuses.2 i; board = refuses.0.1 i; stops = stops })
 refuses_going n old new stops BadScan all are is refuses = absurd refuses.0
 refuses_going n old new stops StampsFall all are is refuses = absurd refuses.0

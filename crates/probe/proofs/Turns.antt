@@ -358,15 +358,15 @@ later_by last before start to end is later = subst (λ (x : Seen). start < x.clo
 
 -- what isn't asked for isn't seen
 
-pub waiting_unasked : (asked : Asked) (x : Seen) (p q : Plain) → x ≡ seen_of asked p → asked.keys ≡ false → x.waiting ≡ waiting_seen asked.keys q
+pub waiting_not_asked : (asked : Asked) (x : Seen) (p q : Plain) → x ≡ seen_of asked p → asked.keys ≡ false → x.waiting ≡ waiting_seen asked.keys q
 unfolding seen_of
-waiting_unasked asked x p q is unasked =
-    ap (λ (y : Seen). y.waiting) is ∙ ap (λ k. waiting_seen k p) unasked ∙ ap (λ k. waiting_seen k q) (sym unasked)
+waiting_not_asked asked x p q is is_not =
+    ap (λ (y : Seen). y.waiting) is ∙ ap (λ k. waiting_seen k p) is_not ∙ ap (λ k. waiting_seen k q) (sym is_not)
 
-pub levels_unasked : (asked : Asked) (x : Seen) (p q : Plain) → x ≡ seen_of asked p → asked.wires ≡ false → x.levels ≡ levels_seen asked.wires q
+pub levels_not_asked : (asked : Asked) (x : Seen) (p q : Plain) → x ≡ seen_of asked p → asked.wires ≡ false → x.levels ≡ levels_seen asked.wires q
 unfolding seen_of
-levels_unasked asked x p q is unasked =
-    ap (λ (y : Seen). y.levels) is ∙ ap (λ k. levels_seen k p) unasked ∙ ap (λ k. levels_seen k q) (sym unasked)
+levels_not_asked asked x p q is is_not =
+    ap (λ (y : Seen). y.levels) is ∙ ap (λ k. levels_seen k p) is_not ∙ ap (λ k. levels_seen k q) (sym is_not)
 
 -- what is seen after a turn, part by part
 pub next_is : (old : Turn) (begun : Option Begun) (b : Plain) (clock : ℕ) (state : State) (was is : ℕ) (left got : Option Levels)

@@ -127,8 +127,8 @@ waiting_for e watches = position_from (λ watched. waits_for e watched.stop) 1 w
 unfoldable pub heard : List Watched → List Event → Option ℕ
 heard watches events = position_from (λ watched. hears events watched.stop) 1 watches
 
-unfoldable pub present : List Watched → List Access → Plain → Option ℕ
-present watches accesses t = position_from (λ watched. is_there watched.stop watched.copied accesses t) 1 watches
+unfoldable pub met_here : List Watched → List Access → Plain → Option ℕ
+met_here watches accesses t = position_from (λ watched. is_there watched.stop watched.copied accesses t) 1 watches
 
 -- the smaller of two numbers, or the one that there is
 abbrev pub earlier : Option ℕ → Option ℕ → Option ℕ

@@ -2,7 +2,7 @@
 ghost use Rattle.std.specs.Prelude.{◌≡◌, ◌+◌, ◌≤◌, ◌^◌, All, List, length};
 ghost use Rattle.board_plain.specs.Board.{BoardState};
 ghost use Rattle.events.specs.Accesses.{accesses_next};
-ghost use Rattle.probe.specs.Met.{earlier, heard, is_there, met, one_differs, present, waiting_for, waits_for, write_differs};
+ghost use Rattle.probe.specs.Met.{earlier, heard, is_there, met, met_here, one_differs, waiting_for, waits_for, write_differs};
 ghost use Rattle.probe.specs.declared.watched.Watched.{Watched};
 ghost use Rattle.probe.specs.ProbeStops.{standing, stands};
 ghost use Rattle.probe.specs.Seen.{IsLooked, IsMade, asked_in};
@@ -44,7 +44,7 @@ pub(crate) fn met(
     if told.is_err() {
         return None;
     }
-    earlier(heard.number, present(watches, accesses, board))
+    earlier(heard.number, met_here(watches, accesses, board))
 }
 
 /// Returns the smaller of two numbers of stops; the one that there is, if the other is `None`.
@@ -60,10 +60,10 @@ fn earlier(a: Option<usize>, b: Option<usize>) -> Option<usize>
 
 /// Returns the least number of a stop that is met by what stands at the board's clock, or by bytes that these accesses
 /// have changed.
-#[tactic(auto, unfolding(crate::specs::Met::present))]
-fn present(watches: &[Watched], accesses: &[Access], board: &Board) -> Option<usize>
+#[tactic(auto, unfolding(crate::specs::Met::met_here))]
+fn met_here(watches: &[Watched], accesses: &[Access], board: &Board) -> Option<usize>
     requires { All IsWatched watches.now }
-    ensures { result ≡ present watches.now accesses.now board.now.plain }
+    ensures { result ≡ met_here watches.now accesses.now board.now.plain }
 {
     for index in 0..watches.len() {
         if is_there(&watches[index], accesses, board) {

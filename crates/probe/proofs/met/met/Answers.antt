@@ -13,4 +13,4 @@ returns c = λ old made noted.
     never_fails c.tell_turn-told.result _ c.tell_turn-told.ensures.fault c.tell_turn-told.ensures.told old [] made (λ all. noted)
     (none_heard c.args.watches.now)
     ∙ ap (λ (ws : List Watched). heard ws events) c.tell_turn-told.ensures.manner in
-    c.earlier.ensures ∙ (λ i. earlier (number i) (c.present.ensures i)) ∙ sym (all_met c.args.watches.now events c.args.accesses.now c.args.board.now.plain)
+    c.earlier.ensures ∙ (λ i. earlier (number i) (c.met_here.ensures i)) ∙ sym (all_met c.args.watches.now events c.args.accesses.now c.args.board.now.plain)

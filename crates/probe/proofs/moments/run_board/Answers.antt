@@ -45,7 +45,8 @@ returns-then-is_some-clause-ran c =
     c.next.ensures.turn c.in-Ok.ensures.ok) c.found-number.ensures.clock c.found-number.ensures.leap c.found-number.ensures.copied
     (c.get-start.ensures.value ∙ c.clock.ensures)
     (first_by c.turns.turn.after turn.before c.get-start.result c.turn_end-to.result after.stood c.turn_end-to.ensures.first)
-    (later_by c.turns.turn.after turn.before c.get-start.result c.turn_end-to.result c.args.end after.stood c.turn_end-to.ensures.after) c.turn_end-to.ensures.within in
+    (later_by c.turns.turn.after turn.before c.get-start.result c.turn_end-to.result c.args.end after.stood c.turn_end-to.ensures.after)
+    c.turn_end-to.ensures.within in
     ran_some stops c.args.end s t u c.turns.watches c.found-number.new.watches c.found-number.result
     (sym c.is_some.ensures ∙ c.if-is_some.true) c.turns.invariant.met on.0 on.1.0 on.1.1.0 on.1.1.1 refl refl
 
@@ -66,7 +67,8 @@ turns-preserved c =
     c.next.ensures.turn c.in-Ok.ensures.ok) c.found-number.ensures.clock c.found-number.ensures.leap c.found-number.ensures.copied
     (c.get-start.ensures.value ∙ c.clock.ensures)
     (first_by c.turns.turn.after turn.before c.get-start.result c.turn_end-to.result after.stood c.turn_end-to.ensures.first)
-    (later_by c.turns.turn.after turn.before c.get-start.result c.turn_end-to.result c.args.end after.stood c.turn_end-to.ensures.after) c.turn_end-to.ensures.within in
+    (later_by c.turns.turn.after turn.before c.get-start.result c.turn_end-to.result c.args.end after.stood c.turn_end-to.ensures.after)
+    c.turn_end-to.ensures.within in
     record {
       met = met_none_more stops c.args.end s t u c.turns.watches c.found-number.new.watches c.found-number.result
           (sym c.is_some.ensures ∙ c.if-is_some.false) c.turns.invariant.met on.0 on.1.0 on.1.1.0 on.1.1.1 refl refl c.found-number.ensures.keeps;

@@ -3,7 +3,7 @@ use Rattle.std.proofs.Common.{◌≡◌, ℕ, ◌<◌, false}
 use Rattle.std.specs.Prelude.{slice_index_or}
 use Rattle.probe.specs.declared.watched.Watched.{Watched}
 use Rattle.probe.specs.Met.{is_there}
-use Rattle.probe.proofs.met.present.Given as goal
+use Rattle.probe.proofs.met.met_here.Given as goal
 
 abbrev pub invariant-loop-index : goal.invariant-loop-index
 invariant-loop-index l =
