@@ -261,6 +261,7 @@ class Notes(ToolCase):
             'one that is gone': lambda: os.remove(a),
             'a new folder of sources': lambda: os.mkdir(f'{self.room}/top/crates/pcboard/proofs'),
             'the list of crates': lambda: self.file('top/crates.txt', 'y'),
+            "a crate's folder that wasn't there": lambda: os.mkdir(f'{self.room}/top/crates/low'),
             'PROVED': lambda: self.file('top/stored/PROVED', 'y'),
             'a program that wasn\'t there': lambda: self.file('top/stored/pcboard', ''),
         }
@@ -282,6 +283,11 @@ class Notes(ToolCase):
             self.asked(times, repr(other[:30]))
         with mock.patch.object(present, 'machine', lambda: 'another'):
             self.asked(len(others) + 2, 'it is of another machine')
+
+    def test_a_note_of_another_user(self) -> None:
+        self.asked(1, 'nothing is noted')
+        with mock.patch.object(os, 'geteuid', lambda: os.getuid() + 1):
+            self.asked(2, "it isn't the user's")
 
     def test_what_is_too_new_is_not_noted(self) -> None:
         path = f'{self.room}/top/crates/pcboard/src/a.rt'
