@@ -72,6 +72,22 @@ zebludor.ran_within = ran_within
 runpy.run_path(sys.argv[0], run_name='__main__')
 """
 
+# Asks the library of one program again and again, and tells this process's memory after a hundred times and at the end.
+AGAIN = r"""import re, sys
+sys.path.insert(0, sys.argv[1])
+import zebludor
+def memory():
+    with open('/proc/self/status') as file:
+        return re.search(r'VmRSS:\s+(\d+)', file.read())[1]
+with open(f'{sys.argv[2]}.asm') as file:
+    source = file.read()
+for number in range(1, 1101):
+    zebludor.run(source, budget=9000, keys=[(1000 + number, 30)])
+    zebludor.translated_within([('it', b'.CODE\n' + b' NOP\n' * (number % 100) + b'END\n')])
+    if number in (100, 1100):
+        print(memory())
+"""
+
 
 def is_there() -> bool:
     """Whether the library is taken; if it isn't, that is told as not run."""
@@ -159,6 +175,33 @@ class TheLibrary(ToolCase):
             os.kill(children(process.pid)[0], signal.SIGKILL)
             killed, whole = map(json.loads, process.communicate()[0].splitlines())
         self.assertEqual((killed['why'], whole['clock']), ('the program was ended by signal 9 (Killed)', 9000))
+
+    def test_one_of_two_workers_that_is_killed_thrice(self) -> None:
+        """Each run has one answer, in order, and at most those three have no report."""
+        if not is_there():
+            return
+        run = {'version': 1, 'ram': 64, 'sw1': 0, 'sw2': 0, 'budget': 9000}
+        names = [f'key {at}' for at in range(1000, 1600)]
+        lines = self.file('runs', ''.join(json.dumps(run | {'keys': [[int(name[4:]), 30]], 'name': name}) + '\n' for name in names))
+        words, answered = [sys.executable, '-S', f'{TOOLS}/batch', f'{EXAMPLES}/nested.asm', '--jobs', '2'], list[dict[str, Any]]()
+        with by_the_library(), open(lines, 'rb') as given, subprocess.Popen(words, stdin=given, stdout=subprocess.PIPE, text=True) as process:
+            assert process.stdout
+            for line in process.stdout:
+                answered.append(json.loads(line))
+                if len(answered) in (50, 150, 250):
+                    os.kill(children(process.pid)[0], signal.SIGKILL)
+        self.assertEqual(([one['name'] for one in answered], len({one['id'] for one in answered})), (names, len(names)))
+        self.assertLessEqual({one['why'] for one in answered if 'why' in one}, {'the program was ended by signal 9 (Killed)'})
+        self.assertLessEqual(sum('clock' not in one for one in answered), 3)
+
+    def test_no_memory_is_left_over(self) -> None:
+        """By runs and translations in one process, of which a thousand more take no more than the first hundred."""
+        if not is_there():
+            return
+        with by_the_library():
+            ran = subprocess.run([sys.executable, '-S', '-c', AGAIN, f'{TOP}/python', f'{EXAMPLES}/nested'], capture_output=True, text=True, check=True)
+        before, after = map(int, ran.stdout.split())
+        self.assertLess(after - before, 512, 'KB')
 
     def test_it_is_the_library_that_answers(self) -> None:
         """No process of pcboard or pcprobe is begun for any of it."""
