@@ -245,6 +245,28 @@ class TheLibrary(ToolCase):
                     self.assertEqual(ran.returncode, 130, ran.stderr)
                     self.assert_within(float(ran.stderr.split()[-1]), SECONDS)
 
+    def test_control_c_within_pieces_forks_and_processes(self) -> None:
+        """The terminal's, which all that a tool has begun gets."""
+        source, path = self.program(BUSY, 1 << 40)
+        page, seal = self.file('page', 'AX = 0000\nruns = again\n'), f'{self.room}/it.seal'
+        for words in (
+            ('trace', source, path),
+            ('trace', '--calls', source, path),
+            ('judge', page, source, path),
+            ('judge', '--class', page, source, '--run', path, '--seconds', '100'),
+            ('judge', '--seal', seal, source, path),
+            ('moments', page, source, path, '--key', '1E', '--at', '1..1000'),
+        ):
+            with self.subTest(words=words), by_the_library():
+                begun = ['env', '--default-signal=INT', sys.executable, '-S', f'{TOOLS}/{words[0]}', *words[1:]]
+                with subprocess.Popen(begun, stdout=subprocess.DEVNULL, stderr=subprocess.PIPE, text=True, start_new_session=True) as process:
+                    self.assertTrue(until(lambda: sum(map(processor_seconds, (process.pid, *children(process.pid)))) > 0.9))  # the run has begun
+                    interrupted = time.monotonic()
+                    os.killpg(process.pid, signal.SIGINT)
+                    _, err = process.communicate()
+                    self.assert_within(time.monotonic() - interrupted, SECONDS)
+                self.assertEqual((process.returncode, 'Traceback' in err), (130, False), err)
+
     def test_the_longest_call(self) -> None:
         """Of a program that modifies its own code, of whose steps no more are made in a second than of others."""
         loop = f'{TOP}/bench/loops/d'
