@@ -72,6 +72,22 @@ zebludor.ran_within = ran_within
 runpy.run_path(sys.argv[0], run_name='__main__')
 """
 
+# Asks the library of one program again and again, and tells this process's memory after a hundred times and at the end.
+AGAIN = r"""import re, sys
+sys.path.insert(0, sys.argv[1])
+import zebludor
+def memory():
+    with open('/proc/self/status') as file:
+        return re.search(r'VmRSS:\s+(\d+)', file.read())[1]
+with open(f'{sys.argv[2]}.asm') as file:
+    source = file.read()
+for number in range(1, 1101):
+    zebludor.run(source, budget=9000, keys=[(1000 + number, 30)])
+    zebludor.translated_within([('it', b'.CODE\n' + b' NOP\n' * (number % 100) + b'END\n')])
+    if number in (100, 1100):
+        print(memory())
+"""
+
 
 def is_there() -> bool:
     """Whether the library is taken; if it isn't, that is told as not run."""
@@ -160,6 +176,33 @@ class TheLibrary(ToolCase):
             killed, whole = map(json.loads, process.communicate()[0].splitlines())
         self.assertEqual((killed['why'], whole['clock']), ('the program was ended by signal 9 (Killed)', 9000))
 
+    def test_one_of_two_workers_that_is_killed_thrice(self) -> None:
+        """Each run has one answer, in order, and at most those three have no report."""
+        if not is_there():
+            return
+        run = {'version': 1, 'ram': 64, 'sw1': 0, 'sw2': 0, 'budget': 9000}
+        names = [f'key {at}' for at in range(1000, 1600)]
+        lines = self.file('runs', ''.join(json.dumps(run | {'keys': [[int(name[4:]), 30]], 'name': name}) + '\n' for name in names))
+        words, answered = [sys.executable, '-S', f'{TOOLS}/batch', f'{EXAMPLES}/nested.asm', '--jobs', '2'], list[dict[str, Any]]()
+        with by_the_library(), open(lines, 'rb') as given, subprocess.Popen(words, stdin=given, stdout=subprocess.PIPE, text=True) as process:
+            assert process.stdout
+            for line in process.stdout:
+                answered.append(json.loads(line))
+                if len(answered) in (50, 150, 250):
+                    os.kill(children(process.pid)[0], signal.SIGKILL)
+        self.assertEqual(([one['name'] for one in answered], len({one['id'] for one in answered})), (names, len(names)))
+        self.assertLessEqual({one['why'] for one in answered if 'why' in one}, {'the program was ended by signal 9 (Killed)'})
+        self.assertLessEqual(sum('clock' not in one for one in answered), 3)
+
+    def test_no_memory_is_left_over(self) -> None:
+        """By runs and translations in one process, of which a thousand more take no more than the first hundred."""
+        if not is_there():
+            return
+        with by_the_library():
+            ran = subprocess.run([sys.executable, '-S', '-c', AGAIN, f'{TOP}/python', f'{EXAMPLES}/nested'], capture_output=True, text=True, check=True)
+        before, after = map(int, ran.stdout.split())
+        self.assertLess(after - before, 512, 'KB')
+
     def test_it_is_the_library_that_answers(self) -> None:
         """No process of pcboard or pcprobe is begun for any of it."""
         if not is_there():
@@ -201,6 +244,28 @@ class TheLibrary(ToolCase):
                     ran = subprocess.run(script, stdout=subprocess.PIPE, stderr=subprocess.PIPE, text=True, check=False)
                     self.assertEqual(ran.returncode, 130, ran.stderr)
                     self.assert_within(float(ran.stderr.split()[-1]), SECONDS)
+
+    def test_control_c_within_pieces_forks_and_processes(self) -> None:
+        """The terminal's, which all that a tool has begun gets."""
+        source, path = self.program(BUSY, 1 << 40)
+        page, seal = self.file('page', 'AX = 0000\nruns = again\n'), f'{self.room}/it.seal'
+        for words in (
+            ('trace', source, path),
+            ('trace', '--calls', source, path),
+            ('judge', page, source, path),
+            ('judge', '--class', page, source, '--run', path, '--seconds', '100'),
+            ('judge', '--seal', seal, source, path),
+            ('moments', page, source, path, '--key', '1E', '--at', '1..1000'),
+        ):
+            with self.subTest(words=words), by_the_library():
+                begun = ['env', '--default-signal=INT', sys.executable, '-S', f'{TOOLS}/{words[0]}', *words[1:]]
+                with subprocess.Popen(begun, stdout=subprocess.DEVNULL, stderr=subprocess.PIPE, text=True, start_new_session=True) as process:
+                    self.assertTrue(until(lambda: sum(map(processor_seconds, (process.pid, *children(process.pid)))) > 0.9))  # the run has begun
+                    interrupted = time.monotonic()
+                    os.killpg(process.pid, signal.SIGINT)
+                    _, err = process.communicate()
+                    self.assert_within(time.monotonic() - interrupted, SECONDS)
+                self.assertEqual((process.returncode, 'Traceback' in err), (130, False), err)
 
     def test_the_longest_call(self) -> None:
         """Of a program that modifies its own code, of whose steps no more are made in a second than of others."""
@@ -261,6 +326,7 @@ class Notes(ToolCase):
             'one that is gone': lambda: os.remove(a),
             'a new folder of sources': lambda: os.mkdir(f'{self.room}/top/crates/pcboard/proofs'),
             'the list of crates': lambda: self.file('top/crates.txt', 'y'),
+            "a crate's folder that wasn't there": lambda: os.mkdir(f'{self.room}/top/crates/low'),
             'PROVED': lambda: self.file('top/stored/PROVED', 'y'),
             'a program that wasn\'t there': lambda: self.file('top/stored/pcboard', ''),
         }
@@ -282,6 +348,11 @@ class Notes(ToolCase):
             self.asked(times, repr(other[:30]))
         with mock.patch.object(present, 'machine', lambda: 'another'):
             self.asked(len(others) + 2, 'it is of another machine')
+
+    def test_a_note_of_another_user(self) -> None:
+        self.asked(1, 'nothing is noted')
+        with mock.patch.object(os, 'geteuid', lambda: os.getuid() + 1):
+            self.asked(2, "it isn't the user's")
 
     def test_what_is_too_new_is_not_noted(self) -> None:
         path = f'{self.room}/top/crates/pcboard/src/a.rt'

@@ -271,6 +271,17 @@ class Stored(Repository):
             self.assertEqual(self.launch(has_rt=False).stderr, '')
             self.assertTrue(os.path.isfile(note) and not os.path.islink(note))
 
+    def test_a_note_of_another_user_is_not_believed(self) -> None:
+        """The same text, which is right here; of what another could write nobody needs to judge."""
+        if os.geteuid():
+            not_run('a note that another user owns, which only root can leave')
+            return
+        self.store()
+        note = self.note()
+        os.chown(note, 65534, 65534)
+        self.assertGreater(self.compared(), 0)
+        self.assertEqual((os.stat(note).st_uid, self.compared()), (0, 0))
+
     def test_a_comparison_that_fails_is_not_noted(self) -> None:
         """Of whichever command. The start in which it fails refuses and builds nothing; the next one is right, and removes what a start
         that was killed has left of its note."""
@@ -283,7 +294,8 @@ class Stored(Repository):
             ran = self.launch()
             self.assertEqual((ran.returncode, ran.stdout), (127, ''), command)
             self.assertIn('of what it is made ', ran.stderr)
-            self.assertEqual([name for name in os.listdir(os.path.dirname(note)) if not name.startswith('told')], [], command)
+            left = set(os.listdir(os.path.dirname(note))) - {f'{os.path.basename(note)}-paths'}
+            self.assertEqual([name for name in left if not name.startswith('told')], [], command)
             os.remove(f'{self.room}/bin/{command}')
             ran = self.launch()
             self.assertEqual((ran.returncode, ran.stdout, ran.stderr), (*AT_ONCE, ''), command)
@@ -330,7 +342,7 @@ class Stored(Repository):
             self.note(name)
             self.assertEqual(self.compared(name), 0)
         before = self.launch('--version').stdout
-        os.chmod(self.file('bin/find', f'#!/bin/sh\nprintf "%s\\n" "$@" >> {self.room}/looked\nexec /usr/bin/find "$@"\n'), 0o755)
+        os.chmod(self.file('bin/stat', f'#!/bin/sh\nprintf "%s\\n" "$@" >> {self.room}/looked\nexec /usr/bin/stat "$@"\n'), 0o755)
         for path in ('crates/probe/src/lib.rt', 'crates/pcprobe/src/main.rt', 'crates/probe/proofs/New.antt', 'crates/other/src/lib.rt'):
             put_back = self.change_text(path)
             self.assertEqual(self.compared(), 0, path)
@@ -342,9 +354,9 @@ class Stored(Repository):
         self.compared()
         with open(f'{self.room}/looked', encoding='utf-8') as file:
             looked = file.read()
-        self.assertIn('crates/low/src\n', looked)
+        self.assertIn('\nlow/src\n', looked)
         for crate in ('probe', 'pcprobe', 'other'):
-            self.assertNotIn(f'crates/{crate}/', looked)
+            self.assertNotIn(f'\n{crate}/', looked)
 
     def test_what_is_touched_is_compared_again(self) -> None:
         """Also what is changed with its size and time kept, and what is written back."""

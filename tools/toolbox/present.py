@@ -69,13 +69,14 @@ def text_of(found: Present, paths: list[str]) -> bytes:
 
 
 def noted(path: str) -> Present | None:
-    """What a note says, if nothing was touched since, and it is of this machine."""
+    """What a note says, if nothing was touched since, and it is this user's and of this machine."""
     try:
         with open(path, 'rb') as file:
+            owner = os.fstat(file.fileno()).st_uid
             text, _, rest = file.read().partition(b'\n\n')
         line, again, *paths = text.decode('utf-8', 'surrogateescape').split('\n')
         names, mark, where = line.split('\t')
-        is_one = line == again and where == machine() and rest == touched(paths)
+        is_one = owner == os.geteuid() and line == again and where == machine() and rest == touched(paths)
     except (OSError, ValueError):
         return None
     return Present(tuple(names.split()), mark) if is_one else None
@@ -105,10 +106,12 @@ def compared(path: str) -> Present:
 
 
 def paths_of(crates: set[str]) -> list[str]:
-    """What is compared that is there: what is stored, the list of crates, and their sources with their folders."""
+    """What is compared that is there: what is stored, or the folder to which that may come, the list of crates, and their sources with
+    their folders."""
     from toolbox.sources import PARTS
 
-    found = [f'{TOP}/crates.txt', STORED, f'{STORED}/PROVED', *(f'{STORED}/{name}' for name in MADE)]
+    stored = [STORED, f'{STORED}/PROVED', *(f'{STORED}/{name}' for name in MADE)] if os.path.exists(STORED) else [TOP]
+    found = [f'{TOP}/crates.txt', f'{TOP}/crates', *stored]
     for name in sorted(crates):
         folders = [f'{TOP}/crates/{name}/{part}' for part in PARTS]
         found += [f'{TOP}/crates/{name}', *folders, *(path for folder in folders for path in paths_in(folder))]
