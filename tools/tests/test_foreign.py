@@ -16,7 +16,7 @@ from tests.support import TOOLS, TOP, ToolCase, example, is_there, not_run, only
 from tests.test_dap import Client
 from toolbox import foreign, program
 from toolbox.command import Sorry
-from toolbox.guests import Guest, prepared
+from toolbox.guests import Guest, origin_of, prepared
 from toolbox.listing import listing_of, own_name
 from toolbox.lsp.diagnosing import diagnostics
 from toolbox.lsp.documents import Document, Settings
@@ -243,10 +243,10 @@ class Foreign(ToolCase):
         self.assertIn('neither an instruction nor a directive nor a macro', self.called('try', nasm, '--masm', status=1)[1])
 
     def test_a_source_of_the_dialect_stays_one(self) -> None:
-        self.assertEqual(foreign.origin_of(b'; END\nSEGMENT A AT 50h\nx: DB 1\nENDS\n'), ('dialect', 2))
-        self.assertEqual(foreign.origin_of(b'x EQU 5\n'), ('dialect', None))
-        self.assertEqual(foreign.origin_of(b'x DB 5\n')[0], 'masm')
-        self.assertEqual(foreign.origin_of(b'\n[BITS 16]\n'), ('nasm', 2))
+        self.assertEqual(origin_of(b'; END\nSEGMENT A AT 50h\nx: DB 1\nENDS\n'), ('dialect', 2))
+        self.assertEqual(origin_of(b'x EQU 5\n'), ('dialect', None))
+        self.assertEqual(origin_of(b'x DB 5\n')[0], 'masm')
+        self.assertEqual(origin_of(b'\n[BITS 16]\n'), ('nasm', 2))
 
     def test_refusals_name_its_own_lines(self) -> None:
         wrong = self.file('it.asm', WRONG)

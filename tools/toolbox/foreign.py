@@ -6,13 +6,12 @@ from __future__ import annotations
 import functools
 import os
 import re
-import sys
 import tempfile
 from typing import Iterator, NamedTuple
 
 from toolbox import reading
 from toolbox.command import Sorry, Unreadable, read_bytes
-from toolbox.listing import DIALECT, Listing, label_row, line_of, own_name, placed_labels
+from toolbox.listing import Listing, label_row, line_of, own_name, placed_labels
 from toolbox.program import TOP, Ran, given_text, run
 from toolbox.shown import LONGEST_LINE, bounded, clipped
 
@@ -21,8 +20,6 @@ OWN = f'{TOP}/services/masm'  # what programs may include that their own folder 
 MOST_INCLUDED = 64
 PLACE = re.compile(r'([^\n]*):(\d+):[ \t](.*)')
 WANTED = re.compile(r'includes (.*), which isn\'t given')
-AS_OWN = "taken as one of the board's own dialect"
-_told = set[str]()
 
 
 class Remark(NamedTuple):
@@ -94,47 +91,6 @@ class Translation(NamedTuple):
         labels = ((own_name(label), at) for label, at in placed_labels(line_of(0, row) for row in rows))
         lines = [f'{os.path.abspath(place[0])}:{place[1]}:\t{row}\t{self.own(*place)}' for place, row in pairs]
         return lines + [label_row(name, at) for name, at in labels if not MADE.fullmatch(name)]
-
-
-def origin_of(octets: bytes) -> tuple[str, int | None]:
-    """Which assembler's a text is, `masm`, `nasm` or `dialect`, as pcmasm tells, and the line that shows it, if one
-    does; the dialect's, if none shows another's. A line that only the dialect has spares the question."""
-    found = DIALECT.search(octets)
-    if found:
-        return 'dialect', octets.count(b'\n', 0, found.start()) + 1
-    name, *line = run(['--origin', '/dev/stdin'], octets, 'pcmasm').out.split() or ['dialect']
-    return name, int(line[0]) if line else None
-
-
-def is_masm(path: str) -> bool:
-    """Whether what stands in a file shows that it is a source of MASM. What shows that it is NASM's is told once, or
-    that nothing shows whose it is."""
-    try:
-        name, line = origin_of(reading.read_whole(path))
-    except OSError:
-        return False  # which whoever reads the file tells
-    except Sorry as sorry:
-        say_once(f"whether {path} is a source of MASM isn't known: {sorry}")
-        return False
-    if name == 'nasm':
-        say_once(f"{path}, line {line}, is NASM's, and the file is {AS_OWN}; --nasm or --masm says what it is")
-    elif name == 'dialect' and line is None:
-        say_once(f'no line of {path} shows whose source it is, so it is {AS_OWN}; --masm or --nasm says what it is')
-    return name == 'masm'
-
-
-def tell(translation: Translation) -> None:
-    """Tells once what pcmasm notes of a source."""
-    said = [f'{one.path}, line {one.number}{one.words.removeprefix("note")}' for one in translation.notes]
-    for line in bounded(said):
-        say_once(line)
-
-
-def say_once(sentence: str) -> None:
-    """Tells something on standard error, unless that is done already."""
-    if sentence not in _told:
-        _told.add(sentence)
-        print(f'{os.path.basename(sys.argv[0])}: {sentence}', file=sys.stderr)
 
 
 def included(source: str, name: str, home: str) -> tuple[str, bytes]:

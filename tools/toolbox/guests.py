@@ -13,7 +13,7 @@ from typing import TYPE_CHECKING, Any, Iterator, NamedTuple
 from toolbox import reading
 from toolbox.command import SYMBOLS, Sorry, handed_on, read_bytes, write_bytes
 from toolbox.listing import DIALECT
-from toolbox.program import LAST_CLOCK, Files, Refusal, answer_of, is_hex_name, limited
+from toolbox.program import LAST_CLOCK, Files, Refusal, answer_of, is_hex_name, limited, run
 from toolbox.runfile import DEFAULTS, read_run_file, text_of, with_run_file
 from toolbox.services import MOST_RAM, TYPING, is_served
 from toolbox.shown import bounded
@@ -31,6 +31,8 @@ MAPPED = r' *\S+ +\S+ +[0-9a-f] +[0-9a-f]{8} +[A-Za-z]'  # a row of ld86's map, 
 FIRST_OF_BCC = 'crt0.o'  # what stands before a program, of bcc's library
 Fields = dict[str, Any]
 LONGEST = 1 << 20  # bytes of a program, which is all that the processor reaches
+AS_OWN = "taken as one of the board's own dialect"
+_told = set[str]()
 
 
 class Guest(NamedTuple):
@@ -115,15 +117,38 @@ def words_of(given: argparse.Namespace) -> list[str]:
     return words + [f'--file={path}' for path in given.files or []]
 
 
-def is_masm(path: str) -> bool:
-    """Whether what stands in a file shows that it is a source of MASM. What reads other assemblers' is loaded, as whatever makes a program
-    ready, only for who needs it: it takes a tenth of a tool's start."""
-    with contextlib.suppress(OSError):
-        if DIALECT.search(reading.read_whole(path)):
-            return False
-    from toolbox import foreign
+def origin_of(octets: bytes) -> tuple[str, int | None]:
+    """Which assembler's a text is, `masm`, `nasm` or `dialect`, as pcmasm tells, and the line that shows it, if one
+    does; the dialect's, if none shows another's. A line that only the dialect has spares the question."""
+    found = DIALECT.search(octets)
+    if found:
+        return 'dialect', octets.count(b'\n', 0, found.start()) + 1
+    name, *line = run(['--origin', '/dev/stdin'], octets, 'pcmasm').out.split() or ['dialect']
+    return name, int(line[0]) if line else None
 
-    return foreign.is_masm(path)
+
+def is_masm(path: str) -> bool:
+    """Whether what stands in a file shows that it is a source of MASM. What shows that it is NASM's is told once, or
+    that nothing shows whose it is."""
+    try:
+        name, line = origin_of(reading.read_whole(path))
+    except OSError:
+        return False  # which whoever reads the file tells
+    except Sorry as sorry:
+        say_once(f"whether {path} is a source of MASM isn't known: {sorry}")
+        return False
+    if name == 'nasm':
+        say_once(f"{path}, line {line}, is NASM's, and the file is {AS_OWN}; --nasm or --masm says what it is")
+    elif name == 'dialect' and line is None:
+        say_once(f'no line of {path} shows whose source it is, so it is {AS_OWN}; --masm or --nasm says what it is')
+    return name == 'masm'
+
+
+def say_once(sentence: str) -> None:
+    """Tells something on standard error, unless that is done already."""
+    if sentence not in _told:
+        _told.add(sentence)
+        print(f'{os.path.basename(sys.argv[0])}: {sentence}', file=sys.stderr)
 
 
 def looked_at(guest: Guest) -> Guest:
@@ -253,13 +278,6 @@ def typed(guest: Guest, strokes: list[Stroke] | None) -> Fields:
     return {'keys': stamped(strokes, *(TYPING if guest.is_one else BARE))}
 
 
-def typed_text(guest: Guest, text: str, is_plain: bool) -> Fields:
-    """The same of a text, without shift if it is to be plain."""
-    from toolbox.scancodes import strokes_of
-
-    return typed(guest, strokes_of(text, is_plain))
-
-
 def untranslated() -> type[Sorry]:
     """What is raised for a source of MASM that isn't translated. An `except` clause asks for it only once something is raised."""
     from toolbox import foreign
@@ -323,12 +341,14 @@ def with_own_lines(files: Files) -> Iterator[Files]:
 
 def tell_of(guest: Guest) -> None:
     """Tells once how a program is taken, and what pcmasm notes of it."""
-    from toolbox import foreign
-
     if guest.language == 'masm':
-        foreign.tell(foreign.translation_of(guest.file, home=guest.home))
+        from toolbox import foreign
+
+        notes = foreign.translation_of(guest.file, home=guest.home).notes
+        for line in bounded([f'{one.path}, line {one.number}{one.words.removeprefix("note")}' for one in notes]):
+            say_once(line)
     if guest.is_seen:
-        foreign.say_once(said_of(guest, guest.file))
+        say_once(said_of(guest, guest.file))
 
 
 @contextlib.contextmanager
