@@ -139,19 +139,15 @@ def made_of(path: str, octets: bytes, texts: tuple[tuple[str, bytes], ...]) -> T
     names = {'stdin': path} | {os.path.basename(there): there for there, _ in texts}
     ran = with_texts(octets, texts)
     found = Translation([], [], {there: lines_of(text) for there, text in ((path, octets), *texts)}, [])
-    said = places_in(ran.err, names)
-    found.notes.extend(Remark(where, number, found.own(where, number), words) for where, number, words in said)
-    wanted = WANTED.fullmatch(found.notes[0].words) if ran.status and found.notes else None
-    if wanted:
+    found.notes.extend(Remark(where, number, found.own(where, number), words) for where, number, words in places_in(ran.err, names))
+    if not ran.status:
+        for where, number, line in places_in(ran.out, names):
+            found.lines.append(line)
+            found.places.append((where, number))
+        return found
+    if wanted := WANTED.fullmatch(found.notes[0].words) if found.notes else None:
         return wanted[1]
-    if found.notes and ran.status:
-        raise Refused(found.notes)
-    if ran.status:
-        raise Sorry(f'{path}: {ran.err.strip() or "pcmasm ends without a word"}')
-    for where, number, line in places_in(ran.out, names):
-        found.lines.append(line)
-        found.places.append((where, number))
-    return found
+    raise Refused(found.notes) if found.notes else Sorry(f'{path}: {ran.err.strip() or "pcmasm ends without a word"}')
 
 
 def with_texts(octets: bytes, texts: tuple[tuple[str, bytes], ...]) -> Ran:

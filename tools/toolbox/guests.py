@@ -325,10 +325,14 @@ def kept(guest: Guest, run_file: str | None, symbols: str | None, name: str | No
     with prepared(guest, Files(guest.file, run_file or '')) as made:
         if not made.symbols:  # the program refuses it, and says why
             answer_of(['asm', '--', handed_on(guest.file)])
-        assert made.symbols
-        for path, to in zip((made.file, made.run_file, made.symbols), paths):
-            write_bytes(to, read_bytes(path))
+        keep(made, *paths)
     return paths[0], paths[1], symbols or paths[2]
+
+
+def keep(made: Files, *paths: str) -> None:
+    """Keeps the image, the run file and perhaps the symbols under these names."""
+    for path, to in zip((made.file, made.run_file, made.symbols or ''), paths):
+        write_bytes(to, read_bytes(path))
 
 
 @contextlib.contextmanager
