@@ -85,6 +85,12 @@ code    ENDS
         ['acd'],
         'ended with exit code 0',
     ),
+    'of Irvine': (
+        'INCLUDE Irvine16.inc\n.data\nmany WORD 2\n.code\nmain PROC\n Startup\n call ReadHex\n add ax,many\n call WriteDec\n exit\nmain ENDP\nEND main\n',
+        ('--keys', '1aF{enter}'),
+        ['1aF', '433'],
+        'ended with exit code 0',
+    ),
     'procedures': (
         'point STRUC\nx DW 0\ny DW 0\npoint ENDS\n.MODEL SMALL\n.STACK\n.DATA\np point <3,4>\n.CODE\nPUBLIC digit\nmain PROC\n MOV AX,@DATA\n MOV DS,AX\n'
         ' MOV DX,p.y\n CALL digit\n MOV DX,p.x\n CALL digit\n MOV AH,4Ch\n INT 21h\nmain ENDP\ndigit PROC NEAR\n ADD DL,30h\n MOV AH,2\n INT 21h\n'
