@@ -11,42 +11,15 @@ from typing import Iterator, NamedTuple
 
 from toolbox import reading
 from toolbox.command import Sorry, Unreadable, read_bytes
+from toolbox.guests import Refused, Remark
 from toolbox.listing import Listing, label_row, line_of, own_name, placed_labels
 from toolbox.program import TOP, Ran, given_text, run
-from toolbox.shown import LONGEST_LINE, bounded, clipped
 
 MADE = re.compile(r'[.?]+\d+')  # a label that pcmasm makes, of @@, of LOCAL, or of $
 OWN = f'{TOP}/services/masm'  # what programs may include that their own folder hasn't
 MOST_INCLUDED = 64
 PLACE = re.compile(r'([^\n]*):(\d+):[ \t](.*)')
 WANTED = re.compile(r'includes (.*), which isn\'t given')
-
-
-class Remark(NamedTuple):
-    """What is told of a line: the path of its text, its number and the line itself, and words."""
-
-    path: str
-    number: int
-    line: str
-    words: str
-
-    @property
-    def sentences(self) -> list[str]:
-        """What is told, and the line."""
-        shown = f'  {self.number:5} | {clipped(self.line, LONGEST_LINE)}'.rstrip()
-        return [f'{self.path}, line {self.number}: {clipped(self.words)}', shown]
-
-    def within(self, path: str) -> tuple[int | None, str]:
-        """Its line and words, if it is of this text; of another one all that is told, and no line."""
-        return (self.number, self.words) if self.path == path else (None, ' '.join(self.sentences))
-
-
-class Refused(Sorry):
-    """A source of MASM that isn't translated, or whose translation pcboard refuses: what is told of its lines."""
-
-    def __init__(self, remarks: list[Remark]) -> None:
-        super().__init__('\n'.join(bounded([line for one in remarks for line in one.sentences])))
-        self.remarks = remarks
 
 
 class Translation(NamedTuple):

@@ -16,7 +16,7 @@ from toolbox.listing import DIALECT
 from toolbox.program import LAST_CLOCK, Files, Refusal, answer_of, is_hex_name, limited, run
 from toolbox.runfile import DEFAULTS, read_run_file, text_of, with_run_file
 from toolbox.services import MOST_RAM, TYPING, is_served
-from toolbox.shown import bounded
+from toolbox.shown import LONGEST_LINE, bounded, clipped
 
 if TYPE_CHECKING:
     from toolbox.loading import Loaded
@@ -33,6 +33,33 @@ Fields = dict[str, Any]
 LONGEST = 1 << 20  # bytes of a program, which is all that the processor reaches
 AS_OWN = "taken as one of the board's own dialect"
 _told = set[str]()
+
+
+class Remark(NamedTuple):
+    """What is told of a line: the path of its text, its number and the line itself, and words."""
+
+    path: str
+    number: int
+    line: str
+    words: str
+
+    @property
+    def sentences(self) -> list[str]:
+        """What is told, and the line."""
+        shown = f'  {self.number:5} | {clipped(self.line, LONGEST_LINE)}'.rstrip()
+        return [f'{self.path}, line {self.number}: {clipped(self.words)}', shown]
+
+    def within(self, path: str) -> tuple[int | None, str]:
+        """Its line and words, if it is of this text; of another one all that is told, and no line."""
+        return (self.number, self.words) if self.path == path else (None, ' '.join(self.sentences))
+
+
+class Refused(Sorry):
+    """A source of MASM that isn't translated, or whose translation pcboard refuses: what is told of its lines."""
+
+    def __init__(self, remarks: list[Remark]) -> None:
+        super().__init__('\n'.join(bounded([line for one in remarks for line in one.sentences])))
+        self.remarks = remarks
 
 
 class Guest(NamedTuple):
@@ -201,7 +228,7 @@ def translated(guest: Guest, ram: int, room: str) -> Loaded:
         found = loading.source(path, guest.args or '', ram)
     except Sorry as sorry:
         refused = next(translation.refused(), None)
-        raise (foreign.Refused([refused]) if refused else Sorry(str(sorry).replace(path, guest.file))) from None
+        raise (Refused([refused]) if refused else Sorry(str(sorry).replace(path, guest.file))) from None
     count = len(translation.lines)
     return found._replace(rows=translation.rows(found.rows[:count]) + found.rows[count:])
 
@@ -276,13 +303,6 @@ def typed(guest: Guest, strokes: list[Stroke] | None) -> Fields:
     from toolbox.scancodes import BARE, stamped
 
     return {'keys': stamped(strokes, *(TYPING if guest.is_one else BARE))}
-
-
-def untranslated() -> type[Sorry]:
-    """What is raised for a source of MASM that isn't translated. An `except` clause asks for it only once something is raised."""
-    from toolbox import foreign
-
-    return foreign.Refused
 
 
 def fields_for(guest: Guest, run_file: str | None, more: Fields | None = None, usual: Fields | None = None) -> Fields:
