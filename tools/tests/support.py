@@ -244,13 +244,13 @@ class ToolCase(unittest.TestCase):
 
     def called(self, name: str, *words: str, given: str = '', status: int | None = 0) -> tuple[str, str]:
         """As `tool`, in this process: a start of Python less for each of many calls."""
-        from toolbox import foreign
+        from toolbox import guests
         from toolbox.command import Sorry, refuse, status_of
 
         out, err, held = io.StringIO(), io.StringIO(), (sys.argv, sys.stdin)
         handlers = {sign: signal.getsignal(sign) for sign in (signal.SIGINT, signal.SIGTERM, signal.SIGHUP)}
         sys.argv, sys.stdin = [f'{TOOLS}/{name}', *words], io.TextIOWrapper(io.BytesIO(given.encode()))
-        unsaid = mock.patch.object(foreign, '_told', set())
+        unsaid = mock.patch.object(guests, '_told', set())
         try:
             with contextlib.redirect_stdout(out), contextlib.redirect_stderr(err), contextlib.chdir(self.room), unsaid:
                 try:

@@ -27,7 +27,8 @@ from toolbox.data_labels import values_of
 from toolbox.desk.pages import as_html
 from toolbox.edits import assign
 from toolbox.faults import KINDS
-from toolbox.foreign import complaints, is_masm
+from toolbox.foreign import complaints
+from toolbox.guests import is_masm
 from toolbox.listing import Listing, listing_of
 from toolbox.lsp.completing import completion
 from toolbox.lsp.documents import OWN, Document, Settings

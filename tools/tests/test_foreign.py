@@ -19,7 +19,7 @@ from tests.test_dap import Client
 from tests.test_library import by_the_library, is_there as has_library
 from toolbox import foreign, program
 from toolbox.command import Sorry
-from toolbox.guests import Guest, prepared
+from toolbox.guests import Guest, origin_of, prepared
 from toolbox.listing import listing_of, own_name
 from toolbox.lsp.diagnosing import diagnostics
 from toolbox.lsp.documents import Document, Settings
@@ -88,6 +88,12 @@ code    ENDS
         ['acd'],
         'ended with exit code 0',
     ),
+    'of Irvine': (
+        'INCLUDE Irvine16.inc\n.data\nmany WORD 2\n.code\nmain PROC\n Startup\n call ReadHex\n add ax,many\n call WriteDec\n exit\nmain ENDP\nEND main\n',
+        ('--keys', '1aF{enter}'),
+        ['1aF', '433'],
+        'ended with exit code 0',
+    ),
     'procedures': (
         'point STRUC\nx DW 0\ny DW 0\npoint ENDS\n.MODEL SMALL\n.STACK\n.DATA\np point <3,4>\n.CODE\nPUBLIC digit\nmain PROC\n MOV AX,@DATA\n MOV DS,AX\n'
         ' MOV DX,p.y\n CALL digit\n MOV DX,p.x\n CALL digit\n MOV AH,4Ch\n INT 21h\nmain ENDP\ndigit PROC NEAR\n ADD DL,30h\n MOV AH,2\n INT 21h\n'
@@ -135,12 +141,14 @@ BOOKS: dict[str, tuple[list[str], list[str], str]] = {
     'abel_divide': ([], ['5'], 'ended by INT 20h'),
     'abel_exe': ([], [], 'ended with exit code 0'),
     'abel_macro': ([], ['Customer name?', 'Customer address?'], 'ended with exit code 0'),
+    'abel_strings': ([], ['SRESUREBYC', '=6'], 'ended with exit code 0'),
     'brey_echo': (['--keys', 'hi@'], ['hi'], 'ended with exit code 0'),
     'brey_tiny': ([], ['0123456789'], 'ended with exit code 0'),
     'course_compare': ([], ['strings are equalHELLO'], 'ended with exit code 36'),
     'course_copy': (['--file', 'in.txt'], ['copied'], 'ended with exit code 0'),
     'course_fact': ([], ['Factorial: 120'], 'ended with exit code 48'),
     'course_frame': ([], ['one', 'two', 'three', '9+'], 'ended by INT 20h'),
+    'course_macros': ([], ['Squares: 49', 'min: 51'], 'ended with exit code 0'),
     'course_resident': ([], [], 'ended by INT 27h, and nothing goes on beside it'),
     'duntemann_eat': ([], ["Eat at Joe's!", "Ten million flies can't ALL be wrong!"], 'ended with exit code 0'),
     'emu_addsub': (['--keys', 'x'], ['00001110b'], 'ended by INT 20h'),
@@ -160,6 +168,7 @@ BOOKS: dict[str, tuple[list[str], list[str], str]] = {
     'emu_hello': (['--keys', 'x'], ['Hello, World!'], 'ended by INT 20h'),
     'emu_hiworld': (['--keys', 'x'], [], 'ended by INT 20h'),
     'emu_pali': (['--keys', 'x'], ['able was ere ere saw elba', '  this is palindrome!'], 'ended by INT 20h'),
+    'emu_template': (['--keys', 'k'], ['42press any key...k'], 'ended with exit code 0'),
     'irvine_fib': ([], ['Fibonacci: 1 1 2 3 5 8 13 21 34 55 89 144'], 'ended with exit code 0'),
     'irvine_hello': ([], ['Hello, world!'], 'ended with exit code 0'),
     'irvine_rectangle': ([], ['83'], 'ended with exit code 0'),
@@ -167,6 +176,7 @@ BOOKS: dict[str, tuple[list[str], list[str], str]] = {
     'irvine_type': (['--file', 'my_text.txt'], ['Call me Ishmael.', 'Some years ago'], 'ended with exit code 0'),
     'lab_sort': ([], ['12 36 45 56 99'], 'ended with exit code 32'),
     'lab_sum': ([], [], 'ended by INT 3, to which no handler is set'),
+    'lafore_area': ([], ['780=', 'HI'], 'ended by INT 20h'),
     'lafore_binihex': ([], ['1A2F'], 'ended by INT 20h'),
     'masm6_forms': ([], ['done'], 'ended with exit code 6'),
     'mazidi_bcd': ([], [], 'ended with exit code 0'),
@@ -178,6 +188,9 @@ BOOKS: dict[str, tuple[list[str], list[str], str]] = {
     'tasm_locals': ([], ['45'], 'ended with exit code 53'),
     'tasm_reverse': (['--keys', 'abc{enter}'], ['abc', 'cba'], 'ended with exit code 5'),
 }
+
+# The only ones of them of which something is told.
+TOLD = {'emu_hiworld': 'where a colour adapter has its text, and none is here', 'lab_sum': 'has no handler, and ended the program'}
 
 # Lines of programs for a later PC or another adapter, and what is told of each.
 LACKING = {
@@ -207,7 +220,8 @@ class Foreign(ToolCase):
             *lines, last = out.splitlines()
             self.assertEqual([line for line in lines if line], rows, f'{name}: {err}')
             self.assertIn(f'({end}, at clock', last, name)
-            self.assertEqual('where a colour adapter has its text, and none is here' in err, name == 'emu_hiworld', f'{name}: {err}')
+            self.assertIn(TOLD.get(name, ''), err, name)
+            self.assertEqual('why: ' in err, name in TOLD, f'{name}: {err}')
         # what stands in memory at the end: 340; the sum of five words, and its carry; that of two quadwords
         for name, label, octets in (('abel_exe', 'FLDF', '54 01'), ('lab_sum', 'RESULT', '7F 34 01'), ('mazidi_bcd', 'DATA3', '74 78 38 09 5D 94')):
             out, _ = self.called('dbg', f'{TEXTBOOKS}/{name}.asm', given=f'go\ndump {label} {len(octets.split())}\nquit\n')
@@ -238,10 +252,10 @@ class Foreign(ToolCase):
         self.assertIn('neither an instruction nor a directive nor a macro', self.called('try', nasm, '--masm', status=1)[1])
 
     def test_a_source_of_the_dialect_stays_one(self) -> None:
-        self.assertEqual(foreign.origin_of(b'; END\nSEGMENT A AT 50h\nx: DB 1\nENDS\n'), ('dialect', 2))
-        self.assertEqual(foreign.origin_of(b'x EQU 5\n'), ('dialect', None))
-        self.assertEqual(foreign.origin_of(b'x DB 5\n')[0], 'masm')
-        self.assertEqual(foreign.origin_of(b'\n[BITS 16]\n'), ('nasm', 2))
+        self.assertEqual(origin_of(b'; END\nSEGMENT A AT 50h\nx: DB 1\nENDS\n'), ('dialect', 2))
+        self.assertEqual(origin_of(b'x EQU 5\n'), ('dialect', None))
+        self.assertEqual(origin_of(b'x DB 5\n')[0], 'masm')
+        self.assertEqual(origin_of(b'\n[BITS 16]\n'), ('nasm', 2))
 
     def test_refusals_name_its_own_lines(self) -> None:
         wrong = self.file('it.asm', WRONG)

@@ -8,7 +8,7 @@ from toolbox.listing import code_of, label_in
 
 BEFORE = r'\s*(?:\w+\s*:\s*)?'
 TERM = r"(?:\d\w*|'[^']')"
-STRINGS = r'(?:(?:MOVS|STOS|LODS|CMPS|SCAS)[BW]|LOCK|REP\w*)'
+STRINGS = r'(?:(?:MOVS|STOS|LODS|CMPS|SCAS)[BW]?|LOCK|REP\w*)'  # without a size the board refuses it, and MASM takes it
 # What a line looks like whose first group is hardly meant, and what may be: {0} is the group, {1} in upper case, {2} its number. A name
 # in a byte register counts if it is a label; the numbers of INT are those of textbooks' calls, which are hexadecimal.
 LOOKS = {

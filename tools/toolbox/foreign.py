@@ -6,15 +6,14 @@ from __future__ import annotations
 import functools
 import os
 import re
-import sys
 import tempfile
 from typing import Iterator, NamedTuple
 
 from toolbox import reading
 from toolbox.command import Sorry, Unreadable, read_bytes
-from toolbox.listing import DIALECT, Listing, label_row, line_of, own_name, placed_labels
+from toolbox.guests import Refused, Remark
+from toolbox.listing import Listing, label_row, line_of, own_name, placed_labels
 from toolbox.program import TOP, Ran, given_text, run
-from toolbox.shown import LONGEST_LINE, bounded, clipped
 from zebludor import translated_within
 
 MADE = re.compile(r'[.?]+\d+')  # a label that pcmasm makes, of @@, of LOCAL, or of $
@@ -25,35 +24,6 @@ WANTED = re.compile(r'includes (.*), which isn\'t given')
 # What makes many lines of a few, if it stands before a comment.
 REPEATING, COMMENT = re.compile(rb'\b(?:macro|rept|repeat|irpc?|forc?|while)\b', re.I), re.compile(rb';.*')
 SHORT = 1 << 18
-AS_OWN = "taken as one of the board's own dialect"
-_told = set[str]()
-
-
-class Remark(NamedTuple):
-    """What is told of a line: the path of its text, its number and the line itself, and words."""
-
-    path: str
-    number: int
-    line: str
-    words: str
-
-    @property
-    def sentences(self) -> list[str]:
-        """What is told, and the line."""
-        shown = f'  {self.number:5} | {clipped(self.line, LONGEST_LINE)}'.rstrip()
-        return [f'{self.path}, line {self.number}: {clipped(self.words)}', shown]
-
-    def within(self, path: str) -> tuple[int | None, str]:
-        """Its line and words, if it is of this text; of another one all that is told, and no line."""
-        return (self.number, self.words) if self.path == path else (None, ' '.join(self.sentences))
-
-
-class Refused(Sorry):
-    """A source of MASM that isn't translated, or whose translation pcboard refuses: what is told of its lines."""
-
-    def __init__(self, remarks: list[Remark]) -> None:
-        super().__init__('\n'.join(bounded([line for one in remarks for line in one.sentences])))
-        self.remarks = remarks
 
 
 class Translation(NamedTuple):
@@ -98,47 +68,6 @@ class Translation(NamedTuple):
         labels = ((own_name(label), at) for label, at in placed_labels(line_of(0, row) for row in rows))
         lines = [f'{os.path.abspath(place[0])}:{place[1]}:\t{row}\t{self.own(*place)}' for place, row in pairs]
         return lines + [label_row(name, at) for name, at in labels if not MADE.fullmatch(name)]
-
-
-def origin_of(octets: bytes) -> tuple[str, int | None]:
-    """Which assembler's a text is, `masm`, `nasm` or `dialect`, as pcmasm tells, and the line that shows it, if one
-    does; the dialect's, if none shows another's. A line that only the dialect has spares the question."""
-    found = DIALECT.search(octets)
-    if found:
-        return 'dialect', octets.count(b'\n', 0, found.start()) + 1
-    name, *line = run(['--origin', '/dev/stdin'], octets, 'pcmasm').out.split() or ['dialect']
-    return name, int(line[0]) if line else None
-
-
-def is_masm(path: str) -> bool:
-    """Whether what stands in a file shows that it is a source of MASM. What shows that it is NASM's is told once, or
-    that nothing shows whose it is."""
-    try:
-        name, line = origin_of(reading.read_whole(path))
-    except OSError:
-        return False  # which whoever reads the file tells
-    except Sorry as sorry:
-        say_once(f"whether {path} is a source of MASM isn't known: {sorry}")
-        return False
-    if name == 'nasm':
-        say_once(f"{path}, line {line}, is NASM's, and the file is {AS_OWN}; --nasm or --masm says what it is")
-    elif name == 'dialect' and line is None:
-        say_once(f'no line of {path} shows whose source it is, so it is {AS_OWN}; --masm or --nasm says what it is')
-    return name == 'masm'
-
-
-def tell(translation: Translation) -> None:
-    """Tells once what pcmasm notes of a source."""
-    said = [f'{one.path}, line {one.number}{one.words.removeprefix("note")}' for one in translation.notes]
-    for line in bounded(said):
-        say_once(line)
-
-
-def say_once(sentence: str) -> None:
-    """Tells something on standard error, unless that is done already."""
-    if sentence not in _told:
-        _told.add(sentence)
-        print(f'{os.path.basename(sys.argv[0])}: {sentence}', file=sys.stderr)
 
 
 def included(source: str, name: str, home: str) -> tuple[str, bytes]:
@@ -187,19 +116,15 @@ def made_of(path: str, octets: bytes, texts: tuple[tuple[str, bytes], ...]) -> T
     names = {'stdin': path} | {os.path.basename(there): there for there, _ in texts}
     ran = with_texts(octets, texts)
     found = Translation([], [], {there: lines_of(text) for there, text in ((path, octets), *texts)}, [])
-    said = places_in(ran.err, names)
-    found.notes.extend(Remark(where, number, found.own(where, number), words) for where, number, words in said)
-    wanted = WANTED.fullmatch(found.notes[0].words) if ran.status and found.notes else None
-    if wanted:
+    found.notes.extend(Remark(where, number, found.own(where, number), words) for where, number, words in places_in(ran.err, names))
+    if not ran.status:
+        for where, number, line in places_in(ran.out, names):
+            found.lines.append(line)
+            found.places.append((where, number))
+        return found
+    if wanted := WANTED.fullmatch(found.notes[0].words) if found.notes else None:
         return wanted[1]
-    if found.notes and ran.status:
-        raise Refused(found.notes)
-    if ran.status:
-        raise Sorry(f'{path}: {ran.err.strip() or "pcmasm ends without a word"}')
-    for where, number, line in places_in(ran.out, names):
-        found.lines.append(line)
-        found.places.append((where, number))
-    return found
+    raise Refused(found.notes) if found.notes else Sorry(f'{path}: {ran.err.strip() or "pcmasm ends without a word"}')
 
 
 def with_texts(octets: bytes, texts: tuple[tuple[str, bytes], ...]) -> Ran:

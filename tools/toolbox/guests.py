@@ -13,10 +13,10 @@ from typing import TYPE_CHECKING, Any, Iterator, NamedTuple
 from toolbox import reading
 from toolbox.command import SYMBOLS, Sorry, handed_on, read_bytes, write_bytes
 from toolbox.listing import DIALECT
-from toolbox.program import LAST_CLOCK, Files, Refusal, answer_of, is_hex_name, limited
+from toolbox.program import LAST_CLOCK, Files, Refusal, answer_of, is_hex_name, limited, run
 from toolbox.runfile import DEFAULTS, read_run_file, text_of, with_run_file
 from toolbox.services import MOST_RAM, TYPING, is_served
-from toolbox.shown import bounded
+from toolbox.shown import LONGEST_LINE, bounded, clipped
 
 if TYPE_CHECKING:
     from toolbox.loading import Loaded
@@ -31,6 +31,35 @@ MAPPED = r' *\S+ +\S+ +[0-9a-f] +[0-9a-f]{8} +[A-Za-z]'  # a row of ld86's map, 
 FIRST_OF_BCC = 'crt0.o'  # what stands before a program, of bcc's library
 Fields = dict[str, Any]
 LONGEST = 1 << 20  # bytes of a program, which is all that the processor reaches
+AS_OWN = "taken as one of the board's own dialect"
+_told = set[str]()
+
+
+class Remark(NamedTuple):
+    """What is told of a line: the path of its text, its number and the line itself, and words."""
+
+    path: str
+    number: int
+    line: str
+    words: str
+
+    @property
+    def sentences(self) -> list[str]:
+        """What is told, and the line."""
+        shown = f'  {self.number:5} | {clipped(self.line, LONGEST_LINE)}'.rstrip()
+        return [f'{self.path}, line {self.number}: {clipped(self.words)}', shown]
+
+    def within(self, path: str) -> tuple[int | None, str]:
+        """Its line and words, if it is of this text; of another one all that is told, and no line."""
+        return (self.number, self.words) if self.path == path else (None, ' '.join(self.sentences))
+
+
+class Refused(Sorry):
+    """A source of MASM that isn't translated, or whose translation pcboard refuses: what is told of its lines."""
+
+    def __init__(self, remarks: list[Remark]) -> None:
+        super().__init__('\n'.join(bounded([line for one in remarks for line in one.sentences])))
+        self.remarks = remarks
 
 
 class Guest(NamedTuple):
@@ -115,15 +144,38 @@ def words_of(given: argparse.Namespace) -> list[str]:
     return words + [f'--file={path}' for path in given.files or []]
 
 
-def is_masm(path: str) -> bool:
-    """Whether what stands in a file shows that it is a source of MASM. What reads other assemblers' is loaded, as whatever makes a program
-    ready, only for who needs it: it takes a tenth of a tool's start."""
-    with contextlib.suppress(OSError):
-        if DIALECT.search(reading.read_whole(path)):
-            return False
-    from toolbox import foreign
+def origin_of(octets: bytes) -> tuple[str, int | None]:
+    """Which assembler's a text is, `masm`, `nasm` or `dialect`, as pcmasm tells, and the line that shows it, if one
+    does; the dialect's, if none shows another's. A line that only the dialect has spares the question."""
+    found = DIALECT.search(octets)
+    if found:
+        return 'dialect', octets.count(b'\n', 0, found.start()) + 1
+    name, *line = run(['--origin', '/dev/stdin'], octets, 'pcmasm').out.split() or ['dialect']
+    return name, int(line[0]) if line else None
 
-    return foreign.is_masm(path)
+
+def is_masm(path: str) -> bool:
+    """Whether what stands in a file shows that it is a source of MASM. What shows that it is NASM's is told once, or
+    that nothing shows whose it is."""
+    try:
+        name, line = origin_of(reading.read_whole(path))
+    except OSError:
+        return False  # which whoever reads the file tells
+    except Sorry as sorry:
+        say_once(f"whether {path} is a source of MASM isn't known: {sorry}")
+        return False
+    if name == 'nasm':
+        say_once(f"{path}, line {line}, is NASM's, and the file is {AS_OWN}; --nasm or --masm says what it is")
+    elif name == 'dialect' and line is None:
+        say_once(f'no line of {path} shows whose source it is, so it is {AS_OWN}; --masm or --nasm says what it is')
+    return name == 'masm'
+
+
+def say_once(sentence: str) -> None:
+    """Tells something on standard error, unless that is done already."""
+    if sentence not in _told:
+        _told.add(sentence)
+        print(f'{os.path.basename(sys.argv[0])}: {sentence}', file=sys.stderr)
 
 
 def looked_at(guest: Guest) -> Guest:
@@ -176,7 +228,7 @@ def translated(guest: Guest, ram: int, room: str) -> Loaded:
         found = loading.source(path, guest.args or '', ram)
     except Sorry as sorry:
         refused = next(translation.refused(), None)
-        raise (foreign.Refused([refused]) if refused else Sorry(str(sorry).replace(path, guest.file))) from None
+        raise (Refused([refused]) if refused else Sorry(str(sorry).replace(path, guest.file))) from None
     count = len(translation.lines)
     return found._replace(rows=translation.rows(found.rows[:count]) + found.rows[count:])
 
@@ -253,20 +305,6 @@ def typed(guest: Guest, strokes: list[Stroke] | None) -> Fields:
     return {'keys': stamped(strokes, *(TYPING if guest.is_one else BARE))}
 
 
-def typed_text(guest: Guest, text: str, is_plain: bool) -> Fields:
-    """The same of a text, without shift if it is to be plain."""
-    from toolbox.scancodes import strokes_of
-
-    return typed(guest, strokes_of(text, is_plain))
-
-
-def untranslated() -> type[Sorry]:
-    """What is raised for a source of MASM that isn't translated. An `except` clause asks for it only once something is raised."""
-    from toolbox import foreign
-
-    return foreign.Refused
-
-
 def fields_for(guest: Guest, run_file: str | None, more: Fields | None = None, usual: Fields | None = None) -> Fields:
     """The run file's fields: RUN's, or the usual ones, and before these `more`. With services it has all the RAM that
     there can be, and where nothing says a budget, that has room for the keys."""
@@ -307,10 +345,14 @@ def kept(guest: Guest, run_file: str | None, symbols: str | None, name: str | No
     with prepared(guest, Files(guest.file, run_file or '')) as made:
         if not made.symbols:  # the program refuses it, and says why
             answer_of(['asm', '--', handed_on(guest.file)])
-        assert made.symbols
-        for path, to in zip((made.file, made.run_file, made.symbols), paths):
-            write_bytes(to, read_bytes(path))
+        keep(made, *paths)
     return paths[0], paths[1], symbols or paths[2]
+
+
+def keep(made: Files, *paths: str) -> None:
+    """Keeps the image, the run file and perhaps the symbols under these names."""
+    for path, to in zip((made.file, made.run_file, made.symbols or ''), paths):
+        write_bytes(to, read_bytes(path))
 
 
 @contextlib.contextmanager
@@ -323,12 +365,14 @@ def with_own_lines(files: Files) -> Iterator[Files]:
 
 def tell_of(guest: Guest) -> None:
     """Tells once how a program is taken, and what pcmasm notes of it."""
-    from toolbox import foreign
-
     if guest.language == 'masm':
-        foreign.tell(foreign.translation_of(guest.file, home=guest.home))
+        from toolbox import foreign
+
+        notes = foreign.translation_of(guest.file, home=guest.home).notes
+        for line in bounded([f'{one.path}, line {one.number}{one.words.removeprefix("note")}' for one in notes]):
+            say_once(line)
     if guest.is_seen:
-        foreign.say_once(said_of(guest, guest.file))
+        say_once(said_of(guest, guest.file))
 
 
 @contextlib.contextmanager

@@ -10,7 +10,7 @@ from functools import partial
 from toolbox.command import Sorry, read_text
 from toolbox.c_data import FILE, LINE, SECTION, Row, data_in
 from toolbox.data_labels import Datum
-from toolbox.listing import ADDRESS_COLUMNS, Line, Listing, line_of, physical
+from toolbox.listing import ADDRESS_COLUMNS, Line, Listing, at_places, line_of
 
 MOST_LINES = 1 << 20  # of a source that a listing tells
 SOURCES = ('.asm', '.nasm', '.s', '.inc')
@@ -54,22 +54,22 @@ def with_source(found: Listing, path: str, source: str | None = None) -> Listing
 def of_places(rows: list[str], found: Listing) -> Listing:
     """The lines of a source of MASM and of what it includes, by rows of the dialect's listing behind their places, with these labels. A
     line of which nothing comes has an empty row; the source stands first."""
-    lines, files = list[Line](), dict[str, dict[int, Line]]()
-    for row in filter(None, map(PLACED.fullmatch, rows)):
-        placed = line_of(int(row[2]), row[3], row[4])
-        line = placed._replace(source=row[1], dialect=row[3][ADDRESS_COLUMNS:])
-        known = files.setdefault(row[1], {}).get(line.number)
-        lines += [line] if row[3] else []
-        if known is None or line.address and not known.address:
-            files[row[1]][line.number] = line
-    whole = {source: filled(list(them.values())) for source, them in files.items()}
-    first = next(iter(whole), '')
-    at, modules = dict[int, Line](), dict[int, Line]()
+    placed = ((row, line_of(int(row[2]), row[3], row[4])) for row in filter(None, map(PLACED.fullmatch, rows)))
+    lines = [line._replace(source=row[1], dialect=row[3][ADDRESS_COLUMNS:]) for row, line in placed]
+    files = by_files(lines)
+    first = next(iter(files), '')
+    at, modules = (at_places(line for line in lines if (line.source == first) == is_first) for is_first in (True, False))
+    return Listing(files.get(first, []), at, found.labels, files=files, modules=modules, rows=[line for line in lines if line.dialect])
+
+
+def by_files(lines: list[Line]) -> dict[str, list[Line]]:
+    """The lines of each file from its first on; of several of one number the first that places bytes, if one does."""
+    files = dict[str, dict[int, Line]]()
     for line in lines:
-        if line.address:
-            (at if line.source == first else modules).setdefault(physical(*line.address), line)
-    made = [line for line in lines if line.dialect]
-    return Listing(whole.get(first, []), at, found.labels, files=whole, modules=modules, rows=made)
+        known = files.setdefault(line.source, {}).get(line.number)
+        if known is None or line.address and not known.address:
+            files[line.source][line.number] = line
+    return {source: filled(list(them.values())) for source, them in files.items()}
 
 
 def with_modules(found: Listing, path: str, rows: list[str]) -> Listing:
@@ -78,23 +78,17 @@ def with_modules(found: Listing, path: str, rows: list[str]) -> Listing:
     for name, label, _ in filter(None, (one and one.groups() for one in map(OF_MODULE.match, rows))):
         if label in found.labels:
             modules.setdefault(name, {})[label] = found.labels[label][1]
-    folder, at, files = os.path.dirname(os.path.abspath(path)), dict[int, Line](), dict[str, dict[int, Line]]()
+    folder = os.path.dirname(os.path.abspath(path))
     segment = next((found.labels[label][0] for them in modules.values() for label in them), 0)
     listings = {path: read_rows(path) for name in modules if os.path.isfile(path := os.path.join(folder, f'{name}.lst'))}
-    for name, labels in modules.items():
-        listing = os.path.join(folder, f'{name}.lst')
-        for line in of_module(listing, listings[listing], labels, segment) if listing in listings else []:
-            files.setdefault(line.source, {}).setdefault(line.number, line)
-            if line.address:
-                at.setdefault(physical(*line.address), line)
-                if not files[line.source][line.number].address:
-                    files[line.source][line.number] = line
-    own = {source: filled(list(them.values())) for source, them in files.items() if any(one.address for one in them.values())}
+    pairs = ((os.path.join(folder, f'{name}.lst'), labels) for name, labels in modules.items())
+    lines = [line for listing, labels in pairs if listing in listings for line in of_module(listing, listings[listing], labels, segment)]
+    own = {source: them for source, them in by_files(lines).items() if any(one.address for one in them)}
     places = dict[str, set[str]]()
     for label, address in (one.groups() for one in map(OF_ANY.match, rows) if one):
         places.setdefault(label, set()).add(address)
     sure = {label: found.labels[label] for label, them in places.items() if len(them) == 1 and label in found.labels}
-    return found._replace(modules=at, files=own, read_data=lambda: variables_of(listings, sure))
+    return found._replace(modules=at_places(lines), files=own, read_data=lambda: variables_of(listings, sure))
 
 
 def variables_of(listings: dict[str, list[Row]], places: dict[str, tuple[int, int]]) -> list[Datum]:

@@ -158,6 +158,15 @@ def line_of(number: int, row: str, own: str | None = None) -> Line:
     return Line(number, text, (int(found[1], 16), int(found[2], 16)), bytes.fromhex(found[3]))
 
 
+def at_places(lines: Iterable[Line]) -> dict[int, Line]:
+    """The lines that place bytes, by physical address; of several at one place the first."""
+    found = dict[int, Line]()
+    for line in lines:
+        if line.address:
+            found.setdefault(physical(*line.address), line)
+    return found
+
+
 def label_row(name: str, place: tuple[int, int]) -> str:
     """A label's row in a file of symbols."""
     return f'{place[0]:04X}:{place[1]:04X} {name}'
@@ -222,10 +231,7 @@ def listing_of(files: Files) -> Listing:
         raise Sorry(f'{files.file} is a source, which has its own labels; --symbols goes with --hex')
     rows = answer_of(['asm', '--list', '--', handed_on(files.file)]).split('\n')[:-1]
     lines = [line_of(number, row) for number, row in enumerate(rows, 1)]
-    found = Listing(lines)
-    for line in lines:
-        if line.address:
-            found.at.setdefault(physical(*line.address), line)
+    found = Listing(lines, at_places(lines))
     names = [name for name in map(label_in, (each.text for each in lines if ':' in each.text)) if name]
     if names:
         found.labels.update(probed(read_bytes(files.file).decode('utf-8', 'surrogateescape'), names))

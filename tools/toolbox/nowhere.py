@@ -22,24 +22,7 @@ from toolbox.runfile import read_run_file
 from toolbox.scancodes import names
 from toolbox.services import left_at, mark_of, ram_end_of
 from toolbox.text_memory import TEXT_MEMORY, shown
-from toolbox.walk import (
-    COLOUR,
-    COLOUR_END,
-    DATA,
-    REACH,
-    SERVICES,
-    TEXT,
-    TEXT_END,
-    Part,
-    Run,
-    done_by,
-    go_to_end,
-    has_pushed,
-    is_for_good,
-    is_short,
-    opcode,
-    statement_of,
-)
+from toolbox.walk import COLOUR, DATA, REACH, SERVICES, TEXT, Part, Run, done_by, go_to_end, has_pushed, is_for_good, is_short, opcode, statement_of
 
 TRAIL, LONGEST_LOOP, ZEROS, NEAR, SOON, FEW = 32, 8, 4, 32, 40, 8
 A_TICK = 300_000  # clocks, and some more, of which one comes in a program that waits
@@ -400,7 +383,7 @@ def of_lost_writes(run: Run) -> list[Told]:
             known.add(event[1:])
             if len(found) < 3:
                 does, advice = ('pushes to', FOR_A_STACK) if has_pushed(event) else ('writes to', IN_RAM)
-                is_told = found or COLOUR <= address < COLOUR_END
+                is_told = found or address in COLOUR
                 found += run.tell('lost write', event, address=address, does=does, wrong=wrong, advice='' if is_told else advice)
                 found += of_direction(run, event) + of_a_count(run, event) if len(found) == 1 else []
     return found
@@ -591,7 +574,7 @@ def of_scan_codes(run: Run) -> Iterator[Told]:
     """The code of a key that is written as a character soon after it was read."""
     keys = names()
     for part in run.parts:
-        writes = {(at, value): address for at, address, value in part.writes if TEXT <= address <= TEXT_END and address % 2 == 0}
+        writes = {(at, value): address for at, address, value in part.writes if address in TEXT and address % 2 == 0}
         for at, port, code in part.reads:
             behind = range(at, min(at + SOON, len(part.events))) if port == 0x60 and code in keys else ()
             kept = takewhile(lambda n: opcode(part.events[n]) not in LOADS_AL, behind)

@@ -11,7 +11,7 @@ from toolbox import nasm_data
 from toolbox.command import Sorry, read_text
 from toolbox.data_labels import data_of
 from toolbox.hex_lines import PLACED, of_places, with_modules, with_source
-from toolbox.listing import MEMORY, Line, Listing, line_of, physical, placed_labels
+from toolbox.listing import MEMORY, Line, Listing, at_places, line_of, physical, placed_labels
 
 RAM = r'(?:,ram=([0-9A-Fa-f]{1,4}))?'
 PLACE = rf'(?:@([0-9A-Fa-f]{{1,4}})(?::([0-9A-Fa-f]{{1,4}}))?)?{RAM}$'
@@ -217,10 +217,7 @@ def finished(found: Listing, image: dict[int, int]) -> Listing:
 
     files = {source: list(map(as_loaded, lines)) for source, lines in found.files.items()}
     lines = next(iter(files.values())) if found.lines else []
-    at = {where: as_loaded(source_line) for where, source_line in found.at.items()}
-    for line in lines:
-        if line.address:
-            at.setdefault(physical(*line.address), line)
+    at = at_places(lines) | {where: as_loaded(source_line) for where, source_line in found.at.items()}
     modules = {where: as_loaded(source_line) for where, source_line in found.modules.items()}
     whole = found._replace(lines=lines, at=at, files=files, modules=modules, rows=list(map(as_loaded, found.rows)))
     has_dialect = whole.rows or found.read_data is list and lines

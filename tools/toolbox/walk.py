@@ -22,8 +22,8 @@ MOST_STARTS, SAMPLE = 3_000_000, 1_000_000  # if about so few instructions begin
 OFTEN = 64  # so many times an instruction is looked at
 LONG, LONGEST = 1000, 2_000_000  # no instruction takes so many clocks, and no repeated one
 WAKES = 0x300  # IF and TF
-ROM, TEXT, TEXT_END, SERVICES = 0xF0000, 0xB0000, 0xB0FFF, 0xF6000
-COLOUR, COLOUR_END = 0xB8000, 0xC0000
+ROM, SERVICES = 0xF0000, 0xF6000
+TEXT, COLOUR = range(0xB0000, 0xB1000), range(0xB8000, 0xC0000)
 DATA = ('DB', 'DW', 'DD')
 
 
@@ -112,7 +112,7 @@ class Run(State):
     @cached_property
     def parts(self) -> list[Part]:
         """What happened in the first clocks and in the last ones, each without a gap."""
-        kinds, found = f'starts entries ports writes={min(self.ram_end, TEXT):X}-FFFFF', list[Part]()
+        kinds, found = f'starts entries ports writes={min(self.ram_end, TEXT.start):X}-FFFFF', list[Part]()
         rest = self.end - self.begun
         found.append(Part.of(self.at(self.begun).lines(rest if rest <= FIRST + LAST else FIRST, kinds)))
         if self.free.clock < self.end:
@@ -224,11 +224,11 @@ class Run(State):
         """What is wrong with writing at an address: nothing, or a clause."""
         if address >= ROM:
             return 'which is ROM: what is written there is lost'
-        if COLOUR <= address < COLOUR_END:
+        if address in COLOUR:
             return 'where a colour adapter has its text, and none is here: what is written there is lost; text memory begins at paragraph 0B000h'
-        if self.ram_end <= address < TEXT:
+        if self.ram_end <= address < TEXT.start:
             return f'and nothing answers there (RAM ends at {self.ram_end - 1:05X}h): what is written there is lost'
-        return 'and nothing answers there: what is written there is lost' if address > TEXT_END else ''
+        return 'and nothing answers there: what is written there is lost' if address >= TEXT.stop else ''
 
 
 def is_for_good(report: Report) -> bool:

@@ -5,8 +5,8 @@ import contextlib
 import re
 from dataclasses import dataclass
 
-from toolbox import foreign
 from toolbox.command import Sorry
+from toolbox.guests import origin_of
 from toolbox.lsp.source import Source
 
 MASM, AS_BYTES = 'MASM', ('utf-8', 'surrogatepass')
@@ -37,7 +37,7 @@ def seems(uri: str, source: Source) -> Note | None:
     if uri.lower().endswith('.nasm'):
         return Note('NASM', 0)
     with contextlib.suppress(Sorry):
-        name, line = foreign.origin_of(source.text.whole.encode(*AS_BYTES))
+        name, line = origin_of(source.text.whole.encode(*AS_BYTES))
         if name == 'masm':
             return Note(MASM, 0)
         if name == 'nasm' and line:
