@@ -8,6 +8,7 @@ import {NAMES, stamped, strokesOf} from './keys.mjs';
 import {addressOf, answerOf, farOf, hexOfSource, imageOf, lineAt, listingOf, listingOfHex,
   numberOf} from './listing.mjs';
 import {LAST_CLOCK, Paused, breakAt, placeOf, withKeys} from './machine.mjs';
+import {said} from './sentences.mjs';
 import {TYPING} from './services.mjs';
 import {MOST_SAMPLES, Speaker} from './sound.mjs';
 import {Session, Sorry, far, grouped, hex, hexOf, patience, physical, runText} from './session.mjs';
@@ -396,7 +397,8 @@ export class Board {
   async chips() {
     const lines = this.machine.chips(), mark = this.machine.mark();
     try {
-      return {lines, facts: await factsOf(lines, kind => endsBefore(this.machine, kind))};
+      const facts = await factsOf(new Chips(lines), kind => endsBefore(this.machine, kind));
+      return {lines, facts: facts.map(fact => said(...fact))};
     } finally {
       await this.machine.returnTo(mark);
     }
@@ -410,13 +412,6 @@ export class Board {
     } finally {
       await this.machine.returnTo(mark);
     }
-  }
-
-  // What a report of the run up to here would tell, and of which files; nothing of a board that was changed.
-  standing() {
-    const {clock, machine, source, isHex: hex} = this, state = this.chipsNow().value('processor', 'state');
-    const screen = machine.many('screen'), registers = machine.registers(), {run} = machine.files;
-    return machine.changes.deeds.length ? {} : {source, hex, run, clock, registers, state, screen};
   }
 
   // The program's labels of data, with what memory holds there.

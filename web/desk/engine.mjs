@@ -1,11 +1,11 @@
 // What the page may ask, and what it is answered: by sessions of the library, a board for a page.
-import {noteSentences} from './chips.mjs';
 import {Board, rest} from './desk_board.mjs';
 import {noteFaults} from './faults.mjs';
 import {Remarks, Wanted, isMasm, refusedOfMasm, rowsOfLine} from './guest.mjs';
 import {noteHints} from './hints.mjs';
 import {Language, block} from './language.mjs';
 import {messagesOf, refusalsOf} from './refusals.mjs';
+import {noteSentences} from './sentences.mjs';
 import {Gone, LAST_CLOCK, Refused, Sorry, far, patience} from './session.mjs';
 
 const PATIENCE = 250, LONGEST_SOURCE = 1 << 20, MOST_REMARKS = 20;
@@ -42,7 +42,7 @@ export class Engine {
     Object.assign(this, {make, data, include, board: null, count: 0});
     noteFaults(data.faults);
     noteHints(data.hints);
-    noteSentences(data.sentences);
+    noteSentences(data.sentences, data.clauses);
     patience.seconds = data.seconds ?? patience.seconds;
     this.begin();
   }
@@ -240,7 +240,6 @@ const OF_BOARD = {
   chips: board => doing(board, () => board.chips()),
   data: board => doing(board, async () => board.data()),
   why: board => doing(board, () => board.why()),
-  standing: board => doing(board, async () => board.standing()),
   stops(board, fields) {
     const stops = want(fields, 'stops', 'list');
     if (stops.length > 1000 || !stops.every(stop => typeof stop === 'string'))

@@ -81,6 +81,11 @@ export class Session {
     return this.one(`go ${clocks}`);
   }
 
+  // Back or on to a clock, past every stop.
+  goTo(clock) {
+    while (this.clock !== clock) this.one(clock < this.clock ? `back ${this.clock - clock}` : `go ${clock - this.clock}`);
+  }
+
   // Bytes from a physical address on, as many as there are.
   dump(address, count) {
     const found = new Uint8Array(Math.max(0, Math.min(count, MEMORY - address)));
@@ -96,7 +101,12 @@ export class Session {
 
   // What happens in so many clocks, past all stops, as lines of the probe's events.
   lines(clocks, kinds) {
-    const found = this.many(`events ${clocks} ${kinds}`), last = found.pop();
+    return this.happenings(`events ${clocks} ${kinds}`);
+  }
+
+  // What a command tells that goes on by clocks, and ends with where it is.
+  happenings(command) {
+    const found = this.many(command), last = found.pop();
     this.clock = Number(last.slice(6));
     return found;
   }
