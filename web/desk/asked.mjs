@@ -3,7 +3,7 @@
 import {registersOf} from './machine.mjs';
 import {grouped, hex, far, hexOf, physical} from './session.mjs';
 
-const MOST_CALLS = 64, LONGEST_TEXT = 2000, LONGEST_NAME = 64; // signs of a text, as many as the screen has, and of a name
+const MOST_CALLS = 64, LONGEST_TEXT = 2000, LONGEST_NAME = 64; // signs: as many as the screen has, and of a name
 const LOADED = /^(B0..B402|B402B0..)$/, MOV_DL = 0xb2, LAST_TEXT_MODE = 3, OWN_MODE = 7, DOLLAR = 0x24;
 const DIRECTORY = 0x200, ENTRIES = 48, ENTRY = 32;
 const latin = new TextDecoder('latin1');

@@ -1,16 +1,37 @@
-// How a run left its program's instructions: by a step to where none is, by a return of a word that isn't its own, by a
-// push over instructions; and what was written where nothing keeps it.
+// How a run left its program's instructions: to 0000:0000, by a step to where none is, by a return of a word that isn't
+// its own, by a push over instructions; and what was written where nothing keeps it.
 import {CALLING, PREFIXES, formOf, learn} from './forms.mjs';
-import {codeOf} from './listing.mjs';
+import {eventOf} from './machine.mjs';
 import {STRINGS} from './meant.mjs';
-import {COLOUR, COLOUR_END, opcodeOf, partOf, shownOf, statementOf, textOf} from './run.mjs';
-import {clauses} from './sentences.mjs';
+import {COLOUR, COLOUR_END, lineIn, opcodeOf, partOf, shownOf, statementOf, textOf} from './run.mjs';
+import {clauses, filled} from './sentences.mjs';
 import {far, grouped, hex, hexOf, physical, same} from './session.mjs';
 
 const DATA = ['DB', 'DW', 'DD'], INTO = 0xce, IRET = 0xcf, RET = 0xc3, RETF = 0xcb, CALL = 0xe8, LOOP = 0xe2;
 const NEAR = 32, FEW = 8, DF = 0x400, MOST_LOST = 3, A_TICK = 300_000, HALVES = 60;
+const SERVICES = 'with nothing at FFFF:0000 a source has services that answer (docs/services.md)';
 const IN_RAM = '\nhint: what a program changes stands in RAM, in a segment of its own, and DS or ES names it';
 const FOR_A_STACK = '\nhint: room for the stack lies in RAM, and SP begins at its end';
+
+// By what a run came to 0000:0000, where 00 00 stands: by a vector that nothing set, or by a jump or a return.
+export function ofZero(run) {
+  const [last, after] = run.within(0, session => {
+    session.one('break 0:0');
+    const isThere = session.go(run.clock).startsWith('stop') && !session.dump(0, 2).some(Boolean);
+    return isThere ? [eventOf(session.many('trail').at(-1)), session.clock] : [];
+  });
+  if (!last) return [];
+  const {segment, offset, octets, entry} = last, {advice} = clauses, place = run.place(last), at = far(segment, offset);
+  const endsThere = segment === 0 && ((offset + octets.length) & 0xffff) === 0;
+  const kind = entry !== null || endsThere ? entry : run.formOf(last).type;
+  if (kind === null)
+    return run.tell('to 0000:0000', {after, advice: advice[run.doneBy(last) === 'return' ? 'return' : 'jump']}, last);
+  const none = 'has no quotient (the divisor is 0, or the quotient too large), which enters', type = hex(kind, 2);
+  const enters = run.isDivision(last) ? none : 'enters', vector = 4 * kind;
+  const does = entry === null ? `${place} ${enters} interrupt ${type}` : `at ${at} interrupt ${type} came`;
+  const told = filled(advice[type] ?? advice.other, {services: SERVICES, vector});
+  return run.tell('empty vector', {after, does, kind, vector, advice: told}, last);
+}
 
 // Whether an instruction was 00 00, and no ADD of the source.
 export const isZeros = (run, event) => hexOf(event.octets) === '0000' && statementOf(run.lineAt(event)) !== 'ADD';
@@ -47,7 +68,8 @@ export function ofAstray(run) {
   const [before, event] = wayOut(run) ?? [];
   if (!before) return [];
   const to = far(event.segment, event.offset), line = run.has(event.address) ? run.lineOver(event.address) : null;
-  const isJump = before.entry !== null || event.address !== physical(before.segment, before.offset + before.octets.length);
+  const after = physical(before.segment, before.offset + before.octets.length);
+  const isJump = before.entry !== null || event.address !== after;
   const what = line ? `${shownOf(line)}, ${to}` : `${to}, where the program has no byte`, place = run.place(before);
   const next = new RegExp(event.clock < run.clock ? `^${event.clock} start ${to} ` : ' jammed$');
   const span = Math.min(event.clock, run.clock - 1) - before.clock + 1;
@@ -68,8 +90,8 @@ function* suspicious(run) {
     yield [event, events[n + 1]];
     depth = 0;
   }
-  const isReturn = ([event, after]) => run.doneBy(event) === 'return' && opcodeOf(event) !== IRET && after.entry === null
-    && isSources(event);
+  const isReturn = ([event, after]) => after.entry === null && opcodeOf(event) !== IRET && isSources(event)
+    && run.doneBy(event) === 'return';
   const returns = run.steps.filter(isReturn), ends = returns.map(([, after]) => endsBefore(run, after));
   learn(run.library, ends.flat());
   yield* returns.filter((_, n) => !ends[n].some(end => isCall(run.library, end)));
@@ -113,11 +135,12 @@ export function ofAnEarlyEnd(run) {
   if (!last || opcodeOf(last) !== RET) return [];
   const calls = run.firsts.filter(event => opcodeOf(event) === CALL).map(event => [run.targetOf(event)?.[1], event]);
   const entries = calls.filter(([to, event]) => event.segment === last.segment && to <= last.offset);
-  const within = Math.max(...entries.map(([to]) => to)), by = entries.length ? entered(run, last.segment, within) : null;
+  const within = Math.max(...entries.map(([to]) => to)), by = entries.length && entered(run, last.segment, within);
   if (!by) return [];
   const label = run.listing.labelBefore(last.segment, within), after = by.offset + by.octets.length;
   const call = entries.findLast(([to]) => to === within)[1], values = {label, by: run.place(by)};
-  if (by.segment === last.segment && after === within) return run.tell('ran on', {...values, call: run.place(call)}, last);
+  const isNext = by.segment === last.segment && after === within;
+  if (isNext) return run.tell('ran on', {...values, call: run.place(call)}, last);
   const isOpen = opcodeOf(by) === CALL && !run.meets(`break ${hex(by.segment)}:${hex(after)}`, by.clock);
   return isOpen ? run.tell('ended within', values, last) : [];
 }
@@ -138,10 +161,11 @@ export function ofCodeInTheStack(run) {
   const {registers: {SS, SP}, listing, ramEnd, board} = run, top = physical(SS, SP);
   for (const [address, line] of [...listing.at].sort(([a], [b]) => a - b)) {
     const {shown} = line, size = shown.length, isNear = top - NEAR <= address && address <= top + 1 && address < ramEnd;
-    if (!isNear || !size || [...DATA, ''].includes(statementOf(line)) || same(board.dump(address, size), shown)) continue;
-    const by = run.lastChange(`changes ${hex(address, 5)} ${size}`), code = codeOf(line.text).trim();
+    const isCode = isNear && size && ![...DATA, ''].includes(statementOf(line));
+    if (!isCode || same(board.dump(address, size), shown)) continue;
+    const by = run.lastChange(`changes ${hex(address, 5)} ${size}`);
     if (by && run.hasPushed(by))
-      return run.tell('over code', {address, size, line: line.number, code, ...mostPushed(run, by.clock)}, by);
+      return run.tell('over code', {address, size, ...lineIn(line), ...mostPushed(run, by.clock)}, by);
   }
   return [];
 }

@@ -25,9 +25,7 @@ export class Chips {
     }
   }
 
-  value(line, word) {
-    return this.lines[line][word];
-  }
+  value(line, word) { return this.lines[line][word]; }
 
   // Running, halted, halted for good, or jammed.
   get state() {
@@ -36,13 +34,9 @@ export class Chips {
   }
 
   // Whether the processor takes requests: IF is 1.
-  get isOpen() {
-    return this.value('processor', 'IF') === '1';
-  }
+  get isOpen() { return this.value('processor', 'IF') === '1'; }
 
-  get isHalted() {
-    return this.value('processor', 'state') === 'halted';
-  }
+  get isHalted() { return this.value('processor', 'state') === 'halted'; }
 
   // The interrupt controller's registers.
   get controller() {
@@ -55,10 +49,7 @@ export class Chips {
   }
 
   // The word of text memory that the adapter shows first, or null if it shows nothing.
-  get start() {
-    const {start, video} = this.lines.adapter;
-    return video === '1' ? parseInt(start, 16) % 2048 : null;
-  }
+  get start() { const {start, video} = this.lines.adapter; return video === '1' ? parseInt(start, 16) % 2048 : null; }
 }
 
 

@@ -58,10 +58,7 @@ export function learn(library, them) {
 }
 
 // The form of the instruction that these bytes begin with.
-export function formOf(library, octets) {
-  learn(library, [octets]);
-  return known.get(hexOf(octets));
-}
+export function formOf(library, octets) { learn(library, [octets]); return known.get(hexOf(octets)); }
 
 // Whether what loads SP takes it from BP, as the end of a routine with a frame does: MOV SP,BP, or LEA SP with BP.
 export function isByFrame(octets) {

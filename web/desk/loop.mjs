@@ -61,8 +61,7 @@ export function ofLoop(run) {
     return run.tell('no way out', {...values, row, steps, registers: round, first, span: last - first, rest});
   }
   const on = registers.FL & IF ? ', or an interrupt' : '', [port] = ports;
-  const rest = isStill && ports.length === 1
-    ? `\nnothing leads out but what port ${hex(port, 2)}h reads${on}` : '';
+  const rest = isStill && ports.length === 1 ? `\nnothing leads out but what port ${hex(port, 2)}h reads${on}` : '';
   const silent = ports.find(each => !ANSWERING.includes(each)), begin = Math.max(0, clock - NEAR);
   const none = silent === undefined ? [] : run.tell('no port', {port: silent, first: begin, span: clock - begin});
   return [...run.tell('waits', {...values, rest}), ...none];

@@ -1,7 +1,7 @@
 // What lines that ran do, and are hardly meant to.
 import {NAMES} from './keys.mjs';
 import {codeOf, labelIn} from './listing.mjs';
-import {opcodeOf, shownOf, statementOf, TEXT, TEXT_END} from './run.mjs';
+import {TEXT, TEXT_END, lineIn, opcodeOf, statementOf} from './run.mjs';
 import {clauses, filled} from './sentences.mjs';
 import {far, hexOf, physical} from './session.mjs';
 
@@ -31,7 +31,8 @@ function ofSegments(run) {
 
 // The first line that reaches the label of another segment by a DS of 0.
 function ofDataSegment(run) {
-  const labels = new Map([...run.listing.labels].filter(([, [segment]]) => segment).map(it => [it[0].toUpperCase(), it]));
+  const placed = [...run.listing.labels].filter(([, [segment]]) => segment);
+  const labels = new Map(placed.map(it => [it[0].toUpperCase(), it]));
   for (const event of run.firsts) {
     const code = codeOf(run.lineAt(event).text);
     const [name, at] = labels.get(/\[(?:[^\]:]*\+)?\s*([A-Za-z_]\w*)\s*[\]+]/.exec(code)?.[1].toUpperCase()) ?? [];
@@ -45,12 +46,13 @@ function ofDataSegment(run) {
 function ofThePrefix(run) {
   const {lines, rows} = run.listing, placed = [...lines, ...rows].filter(line => line.address);
   const is = (line, look) => look.test(codeOf(line.said));
-  const data = placed.filter(line => physical(...line.address) >= VECTORS_END && is(line, /\bD[BWD]\b/i)), [first] = data;
+  const isData = line => physical(...line.address) >= VECTORS_END && is(line, /\bD[BWD]\b/i);
+  const data = placed.filter(isData), [first] = data;
   const isLoading = placed.some(line => is(line, /\b(MOV|POP)\s+DS\b|\bLDS\b|\b[CES]S\s*:/i));
   if (!first || !run.firsts.length || isLoading) return [];
-  const {DS} = run.registersAt(run.firsts[0].clock), [segment] = first.address, code = codeOf(first.text).trim();
-  const isElsewhere = data.every(line => line.address[0] !== DS);
-  return isElsewhere ? run.tell('prefix', {ds: DS, number: first.number, code, segment}) : [];
+  const {DS: ds} = run.registersAt(run.firsts[0].clock), [segment] = first.address;
+  const {line: number, code} = lineIn(first);
+  return data.every(line => line.address[0] !== ds) ? run.tell('prefix', {ds, number, code, segment}) : [];
 }
 
 // A near jump to a label of another segment.
@@ -81,8 +83,8 @@ function ofDoubts(run) {
 function ofVectors(run) {
   const isOne = ({address, text}) => address && physical(...address) < VECTORS_END && physical(...address) % 4
     && /\bDW\s+\w+\s*,\s*SEG\s/i.test(codeOf(text));
-  const line = run.listing.lines.find(isOne), address = line && physical(...line.address);
-  return line ? run.tell("vector's place", {line: line.number, code: codeOf(line.text).trim(), address}) : [];
+  const line = run.listing.lines.find(isOne);
+  return line ? run.tell("vector's place", {...lineIn(line), address: physical(...line.address)}) : [];
 }
 
 // A port that the program reads, and where nothing answers.
@@ -127,11 +129,11 @@ function ofWordsFromBytes(run) {
   for (const event of run.firsts) {
     const by = opcodeOf(event) === 0x8b ? BY_FORM[event.octets.at(-1) & 0xc7] : null;
     const name = OF_WORDS.includes(opcodeOf(event)) ? 'SI' : by;
-    const [first] = name ? run.registersOften(event) : [], block = first && blockAt(run, physical(first.DS, first[name]));
+    const placeIn = it => physical(it.DS, it[name]), [first] = name ? run.registersOften(event) : [];
+    const block = first && blockAt(run, placeIn(first));
     if (!block) continue;
     const {line, end} = block, last = 2 * end + 2 - physical(...line.address);
-    const reached = [...run.registersOften(event)].slice(1).map(at => physical(at.DS, at[name]));
-    const beyond = reached.find(at => end + 2 <= at && at < last);
+    const beyond = [...run.registersOften(event)].slice(1).map(placeIn).find(at => end + 2 <= at && at < last);
     if (beyond !== undefined) return run.tell('words from bytes', {line: line.number, address: beyond}, event);
   }
   return [];

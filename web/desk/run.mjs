@@ -7,16 +7,18 @@ import {clauses, filled, rowOf} from './sentences.mjs';
 import {markOf} from './services.mjs';
 import {Session, bytesOf, far, hex, hexOf, physical, unrefused} from './session.mjs';
 
-export const A_SECOND = 4_772_727, SERVICES = 0xf6000, COLOUR = 0xb8000, COLOUR_END = 0xc0000;
-export const TEXT = 0xb0000, TEXT_END = 0xb0fff, IF = 0x200, TF = 0x100;
+const A_SECOND = 4_772_727, SERVICES = 0xf6000, COLOUR = 0xb8000, COLOUR_END = 0xc0000;
+const TEXT = 0xb0000, TEXT_END = 0xb0fff, IF = 0x200, TF = 0x100;
+export {A_SECOND, SERVICES, COLOUR, COLOUR_END, TEXT, TEXT_END, IF, TF};
 const FIRST = 50_000, LAST = 5000, OFTEN = 64, ROM = 0xf0000;
 const LONG = 1000, LONGEST = 2_000_000; // clocks that no instruction takes, and no repeated one
 const STATEMENT = /^\s*(?:\w+\s*:(?!\s*\[))?\s*(?:(?:LOCK|REPN?[EZ]?|[ECSD]S:)\s*)*(\w+)/i;
 
 // The first word of a line's statement.
 export const statementOf = line => (line && STATEMENT.exec(codeOf(line.said))?.[1].toUpperCase()) || '';
-// A line's number and what it says.
+// A line's number and what it says, in words and as values.
 export const shownOf = line => `line ${line.number} (${codeOf(line.text).trim()})`;
+export const lineIn = line => ({line: line.number, code: codeOf(line.text).trim()});
 export const spaced = octets => hexOf(octets).replace(/..(?=.)/g, '$& ');
 // An event as the trail has it.
 export const textOf = ({clock, segment, offset, octets, text}) =>
@@ -67,33 +69,21 @@ export class Run {
     this.free = new Session(library, files);
   }
 
-  close() {
-    this.free.close();
-  }
+  close() { this.free.close(); }
 
   // What is found of it, once it is asked for.
-  once(name, find) {
-    if (!(name in this.known)) this.known[name] = find();
-    return this.known[name];
-  }
+  once(name, find) { if (!(name in this.known)) this.known[name] = find(); return this.known[name]; }
 
   // Asking
 
   // What is done with a session of its own at a clock.
   within(clock, work) {
     const session = new Session(this.library, this.files);
-    try {
-      session.goTo(clock);
-      return work(session);
-    } finally {
-      session.close();
-    }
+    try { session.goTo(clock); return work(session); } finally { session.close(); }
   }
 
   // The lines that commands are answered.
-  answers(commands) {
-    return this.within(0, session => commands.flatMap(command => session.many(command)));
-  }
+  answers(commands) { return this.within(0, session => commands.flatMap(command => session.many(command))); }
 
   // A row's sentence, if it is a guess, or pcprobe answers so; of an event with its clock, its place and its bytes.
   tell(name, more = {}, event = null) {
@@ -133,18 +123,11 @@ export class Run {
   }
 
   // The session that has no stops, at a clock.
-  at(clock) {
-    this.free.goTo(clock);
-    return this.free;
-  }
+  at(clock) { this.free.goTo(clock); return this.free; }
 
-  registersAt(clock) {
-    return registersOf(this.at(clock).many('regs'));
-  }
+  registersAt(clock) { return registersOf(this.at(clock).many('regs')); }
 
-  trailAt(clock) {
-    return this.at(clock).many('trail').map(eventOf);
-  }
+  trailAt(clock) { return this.at(clock).many('trail').map(eventOf); }
 
   // What happened
 
@@ -185,9 +168,7 @@ export class Run {
   }
 
   // Whatever began as it began first, by its key.
-  get allFirsts() {
-    return this.once('firsts', () => firstsOf(this.parts.flatMap(part => part.events), it => it.key));
-  }
+  get allFirsts() { return this.once('firsts', () => firstsOf(this.parts.flatMap(part => part.events), it => it.key)); }
 
   // Each instruction of the source's lines as it began first.
   get firsts() {
@@ -209,13 +190,9 @@ export class Run {
   }
 
   // Whether an instruction isn't one of the services.
-  isOwn(event) {
-    return !(this.mark && event.address >= SERVICES);
-  }
+  isOwn(event) { return !(this.mark && event.address >= SERVICES); }
 
-  lineAt(event) {
-    return lineAt(this.listing, event);
-  }
+  lineAt(event) { return lineAt(this.listing, event); }
 
   // The last line whose bytes begin at an address or before it.
   lineOver(address) {
@@ -232,9 +209,7 @@ export class Run {
     return row?.text && row.clock === event.clock ? `${there} (${row.text})` : there;
   }
 
-  formOf(event) {
-    return formOf(this.library, event.octets);
-  }
+  formOf(event) { return formOf(this.library, event.octets); }
 
   // What an instruction does, by the word of `forms`; an entry is as INT.
   doneBy(event) {
@@ -242,14 +217,10 @@ export class Run {
   }
 
   // Whether what has written somewhere has pushed.
-  hasPushed(event) {
-    return event.entry !== null || this.formOf(event).pushes;
-  }
+  hasPushed(event) { return event.entry !== null || this.formOf(event).pushes; }
 
   // Whether it enters interrupt 0 if it has no quotient.
-  isDivision(event) {
-    return this.doneBy(event) === 'may-enter' && this.formOf(event).type === 0;
-  }
+  isDivision(event) { return this.doneBy(event) === 'may-enter' && this.formOf(event).type === 0; }
 
   // The place that a jump or call has in its own bytes, as [segment, offset]; null of another instruction.
   targetOf(event) {

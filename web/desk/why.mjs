@@ -2,17 +2,16 @@
 // answers must show and lack, and the sentence; one without commands is a guess, and begins with 'perhaps'. Here is
 // found what may have been so.
 import {ofCalls} from './asked.mjs';
-import {isZeros, ofAnEarlyEnd, ofAstray, ofCodeInTheStack, ofLostWrites, ofReturns} from './astray.mjs';
+import {isZeros, ofAnEarlyEnd, ofAstray, ofCodeInTheStack, ofLostWrites, ofReturns, ofZero} from './astray.mjs';
 import {endsBefore, factsOf} from './chips.mjs';
 import {PREFIXES} from './forms.mjs';
 import {codeOf} from './listing.mjs';
 import {ofLoop} from './loop.mjs';
 import {ofTheSource} from './meant.mjs';
-import {A_SECOND, Run, shownOf, spaced, textOf} from './run.mjs';
+import {A_SECOND, Run, lineIn, shownOf, spaced, textOf} from './run.mjs';
 import {clauses} from './sentences.mjs';
 import {remarksOf} from './services.mjs';
 import {LAST_CLOCK, far, grouped, hex, physical} from './session.mjs';
-import {ofZero} from './zero.mjs';
 
 // So many clocks are run anew, a tenth of a second's work; of a longer run what waits most of what comes after them: if
 // about so few instructions begin there, by those that do in so many clocks.
@@ -21,16 +20,18 @@ const ZEROS = 4, NEAR = 32, TEXT_MEMORY = 0xb0000, CELLS = 2000, CALLED = /\bINT
 
 // What bytes that jam the 8086 are on a later processor, as a clause.
 function later(octets) {
-  const plain = octets.slice(octets.findIndex(it => !PREFIXES.has(it))), code = spaced(plain.slice(0, plain[0] === 0x0f ? 2 : 1));
+  const plain = octets.slice(octets.findIndex(it => !PREFIXES.has(it))), length = plain[0] === 0x0f ? 2 : 1;
+  const code = spaced(plain.slice(0, length));
   return code in clauses.later ? `${code} is ${clauses.later[code]}` : '';
 }
 
 // Where the processor jammed, at which bytes, and what ran before; what led there may be told already.
 function ofJam(run, isLed) {
-  const {CS, IP} = run.registers, address = physical(CS, IP), octets = run.board.dump(address, 6), {lines, at} = run.listing;
-  const found = run.tell('jammed', {address, place: far(CS, IP), octets: spaced(octets)}), last = run.trail.at(-1);
+  const {registers: {CS, IP}, listing: {lines, at}} = run, address = physical(CS, IP), last = run.trail.at(-1);
+  const octets = run.board.dump(address, 6), line = at.get(address);
+  const changed = line ? ofChangedCode(run, line, octets) : [];
+  const found = run.tell('jammed', {address, place: far(CS, IP), octets: spaced(octets)});
   if (!last) return [...found, ...ofNoStart(run)];
-  const line = at.get(address), changed = line ? ofChangedCode(run, line, octets) : [];
   const isCode = line ? !codeOf(line.text).includes("'") : !lines.length, what = isCode ? later(octets) : '';
   found.push(...(changed.length || !what ? changed : run.tell('later processor', {what})));
   found.push(...run.tell('last before', {row: textOf(last)}));
@@ -40,20 +41,18 @@ function ofJam(run, isLed) {
 
 // Why nothing has begun.
 function ofNoStart(run) {
-  const {lines} = run.listing, call = lines.find(line => CALLED.test(codeOf(line.text)));
-  const services = 'a desk without --bare', {number, text} = call ?? {};
-  if (call) return run.tell('bare call', {line: number, code: codeOf(text).trim(), services});
-  const isHex = run.files.isHex, own = 'SEGMENT RESET AT 0FFFFh, JMP FAR start, ENDS';
-  return run.tell('no reset', {instead: isHex ? "is a ROM's file loaded at its own address?" : own});
+  const call = run.listing.lines.find(line => CALLED.test(codeOf(line.text)));
+  if (call) return run.tell('bare call', {...lineIn(call), services: 'a desk without --bare'});
+  const own = 'SEGMENT RESET AT 0FFFFh, JMP FAR start, ENDS', rom = "is a ROM's file loaded at its own address?";
+  return run.tell('no reset', {instead: run.files.isHex ? rom : own});
 }
 
 // What the source placed where other bytes are now, and which instruction changed the first of these last.
 function ofChangedCode(run, line, octets) {
   const place = line.shown.findIndex((octet, n) => n < octets.length && octet !== octets[n]);
   const address = physical(...line.address) + place;
-  const last = place < 0 ? null : run.lastChange(`changes ${hex(address, 5)}`);
-  const values = {line: line.number, code: codeOf(line.text).trim(), octets: spaced(line.shown)};
-  return last ? run.tell('changed', {address, value: octets[place], ...values}, last) : [];
+  const last = place < 0 ? null : run.lastChange(`changes ${hex(address, 5)}`), was = spaced(line.shown);
+  return last ? run.tell('changed', {address, value: octets[place], ...lineIn(line), octets: was}, last) : [];
 }
 
 // Text memory that would be seen, if it were shown.
@@ -91,7 +90,8 @@ function ofTheEnd(run) {
   const astray = zero.length ? zero : [...ofZeros(run), ...(over.length ? [] : ofAstray(run))];
   const returns = zero.length ? [] : ofReturns(run, astray.length > 0 || isJammed);
   const end = isJammed ? ofJam(run, [...astray, ...returns, ...over].length > 0) : ofBlank(run);
-  return [...end, ...over, ...returns, ...astray, ...ofHalt(run), ...ofLostWrites(run), ...(zero.length ? [] : ofLoop(run))];
+  const loop = () => (zero.length ? [] : ofLoop(run));
+  return [...end, ...over, ...returns, ...astray, ...ofHalt(run), ...ofLostWrites(run), ...loop()];
 }
 
 // What keeps an interrupt or a key away, a second later too.
@@ -103,14 +103,15 @@ async function ofChips(run) {
   const hasVector = level => vectors.slice(4 * level, 4 * level + 4).some(Boolean);
   const wantsKeys = hasVector(1) && !(controller.masked & 2), isTaken = () => run.meets('when entries');
   for (const [name, values] of await factsOf(chips, kind => endsBefore(board, kind))) {
-    const {level = 0, since} = values, span = clock - since - 1, more = {span, back: A_SECOND + span, kind: base + level};
+    const {level = 0, since} = values, span = clock - since - 1;
     if (name === 'masked' && controller.masked !== 0xff) {
       if (hasVector(level) && !isTaken()) found.push(...run.tell('masked, others not', values));
       continue;
     }
     const isPlain = chips.value('controller', 'IC4') === '0' && controller.awaited === 'none';
-    const isWanted = {'no count': () => hasVector(0) && !isTaken(), keys: () => wantsKeys, initialisation: () => !isPlain};
-    if (isWanted[name]?.() ?? true) found.push(...run.tell(name, {...more, ...values}));
+    const isKept = {keys: !wantsKeys, initialisation: isPlain, 'no count': !hasVector(0)}[name] ?? false;
+    if (isKept || (name === 'no count' && isTaken())) continue;
+    found.push(...run.tell(name, {span, back: A_SECOND + span, kind: base + level, ...values}));
   }
   const isAwaited = chips.isHalted && chips.isOpen && wantsKeys && !run.mark && !run.files.run.keys.length;
   return isAwaited ? [...found, ...run.tell('no key', {keys: 'click the screen and type'})] : found;
@@ -138,8 +139,9 @@ function isShort(run) {
 
 // What is asked about a run, one after the other.
 function* questionsOf(run) {
-  const placeOf = (...place) => byLine(run, ...place), {left, mark} = run, remarks = left ? remarksOf(left, placeOf) : [];
-  yield () => remarks.flatMap(remark => run.tell('services', {remark, address: mark - 2}));
+  const placeOf = (...place) => byLine(run, ...place), {left, mark} = run;
+  const remarks = () => (left ? remarksOf(left, placeOf) : []);
+  yield () => remarks().flatMap(remark => run.tell('services', {remark, address: mark - 2}));
   yield () => ofCalls(run, placeOf);
   if (run.isEnded) {
     yield () => (left.how ? ofAnEarlyEnd(run) : ofADivision(run));
@@ -153,16 +155,15 @@ function* questionsOf(run) {
 // questions.
 export async function whyOf(library, board, listing) {
   if (board.changes.deeds.length) return [];
-  const run = new Run(library, board, listing), found = [], busy = `no more than ${grouped(REACH)} busy ones are made again`;
+  const run = new Run(library, board, listing), clocks = grouped(run.clock), most = grouped(REACH);
+  const busy = `nothing was asked of this run: of ${clocks} clocks no more than ${most} busy ones are made again`;
+  const found = [];
   try {
-    if (!isShort(run)) return [`nothing was asked of this run: of ${grouped(run.clock)} clocks ${busy}`];
-    for (const question of questionsOf(run)) {
-      found.push(...(await question()));
-      await board.breathe();
-    }
+    if (!isShort(run)) return [busy];
+    for (const question of questionsOf(run)) { found.push(...(await question())); await board.breathe(); }
   } finally {
     run.close();
   }
-  const isTold = found.some(({name}) => name === 'no port'), them = found.filter(({name}) => !isTold || name !== 'unanswered port');
-  return them.flatMap(({text}) => text.split('\n'));
+  const isTold = found.some(({name}) => name === 'no port');
+  return found.flatMap(({name, text}) => (isTold && name === 'unanswered port' ? [] : text.split('\n')));
 }

@@ -22,7 +22,7 @@ LIBRARY, CRATE = 'zebludor.wasm', 'zebludor_program'
 # Where the library is, if $ZEBLUDOR_WASM names none: built here, or stored.
 PLACES = (f'{TOP}/crates/zebludor_program/out/wasm', f'{TOP}/stored')
 ALONE = 'local.js'  # which a page without a server has in the place of the page's served.js
-TABLES = ('clauses', 'faults', 'hints', 'sentences', 'services')
+TABLES = ('clauses', 'faults', 'hints', 'keys', 'port_words', 'sentences', 'services')
 LACKING = f'there is no {LIBRARY} of the present sources, by which the page runs the board; dev/build zebludor_program --target wasm makes it'
 
 
