@@ -76,8 +76,8 @@ class Why(ToolCase):
 
     def check(self, case: Case) -> None:
         """The same is told of a case."""
-        clock, told = self.told_by_python(case)
-        wanted = '\n'.join(one.text for one in told)
+        clock, sentences = self.told_by_python(case)
+        wanted = '\n'.join(one.text for one in sentences)
         for was, written in OTHERWISE:
             wanted = wanted.replace(was, written)
         how = {'services': True} if case.is_served else {'bare': True}
@@ -86,7 +86,7 @@ class Why(ToolCase):
         self.engine.ask({'do': 'go to', 'board': opened['board'], 'clock': clock})
         found = self.engine.ask({'do': 'why', 'board': opened['board']})
         self.assertEqual('\n'.join(found.get('told', [str(found)])), wanted, case)
-        self.drawn |= {one.name for one in told}
+        self.drawn |= {one.name for one in sentences}
 
     def check_all(self, cases: Iterator[Case]) -> None:
         """So of each."""

@@ -10,7 +10,8 @@ from typing import Callable, Iterator, NamedTuple
 
 from toolbox import reading
 from toolbox.command import Sorry
-from toolbox.listing import image_of, line_of, placed_labels
+from toolbox.intel_hex import image_of
+from toolbox.listing import line_of, placed_labels
 from toolbox.program import TOP, Files, Session, answer_of, run
 from toolbox.runfile import read_run_file
 from toolbox.tables import tables

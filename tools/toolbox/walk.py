@@ -11,7 +11,8 @@ from zebludor import Happening, happening_of
 from toolbox.asking import Raw, Told, ask
 from toolbox.command import handed_on
 from toolbox.forms import PREFIXES, form_of, learn
-from toolbox.listing import Line, Listing, code_of, image_of, physical
+from toolbox.intel_hex import image_of
+from toolbox.listing import Line, Listing, code_of, physical
 from toolbox.places import Event, event_of, line_at
 from toolbox.program import Files, ProbeSession, answer_of
 from toolbox.report import A_SECOND, Report, registers_of

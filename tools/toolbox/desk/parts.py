@@ -7,10 +7,11 @@ import os
 import re
 from typing import Any
 
+from zebludor import TOP
+
 from toolbox.command import Sorry, named, read_bytes, read_text
 from toolbox.crates import Crates
 from toolbox.foreign import OWN
-from toolbox.program import TOP
 from toolbox.runfile import DEFAULTS
 from toolbox.sources import sum_of_sources
 from toolbox.tables import tables

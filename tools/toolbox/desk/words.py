@@ -12,7 +12,7 @@ from toolbox.desk.drafts import Change, Drafts
 from toolbox.desk.files import Given, Kept, difference
 from toolbox.desk.http import Refused
 from toolbox.desk.pages import examples, files_of, grammar, page_of
-from toolbox.listing import image_of
+from toolbox.intel_hex import image_of
 from toolbox.runfile import DEFAULTS
 from toolbox.symbols import symbols_of
 

@@ -70,6 +70,6 @@ def written(port: int, byte: int, before: list[tuple[int, int]]) -> str:
     words = tables('port_words').get(name_after(before) if port == 0x21 else f'{port:X}', [])
     for mask, value, head, *parts in words:
         if byte & int(mask, 16) == int(value, 16):
-            told = ', '.join(filter(None, (said_by(part, byte) for part in parts)))
-            return said_by(head, byte) + (told or 'nothing' if parts else '')
+            rest = ', '.join(filter(None, (said_by(part, byte) for part in parts)))
+            return said_by(head, byte) + (rest or 'nothing' if parts else '')
     return ''
