@@ -36,6 +36,16 @@ LONG = (
     (' MOV BX,50\nouter: MOV CX,5000\nover: LOOP over\n DEC BX\n JNZ outer\n HLT', 2000),
     ('over: IN AL,63h\n TEST AL,80h\n JNZ over', 100_000),
 )
+# Programs with services: calls of what isn't there, and of what is; how they end.
+SERVED = (
+    " MOV AH,9\n MOV DX,msg\n INT 21h\n INT 20h\nmsg: DB 'no end'",
+    " MOV AL,'x'\n MOV AH,2\n INT 21h\n INT 20h",
+    " MOV AX,3D00h\n MOV DX,name\n INT 21h\n INT 20h\nname: DB 'none.txt',0",
+    ' MOV AH,0Fh\n INT 21h\n MOV AH,0Fh\n INT 21h\n MOV CX,3\nmore: MOV AX,5\n INT 13h\n LOOP more\n INT 3',
+    ' MOV BL,0\n DIV BL\n INT 20h',
+    " CALL show\n INT 20h\nshow: MOV DL,'a'\n MOV AH,2\n INT 21h\n POP AX\n RET",
+    ' JMP start',
+)
 # How a page gives keys and services, for how Python's tools do.
 OTHERWISE = (
     (nowhere.WITH_SERVICES, 'with nothing at FFFF:0000 a source has services that answer (docs/services.md)'),
@@ -123,6 +133,12 @@ class Why(ToolCase):
         for lines in test_accusing.SERVED_ROWS.values():
             self.check(Case(f'SEGMENT MAIN AT 100h\n ORG 100h\nstart:\n{lines}\nENDS\n', DEFAULTS, is_served=True))
         self.assertEqual(set(rows()) - self.drawn, set())
+
+    def test_services(self) -> None:
+        """Calls that ask for what isn't there, or that aren't among the services', and ends of programs."""
+        sources = (f'SEGMENT MAIN AT 100h\n ORG 100h\nstart:\n{lines}\nENDS\n' for lines in SERVED)
+        self.check_all(Case(source, DEFAULTS | {'budget': 3_000_000}, is_served=True) for source in sources)
+        self.assertLessEqual({'asked for', 'services', 'division'}, self.drawn)
 
     def of_mistake(self, mistake: test_accusing.Mistake) -> Case:
         """A program with a mistake."""

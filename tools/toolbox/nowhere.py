@@ -51,9 +51,8 @@ BY_FORM = {0x04: 'SI', 0x05: 'DI', 0x07: 'BX'}
 LOADS_AL = {0xB0, 0xB8, 0xAC, 0xAD, 0xD7, 0xA0, 0xA1}
 INTO, IRET, STRINGS, DF = 0xCE, 0xCF, {0xA4, 0xA5, 0xAA, 0xAB}, 0x400
 WITH_SERVICES = f'or let {tool("try")} --services put such calls into ROM (docs/services.md)'
-ADVICE: dict[str, str] = tables('clauses')['advice']
-IN_RAM = '\nhint: what a program changes stands in RAM, in a segment of its own, and DS or ES names it'
-FOR_A_STACK = '\nhint: room for the stack lies in RAM, and SP begins at its end'
+CLAUSES: dict[str, dict[str, str]] = tables('clauses')
+ADVICE = CLAUSES['advice']
 CALLED = re.compile(r'\bINT\s+(10|16|1A|20|21)h', re.I)
 
 
@@ -93,8 +92,8 @@ def of_calls(run: Run) -> list[Told]:
 
     found = dict[str, list[Told]]()
     for call in doubtful(run.files, run.end):
-        remark = call.says.replace('{place}', by_line(run, call.place))
-        if remark not in found and not (call.file and is_on_disk(run, call.file)):
+        remark = CLAUSES['asked'][call.says].format(place=by_line(run, call.place), **call.values)
+        if remark not in found and not (call.says == 'file' and is_on_disk(run, str(call.values['file']))):
             found[remark] = run.tell('asked for', at=call.clock, remark=remark, address=call.address, count=call.count, **call.registers)
     return [one for them in found.values() for one in them]
 
@@ -375,7 +374,7 @@ def most_pushed(run: Run, clock: int) -> dict[str, object]:
         line = run.listing.at.get(physical(*(int(word, 16) for word in place.split(':')))) if ':' in place else None
         if line and int(times) >= count and (form := form_of(line.shown)).pushes and form.does != 'may-enter':
             most, count, found = f'line {line.number} ({code_of(line.text).strip()})', int(times), row
-    advice = f'{most} is never undone: each PUSH has its POP, each CALL its RET' if count > FEW else 'SP begins too low: it begins at the end of its room'
+    advice = CLAUSES['pushed']['many' if count > FEW else 'few'].format(most=most)
     return {'most': most, 'times': f'{count:,}', 'row': found, 'perhaps': advice}
 
 
@@ -392,9 +391,8 @@ def of_lost_writes(run: Run) -> list[Told]:
                 continue
             known.add(event[1:])
             if len(found) < 3:
-                does, advice = ('pushes to', FOR_A_STACK) if has_pushed(event) else ('writes to', IN_RAM)
-                is_told = found or COLOUR <= address < COLOUR_END
-                found += run.tell('lost write', event, address=address, does=does, wrong=wrong, advice='' if is_told else advice)
+                does, is_told = 'pushes to' if has_pushed(event) else 'writes to', found or COLOUR <= address < COLOUR_END
+                found += run.tell('lost write', event, address=address, does=does, wrong=wrong, advice='' if is_told else CLAUSES['lost'][does])
                 found += of_direction(run, event) + of_a_count(run, event) if len(found) == 1 else []
     return found
 

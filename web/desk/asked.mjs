@@ -1,7 +1,8 @@
 // Calls of services that were made, and ask for what isn't there: a text without its $, a mode of another adapter, a
 // character in the wrong register, a file. A session stops where each of these calls begins.
 import {registersOf} from './machine.mjs';
-import {grouped, hex, far, hexOf, physical} from './session.mjs';
+import {clauses, filled} from './sentences.mjs';
+import {far, hexOf, physical} from './session.mjs';
 
 const MOST_CALLS = 64, LONGEST_TEXT = 2000, LONGEST_NAME = 64; // signs: as many as the screen has, and of a name
 const LOADED = /^(B0..B402|B402B0..)$/, MOV_DL = 0xb2, LAST_TEXT_MODE = 3, OWN_MODE = 7, DOLLAR = 0x24;
@@ -10,10 +11,9 @@ const latin = new TextDecoder('latin1');
 
 // A text that no $ ends soon. One that goes past its segment's end isn't looked at.
 function ofText(session, {registers: {DS, DX}}) {
-  const address = physical(DS, DX);
-  if (DX + LONGEST_TEXT > 0x10000 || session.dump(address, LONGEST_TEXT).includes(DOLLAR)) return null;
-  const writes = `which function 09h of INT 21h, called {place}, writes: ${grouped(LONGEST_TEXT)} signs and more`;
-  return {says: `no $ ends the text at ${far(DS, DX)}, ${writes}`, address, count: LONGEST_TEXT};
+  const address = physical(DS, DX), count = LONGEST_TEXT;
+  if (DX + count > 0x10000 || session.dump(address, count).includes(DOLLAR)) return null;
+  return {says: 'text', values: {text: far(DS, DX), most: count}, address, count};
 }
 
 // A character that stands in AL, with 0 in DL, or is loaded just before the call, after no load of DL.
@@ -21,29 +21,25 @@ function ofCharacter(session, {registers: {AX, DX}, address}) {
   const sign = AX & 0xff, before = session.dump((address - 6) & 0xfffff, 6);
   const isLoaded = before[0] !== MOV_DL && LOADED.test(hexOf(before.slice(2)));
   if (sign < (isLoaded ? 0x20 : 0x21) || sign >= 0x7f || (DX & 0xff && !isLoaded)) return null;
-  const [shown, quote] = [String.fromCharCode(sign), sign === 0x27 ? '"' : "'"];
-  const writes = `writes DL, and AL has ${quote}${shown === '\\' ? '\\\\' : shown}${quote}: the sign goes into DL`;
-  return {says: `function 02h of INT 21h, called {place}, ${writes}`};
+  const shown = String.fromCharCode(sign).replace('\\', '\\\\'), quote = shown === "'" ? '"' : "'";
+  return {says: 'character', values: {sign: quote + shown + quote}};
 }
 
 // A mode of graphics, which another adapter has.
 function ofMode(_, {registers: {AX}}) {
   const mode = AX & 0x7f;
-  const has = 'this adapter has no graphics and no colours: every mode is 7, text of 25 rows by 80';
-  if (mode <= LAST_TEXT_MODE || mode === OWN_MODE) return null;
-  return {says: `INT 10h, called {place}, sets mode ${hex(mode, 2)}h, and ${has}`};
+  return mode <= LAST_TEXT_MODE || mode === OWN_MODE ? null : {says: 'mode', values: {mode}};
 }
 
 // A file that isn't on the disk, and is opened.
 function ofFile(session, {named}) {
   const file = latin.decode(session.dump(named, LONGEST_NAME)).split('\0')[0];
-  const opens = 'function 3Dh of INT 21h, called {place}, opens it: --file puts a file there';
-  return /^[ -~]*$/.test(file) ? {says: `${file} isn't on the program's disk, and ${opens}`, file} : null;
+  return /^[ -~]*$/.test(file) ? {says: 'file', values: {file}} : null;
 }
 
 const KINDS = {dos_write_text: ofText, dos_write_char: ofCharacter, bios_mode: ofMode, dos_no_file: ofFile};
 
-// Those among the first calls of a run that ask for what isn't there.
+// Which of the first calls of a run ask for what isn't there.
 function doubtful(run) {
   const kinds = Object.entries(KINDS).map(([name, kind]) => [run.listing.labels.get(name), kind]).filter(([at]) => at);
   return run.within(0, session => {
@@ -73,9 +69,9 @@ function isOnDisk({board, left}, path) {
 // Each by the first time that its place made it; `placeOf` names places.
 export function ofCalls(run, placeOf) {
   const found = new Map();
-  for (const {says, file, place, registers, ...call} of run.mark ? doubtful(run) : []) {
-    const remark = says.replace('{place}', () => placeOf(...place));
-    if (!found.has(remark) && !(file && isOnDisk(run, file)))
+  for (const {says, values, place, registers, ...call} of run.mark ? doubtful(run) : []) {
+    const remark = filled(clauses.asked[says], {...values, place: placeOf(...place)});
+    if (!found.has(remark) && !(says === 'file' && isOnDisk(run, values.file)))
       found.set(remark, run.tell('asked for', {...registers, ...call, remark}));
   }
   return [...found.values()].flat();

@@ -10,8 +10,6 @@ import {far, grouped, hex, hexOf, physical, same} from './session.mjs';
 const DATA = ['DB', 'DW', 'DD'], INTO = 0xce, IRET = 0xcf, RET = 0xc3, RETF = 0xcb, CALL = 0xe8, LOOP = 0xe2;
 const NEAR = 32, FEW = 8, DF = 0x400, MOST_LOST = 3, A_TICK = 300_000, HALVES = 60;
 const SERVICES = 'with nothing at FFFF:0000 a source has services that answer (docs/services.md)';
-const IN_RAM = '\nhint: what a program changes stands in RAM, in a segment of its own, and DS or ES names it';
-const FOR_A_STACK = '\nhint: room for the stack lies in RAM, and SP begins at its end';
 
 // By what a run came to 0000:0000, where 00 00 stands: by a vector that nothing set, or by a jump or a return.
 export function ofZero(run) {
@@ -180,8 +178,7 @@ function mostPushed(run, clock) {
     const form = line && formOf(run.library, line.shown);
     if (form?.pushes && form.does !== 'may-enter' && times >= count) [most, count, found] = [shownOf(line), times, row];
   }
-  const perhaps = count > FEW ? `${most} is never undone: each PUSH has its POP, each CALL its RET`
-    : 'SP begins too low: it begins at the end of its room';
+  const perhaps = filled(clauses.pushed[count > FEW ? 'many' : 'few'], {most});
   return {most, times: grouped(count), row: found, perhaps};
 }
 
@@ -196,8 +193,8 @@ export function ofLostWrites(run) {
       if (!wrong || isTold(event)) continue;
       known.add(event.key);
       if (found.length >= MOST_LOST) continue;
-      const [does, hint] = run.hasPushed(event) ? ['pushes to', FOR_A_STACK] : ['writes to', IN_RAM];
-      const advice = found.length || (COLOUR <= address && address < COLOUR_END) ? '' : hint;
+      const does = run.hasPushed(event) ? 'pushes to' : 'writes to';
+      const advice = found.length || (COLOUR <= address && address < COLOUR_END) ? '' : clauses.lost[does];
       found.push(...run.tell('lost write', {address, does, wrong, advice}, event));
       if (found.length === 1) found.push(...ofDirection(run, event), ...ofACount(run, event));
     }

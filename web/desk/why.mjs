@@ -13,7 +13,7 @@ import {clauses} from './sentences.mjs';
 import {remarksOf} from './services.mjs';
 import {LAST_CLOCK, far, grouped, hex, physical} from './session.mjs';
 
-// So many clocks are run anew, a tenth of a second's work; of a longer run what waits most of what comes after them: if
+// Clocks that are run anew, a tenth of a second's work; a longer run is if it waits most of what comes after them: if
 // about so few instructions begin there, by those that do in so many clocks.
 const REACH = 20_000_000, MOST_STARTS = 3_000_000, SAMPLE = 1_000_000;
 const ZEROS = 4, NEAR = 32, TEXT_MEMORY = 0xb0000, CELLS = 2000, CALLED = /\bINT\s+(10|16|1A|20|21)h/i;
