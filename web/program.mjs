@@ -2,13 +2,14 @@
 import fs from 'node:fs';
 import {fileURLToPath} from 'node:url';
 
-import {originOf} from './origin.mjs';
+import {otherIn} from './origin.mjs';
 import {print, readAll, readFile, readSome, textOf} from './streams.mjs';
 import {Zebludor} from './zebludor.mjs';
 
 const TOP = fileURLToPath(new URL('..', import.meta.url));
 const PLACES = ['crates/zebludor_program/out/wasm', 'stored'];
 const SOURCE = 1048577; // one byte more than a source may have
+const LF = 10;
 const IS_QUIT = /^ *quit *$/;
 const NONE = new Uint8Array();
 const FLAGS = ['--map', '--masm', '--origin'];
@@ -45,13 +46,27 @@ function answerLines(zebludor, session) {
     const piece = readSome(0);
     typed = Buffer.concat([typed, piece]);
     isOpen = piece.length > 0;
-    for (let end; (end = typed.indexOf(10)) >= 0 || (!isOpen && typed.length); ) {
+    for (let end; (end = typed.indexOf(LF)) >= 0 || (!isOpen && typed.length); ) {
       const line = typed.subarray(0, end < 0 ? typed.length : end);
       typed = typed.subarray(end < 0 ? typed.length : end + 1);
       if (IS_QUIT.test(line.toString('latin1'))) return;
       print(1, zebludor.command(session, line).text);
     }
   }
+}
+
+// As `pcmasm --origin` tells it: masm, nasm or dialect and the first line that shows it; null if no line does. The
+// first line that shows MASM is the last of the fewest that do.
+function originOf(library, bytes) {
+  const ends = [...bytes.keys()].filter(at => bytes[at] === LF).concat(bytes.length), other = otherIn(library, bytes);
+  if (other) return other[1] === ends.length + 1 ? null : other;
+  let [without, lines] = [0, ends.length];
+  while (lines - without > 1) {
+    const middle = (without + lines) >> 1;
+    if (otherIn(library, bytes.subarray(0, ends[middle - 1]))) without = middle;
+    else lines = middle;
+  }
+  return ['masm', lines];
 }
 
 // Runs pcboard or pcprobe on its words, and answers the exit status.

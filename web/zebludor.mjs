@@ -8,14 +8,10 @@ const bytesOf = text => (typeof text === 'string' ? new TextEncoder().encode(tex
 export class Zebludor {
   #calls;
 
-  constructor(module) {
-    this.#calls = new WebAssembly.Instance(module).exports;
-  }
+  constructor(module) { this.#calls = new WebAssembly.Instance(module).exports; }
 
   // From now on the library has so many bytes at most, with the texts that are handed to it; 0 lifts the limit.
-  limit(bytes) {
-    this.#calls.zebludor_limit(BigInt(bytes));
-  }
+  limit(bytes) { this.#calls.zebludor_limit(BigInt(bytes)); }
 
   // Runs pcboard or pcprobe on its words, a list or the lines of a text, with the files FILE and RUN and standard
   // input: its exit status and what it prints.
@@ -90,18 +86,11 @@ export class Zebludor {
   }
 
   // Ends a session, and gives its memory back.
-  drop(session) {
-    this.#calls.zebludor_session_drop(session.place);
-    this.#calls.zebludor_give(session.place);
-  }
+  drop(session) { this.#calls.zebludor_session_drop(session.place); this.#calls.zebludor_give(session.place); }
 
-  #at(place, length) {
-    return new Uint8Array(this.#calls.memory.buffer, Number(place), length);
-  }
+  #at(place, length) { return new Uint8Array(this.#calls.memory.buffer, Number(place), length); }
 
-  #numbers(place, length) {
-    return new DataView(this.#calls.memory.buffer, Number(place), length);
-  }
+  #numbers(place, length) { return new DataView(this.#calls.memory.buffer, Number(place), length); }
 
   #take(length) {
     const place = this.#calls.zebludor_take(BigInt(length));
@@ -112,11 +101,7 @@ export class Zebludor {
   // Takes rooms of these lengths for as long as a call lasts.
   #holding(lengths, use) {
     const places = [];
-    try {
-      for (const length of lengths) places.push(this.#take(length));
-      return use(...places);
-    } finally {
-      places.forEach(place => this.#calls.zebludor_give(place));
-    }
+    try { for (const length of lengths) places.push(this.#take(length)); return use(...places); }
+    finally { places.forEach(place => this.#calls.zebludor_give(place)); }
   }
 }

@@ -20,7 +20,7 @@ from tests.support import EXAMPLES, SECONDS, STORED, not_run
 
 from toolbox.command import Sorry
 from toolbox.guests import Guest, compiled
-from toolbox.listing import image_of
+from toolbox.intel_hex import image_of
 from toolbox.program import answer_of
 from toolbox.scancodes import SIGNS
 

@@ -6,6 +6,7 @@ import re
 import subprocess
 import unittest
 from functools import cached_property
+from typing import Any
 
 from tests import right_programs
 from tests.mistaken import MISLEADING, QUIET, TOLD, Mistake
@@ -67,25 +68,30 @@ SERVED_ROWS = {
 }
 
 
+def made_of(mistake: Mistake) -> tuple[str, dict[str, Any]]:
+    """A program with a mistake, and fields of its run file."""
+    name, was, written = mistake
+    with open(f'{TOOLS}/tests/mistakes/{name}.asm', encoding='ascii') as file:
+        text = file.read()
+    assert was in text
+    text = text.replace(was, written, 1)
+    if 'bye' in written:
+        text = text.replace('ENDS', "bye:    DB ' bye'" + ('' if 'DX,bye\n        MOV AH' in written else ",'$'") + '\nENDS')
+    if 'tdone' in written:
+        text = text.replace('        POP AX\n        IRET', 'tdone:  POP AX\n        IRET')
+    keys = stamped(strokes_of('abc', True), *BARE) if name == 'echo' and mistake not in WITHOUT_KEYS else []
+    keys = [[200_000, 6], [220_000, 134]] if 'INT 21h\n        MOV AH,0' in written else keys
+    return text, {'keys': keys, 'budget': 30_000_000 if name == 'clock' else 10_000_000}
+
+
 class Accusing(ToolCase):
     """Over the built program."""
 
     def of_mistake(self, mistake: Mistake) -> list[Told]:
         """What is told of a mistake."""
-        name, was, written = mistake
-        with open(f'{TOOLS}/tests/mistakes/{name}.asm', encoding='ascii') as file:
-            text = file.read()
-        self.assertIn(was, text)
-        text = text.replace(was, written, 1)
-        if 'bye' in written:
-            text = text.replace('ENDS', "bye:    DB ' bye'" + ('' if 'DX,bye\n        MOV AH' in written else ",'$'") + '\nENDS')
-        if 'tdone' in written:
-            text = text.replace('        POP AX\n        IRET', 'tdone:  POP AX\n        IRET')
+        text, fields = made_of(mistake)
         source = self.file('it.asm', text)
-        keys = stamped(strokes_of('abc', True), *BARE) if name == 'echo' and mistake not in WITHOUT_KEYS else []
-        keys = [[200_000, 6], [220_000, 134]] if 'INT 21h\n        MOV AH,0' in written else keys
-        fields = {'keys': keys, 'budget': 30_000_000 if name == 'clock' else 10_000_000}
-        if name not in SERVED:
+        if mistake[0] not in SERVED:
             return self.of_files(Files(source, self.file('it.json', text_of(DEFAULTS | fields))))
         with prepared(Guest(source, None, True), Files(source, ''), fields) as files:
             return self.of_files(files)

@@ -13,7 +13,7 @@ from tests.support import SECONDS, ToolCase, is_there, not_run
 from toolbox.guests import Guest, prepared
 from toolbox.nowhere import told_of_run
 from toolbox.program import Files, Session
-from toolbox.runfile import report_at
+from toolbox.runs import report_at
 from toolbox.scancodes import stamped, strokes_of
 from toolbox.services import TYPING
 

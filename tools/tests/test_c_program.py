@@ -15,7 +15,7 @@ from tests.test_dap import Client
 from tests.test_editors import MODE_CLIENT, batch, has_dap_mode
 from tests.test_gdb import GDB
 
-from toolbox.listing import image_of, parts_of
+from toolbox.intel_hex import image_of, parts_of
 from toolbox.program import Files, Session
 from toolbox.symbols import symbols_of
 

@@ -1246,7 +1246,7 @@ class Whole(Begun):
         self.assertEqual(ask('hello')['error'], 'desk has ended: start tools/desk again')
 
     def test_why(self) -> None:
-        """It is told as tools/why tells it, with what the engine can't tell; of a desk that has ended as far as the engine can."""
+        """It is told as tools/why tells it, also once the desk has ended."""
         source = NESTED.replace('NOP', 'INT 5')
         ask = self.page()
         ask('hello')

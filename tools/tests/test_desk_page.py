@@ -29,11 +29,9 @@ NAMES = (
     'globalThis.named=new Proxy({},{has:(_,name)=>them.some(it=>name in it),get:(_,name)=>them.find(it=>name in it)?.[name]});return true})'
 )
 READY = "typeof view!=='undefined'&&view!==null&&board!==null&&!working&&!running"
-# Why a run goes nowhere is answered late: the desk leaves it to the engine, which tells at first that it is at work. `window.late` counts
-# what is answered then.
+# Why a run goes nowhere is answered late: the engine tells at first that it is at work. `window.late` counts what is answered then.
 LATE_WHY = (
-    "window.late=0;{const was=fetch;window.fetch=async(...it)=>it[1]?.body&&JSON.parse(it[1].body).do==='why'?new Response('{}'):was(...it)};"
-    '{const was=Worker.prototype.postMessage;Worker.prototype.postMessage=function(it,...more){const word=it.question?.do;'
+    'window.late=0;{const was=Worker.prototype.postMessage;Worker.prototype.postMessage=function(it,...more){const word=it.question?.do;'
     "was.call(this,it,...more);if(word==='wait'&&window.late===1)window.late=2;if(word!=='why')return;window.late=1;"
     'this.onmessage({data:{number:it.number,answer:{working:true,clock:0}}})}};0'
 )

@@ -16,7 +16,7 @@ from tests.support import TOOLS, TOP, ToolCase, example, is_there
 
 from toolbox import guests, loading, program, services
 from toolbox.command import Sorry
-from toolbox.listing import image_of
+from toolbox.intel_hex import image_of
 from toolbox.runfile import DEFAULTS, text_of
 
 # MOV DX,0109h; MOV AH,9; INT 21h; INT 20h; 'Hello, tail: $'

@@ -13,7 +13,7 @@ from tests.test_dap import Client
 from tests.test_symbols import NASM, ROM, hex_of
 
 from toolbox.command import Sorry
-from toolbox.listing import image_of
+from toolbox.intel_hex import image_of
 from toolbox.places import far_of
 from toolbox.symbols import symbols_of
 

@@ -12,7 +12,8 @@ from toolbox.events import events
 from toolbox.listing import listing_of
 from toolbox.places import line_at
 from toolbox.program import Files, path, run
-from toolbox.runfile import budget_of, read_run_file, text_of
+from toolbox.runfile import read_run_file, text_of
+from toolbox.runs import budget_of
 from zebludor import read_report
 
 FEW = 30  # clocks whose beginnings a trail holds whole

@@ -10,7 +10,7 @@ from tests.support import EXAMPLES, ToolCase, example, is_there
 
 from toolbox.command import Sorry
 from toolbox.dap.values import LONGEST
-from toolbox.listing import image_of
+from toolbox.intel_hex import image_of
 from toolbox.places import event_of, far_of
 from toolbox.program import Files as Built, ProbeSession
 from toolbox.runfile import DEFAULTS, text_of

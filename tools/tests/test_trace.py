@@ -11,7 +11,7 @@ from tests.support import SECONDS, TOOLS, ToolCase, but_progress, example, is_at
 
 from toolbox import events  # where zebludor is found
 from toolbox.program import Files
-from toolbox.runfile import budget_of
+from toolbox.runs import budget_of
 from toolbox.vcd import Wave
 
 CLOCKS, FEW = 3000, 60  # clocks in which no more than 32 instructions begin

@@ -19,8 +19,8 @@ FRAME, LONGEST_NAME = struct.Struct('<6xH4xH4xHH'), 64  # a call's frame: DX, DS
 
 
 class Asked(NamedTuple):
-    """A call: its clock, its registers, what its DS:DX names, and where its INT stands; what is told with this place
-    for `{place}`, if anything; which bytes have no $; and the file that it wants."""
+    """A call: its clock, its registers, what its DS:DX names, and where its INT stands; which bytes have no $; what is told, if anything:
+    a clause of clauses.json, and its values."""
 
     clock: int
     registers: dict[str, int]
@@ -29,7 +29,7 @@ class Asked(NamedTuple):
     address: int
     count: int = 2
     says: str = ''
-    file: str | None = None
+    values: dict[str, object] = {}
 
 
 def doubtful(files: Files, end: int) -> Iterator[Asked]:
@@ -57,9 +57,8 @@ def text(session: Session, call: Asked) -> Asked:
     address = physical(segment, offset)
     if offset + LONGEST_TEXT > 0x10000 or b'$' in session.dump(address, LONGEST_TEXT):
         return call
-    writes = f'which function 09h of INT 21h, called {{place}}, writes: {LONGEST_TEXT:,} signs and more'
-    says = f'no $ ends the text at {segment:04X}:{offset:04X}, {writes}'
-    return call._replace(says=says, address=address, count=LONGEST_TEXT)
+    values: dict[str, object] = {'text': f'{segment:04X}:{offset:04X}', 'most': LONGEST_TEXT}
+    return call._replace(says='text', values=values, address=address, count=LONGEST_TEXT)
 
 
 def character(session: Session, call: Asked) -> Asked:
@@ -68,24 +67,21 @@ def character(session: Session, call: Asked) -> Asked:
     is_loaded = before[0] != MOV_DL and LOADED.fullmatch(before[2:])
     if not (0x20 if is_loaded else 0x21) <= sign < 0x7F or call.registers['DX'] & 0xFF and not is_loaded:
         return call
-    writes = f'writes DL, and AL has {chr(sign)!r}: the sign goes into DL'
-    return call._replace(says=f'function 02h of INT 21h, called {{place}}, {writes}')
+    return call._replace(says='character', values={'sign': repr(chr(sign))})
 
 
 def mode(_: Session, call: Asked) -> Asked:
     """A mode of graphics, which another adapter has."""
     number = call.registers['AX'] & 0x7F
-    has = 'this adapter has no graphics and no colours: every mode is 7, text of 25 rows by 80'
     is_text = number <= LAST_TEXT_MODE or number == OWN_MODE
-    return call if is_text else call._replace(says=f'INT 10h, called {{place}}, sets mode {number:02X}h, and {has}')
+    return call if is_text else call._replace(says='mode', values={'mode': number})
 
 
 def missing(session: Session, call: Asked) -> Asked:
     """A file that isn't on the disk, and is opened."""
     name = session.dump(call.named, LONGEST_NAME).partition(b'\0')[0].decode('ascii', 'replace')
-    opens = 'function 3Dh of INT 21h, called {place}, opens it: --file puts a file there'
     is_name = name.isprintable() and name.isascii()
-    return call._replace(says=f"{name} isn't on the program's disk, and {opens}", file=name) if is_name else call
+    return call._replace(says='file', values={'file': name}) if is_name else call
 
 
 KINDS = {'dos_write_text': text, 'dos_write_char': character, 'bios_mode': mode, 'dos_no_file': missing}

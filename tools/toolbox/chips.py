@@ -109,7 +109,7 @@ def of_requests(chips: Chips, ends: Callable[[int], dict[str, Any]]) -> list[Fac
     values: dict[str, Any] = {'level': asking[0], 'requests': controller.requests, 'served': controller.served}
     if not controller.is_ready:
         sequence = f'its initialisation waits for {controller.awaited}' if controller.awaited != 'none' else "it isn't in 8086 mode (bit 0 of ICW4)"
-        return [('initialisation', values | {'sequence': sequence, 'awaits': controller.awaited, 'is_8086': controller.is_8086})]
+        return [('initialisation', values | {'sequence': sequence, 'awaits': controller.awaited, 'is_8086': int(controller.is_8086)})]
     found: list[Fact] = [('masked', values | {'level': level}) for level in asking if controller.masked >> level & 1]
     kept = [level for level in asking if not controller.masked >> level & 1]
     if kept and controller.blocking:

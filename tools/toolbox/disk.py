@@ -9,7 +9,7 @@ import struct
 from typing import Callable
 
 from toolbox.command import Sorry, read_bytes, write_bytes
-from toolbox.listing import parts_of
+from toolbox.intel_hex import parts_of
 from toolbox.loading import BLOCK, ROM, SERVICES_OWN, Loaded, placed
 from toolbox.services import Served, address_of
 

@@ -5,24 +5,11 @@ import re
 from typing import Iterator, NamedTuple, Sequence
 
 from toolbox.listing import code_of, label_in
+from toolbox.tables import tables
 
-BEFORE = r'\s*(?:\w+\s*:\s*)?'
-TERM = r"(?:\d\w*|'[^']')"
-STRINGS = r'(?:(?:MOVS|STOS|LODS|CMPS|SCAS)[BW]?|LOCK|REP\w*)'  # without a size the board refuses it, and MASM takes it
 # What a line looks like whose first group is hardly meant, and what may be: {0} is the group, {1} in upper case, {2} its number. A name
 # in a byte register counts if it is a label; the numbers of INT are those of textbooks' calls, which are hexadecimal.
-LOOKS = {
-    'offset-in-byte': (
-        rf'{BEFORE}\w+\s+[ABCD][HL]\s*,\s*(?:-\s*)?(?:{TERM}\s*[+-]\s*)*([A-Z_]\w*)(?:\s*[+-]\s*{TERM})*',
-        'perhaps [{0}] is meant: {0} is a number here, its offset',
-    ),
-    'decimal-interrupt': (rf'{BEFORE}INT\s+(1[0-79]|2[017])', 'perhaps INT {0}h is meant: {0} is decimal, so this is interrupt {2:X}h'),
-    'word-to-port': (rf'{BEFORE}OUT\s+(0*(?:2[01]|4[0-3]|6[0-3])h)\s*,\s*AX', 'perhaps OUT {0},AL is meant: AH goes to the next port'),
-    'rep-without-string': (
-        rf'{BEFORE}(REPN?[EZ]?)\s+(?!(?:[ECSD]S\s*:\s*)?{STRINGS}\b)\S.*',
-        'perhaps {1} MOVSB or its like is meant: {1} repeats string instructions alone',
-    ),
-}
+LOOKS = tables('clauses')['doubts']
 NAMES = tuple(LOOKS)
 
 

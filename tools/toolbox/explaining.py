@@ -12,8 +12,8 @@ from zebludor import RANGES as FIELD_RANGES
 from toolbox import limits, program, reading
 from toolbox.command import handed_on, tool, waiting
 from toolbox.faults import Fault, fault_in
-from toolbox.listing import image_of
 from toolbox.asking import how
+from toolbox.intel_hex import image_of
 from toolbox.nowhere import told_of_run
 from toolbox.report import Report
 from toolbox.runfile import CHOICES, DEFAULTS, FIRST_CHOICES

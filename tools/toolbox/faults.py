@@ -8,11 +8,13 @@ from toolbox.tables import tables
 
 
 class Kind(NamedTuple):
-    """A fault's name, whose it is, and what it means."""
+    """A fault's name, whose it is, and what it means; and what it means of a key that is typed, and of a change that is made."""
 
     name: str
     of: str
     meaning: str
+    typed: str = ''
+    changed: str = ''
 
 
 KINDS: dict[int, Kind] = {int(number): Kind(**row) for number, row in tables('faults').items()}

@@ -14,7 +14,8 @@ from toolbox import reading
 from toolbox.command import SYMBOLS, Sorry, handed_on, read_bytes, write_bytes
 from toolbox.listing import DIALECT
 from toolbox.program import LAST_CLOCK, Files, Refusal, answer_of, is_hex_name, limited, run
-from toolbox.runfile import DEFAULTS, read_run_file, text_of, with_run_file
+from toolbox.runfile import DEFAULTS, read_run_file, text_of
+from toolbox.runs import with_run_file
 from toolbox.services import MOST_RAM, TYPING, is_served
 from toolbox.shown import LONGEST_LINE, bounded, clipped
 

@@ -11,10 +11,10 @@ from toolbox.expectations import Outcome, Planned, Subject
 from toolbox.faults import fault_in
 from toolbox.feedback import Feedback
 from toolbox.guests import LONGEST, Fields, Guest, prepared
-from toolbox.listing import image_of, parts_of
+from toolbox.intel_hex import image_of, parts_of
 from toolbox.program import Files, given_text, refused, run
 from toolbox.report import report_of
-from toolbox.runfile import with_fields
+from toolbox.runs import with_fields
 
 
 def fields_of(planned: Planned, guest: Guest, run_file: str | None, usual: Fields | None = None) -> Fields:

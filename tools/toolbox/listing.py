@@ -7,12 +7,13 @@ from functools import cached_property
 from typing import TYPE_CHECKING, Any, Callable, Iterable, Iterator, NamedTuple
 
 from toolbox.command import Sorry, handed_on, read_bytes, read_text
+from toolbox.intel_hex import MEMORY, image_of, parts_of
 from toolbox.program import Files, answer_of, given_text
 
 if TYPE_CHECKING:
     from toolbox.data_labels import Datum
 
-MEMORY, ADDRESS_COLUMNS = 1 << 20, 28
+ADDRESS_COLUMNS = 28
 PLACED = re.compile(r'([0-9A-F]{4}):([0-9A-F]{4}) ((?:[0-9A-F]{2})*)\+? ')
 PROBE_NAME = 'PROBE_OF_LABELS'
 DIALECT = re.compile(rb'^[ \t]*(?:\w+[ \t]*:[ \t]*)?SEGMENT[ \t]+\w+[ \t]+AT\b', re.I | re.M)  # no other assembler's
@@ -194,30 +195,6 @@ def probed(source: str, names: list[str]) -> dict[str, tuple[int, int]]:
                 rows = [line_of(0, row).shown for row in ran.out.splitlines()[-len(names) :]]
                 return {name: (int.from_bytes(row[2:4], 'little'), int.from_bytes(row[:2], 'little')) for name, row in zip(names, rows)}
     return {}
-
-
-def image_of(text: str) -> dict[int, int]:
-    """The bytes of an Intel HEX text. Whether it is one, the program judges."""
-    found, base = dict[int, int](), 0
-    for record in re.findall(r'^:([0-9A-Fa-f]{10,}) *\r?$', text, re.M):
-        octets = bytes.fromhex(record[: len(record) // 2 * 2])
-        at, kind, data = int.from_bytes(octets[1:3], 'big'), octets[3], octets[4:-1]
-        if kind == 0:
-            found.update(((base + at + place) % MEMORY, octet) for place, octet in enumerate(data))
-        elif kind in (2, 4):
-            base = int.from_bytes(data, 'big') << (4 if kind == 2 else 16)
-    return found
-
-
-def parts_of(image: dict[int, int]) -> dict[int, bytes]:
-    """The parts of memory that these bytes fill, each as long as it goes."""
-    found, end = dict[int, bytearray](), -1
-    for address, octet in sorted(image.items()):
-        if address != end:
-            part = found[address] = bytearray()
-        part.append(octet)
-        end = address + 1
-    return {first: bytes(part) for first, part in found.items()}
 
 
 def listing_of(files: Files) -> Listing:

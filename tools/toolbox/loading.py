@@ -8,7 +8,8 @@ from typing import NamedTuple
 
 from toolbox import services
 from toolbox.command import Sorry, handed_on, tool
-from toolbox.listing import image_of, label_row, line_of, parts_of, physical
+from toolbox.intel_hex import image_of, parts_of
+from toolbox.listing import label_row, line_of, physical
 from toolbox.program import TOP, answer_of
 from toolbox.services import LEAST_RAM, MOST_RAM, SPAN
 

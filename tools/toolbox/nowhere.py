@@ -21,6 +21,7 @@ from toolbox.report import A_SECOND, COLUMNS, ROWS, Report, registers_of
 from toolbox.runfile import read_run_file
 from toolbox.scancodes import names
 from toolbox.services import left_at, mark_of, ram_end_of
+from toolbox.tables import tables
 from toolbox.text_memory import TEXT_MEMORY, shown
 from toolbox.walk import COLOUR, DATA, REACH, SERVICES, TEXT, Part, Run, done_by, go_to_end, has_pushed, is_for_good, is_short, opcode, statement_of
 
@@ -33,16 +34,8 @@ BY_FORM = {0x04: 'SI', 0x05: 'DI', 0x07: 'BX'}
 LOADS_AL = {0xB0, 0xB8, 0xAC, 0xAD, 0xD7, 0xA0, 0xA1}
 INTO, IRET, STRINGS, DF = 0xCE, 0xCF, {0xA4, 0xA5, 0xAA, 0xAB}, 0x400
 WITH_SERVICES = f'or let {tool("try")} --services put such calls into ROM (docs/services.md)'
-NO_BIOS = f'no BIOS is here; {WITH_SERVICES}'
-ADVICE = dict.fromkeys((0x11, 0x12, 0x13, 0x14, 0x15, 0x17, 0x18, 0x19, 0x1A), NO_BIOS) | {
-    0x21: f'no DOS is here: text goes to text memory at B000:0000, keys come from port 60h, HLT ends a program; {WITH_SERVICES}',
-    0x20: f'no DOS is here: HLT ends a program; {WITH_SERVICES}',
-    0x10: f'no BIOS is here: text goes to text memory at B000:0000, a character and its attribute in each word; {WITH_SERVICES}',
-    0x16: f'no BIOS is here: keys come from port 60h, by polling or by interrupt; {WITH_SERVICES}',
-}
-GOES_ON = 'HLT ends a program, JMP goes back'
-IN_RAM = '\nhint: what a program changes stands in RAM, in a segment of its own, and DS or ES names it'
-FOR_A_STACK = '\nhint: room for the stack lies in RAM, and SP begins at its end'
+CLAUSES: dict[str, dict[str, str]] = tables('clauses')
+ADVICE = CLAUSES['advice']
 CALLED = re.compile(r'\bINT\s+(10|16|1A|20|21)h', re.I)
 
 
@@ -82,8 +75,8 @@ def of_calls(run: Run) -> list[Told]:
 
     found = dict[str, list[Told]]()
     for call in doubtful(run.files, run.end):
-        remark = call.says.replace('{place}', by_line(run, call.place))
-        if remark not in found and not (call.file and is_on_disk(run, call.file)):
+        remark = CLAUSES['asked'][call.says].format(place=by_line(run, call.place), **call.values)
+        if remark not in found and not (call.says == 'file' and is_on_disk(run, str(call.values['file']))):
             found[remark] = run.tell('asked for', at=call.clock, remark=remark, address=call.address, count=call.count, **call.registers)
     return [one for them in found.values() for one in them]
 
@@ -176,12 +169,11 @@ def of_address_zero(run: Run, clock: int) -> list[Told]:
     last = run.trail_at(clock)[-1]
     kind = type_of(last)
     if kind is None:
-        taken = 'a return takes the words pushed last, and zeros where nothing was pushed; HLT ends a program, IRET a handler'
-        return run.tell('to 0000:0000', last, after=clock, advice=taken if done_by(last) == 'return' else GOES_ON)
+        return run.tell('to 0000:0000', last, after=clock, advice=ADVICE['return' if done_by(last) == 'return' else 'jump'])
     what = 'has no quotient (the divisor is 0, or the quotient too large), which enters' if is_division(last) else 'enters'
     place = f'{last.segment:04X}:{last.offset:04X}'
     does = f'at {place} interrupt {kind:02X} came' if last.entry is not None else f'{run.place(last)} {what} interrupt {kind:02X}'
-    advice = ADVICE.get(kind, f'the address of a handler goes there: SEGMENT VECTORS AT 0, ORG {4 * kind:X}h, DW own,SEG own, ENDS')
+    advice = ADVICE.get(f'{kind:02X}', ADVICE['other']).format(services=WITH_SERVICES, vector=4 * kind)
     return run.tell('empty vector', last, after=clock, does=does, kind=kind, vector=4 * kind, advice=advice)
 
 
@@ -248,7 +240,7 @@ def of_astray(run: Run) -> list[Told]:
     place = run.place(before)
     next_line = f'^{event.clock} start {to} ' if event.clock < run.report.clock else ' jammed$'
     span = min(event.clock, run.report.clock - 1) - before.clock + 1
-    advice = '' if before.entry is not None or done_by(before) == 'return' else f'\nhint: {GOES_ON}'
+    advice = '' if before.entry is not None or done_by(before) == 'return' else f'\nhint: {ADVICE["jump"]}'
     how = f'{place} led to {what}' if is_jump else f'behind {place} came {what}'
     return run.tell('astray', before, how=how, span=span, next=Raw(next_line), advice=advice)
 
@@ -365,7 +357,7 @@ def most_pushed(run: Run, clock: int) -> dict[str, object]:
         line = run.listing.at.get(physical(*(int(word, 16) for word in place.split(':')))) if ':' in place else None
         if line and int(times) >= count and (form := form_of(line.shown)).pushes and form.does != 'may-enter':
             most, count, found = f'line {line.number} ({code_of(line.text).strip()})', int(times), row
-    advice = f'{most} is never undone: each PUSH has its POP, each CALL its RET' if count > FEW else 'SP begins too low: it begins at the end of its room'
+    advice = CLAUSES['pushed']['many' if count > FEW else 'few'].format(most=most)
     return {'most': most, 'times': f'{count:,}', 'row': found, 'perhaps': advice}
 
 
@@ -382,9 +374,8 @@ def of_lost_writes(run: Run) -> list[Told]:
                 continue
             known.add(event[1:])
             if len(found) < 3:
-                does, advice = ('pushes to', FOR_A_STACK) if has_pushed(event) else ('writes to', IN_RAM)
-                is_told = found or address in COLOUR
-                found += run.tell('lost write', event, address=address, does=does, wrong=wrong, advice='' if is_told else advice)
+                does, is_told = 'pushes to' if has_pushed(event) else 'writes to', found or address in COLOUR
+                found += run.tell('lost write', event, address=address, does=does, wrong=wrong, advice='' if is_told else CLAUSES['lost'][does])
                 found += of_direction(run, event) + of_a_count(run, event) if len(found) == 1 else []
     return found
 

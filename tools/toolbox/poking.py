@@ -5,7 +5,8 @@ import re
 from dataclasses import dataclass
 
 from toolbox.command import Sorry, write_text
-from toolbox.listing import image_of, listing_of
+from toolbox.intel_hex import image_of
+from toolbox.listing import listing_of
 from toolbox.loading import hex_of
 from toolbox.places import address_of
 from toolbox.program import Files

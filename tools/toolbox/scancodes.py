@@ -5,43 +5,13 @@ import re
 from typing import NamedTuple
 
 from toolbox.command import Sorry
+from toolbox.tables import tables
 
 UP = 0x80
 # The first key of typed text, how long a key is held, and from a key up to the next one down, for a program that begins at once.
 BARE = 2000, 500, 1500
-# From code 02h, 10h, 1Eh and 2Bh on: the signs of the four rows, plain and with shift.
-ROWS = (
-    (0x02, '1234567890-=', '!@#$%^&*()_+'),
-    (0x10, 'qwertyuiop[]', 'QWERTYUIOP{}'),
-    (0x1E, "asdfghjkl;'`", 'ASDFGHJKL:"~'),
-    (0x2B, '\\zxcvbnm,./', '|ZXCVBNM<>?'),
-)
-NAMED = {
-    'esc': 0x01,
-    'backspace': 0x0E,
-    'tab': 0x0F,
-    'enter': 0x1C,
-    'ctrl': 0x1D,
-    'shift': 0x2A,
-    'rshift': 0x36,
-    'prtsc': 0x37,
-    'alt': 0x38,
-    'space': 0x39,
-    'capslock': 0x3A,
-    **{f'f{n}': 0x3A + n for n in range(1, 11)},
-    'numlock': 0x45,
-    'scrolllock': 0x46,
-    'home': 0x47,
-    'up': 0x48,
-    'pgup': 0x49,
-    'left': 0x4B,
-    'right': 0x4D,
-    'end': 0x4F,
-    'down': 0x50,
-    'pgdn': 0x51,
-    'ins': 0x52,
-    'del': 0x53,
-}
+# The signs of the four rows, plain and with shift, from a code on; and keys by their names.
+ROWS, NAMED = tables('keys')['rows'], tables('keys')['named']
 SIGNS = {sign: (row + place, False) for row, plain, _ in ROWS for place, sign in enumerate(plain)}
 SIGNS |= {sign: (row + place, True) for row, _, shifted in ROWS for place, sign in enumerate(shifted)}
 SIGNS |= {' ': (0x39, False), '\n': (0x1C, False), '\t': (0x0F, False)}

@@ -10,9 +10,11 @@ from typing import Callable, Iterator, NamedTuple
 
 from toolbox import reading
 from toolbox.command import Sorry
-from toolbox.listing import image_of, line_of, placed_labels
+from toolbox.intel_hex import image_of
+from toolbox.listing import line_of, placed_labels
 from toolbox.program import TOP, Files, Session, answer_of, run
 from toolbox.runfile import read_run_file
+from toolbox.tables import tables
 
 LEAST_RAM, MOST_RAM, SPAN = 144, 640, 0x10000
 KEPT = 0xFC00  # so many bytes of what was written; behind them stands the rest
@@ -25,19 +27,7 @@ RESET = 0xFFFF0  # where the processor begins
 # The first key of typed text, how long a key is held, and from a key up to the next one down: the services begin first.
 TYPING = 200_000, 20_000, 80_000
 LIST = 0x200, 24, struct.Struct('<BxHHHH')  # behind the state: how many calls, and each
-FCBS = (*range(0x0F, 0x18), *range(0x21, 0x25), *range(0x27, 0x2A))
-WITH_DISK = (*range(0x3C, 0x40), *range(0x41, 0x44), 0x4E, 0x4F, 0x56)
-ENDS = {
-    0x00: 'ended by a division without a quotient',
-    0x03: 'ended by INT 3, to which no handler is set',
-    0x18: 'ended by INT 18h: there is nothing else to begin',
-    0x19: 'ended by INT 19h: there is no diskette to begin from',
-    0x20: 'ended by INT 20h',
-    0x23: 'ended by Ctrl-C',
-    0x27: 'ended by INT 27h, and nothing goes on beside it',
-    0x31: 'ended by function 31h with exit code {code}, and nothing goes on beside it',
-    0x4C: 'ended with exit code {code}',
-}
+ENDS, UNSERVED, FUNCTIONS = (tables('clauses')[name] for name in ('ends', 'unserved', 'functions'))
 
 
 def is_served(path: str) -> bool | None:
@@ -106,13 +96,8 @@ class Call(NamedTuple):
     @property
     def why(self) -> str:
         """What there is in its place."""
-        function = self.ax >> 8 if self.number == 0x21 else -1
-        if function in FCBS:
-            return "is one of file control blocks (FCBs), which aren't among the services: handles are, by 3Ch to 42h (docs/services.md)"
-        if function in WITH_DISK:
-            return 'wants a disk, which --file or --files-out gives to the program (docs/services.md)'
-        no_handler = 'has no handler, and ended the program'
-        return no_handler if self.number == 3 else "isn't among the services (docs/services.md)"
+        kinds = [kind for kind, functions in FUNCTIONS.items() if self.number == 0x21 and self.ax >> 8 in functions]
+        return str(UNSERVED[(*kinds, 'INT 3' if self.number == 3 else 'other')[0]])
 
     def said(self, place_of: Callable[[tuple[int, int]], str]) -> str:
         """The place where its INT stands, or INT3 of one byte, and how often it was called."""
@@ -139,7 +124,8 @@ class Served(NamedTuple):
     @property
     def ending(self) -> str:
         """How the program ended, or nothing."""
-        return ENDS.get(self.how, f'ended by INT {self.how:02X}h').format(code=self.code) if self.phase == 2 else ''
+        ending: str = ENDS.get(f'{self.how:02X}', ENDS['other'])
+        return ending.format(code=self.code, how=self.how) if self.phase == 2 else ''
 
     @property
     def text(self) -> str:
@@ -161,10 +147,9 @@ class Served(NamedTuple):
         found = [f'{name}, called {places[name]}, {calls[0].why}' for name, calls in them.items()]
         more = self.notes - sum(call.times for call in self.calls)
         if self.calls and more > 0:
-            room = f'for which the list of {len(self.calls)} has no room'
-            found.append(f"{more:,} more calls that weren't served are of places {room}")
+            found.append(UNSERVED['more'].format(count=f'{more:,}', listed=len(self.calls)))
         if self.lost:
-            found.append(f"{self.lost} keys were lost: the keyboard's buffer, which holds 15, was full")
+            found.append(UNSERVED['keys'].format(count=self.lost))
         return found
 
 

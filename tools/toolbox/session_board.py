@@ -12,7 +12,7 @@ from toolbox.command import Sorry
 from toolbox.forms import Far
 from toolbox.listing import physical
 from toolbox.places import Event, event_of
-from toolbox.faults import fault_in
+from toolbox.faults import KINDS, fault_in
 from toolbox.program import BEFORE_START, LAST_CLOCK, Files, ProbeSession, Refusal, apart
 from toolbox.report import registers_of
 from toolbox.runfile import add_keys
@@ -32,16 +32,7 @@ TRIED_AT_ONCE = 100  # clocks of a key
 T = TypeVar('T')
 HLT, ROM = b'\xF4', 0xF0000  # from there on no byte changes but by `set`
 MEMORY, SET_AT_ONCE = 1 << 20, 16
-KEY_REFUSED = {
-    33: 'no key sends {code:02X}: 01 to 53 are keys that go down, 81 to D3 keys that come up',
-    34: 'a key comes at a later clock than the present one, {clock}',
-    42: 'no run goes beyond clock 2^40, and no key comes there',
-    53: 'there is no memory for one more key, and none was typed',
-}
-SET_REFUSED = {
-    53: 'there is no memory for the change, and nothing is set',
-    55: 'no byte can be set there: beside RAM, text memory (B0000 to B0FFF) and ROM (F0000 to FFFFF) nothing keeps one',
-}
+KEY_REFUSED, SET_REFUSED = ({number: kind[place] for number, kind in KINDS.items() if kind[place]} for place in (3, 4))
 
 
 class Gone(Sorry):

@@ -11,7 +11,8 @@ from toolbox import nasm_data
 from toolbox.command import Sorry, read_text
 from toolbox.data_labels import data_of
 from toolbox.hex_lines import PLACED, of_places, with_modules, with_source
-from toolbox.listing import MEMORY, Line, Listing, at_places, line_of, physical, placed_labels
+from toolbox.intel_hex import MEMORY
+from toolbox.listing import Line, Listing, at_places, line_of, physical, placed_labels
 
 RAM = r'(?:,ram=([0-9A-Fa-f]{1,4}))?'
 PLACE = rf'(?:@([0-9A-Fa-f]{{1,4}})(?::([0-9A-Fa-f]{{1,4}}))?)?{RAM}$'

@@ -11,10 +11,12 @@ from zebludor import Happening, happening_of
 from toolbox.asking import Raw, Told, ask
 from toolbox.command import handed_on
 from toolbox.forms import PREFIXES, form_of, learn
-from toolbox.listing import Line, Listing, code_of, image_of, physical
+from toolbox.intel_hex import image_of
+from toolbox.listing import Line, Listing, code_of, physical
 from toolbox.places import Event, event_of, line_at
 from toolbox.program import Files, ProbeSession, answer_of
 from toolbox.report import A_SECOND, Report, registers_of
+from toolbox.tables import tables
 
 FIRST, LAST = 50_000, 5_000  # the clocks that are looked at
 REACH = 100_000_000  # so many clocks are made again, and of a longer run all
@@ -222,13 +224,9 @@ class Run(State):
 
     def region(self, address: int) -> str:
         """What is wrong with writing at an address: nothing, or a clause."""
-        if address >= ROM:
-            return 'which is ROM: what is written there is lost'
-        if address in COLOUR:
-            return 'where a colour adapter has its text, and none is here: what is written there is lost; text memory begins at paragraph 0B000h'
-        if self.ram_end <= address < TEXT.start:
-            return f'and nothing answers there (RAM ends at {self.ram_end - 1:05X}h): what is written there is lost'
-        return 'and nothing answers there: what is written there is lost' if address >= TEXT.stop else ''
+        above = 'above RAM' if self.ram_end <= address < TEXT.start else 'nothing' if address >= TEXT.stop else ''
+        kind = 'rom' if address >= ROM else 'colour' if address in COLOUR else above
+        return str(tables('clauses')['wrong'][kind]).format(end=self.ram_end - 1) if kind else ''
 
 
 def is_for_good(report: Report) -> bool:

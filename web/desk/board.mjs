@@ -2,11 +2,10 @@
 // services or without.
 import {Follower, Out, asksForStack, marksOf} from './following.mjs';
 import {CALLING, formOf, signed} from './forms.mjs';
-import {NONE, SessionBoard, breakAt, eventOf, isAt, placeOf, registersOf} from './machine.mjs';
+import {SessionBoard, breakAt, placeOf, registersOf} from './machine.mjs';
 import {leftAt, SIGNATURE, SIGNED} from './services.mjs';
 import {Sorry, far, hex, physical} from './session.mjs';
 
-export {NONE};
 const STACKED = 'starts entries', LOOKED_BACK = 100_000, MOST_FOLLOWED = 1 << 20, FIRST_FOLLOWED = 1000;
 const TRAIL = 32, OWN_LOOKED_BACK = [100_000, 3_000_000, 30_000_000], OWN_AT_ONCE = 3_000_000;
 const BLOCK = 0xfffe0, SECTOR = 0x7c00, SERVICES = 0xf6000, IF = 0x200;
@@ -30,10 +29,7 @@ export class Machine extends SessionBoard {
     this.bases = new Map(); // by a change's clock the calls under way, and whether these are all
   }
 
-  areOthers() {
-    super.forget();
-    this.followed = [-1, null];
-  }
+  areOthers() { super.forget(); this.followed = [-1, null]; }
 
   // With services
 
@@ -46,24 +42,16 @@ export class Machine extends SessionBoard {
     return this.served;
   }
 
-  left() {
-    return this.ramEnd ? leftAt(this, this.ramEnd) : null;
-  }
+  left() { return this.ramEnd ? leftAt(this, this.ramEnd) : null; }
 
   // How the program has ended, in words, or nothing.
-  ending() {
-    return this.left()?.ending ?? '';
-  }
+  ending() { return this.left()?.ending ?? ''; }
 
   // Whether the processor is in the services.
-  get isServedHere() {
-    return Boolean(this.ramEnd) && physical(...this.place()) >= SERVICES;
-  }
+  get isServedHere() { return Boolean(this.ramEnd) && physical(...this.place()) >= SERVICES; }
 
   // Whether the services haven't begun the program yet.
-  get isBefore() {
-    return this.isServedHere && !this.left()?.phase;
-  }
+  get isBefore() { return this.isServedHere && !this.left()?.phase; }
 
   // The stop at which the program begins.
   firstStop() {
@@ -87,10 +75,7 @@ export class Machine extends SessionBoard {
           if (startAt(line) < SERVICES) clocks.push(parseInt(line, 10));
         await this.breathe();
       }
-      own = clocks.slice(-TRAIL).map(clock => {
-        this.back(clock + 1);
-        return this.trail().at(-1);
-      });
+      own = clocks.slice(-TRAIL).map(clock => { this.back(clock + 1); return this.trail().at(-1); });
       this.pastStops(here);
     }
     return own;
@@ -131,17 +116,12 @@ export class Machine extends SessionBoard {
   marks(lines) {
     const marks = marksOf(lines, this.library), here = this.clock;
     const asking = marks.filter(asksForStack);
-    for (const mark of asking) {
-      this.back(mark.clock + 1);
-      mark.state = registersOf(this.many('regs'));
-    }
+    for (const mark of asking) { this.back(mark.clock + 1); mark.state = registersOf(this.many('regs')); }
     if (asking.length) this.back(here);
     return marks;
   }
 
-  follow(follower, end) {
-    for (const mark of this.marks(this.lines(end - this.clock, STACKED))) follower.follow(mark);
-  }
+  follow(follower, end) { for (const mark of this.marks(this.lines(end - this.clock, STACKED))) follower.follow(mark); }
 
   // The calls under way, as the last clocks before this one tell them, or from power-on on.
   async follower() {
@@ -195,10 +175,7 @@ export class Machine extends SessionBoard {
   // As `step`, but over what the services do, out of them, and from power-on to where the program begins.
   async stepOwn() {
     this.why = 'returned';
-    if (this.isBefore) {
-      await this.run([this.firstStop()], this.budget);
-      return null;
-    }
+    if (this.isBefore) { await this.run([this.firstStop()], this.budget); return null; }
     const begun = this.isServedHere ? null : await this.step();
     while (this.isServedHere && this.why === 'returned' && !this.ending()) await this.outOnce();
     return begun;
@@ -215,15 +192,11 @@ export class Machine extends SessionBoard {
 
   // Makes one instruction with all that it calls, an interrupt that comes first, and all its repeats, at most to one of
   // these stops, which it returns.
-  over(wanted, run) {
-    return this.toStops(() => this.overOnce(), wanted, run);
-  }
+  over(wanted, run) { return this.toStops(() => this.overOnce(), wanted, run); }
 
   // Runs to where the routine has returned, or dropped its address; at most to one of these stops, to a jam, a halt for
   // good, or the budget.
-  out(wanted, run) {
-    return this.toStops(() => this.outOnce(), wanted, run);
-  }
+  out(wanted, run) { return this.toStops(() => this.outOnce(), wanted, run); }
 
   // A way, at most to one of these stops: to find them, it is gone once more, by another way to run. A place at its end
   // is no stop before it.
@@ -240,10 +213,7 @@ export class Machine extends SessionBoard {
   }
 
   async overOnce() {
-    if (this.isBefore) {
-      await this.stepOwn();
-      return;
-    }
+    if (this.isBefore) { await this.stepOwn(); return; }
     const here = this.clock;
     this.why = 'returned';
     let begun = null;
@@ -297,11 +267,7 @@ export class Machine extends SessionBoard {
   }
 
   // The calls under way, which are followed on from here.
-  async taken() {
-    const follower = await this.follower();
-    this.followed = [-1, null];
-    return follower;
-  }
+  async taken() { const follower = await this.follower(); this.followed = [-1, null]; return follower; }
 
   // Out of the routine.
   async outOnce() {
@@ -325,11 +291,7 @@ export class Machine extends SessionBoard {
     this.why = 'returned';
     for await (const lines of this.pieces(this.budget)) {
       const ending = this.marks(lines).find(mark => out.ends(mark));
-      if (ending) {
-        await this.goTo(ending.clock);
-        this.one('step');
-        return;
-      }
+      if (ending) { await this.goTo(ending.clock); this.one('step'); return; }
       if (!lines.length && this.hasEnded()) break;
       if (this.clock - here > MOST_FOLLOWED) await this.skip(out);
     }
@@ -349,10 +311,7 @@ export class Machine extends SessionBoard {
       let met = null;
       while (this.clock < end && met !== stop) met = await this.goOn(end);
       const now = this.registers();
-      if (met === stop || now.SS !== stack.segment || signed(now.SP - level) > 0) {
-        await this.goTo(here);
-        return;
-      }
+      if (met === stop || now.SS !== stack.segment || signed(now.SP - level) > 0) { await this.goTo(here); return; }
       stack.level = level + signed(now.SP - level);
       await this.poll();
     }
@@ -367,10 +326,7 @@ export class Machine extends SessionBoard {
   // What ended a way that led from a clock to no return: at the clock at which that began, else `far`.
   async ended(here) {
     const last = this.trail().at(-1), kind = this.hasEnded() || 'far';
-    if (kind !== 'far' && last && last.clock >= here) {
-      await this.goTo(last.clock);
-      this.one('step');
-    }
+    if (kind !== 'far' && last && last.clock >= here) { await this.goTo(last.clock); this.one('step'); }
     return kind;
   }
 }
@@ -379,4 +335,3 @@ function startAt(line) {
   const at = line.indexOf(' start ') + 7;
   return physical(parseInt(line.slice(at, at + 4), 16), parseInt(line.slice(at + 5, at + 9), 16));
 }
-export {eventOf, isAt};

@@ -8,9 +8,7 @@ export class Changes {
   }
 
   // The clock of the last change, beyond which no way back leads; of an unchanged board 0.
-  get first() {
-    return this.deeds.length ? this.deeds[this.deeds.length - 1][0] : 0;
-  }
+  get first() { return this.deeds.length ? this.deeds[this.deeds.length - 1][0] : 0; }
 
   // The session was changed, or a key typed; whether that was a change of its own.
   take(clock, command) {
@@ -34,10 +32,7 @@ export class Changes {
   }
 
   // The last change is undone, with the keys that were typed since.
-  undo() {
-    this.deeds.length = this.begin();
-    this.kept.pop();
-  }
+  undo() { this.deeds.length = this.begin(); this.kept.pop(); }
 
   // The keys that were typed since the first change: stamps and codes.
   keys() {

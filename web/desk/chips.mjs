@@ -2,24 +2,6 @@
 import {bytesOf, grouped, hex} from './session.mjs';
 
 const END_OF_INTERRUPT = 'no end of interrupt (20h to port 20h)', ASKED_BACK = 50_000_000, AT_ONCE = 10_000_000;
-let rows = {};
-export function noteSentences(them) {
-  rows = Object.fromEntries(them.map(row => [row.name, row]));
-}
-export const rowOf = name => rows[name];
-
-// A text with these values in their places; `{level:02X}` is a number in two hexadecimal digits. In a pattern texts
-// stand for themselves, and patterns for what they match.
-export function filled(text, values, isPattern = false) {
-  return text.replace(/\{(\w+)(?::0?(\d*)(,?)X?)?\}/g, (whole, key, digits, comma) => {
-    const value = values[key];
-    if (comma) return grouped(value);
-    if (whole.endsWith('X}')) return hex(value, Number(digits || 1));
-    return isPattern ? (value.source ?? String(value).replace(/[.*+?^${}()|[\]\\]/g, '\\$&')) : String(value);
-  });
-}
-// A row's sentence with these values.
-const said = (name, values) => filled(rows[name].says, values);
 
 function valuesOf(name, words) {
   if (name === 'speaker') return {level: words[0]};
@@ -43,9 +25,7 @@ export class Chips {
     }
   }
 
-  value(line, word) {
-    return this.lines[line][word];
-  }
+  value(line, word) { return this.lines[line][word]; }
 
   // Running, halted, halted for good, or jammed.
   get state() {
@@ -54,40 +34,34 @@ export class Chips {
   }
 
   // Whether the processor takes requests: IF is 1.
-  get isOpen() {
-    return this.value('processor', 'IF') === '1';
-  }
+  get isOpen() { return this.value('processor', 'IF') === '1'; }
 
-  get isHalted() {
-    return this.value('processor', 'state') === 'halted';
+  get isHalted() { return this.value('processor', 'state') === 'halted'; }
+
+  // The interrupt controller's registers.
+  get controller() {
+    const values = this.lines.controller, is = name => values[name] === '1', awaited = values.awaits;
+    const [requests, served, masked] = ['IRR', 'ISR', 'IMR'].map(name => parseInt(values[name], 16));
+    const held = is('SMM') ? served & ~masked : served, first = Number(values.lowest) + 1;
+    const blocking = [0, 1, 2, 3, 4, 5, 6, 7].map(n => (first + n) % 8).filter(it => (held >> it) & 1);
+    return {requests, served, masked, awaited, is8086: is('uPM'), isAsking: is('INT'), blocking,
+      isReady: awaited === 'none' && is('uPM')};
   }
 
   // The word of text memory that the adapter shows first, or null if it shows nothing.
-  get start() {
-    const {start, video} = this.lines.adapter;
-    return video === '1' ? parseInt(start, 16) % 2048 : null;
-  }
+  get start() { const {start, video} = this.lines.adapter; return video === '1' ? parseInt(start, 16) % 2048 : null; }
 }
 
-// The interrupt controller's registers, of the values of its line.
-function controllerOf(values) {
-  const [requests, served, masked] = ['IRR', 'ISR', 'IMR'].map(name => parseInt(values[name], 16));
-  const lowest = Number(values.lowest), is = name => values[name] === '1', awaited = values.awaits;
-  const held = is('SMM') ? served & ~masked : served, levels = [1, 2, 3, 4, 5, 6, 7, 8].map(n => (lowest + n) % 8);
-  const blocking = levels.filter(it => (held >> it) & 1);
-  return {requests, served, masked, awaited, is8086: is('uPM'), isAsking: is('INT'), blocking,
-    isReady: awaited === 'none' && is('uPM')};
-}
 
 // Why the controller passes no request on, though levels ask.
 async function ofRequests(chips, ends) {
-  const controller = controllerOf(chips.lines.controller), asking = levelsIn(controller.requests);
+  const {controller} = chips, asking = levelsIn(controller.requests);
   if (controller.isAsking || !asking.length) return [];
   const values = {level: asking[0], requests: controller.requests, served: controller.served};
   if (!controller.isReady) {
     const {awaited} = controller, isWaiting = awaited !== 'none';
     const sequence = isWaiting ? `its initialisation waits for ${awaited}` : "it isn't in 8086 mode (bit 0 of ICW4)";
-    return [['initialisation', {...values, sequence, awaits: awaited}]];
+    return [['initialisation', {...values, sequence, awaits: awaited, is_8086: Number(controller.is8086)}]];
   }
   const isMasked = level => (controller.masked >> level) & 1;
   const found = asking.filter(isMasked).map(level => ['masked', {...values, level}]);
@@ -95,14 +69,14 @@ async function ofRequests(chips, ends) {
   if (first !== undefined && served !== undefined) {
     const asks = first === served ? `IR${first} asks again, and ` : `IR${first} asks, and IR${served} `;
     const kind = parseInt(chips.value('controller', 'vector'), 16) & 0xf8;
-    found.push(['in service', {...values, level: first, asks, ends: await ends(kind + served)}]);
+    found.push(['in service', {...values, level: first, asks, ...(await ends(kind + served))}]);
   }
   return found;
 }
 const levelsIn = set => [0, 1, 2, 3, 4, 5, 6, 7].filter(level => (set >> level) & 1);
 
-// What ends of interrupt have come up to where a board stands since a type was entered last, in words. The board goes
-// back to look.
+// What ends of interrupt have come up to where a board stands since a type was entered last: `since` when, the trail's
+// line of that, `taken`, and in words. The board goes back to look.
 export async function endsBefore(board, kind) {
   const here = board.clock, first = Math.max(board.changes.first, here - ASKED_BACK), lines = [];
   await board.goTo(first);
@@ -114,16 +88,17 @@ export async function endsBefore(board, kind) {
   const taken = words.findLastIndex(([, what, type]) => what === 'entry' && type === hex(kind, 2));
   const isEnd = ([, what, , octet]) => what === 'out' && (bytesOf(octet)[0] & 0x38) === 0x20;
   const ends = words.slice(Math.max(taken, 0)).filter(isEnd).length;
-  const when = taken < 0 ? `in the last ${grouped(here - first)} clocks`
-    : `since it was taken at clock ${words[taken][0]}`;
+  const since = taken < 0 ? first : Number(words[taken][0]);
+  const when = taken < 0 ? `in the last ${grouped(here - first)} clocks` : `since it was taken at clock ${since}`;
   const came = ends > 1 ? `${ends} ends of interrupt have` : `${ends ? 'an end of interrupt' : END_OF_INTERRUPT} has`;
   const but = ends > 1 ? ', and none was for it' : ends ? ", and it wasn't for it" : '';
-  return `${came} come ${when}${but}`;
+  const line = new RegExp(taken < 0 ? '' : `^${since} .*entry ${hex(kind, 2)}$`);
+  return {since, taken: line, ends: `${came} come ${when}${but}`};
 }
 
 // Whether a halted processor waits for a tick that no count brings, and whether a count is half written.
 function ofTheTimer(chips) {
-  const controller = controllerOf(chips.lines.controller), counter = chips.lines['counter 0'];
+  const {controller} = chips, counter = chips.lines['counter 0'];
   if (counter.first !== 'none') {
     const written = ['1', '2'].includes(counter.RW) ? 'one byte' : 'two bytes, the low one first';
     return [['half a count', {first: counter.first, written}]];
@@ -145,10 +120,8 @@ function ofKeys(chips) {
   return why ? [['keys', {count: said, why, waiting}]] : [];
 }
 
-// What keeps an interrupt or a key away, as sentences; `each` is told the rows and their values.
-export async function factsOf(lines, ends, each = () => {}) {
-  const chips = new Chips(lines), open = chips.isOpen ? [...(await ofRequests(chips, ends)), ...ofTheTimer(chips)] : [];
-  const found = [...open, ...ofKeys(chips)];
-  for (const [name, values] of found) each(name, values);
-  return found.map(([name, values]) => said(name, values));
+// What keeps an interrupt or a key away: rows of sentences.json, each with its values.
+export async function factsOf(chips, ends) {
+  const open = chips.isOpen ? [...(await ofRequests(chips, ends)), ...ofTheTimer(chips)] : [];
+  return [...open, ...ofKeys(chips)];
 }

@@ -8,6 +8,7 @@ import {NAMES, stamped, strokesOf} from './keys.mjs';
 import {addressOf, answerOf, farOf, hexOfSource, imageOf, lineAt, listingOf, listingOfHex,
   numberOf} from './listing.mjs';
 import {LAST_CLOCK, Paused, breakAt, placeOf, withKeys} from './machine.mjs';
+import {said} from './sentences.mjs';
 import {TYPING} from './services.mjs';
 import {MOST_SAMPLES, Speaker} from './sound.mjs';
 import {Session, Sorry, far, grouped, hex, hexOf, patience, physical, runText} from './session.mjs';
@@ -58,18 +59,11 @@ export class Board {
     if (!listing.rows.length) listing.readConstants = () => constantsOf(listing.lines);
   }
 
-  get clock() {
-    return this.machine.clock;
-  }
+  get clock() { return this.machine.clock; }
 
-  get budget() {
-    return Number.isInteger(this.fields.budget) ? this.fields.budget : 0;
-  }
+  get budget() { return Number.isInteger(this.fields.budget) ? this.fields.budget : 0; }
 
-  close() {
-    this.isEnded = true;
-    this.machine.close();
-  }
+  close() { this.isEnded = true; this.machine.close(); }
 
   // Jobs
 
@@ -80,25 +74,17 @@ export class Board {
     if (this.isEnded || (now() > this.until && this.clock !== this.beganAt)) throw new Paused('paused');
   }
 
-  async breathe() {
-    if (now() - this.rested < 20) return;
-    await new Promise(go => rest(go));
-    this.rested = now();
-  }
+  async breathe() { if (now() - this.rested < 20) return; await new Promise(go => rest(go)); this.rested = now(); }
 
   begin(work, seconds = Infinity) {
     if (this.job) throw new Sorry('the board is at work; pause it first');
     Object.assign(this, {isEnded: false, until: now() + 1000 * seconds, beganAt: this.clock, rested: now()});
-    const job = (this.job = work().finally(() => {
-      if (this.job === job) this.job = null;
-    }));
+    const job = (this.job = work().finally(() => { if (this.job === job) this.job = null; }));
     this.last = job;
     job.catch(() => {});
   }
 
-  pause() {
-    this.isEnded = true;
-  }
+  pause() { this.isEnded = true; }
 
   // Moves; each gives what is seen then
 
@@ -117,19 +103,14 @@ export class Board {
   }
 
   // What a stop on bytes has seen that is met here, in words.
-  seenBy(stop) {
-    return stop && watchedBy(stop) ? {told: whatWasSeen(this.machine, this.listing, stop)} : {};
-  }
+  seenBy(stop) { return stop && watchedBy(stop) ? {told: whatWasSeen(this.machine, this.listing, stop)} : {}; }
 
   // Goes on to a stop, at most to this clock. One that isn't a place and holds here already counts once it has ceased
   // to hold.
   async runToStop(wanted, end) {
     let met = null;
-    try {
-      met = (await this.pastHeld(end)) || (await this.machine.run(wanted, end));
-    } finally {
-      this.held = met ? [-1, []] : [this.clock, this.held[1]];
-    }
+    try { met = (await this.pastHeld(end)) || (await this.machine.run(wanted, end)); }
+    finally { this.held = met ? [-1, []] : [this.clock, this.held[1]]; }
     return met;
   }
 
@@ -159,9 +140,7 @@ export class Board {
   }
 
   // The stops that hold here and aren't places.
-  holding() {
-    return this.stops.filter(stop => this.holds(stop));
-  }
+  holding() { return this.stops.filter(stop => this.holds(stop)); }
 
   holds(stop) {
     const [kind, place, octet] = stop.split(' ');
@@ -170,9 +149,7 @@ export class Board {
     return kind === 'sound' && this.chipsNow().value('speaker', 'level') === '1';
   }
 
-  chipsNow() {
-    return new Chips(this.machine.chips());
-  }
+  chipsNow() { return new Chips(this.machine.chips()); }
 
   // If the processor has halted for good since a clock: back to where it did, so that the run isn't full of nothing.
   async backToTheEnd(here) {
@@ -181,18 +158,14 @@ export class Board {
     await this.machine.goTo(Math.min(Math.max(here, last), this.clock));
   }
 
-  async step(seen) {
-    return (await this.fromHalt(seen)) ?? this.moved(() => this.machine.stepOwn(), seen);
-  }
+  async step(seen) { return (await this.fromHalt(seen)) ?? this.moved(() => this.machine.stepOwn(), seen); }
 
   async over(seen) {
     return (await this.fromHalt(seen))
       ?? this.moved(() => this.machine.over(this.stops, (them, end) => this.runToStop(them, end)), seen);
   }
 
-  out(seen) {
-    return this.moved(() => this.machine.out(this.stops, (them, end) => this.runToStop(them, end)), seen);
-  }
+  out(seen) { return this.moved(() => this.machine.out(this.stops, (them, end) => this.runToStop(them, end)), seen); }
 
   // A step of a halted processor: into the interrupt that ends the halt; if none can, a clock. None of one that runs.
   async fromHalt(seen) {
@@ -224,10 +197,7 @@ export class Board {
     return {...(await this.view(why, seen)), ...this.seenBy(met)};
   }
 
-  async back(seen) {
-    await this.machine.stepOwnBack();
-    return this.view('there', seen);
-  }
+  async back(seen) { await this.machine.stepOwnBack(); return this.view('there', seen); }
 
   // To the last earlier clock at which a stop held.
   async lastStop(seen) {
@@ -239,10 +209,7 @@ export class Board {
     const here = this.machine.mark();
     try {
       const met = await this.machine.backTo(stops);
-      if (!met) {
-        await this.machine.returnTo(here);
-        throw new Sorry(none);
-      }
+      if (!met) { await this.machine.returnTo(here); throw new Sorry(none); }
       return {...(await this.view(why, seen)), ...this.seenBy(met)};
     } catch (error) {
       if (!(error instanceof Paused)) throw error;
@@ -273,10 +240,7 @@ export class Board {
     return {...(await this.view('there', seen)), told};
   }
 
-  async undo(seen) {
-    this.machine.undone.push(await this.machine.undo());
-    return this.view('there', seen);
-  }
+  async undo(seen) { this.machine.undone.push(await this.machine.undo()); return this.view('there', seen); }
 
   // What a way back has undone, in words. Keys that were typed since are gone.
   undone() {
@@ -356,9 +320,7 @@ export class Board {
   }
 
   // The keys: stamp, name, whether it goes down, code.
-  keyList() {
-    return this.keys.map(({stamp, code}) => [stamp, NAMES.get(code % 0x80) ?? '?', code < 0x80, code]);
-  }
+  keyList() { return this.keys.map(({stamp, code}) => [stamp, NAMES.get(code % 0x80) ?? '?', code < 0x80, code]); }
 
   // Bytes from a place on: a label, SEGMENT:OFFSET, an address, or two registers, as SS:SP.
   memory(place, count) {
@@ -396,7 +358,8 @@ export class Board {
   async chips() {
     const lines = this.machine.chips(), mark = this.machine.mark();
     try {
-      return {lines, facts: await factsOf(lines, kind => endsBefore(this.machine, kind))};
+      const facts = await factsOf(new Chips(lines), kind => endsBefore(this.machine, kind));
+      return {lines, facts: facts.map(fact => said(...fact))};
     } finally {
       await this.machine.returnTo(mark);
     }
@@ -405,24 +368,12 @@ export class Board {
   // Why the run goes nowhere, if it does.
   async why() {
     const {clock} = this, mark = this.machine.mark();
-    try {
-      return {clock, told: await whyOf(this.library, this.machine, this.listing)};
-    } finally {
-      await this.machine.returnTo(mark);
-    }
-  }
-
-  // What a report of the run up to here would tell, and of which files; nothing of a board that was changed.
-  standing() {
-    const {clock, machine, source, isHex: hex} = this, state = this.chipsNow().value('processor', 'state');
-    const screen = machine.many('screen'), registers = machine.registers(), {run} = machine.files;
-    return machine.changes.deeds.length ? {} : {source, hex, run, clock, registers, state, screen};
+    try { return {clock, told: await whyOf(this.library, this.machine, this.listing)}; }
+    finally { await this.machine.returnTo(mark); }
   }
 
   // The program's labels of data, with what memory holds there.
-  data() {
-    return {clock: this.clock, data: valuesOf(this.listing.data, (at, count) => this.machine.dump(at, count))};
-  }
+  data() { return {clock: this.clock, data: valuesOf(this.listing.data, (at, count) => this.machine.dump(at, count))}; }
 
   // Stops and keys
 
@@ -460,13 +411,9 @@ export class Board {
   }
 
   // Whether a key's clock lies ahead, and it wasn't typed since the board last went back.
-  comesLater(key) {
-    return key.stamp > this.clock && key.turn !== this.turn;
-  }
+  comesLater(key) { return key.stamp > this.clock && key.turn !== this.turn; }
 
-  laterKeys() {
-    return this.keys.filter(key => this.comesLater(key)).length;
-  }
+  laterKeys() { return this.keys.filter(key => this.comesLater(key)).length; }
 
   // The codes of a text, each with how many clocks it lies after the one before.
   typed(text, isPlain) {
@@ -508,12 +455,8 @@ export class Board {
   // The board at the same clock with these of its keys alone. A session gives no key back: one is begun anew.
   async withKeys(keys, seen) {
     const files = withKeys(this.machine.files, keys.map(({stamp, code}) => [stamp, code]));
-    try {
-      await this.machine.beginAnew([], {files});
-    } catch (error) {
-      if (!(error instanceof Paused)) throw error;
-      return this.view('paused', seen);
-    }
+    try { await this.machine.beginAnew([], {files}); }
+    catch (error) { if (!(error instanceof Paused)) throw error; return this.view('paused', seen); }
     this.are(keys);
     return this.view('there', seen);
   }
@@ -569,9 +512,7 @@ export class Board {
   }
 
   // The stretches in which the speaker was high, of a run whose marks were told, joined to what a line can show.
-  speaker(low, high) {
-    return {low, high, stretches: this.speakers.stretches(low, high, PARTS)};
-  }
+  speaker(low, high) { return {low, high, stretches: this.speakers.stretches(low, high, PARTS)}; }
 
   // The speaker's samples from one clock to another, as text; none if it doesn't move. The other clock may lie ahead:
   // with the keys that there are, what comes is determined.
@@ -611,8 +552,5 @@ function base64(octets) {
 const channel = new MessageChannel(), waiting = [];
 channel.port1.onmessage = () => waiting.shift()();
 channel.port1.unref?.();
-function byMessage(go) {
-  waiting.push(go);
-  channel.port2.postMessage(0);
-}
+function byMessage(go) { waiting.push(go); channel.port2.postMessage(0); }
 export const rest = globalThis.setImmediate ?? byMessage;

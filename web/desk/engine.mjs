@@ -1,12 +1,13 @@
 // What the page may ask, and what it is answered: by sessions of the library, a board for a page.
-import {noteSentences} from './chips.mjs';
-import {Board, rest} from './desk_board.mjs';
+import {Board} from './desk_board.mjs';
 import {noteFaults} from './faults.mjs';
 import {Remarks, Wanted, isMasm, refusedOfMasm, rowsOfLine} from './guest.mjs';
 import {noteHints} from './hints.mjs';
+import {noteKeys} from './keys.mjs';
 import {Language, block} from './language.mjs';
 import {messagesOf, refusalsOf} from './refusals.mjs';
-import {Gone, LAST_CLOCK, Refused, Sorry, far, patience} from './session.mjs';
+import {noteSentences} from './sentences.mjs';
+import {Gone, LAST_CLOCK, Sorry, far, patience} from './session.mjs';
 
 const PATIENCE = 250, LONGEST_SOURCE = 1 << 20, MOST_REMARKS = 20;
 const MOST_MEMORY = 512 << 20; // bytes that the library has at most: what asks for more is refused it
@@ -42,7 +43,8 @@ export class Engine {
     Object.assign(this, {make, data, include, board: null, count: 0});
     noteFaults(data.faults);
     noteHints(data.hints);
-    noteSentences(data.sentences);
+    noteKeys(data.keys);
+    noteSentences(data.sentences, data.clauses);
     patience.seconds = data.seconds ?? patience.seconds;
     this.begin();
   }
@@ -66,10 +68,7 @@ export class Engine {
   }
 
   told(error, name) {
-    if (error instanceof Gone) {
-      if (this.board?.name === name) this.drop();
-      return {gone: error.message};
-    }
+    if (error instanceof Gone) { if (this.board?.name === name) this.drop(); return {gone: error.message}; }
     if (error instanceof Sorry) return {sorry: error.message};
     if (error instanceof WebAssembly.RuntimeError || error instanceof RangeError) {
       this.board = null;
@@ -84,10 +83,7 @@ export class Engine {
     return this.board;
   }
 
-  drop() {
-    this.board?.close();
-    this.board = null;
-  }
+  drop() { this.board?.close(); this.board = null; }
 
   // A board of a source and a run file, at clock 0; or why it is refused.
   async open(fields) {
@@ -154,14 +150,10 @@ export class Engine {
 }
 
 const WITHOUT = {
-  hello: ({data}) => ({
-    examples: data.examples.map(({name, shows, page, anchor}) => ({name, shows, page, anchor})),
-    defaults: data.defaults,
-    grammar: data.grammar,
-    given: null,
-    drafts: [],
-    amiss: null,
-  }),
+  hello({data: {examples, defaults, grammar}}) {
+    const them = examples.map(({name, shows, page, anchor}) => ({name, shows, page, anchor}));
+    return {examples: them, defaults, grammar, given: null, drafts: [], amiss: null};
+  },
   example({data}, fields) {
     const name = want(fields, 'name', 'string'), found = data.examples.find(it => it.name === name);
     if (!found) throw new Sorry(`there is no example ${name}`);
@@ -174,17 +166,11 @@ const WITHOUT = {
   },
   open: (engine, fields) => engine.open(fields),
   language: (engine, fields) => engine.language(fields),
-  close(engine, fields) {
-    if (engine.board?.name === fields.board) engine.drop();
-    return {};
-  },
+  close(engine, fields) { if (engine.board?.name === fields.board) engine.drop(); return {}; },
 };
 
 // Begins a job and waits for its end, but not for long.
-async function doing(board, work, seconds) {
-  board.begin(work, seconds);
-  return outcome(board);
-}
+async function doing(board, work, seconds) { board.begin(work, seconds); return outcome(board); }
 // What the job came to; if it goes on, how far it is.
 async function outcome(board) {
   if (!board.last) throw new Sorry('nothing is under way');
@@ -202,21 +188,12 @@ const OF_BOARD = {
       seconds = Math.min(Math.max(want(fields, 'ms', 'number', 100), 1), 200) / 1000;
     return doing(board, () => board.run(to, isPast, seen, isLight), seconds);
   },
-  step: (board, fields) => doing(board, () => board.step(seenIn(fields))),
-  over: (board, fields) => doing(board, () => board.over(seenIn(fields))),
-  out: (board, fields) => doing(board, () => board.out(seenIn(fields))),
-  back: (board, fields) => doing(board, () => board.back(seenIn(fields))),
-  last: (board, fields) => doing(board, () => board.lastStop(seenIn(fields))),
-  undo: (board, fields) => doing(board, () => board.undo(seenIn(fields))),
   who(board, fields) {
     const address = want(fields, 'address', 'number'), count = want(fields, 'count', 'number', 1);
     if (address < 0) throw new Sorry('an address is 0 or more');
     return doing(board, () => board.who(address, count, seenIn(fields)));
   },
-  set(board, fields) {
-    const text = want(fields, 'text', 'string');
-    return doing(board, () => board.set(text, seenIn(fields)));
-  },
+  set: (board, fields) => doing(board, () => board.set(want(fields, 'text', 'string'), seenIn(fields))),
   'go to'(board, fields) {
     const clock = want(fields, 'clock', 'number');
     if (clock < 0 || clock > LAST_CLOCK)
@@ -224,23 +201,13 @@ const OF_BOARD = {
     return doing(board, () => board.goTo(clock, seenIn(fields)));
   },
   wait: board => outcome(board),
-  pause(board) {
-    board.pause();
-    return {};
-  },
+  pause(board) { board.pause(); return {}; },
   look: (board, fields) => doing(board, () => board.view('there', seenIn(fields))),
   memory(board, fields) {
     const place = want(fields, 'place', 'string'), count = want(fields, 'count', 'number', 256);
     return doing(board, async () => board.memory(place, count));
   },
-  code(board, fields) {
-    const place = want(fields, 'place', 'string', '');
-    return doing(board, async () => board.code(place));
-  },
-  chips: board => doing(board, () => board.chips()),
-  data: board => doing(board, async () => board.data()),
-  why: board => doing(board, () => board.why()),
-  standing: board => doing(board, async () => board.standing()),
+  code: (board, fields) => doing(board, async () => board.code(want(fields, 'place', 'string', ''))),
   stops(board, fields) {
     const stops = want(fields, 'stops', 'list');
     if (stops.length > 1000 || !stops.every(stop => typeof stop === 'string'))
@@ -273,11 +240,10 @@ const OF_BOARD = {
   async marks(board) {
     if (board.isMarking) return {busy: true};
     board.isMarking = true;
-    try {
-      return await board.marks();
-    } finally {
-      board.isMarking = false;
-    }
+    try { return await board.marks(); } finally { board.isMarking = false; }
   },
 };
-export {Refused, rest};
+for (const word of ['step', 'over', 'out', 'back', 'undo', 'lastStop'])
+  OF_BOARD[word] = (board, fields) => doing(board, () => board[word](seenIn(fields)));
+for (const word of ['chips', 'data', 'why']) OF_BOARD[word] = board => doing(board, async () => board[word]());
+OF_BOARD.last = OF_BOARD.lastStop;

@@ -32,26 +32,14 @@ export const asksForStack = ({what: {form}}) => Boolean(form && (form.loadsStack
 
 // SS and SP. Of each segment SP is kept as a number that goes on below 0 and above 65,535.
 class Stack {
-  constructor(segment, pointer) {
-    this.segment = segment;
-    this.level = pointer;
-    this.levels = new Map();
-  }
+  constructor(segment, pointer) { this.segment = segment; this.level = pointer; this.levels = new Map(); }
 
   // The address of the word on top.
-  get place() {
-    return physical(this.segment, this.level & 0xffff);
-  }
+  get place() { return physical(this.segment, this.level & 0xffff); }
 
-  copy() {
-    const found = new Stack(this.segment, this.level);
-    found.levels = new Map(this.levels);
-    return found;
-  }
+  copy() { const found = new Stack(this.segment, this.level); found.levels = new Map(this.levels); return found; }
 
-  move(by) {
-    this.level += by;
-  }
+  move(by) { this.level += by; }
 
   load(segment, pointer) {
     this.levels.set(this.segment, this.level);
@@ -76,10 +64,7 @@ export class Follower {
     const copies = new Map(), found = Object.assign(Object.create(Follower.prototype), this,
       {stack: this.stack.copy()});
     const copied = frames =>
-      frames.map(frame => {
-        if (!copies.has(frame)) copies.set(frame, {...frame});
-        return copies.get(frame);
-      });
+      frames.map(frame => { if (!copies.has(frame)) copies.set(frame, {...frame}); return copies.get(frame); });
     const ofMap = (them, copy) => new Map([...them].map(([key, value]) => [key, copy(value)]));
     const left = ofMap(this.left, ([nest, base]) => [copied(nest), base]);
     return Object.assign(found, {nest: copied(this.nest), open: ofMap(this.open, copied), left});
@@ -162,9 +147,7 @@ export class Out {
   }
 
   // Whether the stack is the one on which it began.
-  get isOwn() {
-    return this.follower.nest === this.nest;
-  }
+  get isOwn() { return this.follower.nest === this.nest; }
 
   // Follows a mark, and tells whether it ends the call, or whether that can't be told.
   ends(mark) {

@@ -6,10 +6,11 @@ import {Session, far, hexOf} from './session.mjs';
 export const CALLING = ['call', 'enter']; // what CALL and INT do; INTO and a division do `may-enter`
 const PLAIN = ['next', 'branch', 'halt', 'repeat', 'nothing'];
 const GENERAL = ['AX', 'CX', 'DX', 'BX', 'BP', 'SI', 'DI'];
-const PREFIXES = new Set([0x26, 0x2e, 0x36, 0x3e, 0xf0, 0xf2, 0xf3]);
+export const PREFIXES = new Set([0x26, 0x2e, 0x36, 0x3e, 0xf0, 0xf2, 0xf3]);
 const ROM = 0xf000, PARAGRAPHS = 1 << 12; // its first paragraph, and how many it has: each for one instruction's bytes
 const RUN = {version: 1, ram: 64, sw1: 0, sw2: 0, budget: 1, keys: []};
-const LINE = /^\S+ (\w+) does (\S+) to (.+) sp (\S+) sets (\S+) alters .* clocks (\S+) (\S+)$/;
+const LINE = /^\S+ (\w+) does (\S+) to (.+) sp (\S+) sets (\S+) alters \S+ mem \S+ (\S+) .* clocks (\S+) (\S+)$/;
+const FAR = [0x9a, 0xea]; // CALL and JMP that have a far pointer in their bytes
 const LONGEST = 13, MOST_KNOWN = 1 << 16;
 const known = new Map();
 
@@ -18,18 +19,23 @@ export const signed = value => ((((value + 0x8000) % 0x10000) + 0x10000) % 0x100
 
 // What a line of `forms` tells of the instruction that these bytes begin with; one that has more bytes isn't theirs.
 // `sp` is null if its bytes don't tell by how much it moves SP; of one that may enter an interrupt it is what is so if
-// it does. One that `isFollowed` has to do with the stack, or with where a routine ends; a branch leads `by` so many
-// bytes from where it begins, and one that enters an interrupt, or may, to that `type`'s handler.
+// it does, and it `pushes` if it writes to where it moves SP down. One that `isFollowed` has to do with the stack, or
+// with where a routine ends. A jump or call that says where leads `by` so many bytes from where it begins, or `to` a
+// place; and one that enters an interrupt, or may, to that `type`'s handler.
 function formIn(line, octets) {
-  const [, shown, does, to, moves, sets, ...clocks] = LINE.exec(line), names = sets.split(',');
-  if (does === 'nothing' || 2 * octets.length < shown.length) return {octets: octets.subarray(0, 0), does: 'nothing'};
+  const [, shown, does, to, moves, sets, writes, ...clocks] = LINE.exec(line), names = sets.split(',');
+  const own = octets.subarray(0, shown.length / 2), code = own.find(it => !PREFIXES.has(it));
+  if (does === 'nothing' || 2 * octets.length < shown.length)
+    return {octets: octets.subarray(0, 0), does: 'nothing', type: null, by: null, to: null, sp: 0, pushes: false};
   const sp = moves === 'loads' ? null : parseInt(moves, 10), loadsStack = sp === null || names.includes('SS');
   const isPlain = PLAIN.includes(does) || (does === 'jump' && to !== 'register');
   const popsRegister = sp === 2 && names.some(name => GENERAL.includes(name));
   const isFollowed = !isPlain || loadsStack || sp !== 0;
-  const by = does === 'branch' ? signed(parseInt(to.slice(5), 16)) : null;
-  const type = to.startsWith('vector') ? parseInt(to.slice(7), 16) : null, own = octets.subarray(0, shown.length / 2);
-  return {octets: own, does, type, by, sp, loadsStack, popsRegister, isFollowed, clocks};
+  const leads = to.includes(':') && ['jump', 'branch', 'call'].includes(does), isFar = leads && FAR.includes(code);
+  const by = leads && !isFar ? signed(parseInt(to.slice(5), 16)) : null, [a, b, c, d] = own.slice(-4);
+  const type = to.startsWith('vector') ? parseInt(to.slice(7), 16) : null, pushes = parseInt(writes, 10) > 0 && sp < 0;
+  const place = isFar ? [c + 256 * d, a + 256 * b] : null, stack = {sp, loadsStack, popsRegister, isFollowed, pushes};
+  return {octets: own, does, type, by, to: place, clocks, ...stack};
 }
 
 function ask(library, some) {
@@ -52,10 +58,7 @@ export function learn(library, them) {
 }
 
 // The form of the instruction that these bytes begin with.
-export function formOf(library, octets) {
-  learn(library, [octets]);
-  return known.get(hexOf(octets));
-}
+export function formOf(library, octets) { learn(library, [octets]); return known.get(hexOf(octets)); }
 
 // Whether what loads SP takes it from BP, as the end of a routine with a frame does: MOV SP,BP, or LEA SP with BP.
 export function isByFrame(octets) {

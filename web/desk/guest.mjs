@@ -18,18 +18,12 @@ const decoder = new TextDecoder(), encoder = new TextEncoder(), latin = new Text
 
 // Lines of a source of MASM that are refused: {line, text} each.
 export class Remarks extends Sorry {
-  constructor(them) {
-    super(them[0]?.text ?? 'refused');
-    this.them = them;
-  }
+  constructor(them) { super(them[0]?.text ?? 'refused'); this.them = them; }
 }
 
 // A text that a source includes, and that wasn't looked for beside it yet.
 export class Wanted extends Sorry {
-  constructor(name) {
-    super(`the source includes ${name}`);
-    this.file = name;
-  }
+  constructor(name) { super(`the source includes ${name}`); this.file = name; }
 }
 
 // How a source is taken: `masm`, `served` or neither; by its look, if no word says it.
@@ -184,9 +178,7 @@ function loaded(library, text, data, {ram, args}) {
 }
 const ascii = text => [...text].map(it => it.charCodeAt(0));
 const words = (...them) => them.flatMap(it => [it & 0xff, it >> 8]);
-function put(image, address, octets) {
-  octets.forEach((octet, n) => image.set(address + n, octet));
-}
+function put(image, address, octets) { octets.forEach((octet, n) => image.set(address + n, octet)); }
 
 // The paragraph of a source's PSP.
 function placeOfPsp(image, start, ram) {
@@ -242,10 +234,7 @@ function hexOfImage(image) {
   for (const [first, octets] of partsOf(image))
     for (let at = 0; at < octets.length; ) {
       const address = first + at, count = Math.min(16 - (address & 15), octets.length - at);
-      if (address >> 16 !== bank) {
-        bank = address >> 16;
-        rows.push(record(0, 2, [(bank << 12) >> 8, 0]));
-      }
+      if (address >> 16 !== bank) { bank = address >> 16; rows.push(record(0, 2, [(bank << 12) >> 8, 0])); }
       rows.push(record(address & 0xffff, 0, [...octets.slice(at, at + count)]));
       at += count;
     }
@@ -271,9 +260,7 @@ export function takenAs(library, source, fields, data, kind, more) {
   listing.parts = partsOf(whole);
   return {text: found.hex, isHex: true, listing, image: whole};
 }
-function servedListing({rows, labels}) {
-  return new Listing(rows, new Map([...placedLabels(rows), ...labels]));
-}
+function servedListing({rows, labels}) { return new Listing(rows, new Map([...placedLabels(rows), ...labels])); }
 // A line has the program's own bytes, up to eight.
 function asLoaded(line, image) {
   const first = physical(...line.address), octets = [];

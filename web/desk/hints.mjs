@@ -7,24 +7,20 @@ import {hex} from './session.mjs';
 const LONGEST_LINE = 1000; // a longer one is given no hint: the looks' time grows faster than a line
 const BEFORE = '^\\s*(?:\\w+\\s*:)?\\s*';
 const SEGMENTED = 'code, data and labels stand in a segment: SEGMENT MAIN AT 50h before them, and ENDS behind';
-let looks = [], habits = [], none = new Set(), one = new Set(), two = new Set(), words = new Set();
-let table = {}, statements = new Set();
+let table = {};
 export function noteHints(given) {
-  table = given;
-  looks = given.looks.map(([look, hint]) => [new RegExp(look), hint]);
-  habits = given.habits.map(([look, hint]) => [new RegExp(look), hint]);
-  [none, one, two, words] = [given.none, given.one, given.two, given.words].map(them => new Set(them));
-  statements = new Set(given.statements);
+  const compiled = them => them.map(([look, hint]) => [new RegExp(look), hint]);
+  table = {...given, looks: compiled(given.looks), habits: compiled(given.habits)};
 }
-export const isStatement = word => statements.has(word);
-export const isWord = word => words.has(word);
+export const isStatement = word => table.statements.includes(word);
+export const isWord = word => table.words.includes(word);
 
 // A line's code in upper case, with the texts in single quotes made empty.
 const bare = line => codeOf(line).replace(/'[^']*'/g, "''").toUpperCase();
 
 function ofWordAsLabel(code) {
   const found = /^\s*(\w+)\s*:/.exec(code), name = found?.[1];
-  if (!statements.has(name)) return null;
+  if (!isStatement(name)) return null;
   return `${name} is an instruction, and no instruction is a name: write ${lower(name)}_1: for ${lower(name)}:`;
 }
 const lower = text => text.toLowerCase();
@@ -32,13 +28,13 @@ const lower = text => text.toLowerCase();
 function ofWordAsOperand(code) {
   const found = /\w\s+(?:(?:SHORT|FAR)\s+)?\[?(\w+)\]?\s*$|,\s*\[?(\w+)\]?\s*(?:,|$)/.exec(code);
   const word = found && (found[1] ?? found[2]), first = /^\s*(?:\w+\s*:)?\s*(\w+)/.exec(code);
-  if (!statements.has(word) || !statements.has(first?.[1])) return null;
+  if (!isStatement(word) || !isStatement(first?.[1])) return null;
   return `${word} is an instruction, and no instruction is a name: write ${lower(word)}_1 for ${lower(word)}`;
 }
 
 function ofNameBeforeBrackets(code) {
   const found = /(\w+)\s*\[([^\]]*)\]/.exec(code), name = found?.[1];
-  if (!name || statements.has(name) || words.has(name) || ['PTR', 'OFFSET', 'DWORD'].includes(name)) return null;
+  if (!name || isStatement(name) || isWord(name) || ['PTR', 'OFFSET', 'DWORD'].includes(name)) return null;
   return `a name stands in the brackets: [${lower(name)}+${found[2]}] for ${lower(name)}[${found[2]}]`;
 }
 
@@ -52,8 +48,8 @@ function ofLongText(line) {
 
 function ofMissingColon(code) {
   const found = /^\s*(\w+)\s+(D[BWD]|\w+)\b/.exec(code);
-  if (!found || statements.has(found[1])) return null;
-  if (!/^D[BWD]$/.test(found[2]) && !statements.has(found[2])) return null;
+  if (!found || isStatement(found[1])) return null;
+  if (!/^D[BWD]$/.test(found[2]) && !isStatement(found[2])) return null;
   return `labels take a colon, those of data too: ${lower(found[1])}: ${found[2]} ..`;
 }
 
@@ -98,8 +94,8 @@ function nearest(word, known, most) {
 
 function ofStatement(code) {
   const found = /^\s*(?:\w+\s*:)?\s*(\w+)/.exec(code);
-  if (!found || statements.has(found[1]) || words.has(found[1])) return null;
-  const [meant] = nearest(found[1], [...statements].sort(), 1);
+  if (!found || isStatement(found[1]) || isWord(found[1])) return null;
+  const [meant] = nearest(found[1], [...table.statements].sort(), 1);
   return meant ? `is ${meant} meant?` : null;
 }
 
@@ -110,7 +106,7 @@ function ofName(code, source) {
     if (found) names.push(found[1]);
   }
   const known = new Set(names.map(name => name.toUpperCase()));
-  const isName = it => !known.has(it) && !statements.has(it) && !words.has(it)
+  const isName = it => !known.has(it) && !isStatement(it) && !isWord(it)
     && !new RegExp(`^(?:${table.own})$`).test(it);
   const unknown = (code.replace(/^\s*\w+\s*:/, '').match(/(?<![\w.'])[A-Z_]\w*/g) ?? []).filter(isName);
   for (const word of unknown) {
@@ -131,7 +127,7 @@ function habitOf(line, code) {
     return "a text holds no quote: DB 'It',39,'s'";
   if ((code.split("'").length - 1) % 2) return "a text ends with a quote, as it begins: 'a'";
   if (code.split('[').length !== code.split(']').length) return 'a bracket is missing: each [ has its ]';
-  return habits.find(([look]) => look.test(code))?.[1] ?? ofOperands(code);
+  return table.habits.find(([look]) => look.test(code))?.[1] ?? ofOperands(code);
 }
 
 // A hint if an instruction has too many operands, or too few.
@@ -139,11 +135,12 @@ function ofOperands(code) {
   const found = new RegExp(`${BEFORE}(?:(?:LOCK|REPN?[EZ]?)\\s+)*(\\w+)\\s*(.*?)\\s*$`).exec(code);
   if (!found) return null;
   const [, name, rest] = found, [next] = rest.split(/\s+/);
-  if (none.has(name) && /^[A-Z]{2,}\b/.test(rest) && (none.has(next) || one.has(next) || two.has(next)))
-    return 'one instruction a line';
+  const kinds = [['none', 0, 'no operand'], ['one', 1, 'one operand'], ['two', 2, 'two operands']];
+  const isNext = /^[A-Z]{2,}\b/.test(rest) && kinds.some(([names]) => table[names].includes(next));
+  if (table.none.includes(name) && isNext) return 'one instruction a line';
   const count = rest ? rest.split(',').length : 0;
-  for (const [names, wanted, said] of [[none, 0, 'no operand'], [one, 1, 'one operand'], [two, 2, 'two operands']]) {
-    if (!names.has(name) || count === wanted) continue;
+  for (const [names, wanted, said] of kinds) {
+    if (!table[names].includes(name) || count === wanted) continue;
     const usual = 'JL'.includes(name[0]) ? 'label' : ['AX', 'AX,5'][wanted - 1];
     return `${name} takes ${said}${wanted ? `: ${name} ${table.examples[name] ?? usual}` : ''}`;
   }
@@ -163,7 +160,7 @@ export function hintOf(line, number, source = []) {
   if (special) return special;
   if ([6, 9, 10, 12].includes(number)) return null;
   if (number === 11) return SEGMENTED;
-  const some = number === 8 ? looks.filter(([, hint]) => hint.includes('target') || hint.includes('port')) : looks;
+  const {looks} = table, some = number === 8 ? looks.filter(([, hint]) => /target|port/.test(hint)) : looks;
   const found = some.find(([look]) => look.test(code))?.[1];
   return found ?? (number === 4 ? ofStatement(code) : number === 8 ? table.ranges : null);
 }

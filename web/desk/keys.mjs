@@ -1,35 +1,23 @@
 // Typed text as scan codes of the IBM PC's keyboard of 83 keys (IBM PC Technical Reference, "Keyboard"), US layout.
 import {Sorry} from './session.mjs';
 
-const UP = 0x80, SHIFT = 0x2a;
-// From code 02h, 10h, 1Eh and 2Bh on: the signs of the four rows, plain and with shift.
-const ROWS = [
-  [0x02, '1234567890-=', '!@#$%^&*()_+'],
-  [0x10, 'qwertyuiop[]', 'QWERTYUIOP{}'],
-  [0x1e, "asdfghjkl;'`", 'ASDFGHJKL:"~'],
-  [0x2b, '\\zxcvbnm,./', '|ZXCVBNM<>?'],
-];
-const NAMED = {esc: 0x01, backspace: 0x0e, tab: 0x0f, enter: 0x1c, ctrl: 0x1d, shift: SHIFT, rshift: 0x36};
-Object.assign(NAMED, {prtsc: 0x37, alt: 0x38, space: 0x39, capslock: 0x3a});
-for (let n = 1; n <= 10; n++) NAMED[`f${n}`] = 0x3a + n;
-Object.assign(NAMED, {numlock: 0x45, scrolllock: 0x46, home: 0x47, up: 0x48, pgup: 0x49, left: 0x4b, right: 0x4d});
-Object.assign(NAMED, {end: 0x4f, down: 0x50, pgdn: 0x51, ins: 0x52, del: 0x53});
-const SIGNS = new Map();
-for (const [row, plain, shifted] of ROWS) {
-  [...plain].forEach((sign, place) => SIGNS.set(sign, [row + place, false]));
-  [...shifted].forEach((sign, place) => SIGNS.set(sign, [row + place, true]));
-}
-SIGNS.set(' ', [0x39, false]).set('\n', [0x1c, false]).set('\t', [0x0f, false]);
-
+const UP = 0x80, SIGNS = new Map(), NAMED = {};
 // Each key's name: its sign without shift, or its name.
-export const NAMES = new Map(Object.entries(NAMED).map(([name, code]) => [code, name]));
-for (const [sign, [code, isShifted]] of SIGNS) if (!isShifted && sign > ' ') NAMES.set(code, sign);
+export const NAMES = new Map();
+// keys.json has the signs of the four rows, plain and with shift, from a code on, and keys by their names.
+export function noteKeys({rows, named}) {
+  const note = (signs, code, isShifted) => [...signs].forEach((sign, n) => SIGNS.set(sign, [code + n, isShifted]));
+  for (const [code, plain, shifted] of rows) { note(plain, code, false); note(shifted, code, true); }
+  SIGNS.set(' ', [0x39, false]).set('\n', [0x1c, false]).set('\t', [0x0f, false]);
+  for (const [name, code] of Object.entries(Object.assign(NAMED, named))) NAMES.set(code, name);
+  for (const [sign, [code, isShifted]] of SIGNS) if (!isShifted && sign > ' ') NAMES.set(code, sign);
+}
 
 // A typed character; if it is plain, without the shift that it needs.
 function strokeOf(sign, isPlain) {
   if (!SIGNS.has(sign)) throw new Sorry(`no key types '${sign}'`);
   const [code, isShifted] = SIGNS.get(sign);
-  return {codes: isShifted && !isPlain ? [SHIFT, code] : [code], pause: 0};
+  return {codes: isShifted && !isPlain ? [NAMED.shift, code] : [code], pause: 0};
 }
 
 // What stands in braces: a key by name, keys held together (ctrl+c), or wait N.

@@ -1,14 +1,15 @@
 // What the editor asks of its text: what a word means, and what completes one. The tables of instructions, ports and
 // words are those that the editors have.
-import {clocksTold} from './clocks.mjs';
 import {formOf} from './forms.mjs';
 import {codeOf, labelIn, listingOf, ownLines} from './listing.mjs';
+import {written} from './places.mjs';
 import {Straight, writtenTo} from './ports.mjs';
 import {Sorry, far, hex, hexOf} from './session.mjs';
 
 const CONSTANT = /^\s*([A-Za-z_]\w*)\s+EQU\b\s*(.*)/i, SEGMENT = /^\s*SEGMENT\s+([A-Za-z_]\w*)\s+AT\s+(\S+)/i;
 const MOST_USES = 20, ADDRESSING = ['BX', 'BP', 'SI', 'DI'], SHORT_PORT = 0xff;
 const NUMBER = /^(?:[0-9][0-9A-F]*h|[01]+b|\d+)$/i;
+const COUNTS = {cl: ['CL', 255], n: ['elements', 65_535]}; // by what data decide, and how many there are at most
 
 const plain = text => text.replace(/[&<>"']/g, sign => `&#${sign.charCodeAt(0)};`);
 const paragraph = text => `<p>${text}</p>`, coded = text => `<code>${plain(text)}</code>`;
@@ -34,10 +35,10 @@ function numberIn(word) {
 // A number in hexadecimal, decimal and binary, and as text if it is one.
 function asNumber(value) {
   if (value > Number.MAX_SAFE_INTEGER) return 'needs more than 53 bits';
-  const digits = value.toString(16).toUpperCase(), shown = /^\d/.test(digits) ? `${digits}h` : `0${digits}h`;
+  const digits = hex(value);
   const octets = digits.padStart(digits.length + (digits.length % 2), '0').match(/../g).map(it => parseInt(it, 16));
   const isText = octets.every(octet => octet >= 0x20 && octet <= 0x7e), text = String.fromCharCode(...octets);
-  return `is ${shown}, ${value}, ${value.toString(2)}b${isText ? plain(`, '${text}'`) : ''}`;
+  return `is ${written(value)}, ${value}, ${value.toString(2)}b${isText ? plain(`, '${text}'`) : ''}`;
 }
 
 // The comment lines just above a line, else its own comment.
@@ -47,6 +48,19 @@ function commentOf(lines, at) {
   while (above >= 0 && /^\s*;/.test(lines[above])) found.unshift(lines[above--].replace(/^[\s;]+/, ''));
   const own = lines[at].slice(codeOf(lines[at]).length).replace(/^[\s;]+/, '');
   return found.length ? found.join(' ') : own;
+}
+
+// All that is known of an instruction's clocks, by the first or the second table, in words.
+function clocksTold({does, type, clocks}, table) {
+  const [, fixed, each, by] = /^(\d+)\+(\d+)(cl|n)$/.exec(clocks[table]) ?? [];
+  if (by) {
+    const [what, most] = COUNTS[by], longest = Number(fixed) + Number(each) * most;
+    return `${fixed} + ${each} × ${what}, ${fixed} to ${longest.toLocaleString('en-US')}`;
+  }
+  const [most, least] = clocks[table].split('/');
+  if (least === undefined) return most;
+  if (type === 0) return `${least}; ${most - least} more if it fails`;
+  return `${most} if it ${does === 'branch' ? 'jumps' : 'enters'}, else ${least}`;
 }
 
 export class Language {
@@ -59,12 +73,8 @@ export class Language {
   listingOf(source) {
     if (this.source === source) return this.listing;
     this.source = source;
-    try {
-      this.listing = listingOf(this.library, source);
-    } catch (error) {
-      if (!(error instanceof Sorry)) throw error;
-      this.listing = null;
-    }
+    try { this.listing = listingOf(this.library, source); }
+    catch (error) { if (!(error instanceof Sorry)) throw error; this.listing = null; }
     return this.listing;
   }
 
@@ -123,7 +133,7 @@ export class Language {
     if (port === null) return '';
     const found = [`port ${hex(port)}h: ${this.data.ports[port] ?? 'nothing answers'}`];
     for (const [at, octet] of straight.bytesOut(line)) {
-      const says = writtenTo(at, octet, before, this.data.modes), where = at === port ? 'there' : `at port ${hex(at)}h`;
+      const says = writtenTo(at, octet, before, this.data), where = at === port ? 'there' : `at port ${hex(at)}h`;
       if (says) found.push(`${hex(octet, 2)}h ${where}: ${says}`);
       before.push([at, octet]);
     }
@@ -174,10 +184,7 @@ export class Language {
     const isShort = /\bOUT\s+\w*$|\bIN\s+\w+\s*,\s*\w*$/i.test(before), isLong = /\bMOV\s+DX\s*,\s*\w*$/i.test(before);
     const ports = Object.entries(this.data.ports).map(([port, detail]) =>
       [Number(port), detail]).filter(([port]) => (port > SHORT_PORT ? isLong : isShort));
-    const shown = ports.map(([port, detail]) => {
-      const digits = port.toString(16).toUpperCase();
-      return {label: `${/^\d/.test(digits) ? '' : '0'}${digits}h`, detail};
-    });
+    const shown = ports.map(([port, detail]) => ({label: written(port), detail}));
     return [...shown, ...mine, ...words('register', ''), ...words('operator', 'operator')];
   }
 }

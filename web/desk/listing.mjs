@@ -63,14 +63,10 @@ export class Listing {
   }
 
   // The labels of data of which the source tells how long they are.
-  get data() {
-    return (this.itsData ??= this.readData());
-  }
+  get data() { return (this.itsData ??= this.readData()); }
 
   // EQU's names with their values, as far as the source tells them.
-  get constants() {
-    return (this.itsConstants ??= this.readConstants());
-  }
+  get constants() { return (this.itsConstants ??= this.readConstants()); }
 
   // The label of data that begins at a physical address; of several the one that has the most bytes.
   datumAt(address) {

@@ -1,10 +1,10 @@
 // The board at a clock, over sessions of pcprobe: stops, ways to a clock, and beginnings anew. Each place is that of a
 // session; a long way is gone in pieces, between which `poll` may end it.
 import {Changes} from './changes.mjs';
-import {faultIn} from './faults.mjs';
-import {
-  BEFORE_START, Gone, LAST_CLOCK, MEMORY, Session, Sorry, bytesOf, hex, hexOf, physical, unrefused,
-} from './session.mjs';
+import {kindIn} from './faults.mjs';
+import {filled} from './sentences.mjs';
+import {BEFORE_START, LAST_CLOCK, MEMORY, Session, Sorry, bytesOf, hex, hexOf, physical,
+  unrefused} from './session.mjs';
 import {changedAt, watchedBy} from './watches.mjs';
 
 const MOST_STOPS = 16, MOST_LISTED = 4096, MOST_PASSED = 64, SET_AT_ONCE = 16;
@@ -12,17 +12,6 @@ export const PIECE = 10_000_000; // clocks that are run at once
 const FIRST_PIECE = 1 << 16, LOOKED_AT_FIRST = 1024, PASSED_AT_ONCE = 1 << 20;
 const HLT = 0xf4, ROM = 0xf0000;
 export const NONE = 'no instruction of the 8086';
-const KEY_REFUSED = {
-  33: () => 'no key sends this code: 01 to 53 are keys that go down, 81 to D3 keys that come up',
-  34: clock => `a key comes at a later clock than the present one, ${clock}`,
-  42: () => 'no run goes beyond clock 2^40, and no key comes there',
-  53: () => 'there is no memory for one more key, and none was typed',
-};
-const SET_REFUSED = {
-  53: 'there is no memory for the change, and nothing is set',
-  55:
-    'no byte can be set there: beside RAM, text memory (B0000 to B0FFF) and ROM (F0000 to FFFFF) nothing keeps one',
-};
 
 // The run is to end where it is.
 export class Paused extends Sorry {}
@@ -61,37 +50,21 @@ export class SessionBoard {
 
   // The registers and the trail are asked for once at each clock: what a board holds there is determined, until keys
   // change, or it is changed.
-  forget() {
-    this.halts.clear();
-    this.registersAt = [-1, {}];
-    this.trailAt = [-1, []];
-  }
+  forget() { this.halts.clear(); this.registersAt = [-1, {}]; this.trailAt = [-1, []]; }
 
-  get clock() {
-    return this.session.clock;
-  }
+  get clock() { return this.session.clock; }
 
-  close() {
-    this.session.close();
-  }
+  close() { this.session.close(); }
 
   // Questions
 
-  answer(command) {
-    return this.session.answer(command);
-  }
+  answer(command) { return this.session.answer(command); }
 
-  one(command) {
-    return this.session.one(command);
-  }
+  one(command) { return this.session.one(command); }
 
-  many(command) {
-    return this.session.many(command);
-  }
+  many(command) { return this.session.many(command); }
 
-  dump(address, count) {
-    return this.session.dump(address, count);
-  }
+  dump(address, count) { return this.session.dump(address, count); }
 
   // So many instructions from a place on, as memory has them now: each with its offset, its bytes and its text.
   listed([segment, offset], count) {
@@ -112,10 +85,7 @@ export class SessionBoard {
     return this.registersAt[1];
   }
 
-  place() {
-    const {CS, IP} = this.registers();
-    return [CS, IP];
-  }
+  place() { const {CS, IP} = this.registers(); return [CS, IP]; }
 
   // The last instruction starts and entries.
   trail() {
@@ -123,9 +93,7 @@ export class SessionBoard {
     return this.trailAt[1];
   }
 
-  chips() {
-    return this.many('chips');
-  }
+  chips() { return this.many('chips'); }
 
   // Whether the processor is halted, after its HLT.
   get isHalted() {
@@ -134,30 +102,20 @@ export class SessionBoard {
   }
 
   // What happens in so many clocks, past all stops, as lines of the probe's events.
-  lines(clocks, kinds) {
-    return clocks ? this.session.lines(clocks, kinds) : [];
-  }
+  lines(clocks, kinds) { return clocks ? this.session.lines(clocks, kinds) : []; }
 
   // Ends what is under way, as where a byte has just been written, so that a step makes the next instruction.
-  endInstruction() {
-    if (!this.chips().at(-1).includes(' busy 0 ')) this.one('step');
-  }
+  endInstruction() { if (!this.chips().at(-1).includes(' busy 0 ')) this.one('step'); }
 
   // What happened in the clock that led to the present one; stops are passed. To a change's clock none led.
-  happened(kinds) {
-    if (this.clock === this.changes.first) return [];
-    this.one('back 1');
-    return this.lines(1, kinds);
-  }
+  happened(kinds) { if (this.clock === this.changes.first) return []; this.one('back 1'); return this.lines(1, kinds); }
 
-  state() {
-    return this.chips().at(-1).split(' ')[1];
-  }
+  state() { return this.chips().at(-1).split(' ')[1]; }
 
   // Types a key, which comes at this clock; returns its stamp.
   type(code, clock) {
-    const answer = this.answer(`key ${hex(code)} ${clock}`), fault = faultIn(answer);
-    if (fault && KEY_REFUSED[fault.number]) throw new Sorry(KEY_REFUSED[fault.number](this.clock));
+    const answer = this.answer(`key ${hex(code)} ${clock}`), {typed} = kindIn(answer);
+    if (typed) throw new Sorry(filled(typed, {code, clock: this.clock}));
     const stamp = Number(unrefused(answer).split(' ')[2]);
     if (this.changes.deeds.length) this.changes.take(this.changes.first, `key ${hex(code)} ${stamp}`);
     else this.files = withKeys(this.files, [...this.files.run.keys, [stamp, code]]);
@@ -167,9 +125,7 @@ export class SessionBoard {
 
   // Changes
 
-  setRegister(name, word) {
-    return this.set(`set ${name} ${hex(word)}`);
-  }
+  setRegister(name, word) { return this.set(`set ${name} ${hex(word)}`); }
 
   // Bytes get these values, from a physical address on; all of them, or none.
   async setBytes(address, octets) {
@@ -198,15 +154,13 @@ export class SessionBoard {
   }
 
   make(command) {
-    const answer = this.answer(command), fault = faultIn(answer);
-    if (fault && SET_REFUSED[fault.number]) throw new Sorry(SET_REFUSED[fault.number]);
+    const answer = this.answer(command), {changed} = kindIn(answer);
+    if (changed) throw new Sorry(changed);
     unrefused(answer);
   }
 
   // The board was changed at the present clock, so what is known of it and of later ones holds no more.
-  areOthers() {
-    this.forget();
-  }
+  areOthers() { this.forget(); }
 
   // Goes back to before the last change; what that was, in words.
   async undo() {
@@ -219,9 +173,7 @@ export class SessionBoard {
     return `clock ${clock}: undone: ${what}`;
   }
 
-  mark() {
-    return [this.clock, [...this.changes.deeds]];
-  }
+  mark() { return [this.clock, [...this.changes.deeds]]; }
 
   // The board as it was marked, from a way on which changes may have been undone.
   async returnTo([clock, deeds]) {
@@ -272,31 +224,19 @@ export class SessionBoard {
     const unwanted = them.findIndex(each => !stops.includes(each)), wanted = them.filter(each => stops.includes(each));
     const isInOrder = wanted.every((each, n) => Boolean(placeOf(each)) === Boolean(placeOf(stops[n])));
     const passed = unwanted < 0 ? [] : them.slice(unwanted);
-    if (them.length > MOST_STOPS || !isInOrder || !passed.every(placeOf)) {
-      await this.beginAnew(stops);
-      return;
-    }
-    for (const stop of more) {
-      this.one(stop);
-      this.stops.push(stop);
-    }
+    if (them.length > MOST_STOPS || !isInOrder || !passed.every(placeOf)) { await this.beginAnew(stops); return; }
+    for (const stop of more) { this.one(stop); this.stops.push(stop); }
   }
 
   // Ways
 
   // A session without stops goes on to this clock.
   async runByPieces(session, end) {
-    while (session.clock < end) {
-      session.go(Math.min(PIECE, end - session.clock));
-      await this.poll();
-    }
+    while (session.clock < end) { session.go(Math.min(PIECE, end - session.clock)); await this.poll(); }
   }
 
   // The stop that an answer tells.
-  stopIn(answer) {
-    const found = /^stop (\d+)/.exec(answer);
-    return found ? this.stops[Number(found[1]) - 1] : null;
-  }
+  stopIn(answer) { const found = /^stop (\d+)/.exec(answer); return found ? this.stops[Number(found[1]) - 1] : null; }
 
   // Goes on to the session's next stop, at most to this clock, and returns it.
   async goOn(end) {
@@ -341,10 +281,7 @@ export class SessionBoard {
   }
 
   // Passes a stop that nobody wants any more; after many of them there are none.
-  async pass(passed, wanted) {
-    if (passed === MOST_PASSED) await this.beginAnew(wanted);
-    await this.poll();
-  }
+  async pass(passed, wanted) { if (passed === MOST_PASSED) await this.beginAnew(wanted); await this.poll(); }
 
   // From within a halt to where the interrupt that ends it begins to be taken, at most to this clock, or to one of
   // these stops. The place after the HLT is none: there it would hold at each clock.
@@ -353,10 +290,7 @@ export class SessionBoard {
     let length = FIRST_PIECE, woken = end;
     while (this.clock < end) {
       const [first] = this.lines(Math.min(length, end - this.clock), 'states');
-      if (first) {
-        woken = parseInt(first, 10);
-        break;
-      }
+      if (first) { woken = parseInt(first, 10); break; }
       await this.poll();
       length = Math.min(2 * length, PIECE);
     }
@@ -376,10 +310,7 @@ export class SessionBoard {
     await this.want(wanted);
     for (let passed = 0; wanted.length && this.clock; ) {
       const met = await this.lastStop();
-      if (!met && this.changes.deeds.length) {
-        this.undone.push(await this.undo());
-        continue;
-      }
+      if (!met && this.changes.deeds.length) { this.undone.push(await this.undo()); continue; }
       if (!met) break;
       if (placeOf(met) && this.isBehindHalt() && this.isHalted) await this.goTo(this.trail().at(-1).clock);
       else if (wanted.includes(met)) return met;
@@ -400,14 +331,8 @@ export class SessionBoard {
         const low = Math.max(first, end - length);
         this.back(low);
         const isMet = end - 1 > low && this.session.go(end - 1 - low).startsWith('stop');
-        if (isMet) {
-          this.pastStops(end);
-          return this.stopIn(this.session.one('back stop'));
-        }
-        if (low === first) {
-          const met = this.firstStop(low);
-          if (met) return met;
-        }
+        if (isMet) { this.pastStops(end); return this.stopIn(this.session.one('back stop')); }
+        if (low === first) { const met = this.firstStop(low); if (met) return met; }
         end = low === first ? low : low + 1;
         length = Math.min(8 * length, PIECE);
         await this.poll();
@@ -421,21 +346,12 @@ export class SessionBoard {
   }
 
   // The stop that holds at the session's first clock, to which the board goes.
-  firstStop(low) {
-    this.back(low);
-    this.lines(1, 'keys');
-    return this.stopIn(this.session.one('back stop'));
-  }
+  firstStop(low) { this.back(low); this.lines(1, 'keys'); return this.stopIn(this.session.one('back stop')); }
 
   // Goes back to a clock, or on to it past all stops.
-  back(clock) {
-    if (clock < this.clock) this.one(`back ${this.clock - clock}`);
-    else this.pastStops(clock);
-  }
+  back(clock) { if (clock < this.clock) this.one(`back ${this.clock - clock}`); else this.pastStops(clock); }
 
-  pastStops(clock) {
-    this.lines(clock - this.clock, 'keys');
-  }
+  pastStops(clock) { this.lines(clock - this.clock, 'keys'); }
 
   // To the last earlier clock at which the processor was free; whether there is one.
   async stepBack() {
@@ -456,4 +372,4 @@ export function withKeys(files, keys) {
   const sorted = keys.map((key, n) => [key, n]).sort(([a, m], [b, n]) => a[0] - b[0] || m - n);
   return {...files, run: {...files.run, keys: sorted.map(([key]) => key)}};
 }
-export {Gone, LAST_CLOCK};
+export {LAST_CLOCK};

@@ -4,10 +4,7 @@ import {numberOf} from './listing.mjs';
 import {Sorry, hex} from './session.mjs';
 
 // A number as a source writes it in hexadecimal.
-function written(number) {
-  const digits = hex(number);
-  return `${/^\d/.test(digits) ? '' : '0'}${digits}h`;
-}
+export function written(number) { const digits = hex(number); return `${/^\d/.test(digits) ? '' : '0'}${digits}h`; }
 const isDecimal = word => /^[0-9]+$/.test(word);
 const isTwo = word => isDecimal(word) && Number(word) > 9;
 const refused = (what, one, other) => new Sorry(`${what} is read two ways: ${one}, ${other}; write one of these`);
@@ -53,9 +50,7 @@ export function checkBracketed(registers, text, hasSegment) {
 }
 
 // Refuses a segment's number that says no base: a place has it in hexadecimal.
-export function checkSegment(word) {
-  if (isTwo(word)) throw twoWays(word, written(Number(word)));
-}
+export function checkSegment(word) { if (isTwo(word)) throw twoWays(word, written(Number(word))); }
 
 // A place in which registers stand for their values, as ES:DI.
 export function saidOf(registers, place) {

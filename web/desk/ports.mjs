@@ -8,76 +8,33 @@ const COMMA = /,(?=(?:[^']*'[^']*')*[^']*$)/; // in no quotes
 const LEAVING = 'CALL INT INT3 INTO RET RETF IRET JMP HLT'.split(' ');
 const KEEPING = 'OUT CMP TEST PUSH NOP CLI STI CLD STD CLC STC CMC'.split(' ');
 const IMPLYING = 'CBW CWD AAA AAS AAM AAD DAA DAS LAHF XLAT LODSB LODSW MUL IMUL DIV IDIV POPF'.split(' ');
-const ACCESS = ['latches the count', 'the low byte', 'the high byte', 'both bytes'];
-const OCW2 = [
-  () => 'rotation under automatic end of interrupt off',
-  () => 'end of interrupt',
-  () => 'nothing',
-  level => `end of interrupt of level ${level}`,
-  () => 'rotation under automatic end of interrupt on',
-  () => 'end of interrupt, and the ended level becomes the lowest',
-  level => `level ${level} becomes the lowest`,
-  level => `end of interrupt of level ${level}, which becomes the lowest`,
-];
 
-// A control word of the timer, whose modes have these names.
-function timerWord(octet, modes) {
-  const counter = octet >> 6, mode = (octet >> 1) & 7;
-  if (counter === 3) return 'names no counter; for an 8254 a read-back';
-  if (!(octet & 0x30)) return `counter ${counter}, ${ACCESS[0]}`;
-  const number = mode & 2 ? mode & 3 : mode, kind = octet & 1 ? 'decimal' : 'binary';
-  return `counter ${counter}, ${ACCESS[(octet >> 4) & 3]}, mode ${number} (${modes[number]}), ${kind}`;
-}
-
-// ICW1, OCW2 or OCW3 of the interrupt controller.
-function commandWord(octet) {
-  if (octet & 0x10) {
-    const slaves = octet & 2 ? 'no slaves' : 'slaves, so ICW3 comes';
-    return `ICW1: ${octet & 1 ? 'ICW4 comes' : 'no ICW4'}, ${slaves}, ${octet & 8 ? 'levels' : 'edges'}`;
-  }
-  if (!(octet & 8)) return `OCW2: ${OCW2[octet >> 5](octet & 7)}`;
-  const parts = [{2: 'special mask mode off', 3: 'special mask mode on'}[(octet >> 5) & 3]];
-  parts.push({2: 'reads give the requests', 3: 'reads give the levels in service'}[octet & 3]);
-  if (octet & 4) parts.push('a poll');
-  return `OCW3: ${parts.filter(Boolean).join(', ') || 'nothing'}`;
-}
-
-// The word at 21h: by the words that were written before, each with its port, the next of a sequence, or the mask.
-function maskWord(octet, before) {
+// The name of a word at 21h: by the words that were written before, each with its port, the next of a sequence, or the
+// mask.
+function nameAfter(before) {
   const first = before.findLastIndex(([port, word]) => port === 0x20 && word & 0x10), word = before[first]?.[1];
-  if (first >= 0) {
-    const sequence = ['ICW2', ...(word & 2 ? [] : ['ICW3']), ...(word & 1 ? ['ICW4'] : [])];
-    const next = sequence[before.slice(first).filter(([port]) => port === 0x21).length];
-    const ends = octet & 2 ? ', automatic end of interrupt' : '';
-    if (next === 'ICW2') return `ICW2: IR0 is interrupt ${hex(octet & 0xf8, 2)}h, IR7 ${hex(octet | 7, 2)}h`;
-    if (next === 'ICW3') return 'ICW3: without effect, since there are no slaves';
-    if (next === 'ICW4') return `ICW4: ${octet & 1 ? '8086 mode' : 'not in 8086 mode'}${ends}`;
-  }
-  const masked = [0, 1, 2, 3, 4, 5, 6, 7].filter(level => (octet >> level) & 1).map(level => `IR${level}`);
-  return `OCW1, outside a sequence: masks ${masked.join(' ') || 'none'}`;
+  const sequence = first < 0 ? [] : ['ICW2', ...(word & 2 ? [] : ['ICW3']), ...(word & 1 ? ['ICW4'] : [])];
+  return sequence[before.slice(first).filter(([port]) => port === 0x21).length] ?? 'OCW1';
 }
 
-// A word at the control register of the parallel port.
-function parallelWord(octet) {
-  if (!(octet & 0x80)) return `bit ${(octet >> 1) & 7} of C becomes ${octet & 1}`;
-  const ways = [[4, 'A'], [3, 'the upper half of C'], [1, 'B'], [0, 'the lower half of C']];
-  return ways.map(([bit, name]) => `${name} is an ${(octet >> bit) & 1 ? 'input' : 'output'}`).join(', ');
-}
-
-// Port B's lines.
-function speakerWord(octet) {
-  const parts = [`gate 2 is ${octet & 1}`, `OUT2 ${octet & 2 ? 'goes' : 'does not go'} to the speaker`];
-  parts.push(`the switches by line 2: ${(octet >> 2) & 1}`, `the keyboard ${octet & 0x40 ? 'sends' : 'sends nothing'}`);
-  return [...parts, ...(octet & 0x80 ? ['its latch is emptied'] : [])].join(', ');
+// A text of port_words.json for a byte: `{4.2}` is the number in two bits from bit 4 on, `{4.2?a|b|c|d}` what is so by
+// it, `{&F8}` and `{|07}` what these bits make of it.
+function saidBy(text, octet, modes) {
+  const levels = [0, 1, 2, 3, 4, 5, 6, 7].filter(level => (octet >> level) & 1).map(level => `IR${level}`);
+  const bits = /\{(?:(\d)\.(\d)(?:\?([^}]*))?|([&|])(\w\w))\}/g;
+  return text.replace('{levels}', levels.join(' ') || 'none').replace(bits, (_, first, count, choices, sign, mask) => {
+    const number = (octet >> first) & (2 ** count - 1), other = parseInt(mask, 16);
+    if (sign) return hex(sign === '&' ? octet & other : octet | other, 2);
+    return choices === '@modes' ? modes[number & 2 ? number & 3 : number] : (choices?.split('|')[number] ?? number);
+  });
 }
 
 // What a byte says that is written to a port, or nothing.
-export function writtenTo(port, octet, before, modes) {
-  if (port === 0x21) return maskWord(octet, before);
-  const words = {0x43: timerWord, 0x20: commandWord, 0x61: speakerWord, 0x63: parallelWord};
-  if (port in words) return words[port](octet, modes);
-  if (port === 0x3b8) return `the video is ${octet & 8 ? 'on' : 'off'}`;
-  return port === 0x3b4 ? `register ${octet & 31} at 3B5h` : '';
+export function writtenTo(port, octet, before, {modes, port_words: words}) {
+  const isSo = ([mask, is]) => (octet & parseInt(mask, 16)) === parseInt(is, 16);
+  const [, , head, ...parts] = words[port === 0x21 ? nameAfter(before) : hex(port)]?.find(isSo) ?? [0, 0, ''];
+  const told = parts.map(part => saidBy(part, octet, modes)).filter(Boolean).join(', ');
+  return saidBy(head, octet, modes) + (parts.length ? told || 'nothing' : '');
 }
 
 // What registers hold before a line, as far as the lines above it, with no label or jump between, put a constant there.
@@ -145,7 +102,5 @@ export class Straight {
   }
 
   // Those that the lines above write, in their order, as far as they are known.
-  bytesBefore(line) {
-    return [...this.above(line)].reverse().flatMap(at => this.bytesOut(at));
-  }
+  bytesBefore(line) { return [...this.above(line)].reverse().flatMap(at => this.bytesOut(at)); }
 }

@@ -3,7 +3,7 @@
 import {kindOf, told} from './faults.mjs';
 import {hintOf, isStatement, isWord} from './hints.mjs';
 import {codeOf, labelIn, ownLines, rowsOfSource} from './listing.mjs';
-import {Refused, Sorry, patience} from './session.mjs';
+import {Refused, patience} from './session.mjs';
 
 const MOST = 20, NO_SEGMENT = 11, TWICE = 6, SHORT_OF_A_LINE = [8, 9, 10, 12];
 const DEFINING = /^(?:EQU|D[BWDQT]|RES[BWDQ]|PROC|LABEL|MACRO|SEGMENT|STRUC|TIMES)$/i;
@@ -28,24 +28,15 @@ const uses = (line, names) =>
   (codeOf(line).replace(/'[^']*'/g, '').match(/[A-Za-z_]\w*/g) ?? []).some(word => names.has(word.toUpperCase()));
 
 class Copy {
-  constructor(library, text) {
-    Object.assign(this, {library, lines: text.split('\n'), lost: new Set()});
-  }
+  constructor(library, text) { Object.assign(this, {library, lines: text.split('\n'), lost: new Set()}); }
 
   // The copy's first fault, or null.
   fault() {
-    try {
-      rowsOfSource(this.library, this.lines.join('\n'));
-      return null;
-    } catch (error) {
-      if (!(error instanceof Refused)) throw error;
-      return error;
-    }
+    try { rowsOfSource(this.library, this.lines.join('\n')); return null; }
+    catch (error) { if (!(error instanceof Refused)) throw error; return error; }
   }
 
-  lose(line) {
-    for (const name of namesOf(line)) this.lost.add(name);
-  }
+  lose(line) { for (const name of namesOf(line)) this.lost.add(name); }
 
   // Puts something harmless for the fault's line, and returns the next fault.
   takeOut(fault) {
@@ -77,10 +68,7 @@ export function* refusedIn(library, text) {
   const copy = new Copy(library, text);
   let isOpened = true, isAfter = false;
   for (let fault = copy.fault(); fault; ) {
-    if (!fault.line) {
-      yield [fault, isAfter];
-      return;
-    }
+    if (!fault.line) { yield [fault, isAfter]; return; }
     const line = copy.lines[fault.line - 1], isOfSegment = fault.number === NO_SEGMENT;
     if (!uses(line, copy.lost) && !(isOfSegment && !isOpened))
       yield [fault, isAfter && SHORT_OF_A_LINE.includes(fault.number)];
@@ -125,4 +113,3 @@ export function refusalsOf(library, error, {source, isHex}) {
   if (kind?.of === 'source' && !isHex) return messagesOf(library, source);
   return [{line: error.line ?? null, text: told(error), of: kind?.of ?? ''}];
 }
-export {Sorry};

@@ -45,10 +45,7 @@ export class Session {
     throw new Refused(fault, line);
   }
 
-  close() {
-    if (this.handle) this.library.drop(this.handle);
-    this.handle = null;
-  }
+  close() { if (this.handle) this.library.drop(this.handle); this.handle = null; }
 
   // What a command is answered, also a refusal, as lines.
   heard(command) {
@@ -67,18 +64,16 @@ export class Session {
   }
 
   // The line that answers a command, and the lines, if it isn't refused.
-  one(command) {
-    return unrefused(this.answer(command));
-  }
+  one(command) { return unrefused(this.answer(command)); }
 
-  many(command) {
-    const lines = this.heard(command);
-    if (lines.length) unrefused(lines[0]);
-    return lines;
-  }
+  many(command) { const lines = this.heard(command); if (lines.length) unrefused(lines[0]); return lines; }
 
-  go(clocks) {
-    return this.one(`go ${clocks}`);
+  go(clocks) { return this.one(`go ${clocks}`); }
+
+  // Back or on to a clock, past every stop.
+  goTo(clock) {
+    while (this.clock > clock) this.one(`back ${this.clock - clock}`);
+    while (this.clock < clock) this.go(clock - this.clock);
   }
 
   // Bytes from a physical address on, as many as there are.
@@ -95,16 +90,17 @@ export class Session {
   }
 
   // What happens in so many clocks, past all stops, as lines of the probe's events.
-  lines(clocks, kinds) {
-    const found = this.many(`events ${clocks} ${kinds}`), last = found.pop();
+  lines(clocks, kinds) { return this.happenings(`events ${clocks} ${kinds}`); }
+
+  // What a command tells that goes on by clocks, and ends with where it is.
+  happenings(command) {
+    const found = this.many(command), last = found.pop();
     this.clock = Number(last.slice(6));
     return found;
   }
 }
 
-export function hex(value, digits = 1) {
-  return value.toString(16).toUpperCase().padStart(digits, '0');
-}
+export function hex(value, digits = 1) { return value.toString(16).toUpperCase().padStart(digits, '0'); }
 export const far = (segment, offset) => `${hex(segment, 4)}:${hex(offset, 4)}`;
 export const physical = (segment, offset) => (16 * segment + offset) % MEMORY;
 export function bytesOf(digits) {

@@ -51,9 +51,7 @@ export class Speaker {
     return found;
   }
 
-  isStill(begin, end) {
-    return this.count(begin) === this.count(end);
-  }
+  isStill(begin, end) { return this.count(begin) === this.count(end); }
 
   // Its mean level over each sample from one clock to another, `slow` times as long as on a real board: a byte each.
   samples(begin, end, slow = 1) {

@@ -18,6 +18,8 @@ const COMPARISONS = {
   '>': (a, b) => a > b,
   '>=': (a, b) => a >= b,
 };
+const SIGNS = {'+': (a, b) => a + b, '-': (a, b) => a - b, '*': (a, b) => a * b, '&': (a, b) => a & b};
+const withSign = (a, b, sign) => value(SIGNS[sign](a.number, b.number), Math.max(a.size, b.size));
 const truth = is => ({number: Number(is), size: 1, address: null});
 const value = (number, size = 2, address = null) => ({number, size, address});
 const modulo = (number, most) => ((number % most) + most) % most;
@@ -42,23 +44,16 @@ class Expression {
     return found;
   }
 
-  either() {
-    let found = this.both();
-    while (this.take('||', 'OR')) {
-      const right = this.both();
-      found = truth(found.number || right.number);
-    }
-    return found.size === 1 ? {...found, number: Number(found.number)} : found;
-  }
-
-  both() {
-    let found = this.comparison();
-    while (this.take('&&', 'AND')) {
-      const right = this.comparison();
-      found = truth(Boolean(found.number && right.number));
-    }
+  // Parts that some words join, from the left.
+  joined(part, join, ...words) {
+    let found = part();
+    for (let sign = this.take(...words); sign; sign = this.take(...words)) found = join(found, part(), sign);
     return found;
   }
+
+  either() { return this.joined(() => this.both(), (a, b) => truth(a.number || b.number), '||', 'OR'); }
+
+  both() { return this.joined(() => this.comparison(), (a, b) => truth(Boolean(a.number && b.number)), '&&', 'AND'); }
 
   comparison() {
     if (this.take('!', 'NOT')) return truth(!this.comparison().number);
@@ -73,31 +68,13 @@ class Expression {
     return this.words.length && wanted.includes(this.words[0].toUpperCase()) ? this.words.shift() : '';
   }
 
-  sum() {
-    let found = this.product();
-    for (let sign = this.take('+', '-'); sign; sign = this.take('+', '-')) {
-      const right = this.product(), number = sign === '+' ? right.number : -right.number;
-      found = value(found.number + number, Math.max(found.size, right.size));
-    }
-    return found;
-  }
+  sum() { return this.joined(() => this.product(), withSign, '+', '-'); }
 
-  product() {
-    let found = this.term();
-    for (let sign = this.take('*', '&'); sign; sign = this.take('*', '&')) {
-      const right = this.term(), number = sign === '*' ? found.number * right.number : found.number & right.number;
-      found = value(number, Math.max(found.size, right.size));
-    }
-    return found;
-  }
+  product() { return this.joined(() => this.term(), withSign, '*', '&'); }
 
   term() {
     if (this.take('-')) return value(-this.term().number);
-    if (this.take('(')) {
-      const found = this.either();
-      this.close(')');
-      return found;
-    }
+    if (this.take('(')) { const found = this.either(); this.close(')'); return found; }
     const size = {BYTE: 1, WORD: 2}[this.take('BYTE', 'WORD').toUpperCase()] ?? 0;
     if (this.words[0] === '[') return this.memory(null, size || 1);
     const word = this.words[0] ?? '', found = this.name();
@@ -106,9 +83,7 @@ class Expression {
     return this.memory(found.number, size || 1);
   }
 
-  close(sign) {
-    if (!this.take(sign)) throw new Sorry(`${this.text}: a ${sign} is missing`);
-  }
+  close(sign) { if (!this.take(sign)) throw new Sorry(`${this.text}: a ${sign} is missing`); }
 
   // What stands in memory; without a segment in that of DS, or with BP in that of SS.
   memory(given, size) {
@@ -191,11 +166,9 @@ export async function assign(board, listing, text) {
   if (!left || !right) throw new Sorry('use: AX = 5, or [PLACE] = 90h');
   const numbers = right.split(COMMA).map(part => new Expression(board, listing, part).value().number);
   const found = PLACE.exec(left), address = found ? addressOrNull(board, listing, found[2].trim()) : null;
-  const sizes = {BYTE: 1, WORD: 2};
-  const target =
-    address === null
-      ? targetOf(board, listing, left)
-      : {address, size: found[1] ? sizes[found[1].toUpperCase()] : valueSize(listing, address)};
+  const size = {BYTE: 1, WORD: 2}[found?.[1]?.toUpperCase()];
+  const target = address === null ? targetOf(board, listing, left)
+    : {address, size: size ?? valueSize(listing, address)};
   if (!target.register) {
     const octets = Uint8Array.from(numbers.flatMap(number => bytesOfNumber(number, target.size)));
     await board.setBytes(target.address, octets);
@@ -220,10 +193,6 @@ function targetOf(board, listing, text) {
 function addressOrNull(board, listing, text) {
   const registers = board.registers();
   if (!isAddress(text)) checkBracketed(registers, text, false);
-  try {
-    return addressOf(listing, saidOf(registers, text));
-  } catch (error) {
-    if (error instanceof Sorry) return null;
-    throw error;
-  }
+  try { return addressOf(listing, saidOf(registers, text)); }
+  catch (error) { if (error instanceof Sorry) return null; throw error; }
 }

@@ -24,18 +24,9 @@ function found({wanted: number, found: it}) {
 }
 
 self.onmessage = async ({data}) => {
-  if (!engine) {
-    engine = begun(data);
-    return;
-  }
-  if ('wanted' in data) {
-    found(data);
-    return;
-  }
+  if (!engine) { engine = begun(data); return; }
+  if ('wanted' in data) { found(data); return; }
   const {number, question} = data;
-  try {
-    self.postMessage({number, answer: await (await engine).answer(question)});
-  } catch (error) {
-    self.postMessage({number, error: error.message});
-  }
+  try { self.postMessage({number, answer: await (await engine).answer(question)}); }
+  catch (error) { self.postMessage({number, error: error.message}); }
 };

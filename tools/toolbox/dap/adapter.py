@@ -25,7 +25,8 @@ from toolbox.guests import Guest
 from toolbox.listing import Line, Listing, listing_of, physical
 from toolbox.places import far_of, far_of_address
 from toolbox.program import LAST_CLOCK, TOP, Files, copied, is_hex_name
-from toolbox.runfile import budget_of, text_of
+from toolbox.runfile import text_of
+from toolbox.runs import budget_of
 from toolbox.scancodes import strokes_of
 from toolbox.session_board import Gone, Left, Paused, SessionBoard, break_at, place_of
 from toolbox.watches import NO_READS, changed, watch_of, what_was_seen

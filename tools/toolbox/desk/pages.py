@@ -8,8 +8,9 @@ import re
 from dataclasses import dataclass
 from typing import Any
 
+from zebludor import TOP
+
 from toolbox.command import Sorry, read_text
-from toolbox.program import TOP
 from toolbox.runfile import DEFAULTS, read_run_file
 from toolbox.services import MOST_RAM
 

@@ -7,10 +7,11 @@ import os
 import re
 from typing import Any
 
+from zebludor import TOP
+
 from toolbox.command import Sorry, named, read_bytes, read_text
 from toolbox.crates import Crates
 from toolbox.foreign import OWN
-from toolbox.program import TOP
 from toolbox.runfile import DEFAULTS
 from toolbox.sources import sum_of_sources
 from toolbox.tables import tables
@@ -22,7 +23,7 @@ LIBRARY, CRATE = 'zebludor.wasm', 'zebludor_program'
 # Where the library is, if $ZEBLUDOR_WASM names none: built here, or stored.
 PLACES = (f'{TOP}/crates/zebludor_program/out/wasm', f'{TOP}/stored')
 ALONE = 'local.js'  # which a page without a server has in the place of the page's served.js
-TABLES = ('faults', 'hints', 'sentences', 'services')
+TABLES = ('clauses', 'faults', 'hints', 'keys', 'port_words', 'sentences', 'services')
 LACKING = f'there is no {LIBRARY} of the present sources, by which the page runs the board; dev/build zebludor_program --target wasm makes it'
 
 

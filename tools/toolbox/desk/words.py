@@ -3,7 +3,6 @@ from __future__ import annotations
 
 import base64
 import os
-import threading
 from dataclasses import asdict
 from typing import Any
 
@@ -13,10 +12,7 @@ from toolbox.desk.drafts import Change, Drafts
 from toolbox.desk.files import Given, Kept, difference
 from toolbox.desk.http import Refused
 from toolbox.desk.pages import examples, files_of, grammar, page_of
-from toolbox.desk.why import Standing, told_of
-from toolbox.listing import image_of
-from toolbox.program import LAST_CLOCK
-from toolbox.report import COLUMNS, REGISTERS, ROWS, Report
+from toolbox.intel_hex import image_of
 from toolbox.runfile import DEFAULTS
 from toolbox.symbols import symbols_of
 
@@ -54,7 +50,7 @@ class Desk:
 
     def __init__(self, given: Given, drafts: Drafts) -> None:
         self.given, self.drafts = given, drafts
-        self.files, self._read, self._telling = Kept(given, drafts.folder), '', threading.Lock()
+        self.files = Kept(given, drafts.folder)
 
     def answer(self, fields: Fields) -> Fields:
         """Answers a question. What is refused to the user, and not to the page, is a sentence."""
@@ -77,7 +73,6 @@ class Desk:
         if not self.given.file:
             return found | {'how': self._how(None), 'drafts': free, 'amiss': self.drafts.amiss}
         given, symbols = self.files.read(), None
-        self._read = given['source']
         try:
             symbols = symbols_of_file(self.given, given['source'])
         except Sorry as sorry:
@@ -108,23 +103,6 @@ class Desk:
         """A text that a source of MASM includes: one beside FILE, or ours."""
         there, octets = foreign.included(self.given.file or 'the source', want(fields, 'name', str), self.given.guest.home or foreign.OWN)
         return {'name': os.path.basename(there), 'bytes': base64.b64encode(octets).decode()}
-
-    def on_why(self, fields: Fields) -> Fields:
-        """Why the run of a page's board goes nowhere. One page is told at a time; another one hears what its engine tells."""
-        registers, screen = want(fields, 'registers', dict), want(fields, 'screen', list)
-        words = numbers([registers.get(name) for name in REGISTERS], 0, 0xFFFF)
-        if len(screen) != ROWS or not all(isinstance(row, str) and len(row) == COLUMNS for row in screen):
-            raise Refused(400, 'the rows of a screen are wanted')
-        (clock,) = numbers([want(fields, 'clock', int)], 0, LAST_CLOCK)
-        report = Report(clock, dict(zip(REGISTERS, words)), want(fields, 'state', str), 0, [], screen)
-        board = Standing(want(fields, 'source', str), want(fields, 'hex', bool), want(fields, 'run', dict), report)
-        symbols = self.given.symbols if board.is_hex and image_of(board.source) == image_of(self._read) else None
-        if not self._telling.acquire(blocking=False):  # pylint: disable=consider-using-with
-            return {}
-        try:
-            return {'told': told_of(board, self.given.guest, symbols)}
-        finally:
-            self._telling.release()
 
     def on_keep(self, fields: Fields) -> Fields:
         """Writes a page's text and fields to the files that the command's words name. What was written is no draft any more."""

@@ -11,7 +11,8 @@ from toolbox import services
 from toolbox.command import Sorry
 from toolbox.every import Copy, refused_in
 from toolbox.faults import Fault
-from toolbox.listing import ADDRESS_COLUMNS, image_of, line_of, physical, probed
+from toolbox.intel_hex import image_of
+from toolbox.listing import ADDRESS_COLUMNS, line_of, physical, probed
 from toolbox.lsp.source import Source
 from toolbox.program import given_text
 

@@ -7,12 +7,10 @@ import re
 from toolbox.command import read_text
 from toolbox.lsp.instructions import table
 from toolbox.program import TOP
+from toolbox.tables import tables
 
 LEVELS = 8
-ACCESS = ('latches the count', 'the low byte', 'the high byte', 'both bytes')
-OCW2: tuple[str, ...] = ('rotation under automatic end of interrupt off', 'end of interrupt', 'nothing', 'end of interrupt of level {}')
-OCW2 += ('rotation under automatic end of interrupt on', 'end of interrupt, and the ended level becomes the lowest')
-OCW2 += ('level {} becomes the lowest', 'end of interrupt of level {}, which becomes the lowest')
+BITS = re.compile(r'\{(?:(\d)\.(\d)(?:\?([^}]*))?|([&|])(\w\w))\}')
 
 
 @functools.cache
@@ -42,68 +40,36 @@ def modes() -> dict[int, str]:
     return {int(row[0].partition(', ')[0]): row[0].partition(', ')[2] for row in table(read_text(f'{TOP}/docs/chips.md'), '|Mode|Counts while|')}
 
 
-def timer_word(byte: int) -> str:
-    """A control word of the timer."""
-    if byte >> 6 == 3:
-        return 'names no counter; for an 8254 a read-back'
-    if not byte & 0x30:
-        return f'counter {byte >> 6}, {ACCESS[0]}'
-    mode = byte >> 1 & 7
-    mode = mode & 3 if mode & 2 else mode
-    return f'counter {byte >> 6}, {ACCESS[byte >> 4 & 3]}, mode {mode} ({modes()[mode]}), {"decimal" if byte & 1 else "binary"}'
-
-
-def command_word(byte: int) -> str:
-    """ICW1, OCW2 or OCW3 of the interrupt controller."""
-    if byte & 0x10:
-        parts = [('no ICW4', 'ICW4 comes')[byte & 1], ('slaves, so ICW3 comes', 'no slaves')[byte >> 1 & 1], ('edges', 'levels')[byte >> 3 & 1]]
-        return f'ICW1: {", ".join(parts)}'
-    if byte & 8:
-        parts = {2: ['special mask mode off'], 3: ['special mask mode on']}.get(byte >> 5 & 3, [])
-        parts += {2: ['reads give the requests'], 3: ['reads give the levels in service']}.get(byte & 3, []) + (['a poll'] if byte & 4 else [])
-        return f'OCW3: {", ".join(parts) or "nothing"}'
-    return f'OCW2: {OCW2[byte >> 5].format(byte & 7)}'
-
-
-def mask_word(byte: int, before: list[tuple[int, int]]) -> str:
-    """The word at 21h: by the words that were written before, each with its port, the next of a sequence, or the mask."""
+def name_after(before: list[tuple[int, int]]) -> str:
+    """The name of a word at 21h: by the words that were written before, each with its port, the next of a sequence, or the mask."""
     first = next((at for at in reversed(range(len(before))) if before[at][0] == 0x20 and before[at][1] & 0x10), None)
-    if first is not None:
-        word = before[first][1]
-        sequence = ['ICW2'] + ([] if word & 2 else ['ICW3']) + (['ICW4'] if word & 1 else [])
-        place = sum(port == 0x21 for port, _ in before[first:])
-        if place < len(sequence):
-            return {
-                'ICW2': f'ICW2: IR0 is interrupt {byte & 0xF8:02X}h, IR7 {byte | 7:02X}h',
-                'ICW3': 'ICW3: without effect, since there are no slaves',
-                'ICW4': f'ICW4: {"8086 mode" if byte & 1 else "not in 8086 mode"}{", automatic end of interrupt" if byte & 2 else ""}',
-            }[sequence[place]]
-    masked = ' '.join(f'IR{level}' for level in range(LEVELS) if byte >> level & 1)
-    return f'OCW1, outside a sequence: masks {masked or "none"}'
+    if first is None:
+        return 'OCW1'
+    word, place = before[first][1], sum(port == 0x21 for port, _ in before[first:])
+    sequence = ['ICW2'] + ([] if word & 2 else ['ICW3']) + (['ICW4'] if word & 1 else [])
+    return sequence[place] if place < len(sequence) else 'OCW1'
 
 
-def parallel_word(byte: int) -> str:
-    """A word at the control register of the parallel port."""
-    if not byte & 0x80:
-        return f'bit {byte >> 1 & 7} of C becomes {byte & 1}'
-    ways = ((4, 'A'), (3, 'the upper half of C'), (1, 'B'), (0, 'the lower half of C'))
-    return ', '.join(f'{name} is an {"input" if byte >> bit & 1 else "output"}' for bit, name in ways)
+def said_by(text: str, byte: int) -> str:
+    """A text of port_words.json for a byte: `{4.2}` is the number in two bits from bit 4 on, `{4.2?a|b|c|d}` what is so by it, `{&F8}` and
+    `{|07}` what these bits make of it."""
 
+    def said(found: re.Match[str]) -> str:
+        first, count, choices, sign, mask = found.groups()
+        if sign:
+            return f'{byte & int(mask, 16) if sign == "&" else byte | int(mask, 16):02X}'
+        number = byte >> int(first) & (1 << int(count)) - 1
+        return modes()[number & 3 if number & 2 else number] if choices == '@modes' else choices.split('|')[number] if choices else str(number)
 
-def speaker_word(byte: int) -> str:
-    """Port B's lines."""
-    parts = [f'gate 2 is {byte & 1}', f'OUT2 {"goes" if byte & 2 else "does not go"} to the speaker']
-    parts += [f'the switches by line 2: {byte >> 2 & 1}', f'the keyboard {"sends" if byte & 0x40 else "sends nothing"}']
-    return ', '.join(parts + (['its latch is emptied'] if byte & 0x80 else []))
+    levels = ' '.join(f'IR{level}' for level in range(LEVELS) if byte >> level & 1)
+    return BITS.sub(said, text.replace('{levels}', levels or 'none'))
 
 
 def written(port: int, byte: int, before: list[tuple[int, int]]) -> str:
     """What a byte says that is written to a port, or nothing."""
-    if port == 0x21:
-        return mask_word(byte, before)
-    words = {0x43: timer_word, 0x20: command_word, 0x61: speaker_word, 0x63: parallel_word}
-    if port in words:
-        return words[port](byte)
-    if port == 0x3B8:
-        return f'the video is {"on" if byte & 8 else "off"}'
-    return f'register {byte & 31} at 3B5h' if port == 0x3B4 else ''
+    words = tables('port_words').get(name_after(before) if port == 0x21 else f'{port:X}', [])
+    for mask, value, head, *parts in words:
+        if byte & int(mask, 16) == int(value, 16):
+            rest = ', '.join(filter(None, (said_by(part, byte) for part in parts)))
+            return said_by(head, byte) + (rest or 'nothing' if parts else '')
+    return ''

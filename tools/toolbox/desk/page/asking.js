@@ -2,6 +2,14 @@
 import {answer_of} from './served.js';
 export const HERTZ = 14318180 / 3, LAST = 2 ** 40;
 export const $ = id => document.getElementById(id);
+/* A new element with these properties. */
+export const made = (name, properties = {}) => Object.assign(document.createElement(name), properties);
+/* A new one, in which these stand. */
+export const made_of = (name, properties, ...inside) => {
+  const one = made(name, properties);
+  one.append(...inside);
+  return one;
+};
 export const number = n => n.toLocaleString('en-US');
 export const counted = (n, one, more = `${one}s`) => `${number(n)} ${n === 1 ? one : more}`;
 export function hex(value, digits) { return value.toString(16).toUpperCase().padStart(digits, '0'); }
@@ -19,10 +27,7 @@ export function run_text(run) {
   const names = [...order.filter(it => it in run), ...Object.keys(run).filter(it => !order.includes(it))];
   return `${JSON.stringify(Object.fromEntries(names.map(it => [it, run[it]])))}\n`;
 }
-export function say(text, isGood = false) {
-  $('said').textContent = text;
-  $('said').className = isGood ? 'good' : '';
-}
+export function say(text, isGood = false) { $('said').textContent = text; $('said').className = isGood ? 'good' : ''; }
 export function yes(text) {
   return new Promise(answer => {
     const dialog = $('asked');

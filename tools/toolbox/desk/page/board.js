@@ -1,5 +1,5 @@
 /* The board that the page shows: how it begins, is moved and comes back; and its stops. */
-import {$, HERTZ, LAST, ask, counted, differ, number, say, time_of} from './asking.js';
+import {$, HERTZ, LAST, ask, counted, differ, made, made_of, number, say, time_of} from './asking.js';
 import {draw_rows} from './code.js';
 import {assembled, draw_paper, note_assembled, refused, tell_refused} from './editor.js';
 import {fields_now, isHex, note_run, runFile} from './files.js';
@@ -80,11 +80,7 @@ export async function acts(action) {
 
 /* That a source has the services by its look is told once. */
 let services = '', wasTold = false;
-function told_once() {
-  const told = wasTold ? '' : services;
-  wasTold = wasTold || Boolean(services);
-  return told;
-}
+function told_once() { const told = wasTold ? '' : services; wasTold = wasTold || Boolean(services); return told; }
 export async function begin(fields, clock = null, text = $('source').value) {
   note_run(fields);
   const answer = await ask('open', {source: text, run: fields, hex: isHex, instead: board});
@@ -124,10 +120,7 @@ async function run_to(to) {
   if (answer.gone) await come_back(answer.gone, 'again');
   else { say(answer.sorry || told_once(), !answer.sorry); act(draw_why); }
 }
-async function follow_quietly(answer) {
-  while (answer.working) answer = await ask('wait', {board});
-  return answer;
-}
+async function follow_quietly(answer) { while (answer.working) answer = await ask('wait', {board}); return answer; }
 export async function assemble() { await begin(fields_now()); }
 
 /* What is shown. */
@@ -189,12 +182,9 @@ function told_of(stop) {
 function draw_stops() {
   touched();
   $('stop-list').replaceChildren(...stops.map(stop => {
-    const row = document.createElement('div'), gone = document.createElement('button');
-    row.className = 'bar mono';
-    gone.textContent = 'Remove';
-    gone.onclick = () => acts(() => put_stops(stops.filter(it => it !== stop)));
-    row.append(`${told_of(stop)} `, gone);
-    return row;
+    const onclick = () => acts(() => put_stops(stops.filter(it => it !== stop)));
+    const gone = made('button', {textContent: 'Remove', onclick});
+    return made_of('div', {className: 'bar mono'}, `${told_of(stop)} `, gone);
   }));
   draw_paper();
   draw_rows();
@@ -280,13 +270,7 @@ export async function run_on() {
   if (codes.length) await send_keys();
 }
 /* Another source has stops of its own, and no keys of the board that was. */
-export function forget_run(them) {
-  if (view) view.raw = null;
-  stops = them; draw_stops();
-}
+export function forget_run(them) { if (view) view.raw = null; stops = them; draw_stops(); }
 export function pause_here() { running = null; wake(); }
 /* Who leaves the page ends its board. */
-export function leave() {
-  if (board) tell_last({do: 'close', board});
-  board = null;
-}
+export function leave() { if (board) tell_last({do: 'close', board}); board = null; }

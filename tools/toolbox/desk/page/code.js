@@ -1,6 +1,6 @@
 /* The instructions of Intel HEX, where a source would be. A row is the one that comes next, may have a stop, and by a
    click gets one. */
-import {$, ask} from './asking.js';
+import {$, ask, made} from './asking.js';
 import {act, acts, board, followed, put_stops, stops, view} from './board.js';
 import {isHex} from './files.js';
 import {by_arrows} from './processor.js';
@@ -27,23 +27,21 @@ export function draw_rows() {
   if ($('code').hidden || !view) return;
   const stopped = new Set(stops.map(it => it.at)), wasIn = $('code').contains(document.activeElement)
     ? [...$('code').children].indexOf(document.activeElement) : -1;
-  const made = rows.map(([place, label, octets, text, line]) => {
-    const one = document.createElement('button'), isNow = place === view.place;
-    one.textContent =
+  const list = rows.map(([place, label, octets, text, line]) => {
+    const isNow = place === view.place, isStop = stopped.has(place), kind = /^(halted|ended)/.test(view.state);
+    const textContent =
       `${place} ${label.padEnd(12)} ${octets.padEnd(14)} ${text.padEnd(26)} ${line ? `| ${line}` : ''}`.trimEnd();
-    one.className = [isNow && (/^(halted|ended)/.test(view.state) ? 'halted' : 'now'), stopped.has(place)
-      && 'stop'].filter(Boolean).join(' ');
-    one.setAttribute('aria-pressed', String(stopped.has(place)));
+    const className = [isNow && (kind ? 'halted' : 'now'), isStop && 'stop'].filter(Boolean).join(' ');
+    const title = isStop ? `a stop at ${place}: a click removes it` : `a click sets a stop at ${place}`;
+    const onclick = () => acts(() => put_stops(isStop ? stops.filter(it => it.at !== place) : [...stops, {place}]));
+    const one = made('button', {textContent, className, title, onclick, tabIndex: isNow ? 0 : -1});
+    one.setAttribute('aria-pressed', String(isStop));
     if (isNow) one.setAttribute('aria-current', 'true');
-    one.title = stopped.has(place) ? `a stop at ${place}: a click removes it` : `a click sets a stop at ${place}`;
-    one.tabIndex = isNow ? 0 : -1;
-    one.onclick = () => acts(() =>
-      put_stops(stopped.has(place) ? stops.filter(it => it.at !== place) : [...stops, {place}]));
     return one;
   });
-  if (made.length && !made.some(it => it.tabIndex === 0)) made[0].tabIndex = 0;
-  $('code').replaceChildren(...made);
-  if (made[wasIn]) made[wasIn].focus();
+  if (list.length && !list.some(it => it.tabIndex === 0)) list[0].tabIndex = 0;
+  $('code').replaceChildren(...list);
+  if (list[wasIn]) list[wasIn].focus();
   const now = $('code').querySelector('[aria-current]');
   if (now && wasIn < 0) now.scrollIntoView({block: 'nearest'});
 }

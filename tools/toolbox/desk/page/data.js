@@ -1,5 +1,5 @@
 /* The source's own data: each label of DB, DW and DD with its values, and numbers in any base. */
-import {$, ask, hex, number} from './asking.js';
+import {$, ask, hex, made, made_of, number} from './asking.js';
 import {board, followed} from './board.js';
 import {opens_menu, with_menus} from './byte.js';
 import {is_edited} from './edit.js';
@@ -39,53 +39,32 @@ function numbers_in(octets, wide) {
   return found;
 }
 function row_of(cells, isChanged, address, wide, index = null) {
-  const row = document.createElement('tr');
-  for (const text of [index === null ? null : String(index), ...cells]) {
-    if (text === null) continue;
-    const cell = document.createElement('td');
-    cell.textContent = text;
-    row.append(cell);
-  }
-  if (isChanged) row.className = 'changed';
+  const all = [...(index === null ? [] : [String(index)]), ...cells].map(textContent => made('td', {textContent}));
+  const row = made_of('tr', {className: isChanged ? 'changed' : ''}, ...all);
   opens_menu(row.children[index === null ? 0 : 1], address, wide);
   return row;
 }
 function cells_of(value, wide) {
   return [`${hex(value, 2 * wide)}h`, String(value), String(signed(value, 8 * wide)), signs_of(value, 8 * wide)];
 }
-function table_of(rows) {
-  const table = document.createElement('table');
-  table.append(...rows);
-  return table;
-}
 function drawn_label({name, line, kind, place, length, bytes}) {
   const octets = (bytes.match(/../g) || []).map(it => parseInt(it, 16)), wide = WIDTHS[kind],
     values = numbers_in(octets, wide), last = lastValues[`${name} ${place}`] || values;
   lastValues[`${name} ${place}`] = values;
-  const head = document.createElement('button'), isArray = values.length > 1;
-  head.textContent = name;
-  head.title = line ? `line ${line}, ${place}` : place;
-  head.onclick = event => { event.preventDefault(); to_line(line); };
+  const title = line ? `line ${line}, ${place}` : place, isArray = values.length > 1;
+  const onclick = event => { event.preventDefault(); to_line(line); };
+  const head = made('button', {textContent: name, title, onclick}), table = rows => made_of('table', {}, ...rows);
   const changed = values.map((it, at) => last[at] !== it), [segment, offset] =
     place.split(':').map(it => parseInt(it, 16)), first = (16 * segment + offset) % 2 ** 20;
-  if (!isArray) {
-    const one = document.createElement('div');
-    one.className = 'datum';
-    one.append(head, ` ${kind} `, table_of(values.map(it => row_of(cells_of(it, wide), changed[0], first, wide))));
-    return one;
-  }
-  const all = document.createElement('details'), told = document.createElement('summary'),
-    brief = document.createElement('span');
+  const rows = isArray ? values.map((it, at) => row_of(cells_of(it, wide), changed[at], first + at * wide, wide, at))
+    : values.map(it => row_of(cells_of(it, wide), changed[0], first, wide));
+  if (!isArray) return made_of('div', {className: 'datum'}, head, ` ${kind} `, table(rows));
   const shown = values.slice(0, 8).map(it => hex(it, 2 * wide)).join(' ') + (values.length > 8 ? ' ..' : '');
   const signs = wide === 1 ? `  ${values.slice(0, 40).map(it => signs_of(it, 8)).join('')}` : '';
-  brief.textContent = shown + signs;
-  if (changed.includes(true)) brief.className = 'changed';
-  told.append(head, ` ${kind}, ${length / wide}: `, brief);
-  all.className = 'datum';
-  all.open = unfolded.has(name);
+  const brief = made('span', {textContent: shown + signs, className: changed.includes(true) ? 'changed' : ''});
+  const told = made_of('summary', {}, head, ` ${kind}, ${length / wide}: `, brief);
+  const all = made_of('details', {className: 'datum', open: unfolded.has(name)}, told, table(rows));
   all.ontoggle = () => { if (all.open) unfolded.add(name); else unfolded.delete(name); };
-  all.append(told,
-    table_of(values.map((it, at) => row_of(cells_of(it, wide), changed[at], first + at * wide, wide, at))));
   if (length > octets.length) all.append(`${number(length - octets.length)} bytes more: see Memory, from ${place}`);
   return all;
 }

@@ -1,5 +1,5 @@
 /* A register or a byte changed in place, and the last change undone. */
-import {$} from './asking.js';
+import {$, made} from './asking.js';
 import {acts, move, running, working} from './board.js';
 import {later, look_on} from './timeline.js';
 /* An element that is edited by a click. */
@@ -13,10 +13,8 @@ export const is_edited = () => !$('byte-menu').hidden || document.querySelector(
 /* A field stands in an element's place until Enter, which changes what it names, or Escape. */
 export function edit_in_place(element, place, shown, isHex, redraw) {
   if (running || working) return;
-  const field = document.createElement('input'), end = () => { redraw(); later(look_on); };
-  field.value = shown;
-  field.className = 'mono';
-  field.size = Math.max(shown.length, 4);
+  const end = () => { redraw(); later(look_on); };
+  const field = made('input', {value: shown, className: 'mono', size: Math.max(shown.length, 4), onblur: end});
   field.setAttribute('aria-label', `new value of ${place}`);
   field.onkeydown = event => {
     event.stopPropagation();
@@ -27,7 +25,6 @@ export function edit_in_place(element, place, shown, isHex, redraw) {
     end();
     acts(() => move('set', {text: `${place} = ${isPlain ? `0${value}h` : value}`}));
   };
-  field.onblur = end;
   element.replaceChildren(field);
   field.focus();
   field.select();

@@ -1,5 +1,5 @@
 /* The editor: the source, line numbers and marks, and what is refused. Only the lines that are in sight are drawn. */
-import {$} from './asking.js';
+import {$, made, made_of} from './asking.js';
 import {board, lines, stops, toggle_stop, view} from './board.js';
 import {show_code} from './code.js';
 import {isHex} from './files.js';
@@ -54,8 +54,7 @@ function draw_gutter(first, last, top, now, bad) {
     row.style.top = high;
     row.title = lines[line] ? `${lines[line]}: click for a stop` : '';
     for (const name of [kind, bad.has(line) && 'bad']) if (name) {
-      const mark = document.createElement('div');
-      mark.className = `mark ${name}`;
+      const mark = made('div', {className: `mark ${name}`});
       if (name === 'halted') mark.dataset.told = view.state === 'halted' ? 'halted until an interrupt' : view.state;
       mark.style.top = high;
       shown.push(mark);
@@ -85,33 +84,26 @@ function draw_ink(texts, first, last, top, bad) {
 }
 function coloured(text) {
   if (!words || isHex) return [text];
-  const made = [];
+  const parts = [];
   let at = 0;
   for (const found of text.matchAll(words)) {
-    const which = found.findIndex((it, place) => place && it !== undefined) - 1, one = document.createElement('span');
-    if (found.index > at) made.push(text.slice(at, found.index));
-    one.className = kinds[which];
-    one.textContent = found[0];
-    made.push(one);
+    const which = found.findIndex((it, place) => place && it !== undefined) - 1;
+    if (found.index > at) parts.push(text.slice(at, found.index));
+    parts.push(made('span', {className: kinds[which], textContent: found[0]}));
     at = found.index + found[0].length;
   }
-  return [...made, text.slice(at)];
+  return [...parts, text.slice(at)];
 }
 export function underlined(text) {
-  const [, before, code, after] = /^(\s*)(.*?)(\s*)$/.exec(text), one = document.createElement('span');
-  one.className = 'refused';
-  one.append(...coloured(code));
-  return [before, one, after];
+  const [, before, code, after] = /^(\s*)(.*?)(\s*)$/.exec(text);
+  return [before, made_of('span', {className: 'refused'}, ...coloured(code)), after];
 }
 function draw_refusals() {
   $('refusals').hidden = !refused.length;
   $('source').setAttribute('aria-invalid', String(refused.some(it => it.line)));
   $('refusals').replaceChildren(...refused.map(({line, text}) => {
-    const item = document.createElement('li'), one = document.createElement('button');
-    one.textContent = line ? `line ${line}: ${text}` : text;
-    one.onclick = () => to_line(line);
-    item.append(one);
-    return item;
+    const textContent = line ? `line ${line}: ${text}` : text;
+    return made_of('li', {}, made('button', {textContent, onclick: () => to_line(line)}));
   }));
   if (refused.length) show_code(false);
   if (refused.length && refused[0].line) to_line(refused[0].line);
@@ -156,12 +148,12 @@ function chosen_lines() {
   const until = text.indexOf('\n', end) < 0 ? text.length : text.indexOf('\n', end);
   return [from, until, text.slice(from, until).split('\n')];
 }
-function put_lines([from, until], made) {
+function put_lines([from, until], them) {
   const source = $('source'), isOne = source.selectionStart === source.selectionEnd,
     behind = until - source.selectionEnd;
   source.setSelectionRange(from, until);
-  if (made.length <= MOST_TYPED) insert(made.join('\n'));
-  else { source.setRangeText(made.join('\n'), from, until, 'end'); source.dispatchEvent(new Event('input')); }
+  if (them.length <= MOST_TYPED) insert(them.join('\n'));
+  else { source.setRangeText(them.join('\n'), from, until, 'end'); source.dispatchEvent(new Event('input')); }
   const end = source.selectionEnd;
   if (isOne) source.setSelectionRange(Math.max(from, end - behind), Math.max(from, end - behind));
   else source.setSelectionRange(from, end);

@@ -29,9 +29,7 @@ export function keep_copy(file, message) {
   return text.length <= LAST_WORDS;
 }
 export function forget_copy(id) { try { localStorage.removeItem(NAME + id); } catch { /* there is none */ } }
-export function send_by_beacon(message) {
-  tell_last({do: 'keep draft', ...message});
-}
+export function send_by_beacon(message) { tell_last({do: 'keep draft', ...message}); }
 function copies() {
   try {
     return Object.keys(localStorage).filter(it => it.startsWith(NAME)).map(it => JSON.parse(localStorage.getItem(it)));

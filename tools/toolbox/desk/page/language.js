@@ -1,6 +1,6 @@
 /* What the language server tells of the source: lines that are refused as you type, what a word means, and what
    completes one. */
-import {$, ask} from './asking.js';
+import {$, ask, made, made_of} from './asking.js';
 import {lineHigh, live_lines, note_live} from './editor.js';
 import {isHex} from './files.js';
 const PAUSE = 400, LINGER = 500, MOST_LONG = 200000, LEFT = 6, TAB = 8, MOST_CHOICES = 200;
@@ -64,12 +64,7 @@ async function tell_meaning(line, column) {
     bad = live_lines().find(it => it.line === line + 1);
   if (mine !== asking || !(answer && answer.html || bad)) return;
   meaning.innerHTML = answer ? answer.html : '';
-  if (bad) {
-    const why = document.createElement('p');
-    why.className = 'why';
-    why.textContent = bad.text;
-    meaning.prepend(why);
-  }
+  if (bad) meaning.prepend(made('p', {className: 'why', textContent: bad.text}));
   put(meaning, line, column);
 }
 source.addEventListener('mousemove', event => {
@@ -96,13 +91,10 @@ function choose() {
   if (!fitting.length) { close_choices(); return; }
   chosen = 0;
   choices.replaceChildren(...fitting.map((it, at) => {
-    const one = document.createElement('li'), what = document.createElement('span');
-    one.id = `choice-${at}`;
-    one.role = 'option';
+    const onmousedown = event => { event.preventDefault(); chosen = at; take(); };
+    const what = made('span', {textContent: it.detail}), more = {id: `choice-${at}`, role: 'option', onmousedown};
+    const one = made_of('li', more, it.label, what);
     one.dataset.label = it.label;
-    what.textContent = it.detail;
-    one.append(it.label, what);
-    one.onmousedown = event => { event.preventDefault(); chosen = at; take(); };
     return one;
   }));
   put(choices, line, column - word.length);

@@ -1,5 +1,5 @@
 /* What the processor and memory hold: registers, stack, trail, bytes, chips. */
-import {$, ask, hex} from './asking.js';
+import {$, ask, hex, made, made_of} from './asking.js';
 import {act, acts, board, followed, go_to, running, view, working} from './board.js';
 import {opens_menu, with_menus} from './byte.js';
 import {base, forget_data, in_base} from './data.js';
@@ -14,22 +14,16 @@ let registersShown = [null, null];
 export function redraw_registers() { if (registersShown[1]) draw_registers(...registersShown); }
 export function draw_registers(before, now) {
   registersShown = [before, now];
-  const made = document.createDocumentFragment();
-  for (const [name, value] of Object.entries(now)) {
-    const one = document.createElement('span');
-    one.innerHTML = `<b>${name}</b> <span></span>`;
-    one.lastChild.textContent = in_base(value);
-    if (before && before[name] !== value) one.lastChild.className = 'changed';
-    edited(one.lastChild, () => edit_in_place(one.lastChild, name, in_base(value), base === 0,
-      () => redraw_registers()));
-    made.append(one);
-  }
-  $('registers').replaceChildren(made);
+  $('registers').replaceChildren(...Object.entries(now).map(([name, value]) => {
+    const className = before && before[name] !== value ? 'changed' : '';
+    const one = made('span', {textContent: in_base(value), className});
+    edited(one, () => edit_in_place(one, name, in_base(value), base === 0, () => redraw_registers()));
+    return made_of('span', {}, made('b', {textContent: name}), ' ', one);
+  }));
   $('flags').replaceChildren(...FLAGS.map(([name, bit]) => {
-    const one = document.createElement('span'), isSet = now.FL >> bit & 1;
-    one.textContent = `${name} ${isSet}`;
-    one.className = (isSet ? 'set ' : '') + (before && (before.FL >> bit & 1) !== isSet ? 'changed' : '');
-    return one;
+    const isSet = now.FL >> bit & 1, isChanged = before && (before.FL >> bit & 1) !== isSet;
+    const className = (isSet ? 'set ' : '') + (isChanged ? 'changed' : '');
+    return made('span', {textContent: `${name} ${isSet}`, className});
   }));
 }
 /* A line of what runs, without its comment. */
@@ -41,10 +35,9 @@ function source_at(line) {
 /* Where the present routine, and those that called it, return to; a click leads to the line. */
 export function draw_callers() {
   $('callers').replaceChildren(...view.callers.map(([place, label, line]) => {
-    const one = document.createElement(line ? 'button' : 'div');
-    one.textContent = `${place} ${label.padEnd(12)} ${source_at(line)}`.trimEnd();
-    if (line) { one.title = `line ${line}`; one.onclick = () => to_line(line); }
-    return one;
+    const textContent = `${place} ${label.padEnd(12)} ${source_at(line)}`.trimEnd();
+    if (!line) return made('div', {textContent});
+    return made('button', {textContent, title: `line ${line}`, onclick: () => to_line(line)});
   }));
   if (!view.callers.length) $('callers').textContent = 'Nothing has called what runs here.';
 }
@@ -52,13 +45,10 @@ export function draw_callers() {
 export function draw_trail() {
   const wasIn = $('trail').contains(document.activeElement);
   const list = view.trail.map(([clock, place, label, text, line]) => {
-    const one = document.createElement('button');
-    one.textContent =
+    const textContent =
       `${String(clock).padStart(9)} ${place} ${label.padEnd(12)} ${text.padEnd(26)} ${source_at(line)}`.trimEnd();
-    one.title = `to clock ${clock}`;
-    one.tabIndex = -1;
-    one.onclick = () => acts(() => go_to(clock));
-    return one;
+    const onclick = () => acts(() => go_to(clock));
+    return made('button', {textContent, title: `to clock ${clock}`, tabIndex: -1, onclick});
   });
   $('trail').replaceChildren(...list);
   $('trail').scrollTop = $('trail').scrollHeight;
@@ -88,20 +78,19 @@ export async function draw_memory() {
   if (!answer.bytes || is_edited()) return;
   const octets = answer.bytes.match(/../g).map(it => parseInt(it, 16)), before = memoryBefore
     && memoryBefore.address === answer.address ? memoryBefore.octets : null;
-  const made = document.createDocumentFragment();
+  const inside = [];
   for (let at = 0; at < octets.length; at += 16) {
-    made.append(`${hex(answer.address + at, 5)}: `);
+    inside.push(`${hex(answer.address + at, 5)}: `);
     const row = octets.slice(at, at + 16);
     row.forEach((octet, place) => {
-      const one = document.createElement('span');
-      one.textContent = hex(octet, 2);
-      if (before && before[at + place] !== octet) one.className = 'changed';
-      made.append(opens_menu(one, answer.address + at + place, 1), ' ');
+      const className = before && before[at + place] !== octet ? 'changed' : '';
+      const one = made('span', {textContent: hex(octet, 2), className});
+      inside.push(opens_menu(one, answer.address + at + place, 1), ' ');
     });
-    made.append('  '.padEnd(2 + 3 * (16 - row.length)), row.map(it => it >= 32 && it < 127 ? String.fromCharCode(it)
+    inside.push('  '.padEnd(2 + 3 * (16 - row.length)), row.map(it => it >= 32 && it < 127 ? String.fromCharCode(it)
       : '.').join(''), '\n');
   }
-  $('bytes').replaceChildren(made);
+  $('bytes').replaceChildren(...inside);
   memoryBefore = {address: answer.address, octets};
 }
 
@@ -116,22 +105,12 @@ export async function draw_chips() {
   if (!answer.lines) return;
   const now = answer.lines.map(it => it.split(' ')), before = chipsBefore || now;
   $('chip-lines').replaceChildren(...now.map((words, at) => {
-    const row = document.createElement('div'), name = document.createElement('b');
-    name.textContent = words[0];
-    row.append(name);
-    words.slice(1).forEach((word, place) => {
-      const one = document.createElement('span');
-      one.textContent = word;
-      if (before[at][place + 1] !== word) one.className = 'changed';
-      row.append(' ', one);
-    });
-    return row;
+    const className = place => before[at][place] !== words[place] ? 'changed' : '';
+    const others = words.slice(1).flatMap((textContent, n) =>
+      [' ', made('span', {textContent, className: className(n + 1)})]);
+    return made_of('div', {}, made('b', {textContent: words[0]}), ...others);
   }));
-  $('chip-facts').replaceChildren(...answer.facts.map(it => {
-    const one = document.createElement('p');
-    one.textContent = it;
-    return one;
-  }));
+  $('chip-facts').replaceChildren(...answer.facts.map(textContent => made('p', {textContent})));
   chipsBefore = now;
 }
 
@@ -148,18 +127,11 @@ export async function draw_why() {
   if (!board || running || working) return;
   const answer = await ask('why', {board}).then(followed);
   if (!answer.told || answer.clock !== view.clock) return;
-  $('why').replaceChildren(...answer.told.map(it => {
-    const row = document.createElement('p');
-    it.split(/\b(line \d+)\b/).forEach(part => {
-      const line = /^line (\d+)$/.exec(part);
-      if (!line) { row.append(part); return; }
-      const one = document.createElement('button');
-      one.textContent = part;
-      one.onclick = () => to_line(Number(line[1]));
-      row.append(one);
-    });
-    return row;
-  }));
+  const leading = part => {
+    const line = /^line (\d+)$/.exec(part);
+    return line ? made('button', {textContent: part, onclick: () => to_line(Number(line[1]))}) : part;
+  };
+  $('why').replaceChildren(...answer.told.map(it => made_of('p', {}, ...it.split(/\b(line \d+)\b/).map(leading))));
   $('why').dataset.clock = answer.clock;
   $('why').hidden = !answer.told.length;
   fit();

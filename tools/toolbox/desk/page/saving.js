@@ -29,10 +29,7 @@ export function settle(id, number) {
   touched();
 }
 /* The command's files were read: by their sums the page says later what it has read. */
-export function note_given(given) {
-  sums = given.sums;
-  fileHome = {};
-}
+export function note_given(given) { sums = given.sums; fileHome = {}; }
 export function is_changed() {
   return home.source !== undefined && ($('source').value !== home.source || said(fields_now()) !== home.run);
 }

@@ -1,5 +1,5 @@
 /* The screen, and the keys that are typed to the board. */
-import {$, ask, counted, number, say, yes} from './asking.js';
+import {$, ask, counted, made, made_of, number, say, yes} from './asking.js';
 import {act, acts, board, come_back, followed, move, pause_here, run_on, running, seen, show, view} from './board.js';
 import {wake} from './board.js';
 import {draw_paper} from './editor.js';
@@ -7,19 +7,11 @@ import {page} from './tabs.js';
 import {draw_marks, forget_marks} from './timeline.js';
 export let codes = [], helds = new Set(), sticky = new Set();
 export function draw_screen(rows) {
-  const screen = $('screen'), made = document.createDocumentFragment();
-  for (const row of rows) {
-    const line = document.createElement('div');
-    for (const [text, look] of row) {
-      if (!look) { line.append(text); continue; }
-      const span = document.createElement('span');
-      span.className = [1, 2, 4].filter(it => look & it).map(it => `b${it}`).join(' ');
-      span.textContent = text;
-      line.append(span);
-    }
-    made.append(line);
-  }
-  screen.replaceChildren(made);
+  const shown = ([textContent, look]) => {
+    const className = [1, 2, 4].filter(it => look & it).map(it => `b${it}`).join(' ');
+    return look ? made('span', {textContent, className}) : textContent;
+  };
+  $('screen').replaceChildren(...rows.map(row => made_of('div', {}, ...row.map(shown))));
 }
 
 /* Keys. A key's code is by its place. */
@@ -115,8 +107,7 @@ function let_go() { for (const it of helds) key(PLACES[it] + 128); helds.clear()
 $('screen').addEventListener('blur', let_go);
 export function draw_screen_keys() {
   $('board-keys').replaceChildren(...SCREEN_KEYS.map(([name, code]) => {
-    const one = document.createElement('button'), isHeld = [29, 42, 56].includes(code);
-    one.textContent = name;
+    const isHeld = [29, 42, 56].includes(code), one = made('button', {textContent: name});
     if (isHeld) { one.setAttribute('aria-pressed', 'false'); one.title = 'stays down for the next key'; }
     one.onclick = () => {
       if (isHeld) {
@@ -133,11 +124,7 @@ export function draw_screen_keys() {
   }));
 }
 /* A key that goes down and isn't stamped doesn't come up either. */
-function drop_codes() {
-  codes = [];
-  helds.clear(); sticky.clear();
-  release();
-}
+function drop_codes() { codes = []; helds.clear(); sticky.clear(); release(); }
 function release() {
   for (const it of sticky) key(it + 128);
   sticky.clear();
@@ -163,11 +150,7 @@ function type_text(text) {
   act(async () => { if (!await send_keys({text})) $('text').value = text; });
   if (wasRunning) { pause_here(); act(run_on); }
 }
-$('type').onclick = () => {
-  const text = $('text').value;
-  $('text').value = '';
-  if (text) type_text(text);
-};
+$('type').onclick = () => { const text = $('text').value; $('text').value = ''; if (text) type_text(text); };
 $('text').addEventListener('keydown', event => { if (event.key === 'Enter') $('type').click(); });
 /* Takes keys out of the list. The board is run anew without them, which may be paused. */
 const drop_keys = isGone => acts(async () => {
@@ -181,8 +164,7 @@ $('keys-drop-later').onclick = () => drop_keys(it => it[0] > view.clock);
 export function fit() {
   const screen = $('screen'), tube = $('tube');
   screen.style.fontSize = '20px';
-  const probe = document.createElement('span');
-  probe.textContent = 'M'.repeat(80);
+  const probe = made('span', {textContent: 'M'.repeat(80)});
   screen.append(probe);
   const wide = probe.getBoundingClientRect().width / 20;
   probe.remove();

@@ -3,18 +3,17 @@
 import {begin_soon, engine_of} from './engine.js';
 export const isAlone = false;
 const OF_FILES = ['hello', 'example', 'page', 'include', 'keep', 'changed', 'keep draft', 'drop draft', 'draft'];
-const ENDED = 'desk has ended: start tools/desk again', PATIENCE = 10000;
+const ENDED = 'desk has ended: start tools/desk again';
 let how = {};  // as the command's words say that sources are taken
 
-/* The desk; maybe for so many milliseconds. */
-async function desk_of(question, most = null) {
+/* The desk. */
+async function desk_of(question) {
   let answer;
   try {
     answer = await fetch('do', {
       method: 'POST',
       headers: {'Content-Type': 'application/json'},
       body: JSON.stringify(question),
-      signal: most && AbortSignal.timeout(most),
     });
   } catch {
     throw new Error(ENDED);
@@ -41,19 +40,8 @@ const ENGINE = {
     return sorry ? {sorry} : {...found, bytes: Uint8Array.from(atob(bytes), it => it.charCodeAt(0))};
   },
 };
-/* Why a run goes nowhere: the desk knows sentences that the engine doesn't, and isn't waited for very long. */
-async function why_of(question) {
-  const {source, hex, run, clock, registers, state, screen} = await engine_of({...question, do: 'standing'}, ENGINE);
-  const asked = {do: 'why', source, hex, run, clock, registers, state, screen};
-  try {
-    const {told} = registers ? await desk_of(asked, PATIENCE) : {};
-    if (told) return {clock, told};
-  } catch { /* the desk has ended, or takes too long */ }
-  return engine_of(question, ENGINE);
-}
 /* What is answered; throws what a server says that answers nothing. */
 export async function answer_of(question) {
-  if (question.do === 'why') return why_of(question);
   if (!OF_FILES.includes(question.do)) return engine_of(question.do === 'open' ? {...question, how} : question, ENGINE);
   if (question.do === 'hello') begin_soon(ENGINE);
   const answer = await desk_of(question);
