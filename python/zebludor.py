@@ -22,6 +22,7 @@ import io
 import json
 import os
 import re
+import signal
 import stat
 import sys
 import threading
@@ -343,6 +344,22 @@ def limited(words: list[str]) -> list[str]:
     return ['/bin/sh', '-c', f'ulimit -v {1024 * _limits[0]} 2>/dev/null; exec "$0" "$@"', *words] if _limits else words
 
 
+@contextlib.contextmanager
+def uninterrupted() -> Iterator[None]:
+    """An interrupt that would end what is done here comes after it."""
+    before, came = signal.getsignal(signal.SIGINT), list[int]()
+    is_held = before is signal.default_int_handler and threading.current_thread() is threading.main_thread()
+    if is_held:
+        signal.signal(signal.SIGINT, lambda number, _: came.append(number))
+    try:
+        yield
+    finally:
+        if is_held:
+            signal.signal(signal.SIGINT, before)
+    if came:
+        raise KeyboardInterrupt
+
+
 def ran(words: list[str], given: bytes = b'', most: int = sys.maxsize, name: str = 'pcboard') -> Ran:
     """Runs a program to its end, in this process if that can be. An answer of more than `most` bytes isn't read, which is told as Unfit."""
     within = ran_within(words, given, most, name)
@@ -354,10 +371,11 @@ def ran(words: list[str], given: bytes = b'', most: int = sys.maxsize, name: str
     with tempfile.TemporaryFile() as to, tempfile.TemporaryFile() as err:
         to.write(given)  # into a file, not a pipe: a session answers before it has read all
         to.seek(0)
-        path = program(name)
-        process = subprocess.Popen(limited([path, *words]), stdin=to, stdout=subprocess.PIPE, stderr=err)
-        assert process.stdout
+        path, process = program(name), None
         try:
+            with uninterrupted():  # else nobody would know the process
+                process = subprocess.Popen(limited([path, *words]), stdin=to, stdout=subprocess.PIPE, stderr=err)
+            assert process.stdout
             with process.stdout as out:
                 octets = bytearray()
                 while piece := out.read1(1 << 16):  # read() would make room for `most` at once
@@ -365,10 +383,12 @@ def ran(words: list[str], given: bytes = b'', most: int = sys.maxsize, name: str
                     if len(octets) > most:
                         raise TooLong(f'the answer has more than {most:,} bytes')
         except BaseException:
-            process.kill()
+            if process:
+                process.kill()
             raise
         finally:
-            process.wait()
+            if process:
+                process.wait()
         err.seek(0)
         return Ran(process.returncode, octets.decode('utf-8', 'replace'), err.read().decode('utf-8', 'replace'), path)
 

@@ -267,6 +267,22 @@ class TheLibrary(ToolCase):
                     self.assert_within(time.monotonic() - interrupted, SECONDS)
                 self.assertEqual((process.returncode, 'Traceback' in err), (130, False), err)
 
+    def test_control_c_while_a_process_begins(self) -> None:
+        """It is ended all the same."""
+        source, run = self.program(BUSY, 1 << 40)
+        begun, begin = list[subprocess.Popen[bytes]](), subprocess.Popen
+
+        def interrupted(*words: Any, **how: Any) -> subprocess.Popen[bytes]:
+            begun.append(begin(*words, **how))
+            os.kill(os.getpid(), signal.SIGINT)
+            return begun[0]
+
+        with by_processes(), mock.patch.object(subprocess, 'Popen', interrupted), self.assertRaises(KeyboardInterrupt):
+            zebludor.ran(['run', '--', source, run])
+        self.addCleanup(begun[0].communicate)
+        self.addCleanup(begun[0].kill)
+        self.assertEqual(begun[0].returncode, -signal.SIGKILL)
+
     def test_the_longest_call(self) -> None:
         """Of a program that modifies its own code, of whose steps no more are made in a second than of others."""
         loop = f'{TOP}/bench/loops/d'

@@ -1,14 +1,12 @@
 """The program itself: where it stands, runs of it, and sessions. zebludor.py chooses whether a process answers or the library."""
 from __future__ import annotations
 
-import contextlib
 import re
 import signal
-import threading
-from typing import TYPE_CHECKING, Any, Iterator, NamedTuple, NoReturn
+from typing import TYPE_CHECKING, Any, NamedTuple, NoReturn
 
 import zebludor
-from zebludor import LAST_CLOCK, TOP, Ran, Unfit, apart, is_hex_name, limit_memory, limited
+from zebludor import LAST_CLOCK, TOP, Ran, Unfit, apart, is_hex_name, limit_memory, limited, uninterrupted
 
 from toolbox.command import UNREADABLE_STATUS, Sorry, Unreadable, handed_on, read_bytes, tool, write_bytes
 from toolbox.threads import is_alone
@@ -198,22 +196,6 @@ class Session(zebludor.Dialogue):
         """Goes to this clock, back or on, past every stop."""
         while self.clock != clock:
             self.unrefused(self.one(f'back {self.clock - clock}' if clock < self.clock else f'go {clock - self.clock}'))
-
-
-@contextlib.contextmanager
-def uninterrupted() -> Iterator[None]:
-    """An interrupt that would end what is done here comes after it."""
-    before, came = signal.getsignal(signal.SIGINT), list[int]()
-    is_held = before is signal.default_int_handler and threading.current_thread() is threading.main_thread()
-    if is_held:
-        signal.signal(signal.SIGINT, lambda number, _: came.append(number))
-    try:
-        yield
-    finally:
-        if is_held:
-            signal.signal(signal.SIGINT, before)
-    if came:
-        raise KeyboardInterrupt
 
 
 class ProbeSession(Session):
