@@ -337,11 +337,14 @@ def limit_memory(megabytes: int | None) -> None:
 
 
 _limits: list[int] = []
+SHELL = '/bin/sh'
 
 
 def limited(words: list[str]) -> list[str]:
-    """The words that start a process, which is under that limit."""
-    return ['/bin/sh', '-c', f'ulimit -v {1024 * _limits[0]} 2>/dev/null; exec "$0" "$@"', *words] if _limits else words
+    """The words that start a process, which is under that limit. Without a shell that sets it none is."""
+    if not _limits or not os.path.exists(SHELL):
+        return words
+    return [SHELL, '-c', f'ulimit -v {1024 * _limits[0]} 2>/dev/null; exec "$0" "$@"', *words]
 
 
 @contextlib.contextmanager

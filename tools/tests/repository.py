@@ -40,7 +40,7 @@ class Repository(ToolCase):
         super().setUp()
         for folder in ('dev/parts', 'tools/toolbox'):
             os.makedirs(f'{self.room}/top/{folder}')
-        shared = (f'tools/toolbox/{stem}.py' for stem in ('__init__', 'command', 'crates', 'proved', 'reading', 'sources', 'threads', 'writing'))
+        shared = (f'tools/toolbox/{stem}.py' for stem in ('__init__', 'command', 'crates', 'locks', 'proved', 'reading', 'sources', 'threads', 'writing'))
         parts = (f'dev/parts/{stem}.py' for stem in ('__init__', 'building', 'targets'))
         for name in ('pcboard', 'VERSION', 'README.md', 'dev/build', *parts, *shared):
             shutil.copy(f'{TOP}/{name}', f'{self.room}/top/{name}')

@@ -81,7 +81,7 @@ class Refused(ToolCase):
         super().setUp()
         for folder in ('bin', 'top/dev/parts', 'top/tools/toolbox'):
             os.makedirs(f'{self.room}/{folder}')
-        shared = (f'tools/toolbox/{stem}.py' for stem in ('__init__', 'command', 'crates', 'proved', 'reading', 'sources', 'threads', 'writing'))
+        shared = (f'tools/toolbox/{stem}.py' for stem in ('__init__', 'command', 'crates', 'locks', 'proved', 'reading', 'sources', 'threads', 'writing'))
         parts = (f'dev/parts/{stem}.py' for stem in ('__init__', 'building', 'edits'))
         for file in ('dev/refused', *parts, *shared):
             shutil.copy(f'{TOP}/{file}', f'{self.room}/top/{file}')

@@ -5,7 +5,6 @@ import contextlib
 import hashlib
 import json
 import os
-import resource
 import select
 import signal
 import struct
@@ -18,6 +17,11 @@ from typing import IO, Any, Container, Iterable, Iterator
 
 import zebludor
 from zebludor import Ran, fault_in
+
+try:
+    import resource
+except ImportError:  # as on Windows
+    resource = None  # type: ignore[assignment]
 
 from toolbox.as_json import report_fields
 from toolbox.command import Sorry, read_bytes

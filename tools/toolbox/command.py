@@ -107,6 +107,18 @@ def waiting(what: str, seconds: float = 2) -> Iterator[Callable[[str], None]]:
         teller.join()
 
 
+def want(module: str, why: str) -> None:
+    """Ends a tool with a sentence on a system whose Python lacks a module; `why` is what it is wanted for."""
+
+    def refused(_: list[str]) -> int:
+        raise Sorry(f"this Python has no module {module.lstrip('_')}, by which {why}")
+
+    try:
+        __import__(module)
+    except ImportError:
+        start(refused)
+
+
 def start(main: Callable[[list[str]], int]) -> None:
     """Runs a tool to its exit status; a reader that goes away, as `head` does, is no mistake."""
     gc.set_threshold(COLLECTED)

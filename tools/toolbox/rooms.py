@@ -3,7 +3,6 @@ next one begins."""
 from __future__ import annotations
 
 import contextlib
-import fcntl
 import os
 import re
 import shutil
@@ -12,6 +11,7 @@ import tempfile
 from typing import Iterator
 
 from toolbox.command import state_folder
+from toolbox.locks import lock, lock_free
 
 MARK, NEW = 'mark', 'new'
 BEGUN = re.compile('[a-z]+-[a-z0-9_]{8}')  # a room's name
@@ -28,7 +28,7 @@ def room(name: str) -> Iterator[str]:
             prefix = f'{name}-' if folder else f'zebludor-{name}-'
             path = stack.enter_context(tempfile.TemporaryDirectory(prefix=prefix, dir=folder, ignore_cleanup_errors=True))
             mark = stack.enter_context(open(f'{path}/{NEW}', 'xb'))
-            fcntl.flock(mark, fcntl.LOCK_EX)
+            lock(mark)
             mark.write(text_of_mark(path))
             mark.flush()
             os.rename(mark.name, f'{path}/{MARK}')  # it has this name once it is held
@@ -47,7 +47,7 @@ def turn(folder: str | None) -> Iterator[None]:
         return
     handle = os.open(folder, os.O_RDONLY | os.O_DIRECTORY | os.O_NOFOLLOW | os.O_CLOEXEC)
     try:
-        fcntl.flock(handle, fcntl.LOCK_EX)
+        lock(handle)
         yield
     finally:
         os.close(handle)
@@ -120,7 +120,7 @@ def is_left(path: str) -> bool:
             found, text = os.fstat(mark.fileno()), text_of_mark(path)
             if not stat.S_ISREG(found.st_mode) or found.st_uid != os.geteuid() or mark.read(len(text) + 1) != text:
                 return False
-            fcntl.flock(mark, fcntl.LOCK_EX | fcntl.LOCK_NB)
+            lock_free(mark)
     except OSError:
         return False
     return True

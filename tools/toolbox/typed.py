@@ -1,10 +1,10 @@
 """What was typed at a tool's prompt, for the sessions that follow: lines in a file of the user's own, which is written whole."""
 from __future__ import annotations
 
-import fcntl
 import os
 
 from toolbox.command import state_folder
+from toolbox.locks import lock
 from toolbox.reading import read_whole
 from toolbox.writing import own_folder, write_whole
 
@@ -31,7 +31,7 @@ def keep_typed(name: str, line: str) -> None:
     own_folder(folder)
     handle = os.open(folder, os.O_RDONLY | os.O_DIRECTORY | os.O_CLOEXEC)
     try:
-        fcntl.flock(handle, fcntl.LOCK_EX)
+        lock(handle)
         lines = [*typed_before(name), line][-MOST:]
         write_whole(place_of(name), ''.join(f'{each}\n' for each in lines).encode('utf-8', 'surrogateescape'), mode=0o600)
     finally:

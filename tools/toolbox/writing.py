@@ -4,12 +4,13 @@ from __future__ import annotations
 
 import contextlib
 import errno
-import fcntl
 import json
 import mmap
 import os
 import stat
 from typing import Callable
+
+from toolbox.locks import lock_free
 
 STREAMS = ('/dev/', '/proc/')
 OPEN_FILES = '/proc/self/fd'
@@ -97,7 +98,7 @@ def _replace(target: str, octets: Octets, old: os.stat_result | None, look: Look
     handle, beside = _new(target, 0o600 if old else mode)
     try:
         with contextlib.suppress(OSError):  # while this is held, no other writer takes the file for a left one
-            fcntl.flock(handle, fcntl.LOCK_EX | fcntl.LOCK_NB)
+            lock_free(handle)
         if old:
             _carry_over(target, handle, old)
         write_all(handle, octets)
@@ -180,7 +181,7 @@ def _remove_left(path: str, owners: set[int]) -> None:
         try:
             found = os.fstat(handle)
             if stat.S_ISREG(found.st_mode) and found.st_uid in owners:
-                fcntl.flock(handle, fcntl.LOCK_EX | fcntl.LOCK_NB)
+                lock_free(handle)
                 os.remove(path)
         finally:
             os.close(handle)

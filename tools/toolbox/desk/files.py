@@ -4,7 +4,6 @@ from __future__ import annotations
 
 import contextlib
 import difflib
-import fcntl
 import hashlib
 import os
 import re
@@ -16,6 +15,7 @@ from typing import IO, Any, Callable, Iterator
 from toolbox import runfile
 from toolbox.command import Sorry, Unreadable
 from toolbox.guests import Guest
+from toolbox.locks import HAS_LOCKS, lock_free
 from toolbox.reading import read_whole
 from toolbox.runfile import DEFAULTS, text_of
 from toolbox.writing import finish, is_unfinished, own_folder, write_whole
@@ -99,9 +99,9 @@ def turn(folder: str | None) -> Iterator[None]:
 def wait_for(handle: int) -> None:
     """Waits for a lock, but not for ever."""
     end = time.monotonic() + SECONDS_OF_A_TURN
-    while True:
+    while HAS_LOCKS:
         try:
-            fcntl.flock(handle, fcntl.LOCK_EX | fcntl.LOCK_NB)
+            lock_free(handle)
             return
         except BlockingIOError:
             if time.monotonic() > end:
