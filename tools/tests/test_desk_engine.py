@@ -13,6 +13,7 @@ import os
 import re
 import subprocess
 import sys
+import tempfile
 import unittest
 from typing import Any
 
@@ -342,7 +343,7 @@ class Following(unittest.TestCase):
         if not has_node():
             return
         files = sorted(glob.glob(f'{TOOLS}/tests/following/*.json'))
-        words, env = ['node', f'{TOOLS}/tests/desk/following.mjs', *files], os.environ | {'PCPROBE': path('pcprobe')}
+        words, env = ['node', f'{TOOLS}/tests/desk/following.mjs', *files], os.environ | {'PCPROBE': path('pcprobe'), 'TMPDIR': tempfile.gettempdir()}
         ran = subprocess.run(words, env=env, capture_output=True, text=True, check=True)
         rows = [json.loads(line) for line in ran.stdout.splitlines()]
         self.assertGreater(len(rows), 20)
