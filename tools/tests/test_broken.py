@@ -11,6 +11,7 @@ import mmap
 import os
 import re
 import resource
+import signal
 import subprocess
 import sys
 import unittest
@@ -398,6 +399,8 @@ class NoThread(ToolCase):
 
     def test_moments_whose_thread_fails(self) -> None:
         page, err = self.file('page', 'shows = HI\n'), io.StringIO()
+        for sign in (signal.SIGINT, signal.SIGTERM, signal.SIGHUP):  # moments hears them to its end, which is this process's
+            self.addCleanup(signal.signal, sign, signal.getsignal(sign))
         with mock.patch.object(Worker, 'ask', side_effect=MemoryError), contextlib.redirect_stderr(err):
             with self.assertRaises(MemoryError):
                 main_of('moments')([page, *example('ticks'), '--key', '1E', '--at', '1..9'])
