@@ -88,12 +88,14 @@ byte_is_shown s address byte whole within has = record {
 }
 
 -- a byte that stands there
-in_map : (memory : MemoryMap) (address : ℕ) (region : Region) → region ≢ Nothing
-    → record memory { cells = slice_set memory.cells address (byte_answered region (slice_index memory.cells address)) } ≡ memory
-in_map memory address Ram cell = ap (λ cells. record memory { cells = cells }) (set-get_or memory.cells address 0)
-in_map memory address Text cell = ap (λ cells. record memory { cells = cells }) (set-get_or memory.cells address 0)
-in_map memory address Rom cell = ap (λ cells. record memory { cells = cells }) (set-get_or memory.cells address 0)
-in_map memory address Nothing cell = absurd (cell refl)
+in_map : (has : Bool) (memory : MemoryMap) (address : ℕ) (region : Region) → region ≢ Nothing
+    → (if has then record memory { cells = slice_set memory.cells address (byte_answered region (slice_index memory.cells address)) } else memory)
+    ≡ memory
+in_map false memory address region cell = refl
+in_map true memory address Ram cell = ap (λ cells. record memory { cells = cells }) (set-get_or memory.cells address 0)
+in_map true memory address Text cell = ap (λ cells. record memory { cells = cells }) (set-get_or memory.cells address 0)
+in_map true memory address Rom cell = ap (λ cells. record memory { cells = cells }) (set-get_or memory.cells address 0)
+in_map true memory address Nothing cell = absurd (cell refl)
 
 in_text : (s : ChipsState) (offset : ℕ) → record s { mda = mda.with_text_byte s.mda offset (mda.text_byte s.mda offset) } ≡ s
 unfolding mda.with_text_byte mda.text_byte
@@ -112,7 +114,8 @@ same_by : (b : Bool) (s : ChipsState) (address : ℕ) → region_of s.memory.ram
     ≡ s
 unfolding map_cells.with_cell map.byte_at
 same_by true s address cell = in_text s (address - 0xB0000)
-same_by false s address cell = ap (λ memory. record s { memory = memory }) (in_map s.memory address (region_of s.memory.ram_size address) cell)
+same_by false s address cell = ap (λ memory. record s { memory = memory }) (in_map (nat_lt address s.memory.ram_size || nat_le 0xF0000 address)
+    s.memory address (region_of s.memory.ram_size address) cell)
 
 pub same_byte_stays : SameByteStays
 unfolding byte_of with_cell_byte byte_at has_cell with_cell
@@ -167,11 +170,17 @@ unfolding is_writable mda.with_text_byte
 text_takes s offset byte other =
     ap (λ n. if is_text_address other then nat_lt (other - 0xB0000) n else map.is_writable s.memory other) (length-set s.mda.bytes offset byte)
 
+takes_by : (has : Bool) (memory : MemoryMap) (address byte other : ℕ)
+    → map.is_writable (if has then record memory { cells = slice_set memory.cells address byte } else memory) other ≡ map.is_writable memory other
+unfolding map.is_writable
+takes_by true memory address byte other =
+    ap (λ n. map.is_ram (region_of memory.ram_size other) && nat_lt other n) (length-set memory.cells address byte)
+takes_by false memory address byte other = refl
+
 map_takes : (memory : MemoryMap) (address byte other : ℕ)
     → map.is_writable (map_cells.with_cell memory address byte) other ≡ map.is_writable memory other
-unfolding map.is_writable map_cells.with_cell
-map_takes memory address byte other =
-    ap (λ n. map.is_ram (region_of memory.ram_size other) && nat_lt other n) (length-set memory.cells address byte)
+unfolding map_cells.with_cell
+map_takes memory address byte other = takes_by (nat_lt address memory.ram_size || nat_le 0xF0000 address) memory address byte other
 
 memory_takes : (s : ChipsState) (address byte other : ℕ)
     → is_writable (record s { memory = map_cells.with_cell s.memory address byte }) other ≡ is_writable s other

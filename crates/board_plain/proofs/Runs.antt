@@ -1,5 +1,5 @@
 -- Runs of a board: one of no clocks, and two that are one.
-use Rattle.std.proofs.Common.{◌+◌, ◌-◌, ◌≤◌, ◌++◌, length, sym, ap, ◌∙◌, arith, append_assoc, append-nil}
+use Rattle.std.proofs.Common.{◌≤◌, ◌++◌, length, sym, ap, ◌∙◌, arith, append_assoc, append-nil}
 use Rattle.board_types.proofs.Iterate.{iterate_zero, iterate_add, gathered_zero, gathered_add}
 use Rattle.board_plain.specs.Board.{BoardState, Ran}
 use Rattle.board_plain.specs.BoardLaws.{RunsJoin}

@@ -1,3 +1,4 @@
 pub mod Laying
+pub mod RamRom
 pub mod Writes
 pub mod Eight

@@ -1,4 +1,5 @@
 pub mod Regions
 pub mod Map
 pub mod MapCells
+pub mod MapLayout
 pub mod MemoryLaws

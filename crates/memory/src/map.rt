@@ -1,20 +1,23 @@
 //! The memory map, and what a board's memory holds at power-on.
-ghost use Rattle.std.specs.Prelude.{ℕ, ◌≡◌, ◌<◌, ◌≤◌, ◌*◌, ◌+◌, ◌%◌, ◌/◌, ◌^◌, ◌⊎◌, IfOk, IfSome, OnOk, IsTrue, ◌↔◌, None, length, map, slice_index, unwrap_or};
+ghost use Rattle.std.specs.Prelude.{ℕ, ◌≡◌, ◌<◌, ◌≤◌, ◌*◌, ◌+◌, ◌%◌, ◌/◌, ◌^◌, ◌⊎◌, ◌≢◌, IfOk, IfSome, OnOk, IsTrue, ◌↔◌, length, map, slice_index, unwrap_or};
 ghost use Rattle.std.specs.Int.{to_le_bytes, w64};
 ghost use Rattle.std.specs.List.{range_with_len};
 ghost use Rattle.std.specs.Result.{IsErrOf};
-ghost use Rattle.board_types.specs.Image.{image_byte, IsImage};
-ghost use Rattle.memory.specs.Regions.{IsTextAddress, region_of};
+ghost use Rattle.board_types.specs.Image.{image_byte};
+ghost use Rattle.memory.specs.Regions.{IsTextAddress};
 ghost use Rattle.memory.specs.declared.map.MemoryFault.TheVariants.{OutOfMemory};
 ghost use Rattle.memory.specs.MapCells.{with_cell};
-ghost use Rattle.memory.specs.Map.{address_count, byte_at, byte_of_region, with_byte, power_on, power_on_byte, memory_fault_number, IsRamSize, FitsRam, IsMap};
+ghost use Rattle.memory.specs.Map.{byte_at, with_byte, power_on, memory_fault_number, IsRamSize, FitsRam, IsMap};
 
 use crate::region::{Region, region_of};
-use board_types::address::{ADDRESS_COUNT, RAM_LIMIT, ROM_START, TEXT_SIZE, TEXT_START};
+use board_types::address::{ADDRESS_COUNT, RAM_LIMIT, ROM_START};
 use board_types::image::Image;
 use std::alloc::{AllocError, Global};
 use std::marker::Model;
 use thiserror::Error;
+
+/// How many bytes of ROM there are: it ends where the addresses do.
+const ROM_SIZE: u32 = ADDRESS_COUNT - ROM_START;
 
 /// Why a memory can't be made.
 #[derive(Clone, Copy, Debug, PartialEq, Eq, Drop, Error)]
@@ -46,21 +49,28 @@ impl From<AllocError> for MemoryFault {
     }
 }
 
-/// The board's memory: a byte for each address outside the text adapter's.
+/// The board's memory: the bytes of RAM and of the ROM. No room is taken for the addresses between them, since nothing
+/// changes there.
 #[derive(Drop)]
 pub struct Memory {
     ram_size: u32,
-    cells: Vec<u8>,
+    /// The bytes from 0 on, `ram_size` of them.
+    ram: Vec<u8>,
+    /// The bytes from F0000h on.
+    rom: Vec<u8>,
 }
 
 impl Model for Memory {
-    ghost use Rattle.memory.specs.Map.{IsMap, MemoryMap};
+    ghost use Rattle.std.specs.Prelude.{◌≡◌, ◌≤◌, length};
+    ghost use Rattle.memory.specs.Map.{MemoryMap};
+    ghost use Rattle.memory.specs.MapLayout.{map_of};
 
     ghost Value = { MemoryMap };
 
-    ghost view = { λ m. record { ram_size = m.ram_size; cells = m.cells.items } };
+    ghost view = { λ m. map_of m.ram.items m.rom.items };
 
-    ghost invariant = { λ m. IsMap (record { ram_size = m.ram_size; cells = m.cells.items }) };
+    ghost invariant = { λ m. ((length m.ram.items ≤ 0xA0000) × (length m.rom.items ≡ 65536))
+        × (m.ram_size ≡ length m.ram.items) };
 }
 
 impl Memory {
@@ -82,8 +92,13 @@ impl Memory {
         if !fits_ram(image, ram_size) {
             return Err(MemoryFault::RamSize);
         }
-        let cells = power_on_cells(alloc, ram_size, image)?;
-        Ok(Memory { ram_size, cells })
+        let ram = vec![in alloc; 0; ram_size as usize]?;
+        let rom = vec![in alloc; 0xFF; ROM_SIZE as usize]?;
+        Ok(Memory {
+            ram_size,
+            ram: with_image(ram, 0, image),
+            rom: with_image(rom, ROM_START, image),
+        })
     }
 
     /// The byte that a read of `addr` gives to the processor or a viewer. `addr` is below 100000h and outside the text
@@ -95,9 +110,10 @@ impl Memory {
         ensures byte { result ≡ byte_at self.now addr }
         ensures map { IsMap self.now }
     {
-        let index = addr as usize;
         match region_of(self.ram_size, addr) {
-            Region::Ram | Region::Text | Region::Rom => self.cells[index],
+            Region::Ram => self.ram[addr as usize],
+            Region::Text => 0,
+            Region::Rom => self.rom[(addr - ROM_START) as usize],
             Region::Nothing => 0xFF,
         }
     }
@@ -112,36 +128,19 @@ impl Memory {
             ≡ map (λ k. byte_at self.now (addr + k)) (range_with_len 0 8)) }
     {
         if addr + 8 <= self.ram_size {
-            return Some(self.eight_cells(addr as usize));
+            return Some(eight_bytes(self.ram.as_slice(), addr as usize));
         }
         if addr >= ROM_START && addr + 8 <= ADDRESS_COUNT {
-            return Some(self.eight_cells(addr as usize));
+            let at = (addr - ROM_START) as usize;
+            return Some(eight_bytes(self.rom.as_slice(), at));
         }
         None
-    }
-
-    /// The bytes of eight cells as one number, the first one lowest, for `code`.
-    #[inline(always)]
-    fn eight_cells(&self, at: usize) -> u64
-        requires { at + 8 ≤ length self.now.cells }
-        ensures { to_le_bytes w64 result ≡ map (λ k. slice_index self.now.cells (at + k)) (range_with_len 0 8) }
-    {
-        let cells = self.cells.as_slice();
-        u64::from_le_bytes([
-            cells[at],
-            cells[at + 1],
-            cells[at + 2],
-            cells[at + 3],
-            cells[at + 4],
-            cells[at + 5],
-            cells[at + 6],
-            cells[at + 7],
-        ])
     }
 
     /// Whether `addr` lies in RAM, and so neither in the text adapter's memory nor in the ROM: the quick way for most
     /// accesses asks this.
     #[inline(always)]
+    #[tactic(auto, using(crate::proofs::RamRom::is_map), unfolding(crate::specs::MapLayout::map_of))]
     pub fn has_ram(&self, addr: u32) -> bool
         ensures ram { IsTrue result ↔ addr < self.now.ram_size }
         ensures map { IsMap self.now }
@@ -151,21 +150,29 @@ impl Memory {
 
     /// Writes `byte` at `addr`, below 100000h and outside the text adapter's memory, for the processor. Without RAM
     /// there, in the ROM as well, nothing changes.
-    #[tactic(auto, unfolding(crate::specs::Map::with_byte, crate::specs::Map::is_writable))]
     pub fn write(&mut self, addr: u32, byte: u8)
         requires within { addr < 2 ^ 20 }
         requires outside_text { ¬ (IsTextAddress addr) }
         ensures { self.new ≡ with_byte self.old addr byte }
     {
-        if addr < self.ram_size {
-            self.cells[addr as usize] = byte;
+        if self.has_ram(addr) {
+            self.write_ram(addr, byte);
         }
+    }
+
+    /// Writes `byte` at `addr`, which must lie in RAM, as the caller has found.
+    #[inline(always)]
+    pub fn write_ram(&mut self, addr: u32, byte: u8)
+        requires { addr < self.old.ram_size }
+        ensures put { self.new ≡ with_byte self.old addr byte }
+        ensures within { addr < 0xA0000 }
+    {
+        self.ram[addr as usize] = byte;
     }
 
     /// Writes the two bytes of a word, the low one at `addr`, in one access. Both must lie in RAM, as the caller has
     /// found.
     #[inline(always)]
-    #[tactic(auto, unfolding(crate::specs::Map::with_byte, crate::specs::Map::is_writable))]
     pub fn write_word(&mut self, addr: u32, word: u16)
         requires { addr + 1 < self.old.ram_size }
         ensures put { self.new ≡ with_byte (with_byte self.old addr (word % 256)) (addr + 1) (word / 256) }
@@ -173,19 +180,23 @@ impl Memory {
     {
         let at = addr as usize;
         // the bytes' place is asked for once, so that the word is written in one access
-        let cells = self.cells.as_mut_slice();
-        cells[at] = (word % 256) as u8;
-        cells[at + 1] = (word / 256) as u8;
+        let ram = self.ram.as_mut_slice();
+        ram[at] = (word % 256) as u8;
+        ram[at + 1] = (word / 256) as u8;
     }
 
     /// Puts `byte` into the cell of `addr`, below 100000h, in the ROM as well: for a session that changes memory, not for
-    /// the processor.
+    /// the processor. If `addr` has no cell, nothing changes.
     #[tactic(auto, unfolding(crate::specs::MapCells::with_cell))]
     pub fn put(&mut self, addr: u32, byte: u8)
         requires { addr < 2 ^ 20 }
         ensures { self.new ≡ with_cell self.old addr byte }
     {
-        self.cells[addr as usize] = byte;
+        if self.has_ram(addr) {
+            self.ram[addr as usize] = byte;
+        } else if addr >= ROM_START {
+            self.rom[(addr - ROM_START) as usize] = byte;
+        }
     }
 
     /// A copy of the memory for a copied board, in a place of its own. Fails only if there is no memory for it.
@@ -194,7 +205,8 @@ impl Memory {
     {
         Ok(Memory {
             ram_size: self.ram_size,
-            cells: self.cells.clone()?,
+            ram: self.ram.clone()?,
+            rom: self.rom.clone()?,
         })
     }
 }
@@ -220,46 +232,48 @@ fn fits_ram(image: &Image, ram_size: u32) -> bool
     true
 }
 
-/// The bytes of all addresses at power-on of a board with `ram_size` bytes of RAM, which the image fits: the image's,
-/// and elsewhere those of a bare memory.
-fn power_on_cells(alloc: Global, ram_size: u32, image: &Image) -> Result<Vec<u8>, AllocError>
-    requires size { ram_size ≤ 0xA0000 }
-    requires fits { FitsRam image.now ram_size }
-    ensures cells { IfOk result
-        (λ cells. cells.items ≡ map (power_on_byte image.now ram_size) (range_with_len 0 address_count)) }
-    ensures length { IfOk result (λ cells. length cells.items ≡ 1048576) }
+/// The bytes at power-on of RAM or of the ROM, which begin at the address `start`: the image's, and elsewhere those of
+/// `bare`.
+fn with_image(bare: Vec<u8>, start: u32, image: &Image) -> Vec<u8>
+    requires { start + length bare.items < 2 ^ 32 }
+    ensures bytes { (at : ℕ) → at < length bare.items
+        → slice_index result.items at ≡ unwrap_or (image_byte image.now (start + at)) (slice_index bare.items at) }
+    ensures length { length result.items ≡ length bare.items }
 {
-    let cells = bare_cells(alloc, ram_size as usize)?;
-    Ok(with_image(cells, image))
-}
-
-/// The bytes at power-on of a memory without an image's, into which those are then written: RAM and text memory are 0,
-/// the ROM is FFh, and FFh is read if nothing answers.
-fn bare_cells(alloc: Global, ram_size: usize) -> Result<Vec<u8>, AllocError>
-    requires { ram_size ≤ 0xA0000 }
-    ensures cells { IfOk result (λ cells. (addr : ℕ) → addr < 1048576
-        → slice_index cells.items addr ≡ byte_of_region (region_of ram_size addr) None) }
-    ensures length { IfOk result (λ cells. length cells.items ≡ 1048576) }
-{
-    let mut cells = Vec::with_capacity(alloc, ADDRESS_COUNT as usize)?;
-    cells.resize(ram_size, 0)?;
-    cells.resize(TEXT_START as usize, 0xFF)?;
-    cells.resize((TEXT_START + TEXT_SIZE) as usize, 0)?;
-    cells.resize(ADDRESS_COUNT as usize, 0xFF)?;
-    Ok(cells)
-}
-
-/// The cells of a bare memory with the image's bytes written at their addresses, RAM or ROM.
-fn with_image(mut cells: Vec<u8>, image: &Image) -> Vec<u8>
-    requires { length cells.items ≡ 1048576 }
-    ensures cells { (addr : ℕ)
-        → slice_index result.items addr ≡ unwrap_or (image_byte image.now addr) (slice_index cells.items addr) }
-    ensures length { length result.items ≡ 1048576 }
-    ensures is_image { IsImage image.now }
-{
+    let mut bytes = bare;
     for (addr, byte) in image.iter() {
-        let byte = *byte;
-        cells[*addr as usize] = byte;
+        put_byte(&mut bytes, start, *addr, *byte);
     }
-    cells
+    bytes
+}
+
+/// Puts `byte` at the address `addr`, if it is one of these bytes', which begin at the address `start`.
+fn put_byte(bytes: &mut Vec<u8>, start: u32, addr: u32, byte: u8)
+    requires { start + length bytes.old.items < 2 ^ 32 }
+    ensures length { length bytes.new.items ≡ length bytes.old.items }
+    ensures there { (at : ℕ) → at < length bytes.old.items → start + at ≡ addr → slice_index bytes.new.items at ≡ byte }
+    ensures others { (at : ℕ) → start + at ≢ addr → slice_index bytes.new.items at ≡ slice_index bytes.old.items at }
+{
+    let at = addr.wrapping_sub(start) as usize;
+    if at < bytes.len() {
+        bytes[at] = byte;
+    }
+}
+
+/// Eight bytes as one number, the first one lowest, for `code`.
+#[inline(always)]
+fn eight_bytes(bytes: &[u8], at: usize) -> u64
+    requires { at + 8 ≤ length bytes.now }
+    ensures { to_le_bytes w64 result ≡ map (λ k. slice_index bytes.now (at + k)) (range_with_len 0 8) }
+{
+    u64::from_le_bytes([
+        bytes[at],
+        bytes[at + 1],
+        bytes[at + 2],
+        bytes[at + 3],
+        bytes[at + 4],
+        bytes[at + 5],
+        bytes[at + 6],
+        bytes[at + 7],
+    ])
 }
