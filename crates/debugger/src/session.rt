@@ -188,7 +188,7 @@ impl<A: Allocator> Session<A> {
     }
 
     /// Does what a command says, once its line has been read, and returns the answer or the refusal.
-    fn answer(&mut self, alloc: Global, command: Command) -> Result<Answer, DebugFault>
+    pub fn answer(&mut self, alloc: Global, command: Command) -> Result<Answer, DebugFault>
         requires { IsWithin (Some command) }
         ensures { Answers command self.old result self.new }
     {

@@ -4,7 +4,7 @@ use Rattle.std.proofs.Common.{◌∷◌, ◌++◌, map, Option, None, Some, refl
 use Rattle.std.proofs.lemmas.Bool.Decides.{nat_tests}
 use Rattle.std.proofs.lemmas.List.{map-append}
 use Rattle.std.proofs.lemmas.List.Sums.{sum_by-cons}
-use Rattle.std.specs.Prelude.{◌||◌, count_by, is_some, nat_lt, sum_by}
+use Rattle.std.specs.Prelude.{◌||◌, count_by, nat_lt, sum_by}
 use Rattle.std.specs.BTreeSet.{insert_key}
 use Rattle.std.specs.List.Sorted.{IsStrictlySortedBy}
 use Rattle.std.specs.Ordering.{is_eq, match_ordering, nat_cmp}
@@ -17,9 +17,8 @@ use Rattle.board_plain.proofs.Clocks.{clocks_go_by}
 use Rattle.board_plain.specs.Plain.{Plain, after_clock, after_clocks, clock_of, next_act}
 use Rattle.board_plain.specs.Trail.{entry_at, event_of, trail_in, trail_next}
 use Rattle.board_types.proofs.Iterate.{gathered_more, gathered_zero}
-use Rattle.probe.specs.Counts.{clocks_from, is_number, next_clock, numbers_of, place_of, place_unless, type_of, with_number}
+use Rattle.probe.specs.Counts.{clocks_from, is_number, next_clock, number_of, numbers_of}
 use Rattle.probe.specs.ProbeLaws.{clocks_of_lines, CountsAddUp}
-use Rattle.probe.specs.Tallied.{has}
 use Rattle.probe.proofs.Numbers.{above_less, equal_numbers, in_numbers, is_in, numbers_rise, AreAbove}
 use Rattle.probe.proofs.Tallying.{no_clocks}
 
@@ -82,47 +81,27 @@ sum_put n d f (k ∷ ks) sorted none = by (nat_cmp n k) refl (sum_put n d f ks s
         let one = sum_by-cons (adds n d f) k (insert_key nat_cmp ks n) in
         let less = sum_by-cons f k ks in omega (arith, first, more, one, less)
 
-sum_same : (f g : ℕ → ℕ) (ks : List ℕ) → ((k : ℕ) → g k ≡ f k) → sum_by g ks ≡ sum_by f ks
-sum_same f g [] same = refl
-sum_same f g (k ∷ ks) same =
-    let rest = sum_same f g ks same in
-    let first = same k in
-    let more = sum_by-cons g k ks in
-    let less = sum_by-cons f k ks in omega (arith, rest, first, more, less)
-
 -- the clocks of a beginning come to its own line
 
 none_counted : (n : ℕ) → nat_lt 0 n ≡ false → n ≡ 0
 none_counted zero is = refl
 none_counted (suc n) is = absurd (let never : nat_lt 0 (suc n) ≡ true = grind (arith, nat_tests) in cc)
 
-lines_by : (number : Begun → Option ℕ) (bs : List Begun) (end d : ℕ) (o : Option ℕ)
-    → sum_by (λ k. (if is_number k o then d else 0) + clocks_from (has number k) bs end) (with_number o (numbers_of number bs))
-    ≡ (if is_some o then d else 0) + clocks_of_lines number bs end
-lines_by number bs end d None = sum_same (λ k. clocks_from (has number k) bs end) _ (numbers_of number bs) (λ k. omega arith) ∙ omega arith
-lines_by number bs end d (Some n) =
-    sum_put n d (λ k. clocks_from (has number k) bs end) (numbers_of number bs) (numbers_rise number bs)
-    (λ out. no_clocks (has number n) bs end (none_counted (count_by (has number n) bs) (sym (in_numbers number bs n) ∙ out)))
-
-lines_first : (number : Begun → Option ℕ) (b : Begun) (bs : List Begun) (end : ℕ)
-    → clocks_of_lines number (b ∷ bs) end ≡ (if is_some (number b) then next_clock bs end - b.clock else 0) + clocks_of_lines number bs end
-lines_first number b bs end = lines_by number bs end (next_clock bs end - b.clock) (number b)
+lines_first : (b : Begun) (bs : List Begun) (end : ℕ) → clocks_of_lines (b ∷ bs) end ≡ (next_clock bs end - b.clock) + clocks_of_lines bs end
+lines_first b bs end =
+    let n = number_of b in
+    sum_put n (next_clock bs end - b.clock) (λ k. clocks_from (is_number k) bs end) (numbers_of bs) (numbers_rise bs)
+    (λ out. no_clocks (is_number n) bs end (none_counted (count_by (is_number n) bs) (sym (in_numbers bs n) ∙ out)))
 
 abbrev spans : List Begun → ℕ → ℕ
 spans [] end = 0
 spans (b ∷ bs) end = (next_clock bs end - b.clock) + spans bs end
 
-one_of : (entered : Option ℕ) (cs ip d : ℕ) → (if is_some (place_unless entered cs ip) then d else 0) + (if is_some entered then d else 0) ≡ d
-one_of None cs ip d = omega arith
-one_of (Some kind) cs ip d = omega arith
-
-all_lines : (bs : List Begun) (end : ℕ) → clocks_of_lines place_of bs end + clocks_of_lines type_of bs end ≡ spans bs end
+all_lines : (bs : List Begun) (end : ℕ) → clocks_of_lines bs end ≡ spans bs end
 all_lines [] end = refl
 all_lines (b ∷ bs) end =
-    let places = lines_first place_of b bs end in
-    let types = lines_first type_of b bs end in
-    let one = one_of b.entered b.cs b.ip (next_clock bs end - b.clock) in
-    let rest = all_lines bs end in omega (arith, places, types, one, rest)
+    let first = lines_first b bs end in
+    let rest = all_lines bs end in omega (arith, first, rest)
 
 -- beginnings come at rising clocks
 

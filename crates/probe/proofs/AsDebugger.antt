@@ -1,7 +1,7 @@
 -- A probe whose stops are all conditions answers as the debugger does.
 use Rattle.std.proofs.Common.{◌≡◌, ℕ, ◌+◌, ◌-◌, false, true, List, [], ◌∷◌, ◌++◌, length, map}
 use Rattle.std.proofs.Common.{Option, None, Some, Result, Ok, Err, refl, sym, ap, ◌∙◌, subst, arith}
-use Rattle.std.specs.Prelude.{MatchResult}
+use Rattle.std.specs.Prelude.{MatchResult, option_map}
 use Rattle.std.proofs.lemmas.List.{length-map, map-append}
 use Rattle.board_plain.specs.declared.stop.Condition.{Condition}
 use Rattle.board_plain.specs.declared.stop.Condition.TheVariants as conditions
@@ -15,16 +15,13 @@ use Rattle.debugger_meaning.specs.declared.fault.DebugFault.{DebugFault}
 use Rattle.debugger_meaning.specs.declared.fault.DebugFault.TheVariants.{BadScan, StampsFall, ClockLimit, BadCommand, TooManyStops, Memory, BeforeStart, NoCell}
 use Rattle.debugger_meaning.specs.Back.{GoesBackTo, RefusesBackTo}
 use Rattle.debugger_meaning.specs.Commands.{command_of}
-use Rattle.debugger_meaning.specs.Session.{AnswersLine, AnswersStop, Goes, RefusesGo}
-use Rattle.probe_texts.specs.declared.inquiry.Inquiry.{Inquiry}
+use Rattle.debugger_meaning.specs.Session.{Answers, AnswersLine, AnswersStop, Goes, RefusesGo}
 use Rattle.probe_texts.specs.declared.stops.Stop.{Stop}
 use Rattle.probe_texts.specs.declared.stops.Stop.TheVariants.{Standing}
-use Rattle.probe_texts.specs.Inquiry.{inquiry_of}
 use Rattle.probe.specs.ProbeLaws.{AnswersAsDebugger, OnlyStand}
-use Rattle.probe.specs.Probe.{AddsStop, AnswersUnless, conditions_of, GoesBackToStop, GoesOn}
+use Rattle.probe.specs.Probe.{AddsStop, AnswersRequested, conditions_of, GoesBackToStop, GoesOn}
 use Rattle.probe.specs.Probe.{ProbeState, RefusesBackToStop, RefusesGoing, RefusesStop, session_of}
-use Rattle.probe_texts.specs.Requests.{request_by, request_in, request_with, stop_of}
-use Rattle.probe.specs.InquirySession.{AnswersOr}
+use Rattle.probe_texts.specs.Requests.{request_by, request_in}
 use Rattle.probe.specs.ProbeStops.{IsEndOf, met_from, NoneMet}
 use Rattle.probe.proofs.Probes.{conditions_more}
 use Rattle.probe.proofs.Standing.{met_alike, none_there, there}
@@ -166,42 +163,33 @@ back old new (Err BeforeStart) stand refuses = (
 )
 back old new (Err NoCell) stand refuses = absurd refuses
 
--- any other line
+-- any other command
 
-passes : (inquiry : Option Inquiry) (command : Option Command) (line : List ℕ) (old new : ProbeState) (result : Result Answer DebugFault)
-    → command_of line ≡ command → inquiry ≡ None → OnlyStand old → AnswersOr inquiry line (session_of old) result (session_of new) × (new.stops ≡ old.stops)
-    → AnswersLine command (session_of old) result (session_of new) × OnlyStand new
-passes None command line old new result is none stand answers =
-    (subst (λ c. AnswersLine c (session_of old) result (session_of new)) is answers.0, still_stand old new stand answers.1)
-passes (Some inquiry) command line old new result is none stand answers = absurd (cc)
+passes : (command : Command) (old new : ProbeState) (result : Result Answer DebugFault)
+    → OnlyStand old → Answers command (session_of old) result (session_of new) × (new.stops ≡ old.stops)
+    → Answers command (session_of old) result (session_of new) × OnlyStand new
+passes command old new result stand answers = (answers.0, still_stand old new stand answers.1)
 
-commanded : (command : Option Command) (line : List ℕ) (old new : ProbeState) (result : Result Answer DebugFault)
-    → command_of line ≡ command → inquiry_of line ≡ None → OnlyStand old → AnswersUnless (request_by command) line old result new
+commanded : (command : Option Command) (old new : ProbeState) (result : Result Answer DebugFault)
+    → OnlyStand old → AnswersRequested (option_map request_by command) old result new
     → AnswersLine command (session_of old) result (session_of new) × OnlyStand new
-commanded None line old new result is none stand answers = passes (inquiry_of line) None line old new result is none stand answers
-commanded (Some (commands.Break cs ip)) line old new result is none stand answers = adds (conditions.At cs ip) old new result stand answers
-commanded (Some (commands.Byte address byte)) line old new result is none stand answers = adds (conditions.Byte address byte) old new result stand answers
-commanded (Some commands.Sound) line old new result is none stand answers = adds conditions.Sound old new result stand answers
-commanded (Some commands.Halted) line old new result is none stand answers = adds conditions.Halted old new result stand answers
-commanded (Some (commands.Go n)) line old new result is none stand answers = goes n old new result stand answers
-commanded (Some commands.Step) line old new result is none stand answers =
-    passes (inquiry_of line) (Some commands.Step) line old new result is none stand answers
-commanded (Some commands.Regs) line old new result is none stand answers =
-    passes (inquiry_of line) (Some commands.Regs) line old new result is none stand answers
-commanded (Some commands.Screen) line old new result is none stand answers =
-    passes (inquiry_of line) (Some commands.Screen) line old new result is none stand answers
-commanded (Some (commands.Dump first count)) line old new result is none stand answers =
-    passes (inquiry_of line) (Some (commands.Dump first count)) line old new result is none stand answers
-commanded (Some commands.Trail) line old new result is none stand answers =
-    passes (inquiry_of line) (Some commands.Trail) line old new result is none stand answers
-commanded (Some (commands.Back n)) line old new result is none stand answers =
-    passes (inquiry_of line) (Some (commands.Back n)) line old new result is none stand answers
-commanded (Some commands.BackStep) line old new result is none stand answers =
-    passes (inquiry_of line) (Some commands.BackStep) line old new result is none stand answers
-commanded (Some commands.BackStop) line old new result is none stand answers = back old new result stand answers
+commanded None old new result stand answers =
+    ((answers.0, same_session old new answers.1), still_stand old new stand (ap (λ (s : ProbeState). s.stops) answers.1))
+commanded (Some (commands.Break cs ip)) old new result stand answers = adds (conditions.At cs ip) old new result stand answers
+commanded (Some (commands.Byte address byte)) old new result stand answers = adds (conditions.Byte address byte) old new result stand answers
+commanded (Some commands.Sound) old new result stand answers = adds conditions.Sound old new result stand answers
+commanded (Some commands.Halted) old new result stand answers = adds conditions.Halted old new result stand answers
+commanded (Some (commands.Go n)) old new result stand answers = goes n old new result stand answers
+commanded (Some commands.Step) old new result stand answers = passes commands.Step old new result stand answers
+commanded (Some commands.Regs) old new result stand answers = passes commands.Regs old new result stand answers
+commanded (Some commands.Screen) old new result stand answers = passes commands.Screen old new result stand answers
+commanded (Some (commands.Dump first count)) old new result stand answers = passes (commands.Dump first count) old new result stand answers
+commanded (Some commands.Trail) old new result stand answers = passes commands.Trail old new result stand answers
+commanded (Some (commands.Back n)) old new result stand answers = passes (commands.Back n) old new result stand answers
+commanded (Some commands.BackStep) old new result stand answers = passes commands.BackStep old new result stand answers
+commanded (Some commands.BackStop) old new result stand answers = back old new result stand answers
 
 pub answers_as_debugger : AnswersAsDebugger
 answers_as_debugger line old new result stand no_trial no_stop no_inquiry answers =
-    commanded (command_of line) line old new result refl no_inquiry stand
-    (subst (λ stop. AnswersUnless (request_in stop (command_of line)) line old result new) no_stop
-    (subst (λ trial. AnswersUnless (request_with trial (stop_of line) (command_of line)) line old result new) no_trial answers))
+    commanded (command_of line) old new result stand
+    (subst (λ r. AnswersRequested r old result new) (λ i. request_in (no_trial i) (no_stop i) (no_inquiry i) (command_of line)) answers)

@@ -56,8 +56,7 @@ if_some (Some x) p f = f x p
 before_later : (clock later : ℕ) (c : Counts) → clock ≤ later → IsBefore clock c → IsBefore later c
 before_later clock later c less before = record {
   latest = if_some c.latest before.latest (λ b is. omega (arith, is, less));
-  places = before.places;
-  types = before.types;
+  tallies = before.tallies;
 }
 
 -- what begins in a turn comes after what began before it

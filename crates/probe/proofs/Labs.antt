@@ -142,7 +142,7 @@ unless_wished : (wish : Option Wish) (line : List ℕ) (s t : LabState) (result 
     → LabStands s → AnswersUnlessWished wish line s result t → LabStands t
 unless_wished (Some wish) line s t result at is = by_wish wish s t result at is
 unless_wished None line s t result at is = (
-  (answered s.now.first (request_of line) line s.now t.now result (refl, at.0) is.0).1,
+  (answered s.now.first (request_of line) s.now t.now result (refl, at.0) is.0).1,
   All-same Stands t.earlier s.earlier is.1 at.1,
 )
 

@@ -17,7 +17,6 @@ use Rattle.board.specs.OneTurn.{HaveSameWires, IsOneTurn}
 use Rattle.board.specs.HeldBack.{IsHeldBack}
 use Rattle.board.proofs.OneTurn.{MostTurns, more_turns}
 use Rattle.board.proofs.Ticking.{first_clock, first_seen}
-use Rattle.debugger_meaning.specs.Stands.{SessionState}
 use Rattle.events.specs.declared.access.Access.{Access}
 use Rattle.events.specs.declared.event.Event.{Event}
 use Rattle.events.specs.declared.event.Event.TheVariants.{Began, Reached}
@@ -401,27 +400,23 @@ few n turns = let whole = turns.whole in omega (arith, whole)
 
 -- a run so far that has met no stop
 
-pub record Met (stops : List Stop) (end : ℕ) (s t : SessionState) (watches : List Watched) : Type 0 where
+pub record Met (stops : List Stop) (end : ℕ) (s t : BoardState) (watches : List Watched) : Type 0 where
   pub passed : ℕ
-  pub ran : Ran passed s.board t.board
-  pub within : clock_of t.board.plain ≤ end
-  pub stops_stay : t.stops ≡ s.stops
-  pub first : t.first ≡ s.first
-  pub turns : MostTurns 2 end s.board t.board passed
-  pub unturned : passed ≡ 0 → t.board.turns ≡ s.board.turns
-  pub none : NoneMet stops passed s.board.plain
+  pub ran : Ran passed s t
+  pub within : clock_of t.plain ≤ end
+  pub turns : MostTurns 2 end s t passed
+  pub unturned : passed ≡ 0 → t.turns ≡ s.turns
+  pub none : NoneMet stops passed s.plain
   pub stops_are : stops_of watches ≡ stops
-  pub copies : AreCopies watches t.board.plain
+  pub copies : AreCopies watches t.plain
   pub watched : All IsWatched watches
 
-pub met_none : (stops : List Stop) (end : ℕ) (s : SessionState) (watches : List Watched) → length s.board.trail ≤ 32
-    → clock_of s.board.plain ≤ end → stops_of watches ≡ stops → AreCopies watches s.board.plain → All IsWatched watches → Met stops end s s watches
+pub met_none : (stops : List Stop) (end : ℕ) (s : BoardState) (watches : List Watched) → length s.trail ≤ 32
+    → clock_of s.plain ≤ end → stops_of watches ≡ stops → AreCopies watches s.plain → All IsWatched watches → Met stops end s s watches
 met_none stops end s watches few within are copies watched = record {
   passed = 0;
-  ran = ran_none s.board few;
+  ran = ran_none s few;
   within = within;
-  stops_stay = refl;
-  first = refl;
   turns = record { before_end = λ early. omega arith; whole = omega arith };
   unturned = λ start. refl;
   none = λ j some least. absurd (omega (arith, some, least));
@@ -455,11 +450,11 @@ none_standing stops n s t ran none some =
     ap (standing stops) ran.plain ∙ none_stands stops (after_clocks s.plain (n - 1)) (after_clocks s.plain n) (none n some (omega arith))
 
 -- nothing is met on the way of one more turn
-none_between : (stops : List Stop) (end : ℕ) (s t u : SessionState) (old new : List Watched) (number : Option ℕ) → (so_far : Met stops end s t old)
-    → (turn : Turned stops t.board u.board new number) → (so_far.passed ≡ 0 → turn.passed ≡ 1) → NoneMet stops (turn.passed - 1) t.board.plain
+none_between : (stops : List Stop) (end : ℕ) (s t u : BoardState) (old new : List Watched) (number : Option ℕ) → (so_far : Met stops end s t old)
+    → (turn : Turned stops t u new number) → (so_far.passed ≡ 0 → turn.passed ≡ 1) → NoneMet stops (turn.passed - 1) t.plain
 none_between stops end s t u old new number so_far turn first j some within =
     elim (cases_lt 0 so_far.passed) [
-      | inl later ↦ turn.between j some (omega (arith, some, within)) ∙ none_standing stops so_far.passed s.board t.board so_far.ran so_far.none later
+      | inl later ↦ turn.between j some (omega (arith, some, within)) ∙ none_standing stops so_far.passed s t so_far.ran so_far.none later
       | inr none ↦ let one = first (omega (arith, none)) in absurd (omega (arith, one, some, within))
     ]
 
@@ -470,47 +465,43 @@ last_none stops n p more none here j some within =
       | inr at ↦ ap (meeting_at stops p) (omega (arith, at, within)) ∙ here
     ]
 
-pub met_more : (stops : List Stop) (end : ℕ) (s t u : SessionState) (old new : List Watched)
-    → (so_far : Met stops end s t old) → (turn : Turned stops t.board u.board new None) → (so_far.passed ≡ 0 → turn.passed ≡ 1)
-    → MostTurns 2 end s.board u.board (so_far.passed + turn.passed) → clock_of u.board.plain ≤ end → u.stops ≡ t.stops → u.first ≡ t.first
+pub met_more : (stops : List Stop) (end : ℕ) (s t u : BoardState) (old new : List Watched)
+    → (so_far : Met stops end s t old) → (turn : Turned stops t u new None) → (so_far.passed ≡ 0 → turn.passed ≡ 1)
+    → MostTurns 2 end s u (so_far.passed + turn.passed) → clock_of u.plain ≤ end
     → KeepsStops old new → Met stops end s u new
-met_more stops end s t u old new so_far turn first turns within stay same keeps = record {
+met_more stops end s t u old new so_far turn first turns within keeps = record {
   passed = so_far.passed + turn.passed;
-  ran = runs_join so_far.passed turn.passed s.board t.board u.board so_far.ran turn.ran;
+  ran = runs_join so_far.passed turn.passed s t u so_far.ran turn.ran;
   within = within;
-  stops_stay = stay ∙ so_far.stops_stay;
-  first = same ∙ so_far.first;
   turns = turns;
   unturned = λ start. let some = turn.some in absurd (omega (arith, start, some));
-  none = none_on stops so_far.passed turn.passed s.board.plain t.board.plain so_far.ran.plain so_far.none
-      (last_none stops turn.passed t.board.plain turn.some (none_between stops end s t u old new None so_far turn first) turn.there);
+  none = none_on stops so_far.passed turn.passed s.plain t.plain so_far.ran.plain so_far.none
+      (last_none stops turn.passed t.plain turn.some (none_between stops end s t u old new None so_far turn first) turn.there);
   stops_are = keeps.stops ∙ so_far.stops_are;
   copies = turn.copies;
   watched = keeps.watched;
 }
 
-pub ran_to_stop : (stops : List Stop) (end : ℕ) (s t u : SessionState) (old new : List Watched) (number : ℕ)
-    → (so_far : Met stops end s t old) → (turn : Turned stops t.board u.board new (Some number)) → (so_far.passed ≡ 0 → turn.passed ≡ 1)
-    → MostTurns 2 end s.board u.board (so_far.passed + turn.passed) → clock_of u.board.plain ≤ end → u.stops ≡ t.stops → u.first ≡ t.first
+pub ran_to_stop : (stops : List Stop) (end : ℕ) (s t u : BoardState) (old new : List Watched) (number : ℕ)
+    → (so_far : Met stops end s t old) → (turn : Turned stops t u new (Some number)) → (so_far.passed ≡ 0 → turn.passed ≡ 1)
+    → MostTurns 2 end s u (so_far.passed + turn.passed) → clock_of u.plain ≤ end
     → RanToStop stops end s u (Some number)
-ran_to_stop stops end s t u old new number so_far turn first turns within stay same =
+ran_to_stop stops end s t u old new number so_far turn first turns within =
     let some = turn.some in record {
       passed = so_far.passed + turn.passed;
       turns = few (so_far.passed + turn.passed) turns;
-      ran = runs_join so_far.passed turn.passed s.board t.board u.board so_far.ran turn.ran;
+      ran = runs_join so_far.passed turn.passed s t u so_far.ran turn.ran;
       within = within;
-      kept = stay ∙ so_far.stops_stay;
-      first = same ∙ so_far.first;
       ended = (
         omega (arith, some),
-        subst (λ n. NoneMet stops n s.board.plain) (omega (arith, some)) (none_on stops so_far.passed
-            (turn.passed - 1) s.board.plain t.board.plain so_far.ran.plain so_far.none (none_between stops end s t u old new (Some number) so_far turn first)),
-        met_on stops so_far.passed turn.passed s.board.plain t.board.plain (Some number) so_far.ran.plain some turn.there,
+        subst (λ n. NoneMet stops n s.plain) (omega (arith, some)) (none_on stops so_far.passed
+            (turn.passed - 1) s.plain t.plain so_far.ran.plain so_far.none (none_between stops end s t u old new (Some number) so_far turn first)),
+        met_on stops so_far.passed turn.passed s.plain t.plain (Some number) so_far.ran.plain some turn.there,
       );
     }
 
-pub ran_to_end : (stops : List Stop) (end : ℕ) (s t : SessionState) (watches : List Watched)
-    → Met stops end s t watches → end ≤ clock_of t.board.plain → RanToStop stops end s t None
+pub ran_to_end : (stops : List Stop) (end : ℕ) (s t : BoardState) (watches : List Watched)
+    → Met stops end s t watches → end ≤ clock_of t.plain → RanToStop stops end s t None
 ran_to_end stops end s t watches so_far past =
     let clock = so_far.ran.clock in
     let within = so_far.within in record {
@@ -518,14 +509,12 @@ ran_to_end stops end s t watches so_far past =
       ran = so_far.ran;
       turns = few so_far.passed so_far.turns;
       within = so_far.within;
-      kept = so_far.stops_stay;
-      first = so_far.first;
       ended = (omega (arith, clock, within, past), so_far.none);
     }
 
-pub ran_short : (stops : List Stop) (end clock : ℕ) (s t u : SessionState) (watches : List Watched) → Met stops end s t watches
-    → clock_of t.board.plain < end → u ≡ t → IsHeldBack t.board u.board → clock ≡ clock_of t.board.plain → RanShort stops end s u clock
-ran_short stops end clock s t u watches so_far before same held is = subst (λ (v : SessionState). RanShort stops end s v clock) (sym same) (record {
+pub ran_short : (stops : List Stop) (end : ℕ) (s t u : BoardState) (watches : List Watched) → Met stops end s t watches
+    → clock_of t.plain < end → IsHeldBack t u → RanShort stops end s u
+ran_short stops end s t u watches so_far before held = subst (λ (v : BoardState). RanShort stops end s v) (sym held.kept) (record {
   passed = so_far.passed;
   ran = so_far.ran;
   turns = few so_far.passed so_far.turns;
@@ -533,28 +522,25 @@ ran_short stops end clock s t u watches so_far before same held is = subst (λ (
   changes_next = held.changes_next;
   full = held.full;
   none = so_far.none;
-  kept = so_far.stops_stay;
-  first = so_far.first;
-  clock_is = is;
 })
 
 -- what a turn's end meets, whatever it is
 
-pub ran_some : (stops : List Stop) (end : ℕ) (s t u : SessionState) (old new : List Watched) (number : Option ℕ)
-    → is_some number ≡ true → (so_far : Met stops end s t old) → (turn : Turned stops t.board u.board new number)
-    → (so_far.passed ≡ 0 → turn.passed ≡ 1) → MostTurns 2 end s.board u.board (so_far.passed + turn.passed) → clock_of u.board.plain ≤ end
-    → u.stops ≡ t.stops → u.first ≡ t.first → RanToStop stops end s u number
-ran_some stops end s t u old new None some so_far turn first turns within stay same = let never : false ≡ true = some in absurd (cc)
-ran_some stops end s t u old new (Some number) some so_far turn first turns within stay same =
-    ran_to_stop stops end s t u old new number so_far turn first turns within stay same
+pub ran_some : (stops : List Stop) (end : ℕ) (s t u : BoardState) (old new : List Watched) (number : Option ℕ)
+    → is_some number ≡ true → (so_far : Met stops end s t old) → (turn : Turned stops t u new number)
+    → (so_far.passed ≡ 0 → turn.passed ≡ 1) → MostTurns 2 end s u (so_far.passed + turn.passed) → clock_of u.plain ≤ end
+    → RanToStop stops end s u number
+ran_some stops end s t u old new None some so_far turn first turns within = let never : false ≡ true = some in absurd (cc)
+ran_some stops end s t u old new (Some number) some so_far turn first turns within =
+    ran_to_stop stops end s t u old new number so_far turn first turns within
 
-pub met_none_more : (stops : List Stop) (end : ℕ) (s t u : SessionState) (old new : List Watched) (number : Option ℕ)
-    → is_some number ≡ false → (so_far : Met stops end s t old) → (turn : Turned stops t.board u.board new number) → (so_far.passed ≡ 0 → turn.passed ≡ 1)
-    → MostTurns 2 end s.board u.board (so_far.passed + turn.passed) → clock_of u.board.plain ≤ end → u.stops ≡ t.stops → u.first ≡ t.first
+pub met_none_more : (stops : List Stop) (end : ℕ) (s t u : BoardState) (old new : List Watched) (number : Option ℕ)
+    → is_some number ≡ false → (so_far : Met stops end s t old) → (turn : Turned stops t u new number) → (so_far.passed ≡ 0 → turn.passed ≡ 1)
+    → MostTurns 2 end s u (so_far.passed + turn.passed) → clock_of u.plain ≤ end
     → KeepsStops old new → Met stops end s u new
-met_none_more stops end s t u old new None none so_far turn first turns within stay same keeps =
-    met_more stops end s t u old new so_far turn first turns within stay same keeps
-met_none_more stops end s t u old new (Some number) none so_far turn first turns within stay same keeps = let never : true ≡ false = none in absurd (cc)
+met_none_more stops end s t u old new None none so_far turn first turns within keeps =
+    met_more stops end s t u old new so_far turn first turns within keeps
+met_none_more stops end s t u old new (Some number) none so_far turn first turns within keeps = let never : true ≡ false = none in absurd (cc)
 
 -- a turn from a run's start is one clock
 pub first_once : (stops : List Stop) (to : ℕ) (t u : BoardState) (new : List Watched) (number : Option ℕ)
@@ -564,20 +550,20 @@ first_once stops to t u new number turn within is =
     let clock = turn.ran.clock in omega (arith, some, clock, within, is)
 
 -- the next turn of a run that has met no stop: from the run's start it is one clock
-pub looks_on : (stops : List Stop) (turn : Turn) (accesses : List Access) (next to end start : ℕ) (s t u : SessionState) (b : BoardState)
+pub looks_on : (stops : List Stop) (turn : Turn) (accesses : List Access) (next to end start : ℕ) (s t u : BoardState) (b : BoardState)
     (old new : List Watched) (number : Option ℕ) → (so_far : Met stops end s t old) → turn.asked ≡ asked_by stops
-    → turn.before ≡ seen_of turn.asked t.board.plain → turn.after ≡ seen_of turn.asked b.plain → b ≡ u.board
-    → accesses ≡ accesses_next t.board.plain → next ≡ turn.before.clock + 1 → IsOneTurn (not turn.asked.wires) next to t.board u.board turn.begun
+    → turn.before ≡ seen_of turn.asked t.plain → turn.after ≡ seen_of turn.asked b.plain → b ≡ u
+    → accesses ≡ accesses_next t.plain → next ≡ turn.before.clock + 1 → IsOneTurn (not turn.asked.wires) next to t u turn.begun
     → (clock_of b.plain ≡ turn.before.clock + 1 → LooksOn turn accesses b old new number)
     → (turn.before.clock + 1 < clock_of b.plain → number ≡ standing (stops_of old) b.plain) → (turn.before.clock + 1 < clock_of b.plain → new ≡ old)
-    → start ≡ clock_of s.board.plain → (turn.before.clock ≡ start → to ≡ turn.before.clock + 1) → (start < turn.before.clock → to ≡ end) → to ≤ end
-    → (there : Turned stops t.board u.board new number)
-    × ((so_far.passed ≡ 0 → there.passed ≡ 1) × (MostTurns 2 end s.board u.board (so_far.passed + there.passed) × (clock_of u.board.plain ≤ end)))
+    → start ≡ clock_of s.plain → (turn.before.clock ≡ start → to ≡ turn.before.clock + 1) → (start < turn.before.clock → to ≡ end) → to ≤ end
+    → (there : Turned stops t u new number)
+    × ((so_far.passed ≡ 0 → there.passed ≡ 1) × (MostTurns 2 end s u (so_far.passed + there.passed) × (clock_of u.plain ≤ end)))
 looks_on stops turn accesses next to end start s t u b old new number
     so_far asked before after here noted at one looks leap copied from first later within =
-    let here_is : turn.before.clock ≡ clock_of t.board.plain = ap (λ (x : Seen). x.clock) before ∙ seen_clock turn.asked t.board.plain in
-    let there = turned stops turn accesses t.board u.board old new number so_far.stops_are
-    (told_of stops turn accesses t.board u.board b next to old new number so_far.stops_are asked before after here noted at one looks leap copied)
+    let here_is : turn.before.clock ≡ clock_of t.plain = ap (λ (x : Seen). x.clock) before ∙ seen_clock turn.asked t.plain in
+    let there = turned stops turn accesses t u old new number so_far.stops_are
+    (told_of stops turn accesses t u b next to old new number so_far.stops_are asked before after here noted at one looks leap copied)
     so_far.copies so_far.watched in
     let before_end = one.before_end in
     let clock = one.ran.clock in
@@ -585,10 +571,10 @@ looks_on stops turn accesses next to end start s t u b old new number
     let there_clock = there.ran.clock in (
       there,
       (
-        (λ none. first_once stops to t.board u.board new number there (omega (arith, before_end, clock))
+        (λ none. first_once stops to t u new number there (omega (arith, before_end, clock))
             (first (omega (arith, here_is, gone, none, from)) ∙ ap (λ n. n + 1) here_is)),
         (
-          turns_on (not turn.asked.wires) turn.begun next to end s.board t.board u.board so_far.passed there.passed so_far.unturned so_far.turns
+          turns_on (not turn.asked.wires) turn.begun next to end s t u so_far.passed there.passed so_far.unturned so_far.turns
               so_far.ran one (λ some. later (omega (arith, here_is, gone, some, from))) (omega (arith, clock, there_clock)),
           omega (arith, before_end, clock, within),
         ),

@@ -1,6 +1,6 @@
 -- The numbers of what began, each once and rising, are the keys of the tallies.
 use Rattle.std.proofs.Common.{◌≡◌, ℕ, zero, suc, ◌+◌, ◌==◌, if◌then◌else◌, Bool, true, false, List}
-use Rattle.std.proofs.Common.{[], ◌∷◌, map, Option, None, Some, refl, sym, ap, ◌∙◌, subst, arith}
+use Rattle.std.proofs.Common.{[], ◌∷◌, map, None, Some, refl, sym, ap, ◌∙◌, subst, arith}
 use Rattle.std.proofs.lemmas.Bool.Decides.{nat_tests}
 use Rattle.std.proofs.lemmas.List.Folds.{flat_map-map}
 use Rattle.std.specs.Prelude.{◌||◌, cond, count_by, nat_lt}
@@ -13,10 +13,9 @@ use Rattle.std.specs.Ordering.{is_eq, match_ordering, nat_cmp}
 use Rattle.std.specs.declared.cmp.Ordering.{Ordering}
 use Rattle.std.specs.declared.cmp.Ordering.TheVariants.{Less, Equal, Greater}
 use Rattle.board.specs.declared.one_turn.Begun.{Begun}
-use Rattle.probe.specs.declared.counts.Kind.{Kind}
 use Rattle.probe.specs.declared.counts.Tally.{Tally}
-use Rattle.probe.specs.Counts.{clocks_from, is_number, lines_of, numbers_of, with_number}
-use Rattle.probe.specs.Tallied.{has, name_of, tally_line, tally_of, AreTallies}
+use Rattle.probe.specs.Counts.{clocks_from, is_number, lines_of, number_of, numbers_of}
+use Rattle.probe.specs.Tallied.{tally_line, tally_of, AreTallies}
 use Rattle.probe.proofs.Tallying.{count_first}
 
 -- membership
@@ -60,15 +59,12 @@ in_more q k c true is =
     ap (λ b. b || nat_lt 0 c) turned ∙ (let some : nat_lt 0 (1 + c) ≡ true = grind (arith, nat_tests) in sym some)
 in_more q k c false is = let turned : (q == k) ≡ false = grind (arith, nat_tests, is) in ap (λ b. b || nat_lt 0 c) turned ∙ ap (nat_lt 0) (omega arith)
 
-in_with : (o : Option ℕ) (q c : ℕ) (ks : List ℕ) → is_in q ks ≡ nat_lt 0 c → is_in q (with_number o ks) ≡ nat_lt 0 ((if is_number q o then 1 else 0) + c)
-in_with None q c ks is = is ∙ ap (nat_lt 0) (omega arith)
-in_with (Some k) q c ks is = in_put q k ks ∙ ap (λ b. (q == k) || b) is ∙ in_more q k c (k == q) refl
-
-pub in_numbers : (number : Begun → Option ℕ) (bs : List Begun) (q : ℕ) → is_in q (numbers_of number bs) ≡ nat_lt 0 (count_by (has number q) bs)
-in_numbers number [] q = refl
-in_numbers number (b ∷ bs) q =
-    in_with (number b) q (count_by (has number q) bs) (numbers_of number bs) (in_numbers number bs q)
-    ∙ ap (nat_lt 0) (sym (count_first (has number q) b bs))
+pub in_numbers : (bs : List Begun) (q : ℕ) → is_in q (numbers_of bs) ≡ nat_lt 0 (count_by (is_number q) bs)
+in_numbers [] q = refl
+in_numbers (b ∷ bs) q =
+    let k = number_of b in
+    in_put q k (numbers_of bs) ∙ ap (λ x. (q == k) || x) (in_numbers bs q) ∙ in_more q k (count_by (is_number q) bs) (k == q) refl
+    ∙ ap (nat_lt 0) (sym (count_first (is_number q) b bs))
 
 -- the numbers rise
 
@@ -105,14 +101,10 @@ put_rises k (x ∷ ks) sorted = by (nat_cmp k x) refl (put_rises k ks sorted.1)
     by Equal is rest = sorted
     by Greater is rest = (above_put x k ks (less_turned k x is) sorted.0, rest)
 
-with_rises : (o : Option ℕ) (ks : List ℕ) → IsStrictlySortedBy nat_cmp ks → IsStrictlySortedBy nat_cmp (with_number o ks)
-with_rises None ks sorted = sorted
-with_rises (Some k) ks sorted = put_rises k ks sorted
-
-pub numbers_rise : (number : Begun → Option ℕ) (bs : List Begun) → IsStrictlySortedBy nat_cmp (numbers_of number bs)
+pub numbers_rise : (bs : List Begun) → IsStrictlySortedBy nat_cmp (numbers_of bs)
 unfolding IsStrictlySortedBy
-numbers_rise number [] = tt
-numbers_rise number (b ∷ bs) = with_rises (number b) (numbers_of number bs) (numbers_rise number bs)
+numbers_rise [] = tt
+numbers_rise (b ∷ bs) = put_rises (number_of b) (numbers_of bs) (numbers_rise bs)
 
 -- tallies by their numbers
 
@@ -137,8 +129,8 @@ some_tally zero clocks = refl
 some_tally (suc n) clocks =
     let some : nat_lt 0 (suc n) ≡ true = grind (arith, nat_tests) in ap (λ b. if b then Some (record { count = suc n; clocks = clocks }) else None) some
 
-abbrev tally_with : (Begun → Option ℕ) → List Begun → ℕ → ℕ → Tally
-tally_with number bs end k = record { count = count_by (has number k) bs; clocks = clocks_from (has number k) bs end }
+abbrev tally_with : List Begun → ℕ → ℕ → Tally
+tally_with bs end k = record { count = count_by (is_number k) bs; clocks = clocks_from (is_number k) bs end }
 
 -- rising entries with the same tally at each number are the same
 
@@ -186,19 +178,18 @@ same_entries (x ∷ xs) (y ∷ ys) first second same = by (nat_cmp x.0 y.0) refl
         let told : x.1 ≡ y.1 = cc in
         (λ k. (one k, told k) ∷ rest (λ q. same_rest q x y xs ys (is_at (nat_cmp q) x.0) refl one first.0 second.0 (same q)) k)
 
-entries_are : (number : Begun → Option ℕ) (bs : List Begun) (end : ℕ) (m : BTreeMap ℕ Tally) → AreTallies number bs end m → IsOrdered nat_cmp m
-    → m.entries ≡ map (with_tally (tally_with number bs end)) (numbers_of number bs)
-entries_are number bs end m all ordered =
-    let f : ℕ → Tally = tally_with number bs end in
-    let ks : List ℕ = numbers_of number bs in
+entries_are : (bs : List Begun) (end : ℕ) (m : BTreeMap ℕ Tally) → AreTallies bs end m → IsOrdered nat_cmp m
+    → m.entries ≡ map (with_tally (tally_with bs end)) (numbers_of bs)
+entries_are bs end m all ordered =
+    let f : ℕ → Tally = tally_with bs end in
+    let ks : List ℕ = numbers_of bs in
     same_entries m.entries (map (with_tally f) ks) ordered
-    (subst (IsStrictlySortedBy nat_cmp) (sym (keys_with f ks)) (numbers_rise number bs))
-    (λ q. all q ∙ sym (some_tally (count_by (has number q) bs) (clocks_from (has number q) bs end))
-    ∙ ap (λ b. if b then Some (f q) else None) (sym (in_numbers number bs q)) ∙ sym (lookup_with f q ks))
+    (subst (IsStrictlySortedBy nat_cmp) (sym (keys_with f ks)) (numbers_rise bs))
+    (λ q. all q ∙ sym (some_tally (count_by (is_number q) bs) (clocks_from (is_number q) bs end))
+    ∙ ap (λ b. if b then Some (f q) else None) (sym (in_numbers bs q)) ∙ sym (lookup_with f q ks))
 
 -- a line for each
-pub lines_are : (kind : Kind) (number : Begun → Option ℕ) (bs : List Begun) (end : ℕ) (m : BTreeMap ℕ Tally)
-    → AreTallies number bs end m → IsOrdered nat_cmp m → flat_map (tally_line kind) m.entries ≡ lines_of (name_of kind) number bs end
-lines_are kind number bs end m all ordered =
-    ap (flat_map (tally_line kind)) (entries_are number bs end m all ordered)
-    ∙ flat_map-map (tally_line kind) (with_tally (tally_with number bs end)) (numbers_of number bs)
+pub lines_are : (bs : List Begun) (end : ℕ) (m : BTreeMap ℕ Tally) → AreTallies bs end m → IsOrdered nat_cmp m
+    → flat_map tally_line m.entries ≡ lines_of bs end
+lines_are bs end m all ordered =
+    ap (flat_map tally_line) (entries_are bs end m all ordered) ∙ flat_map-map tally_line (with_tally (tally_with bs end)) (numbers_of bs)

@@ -17,7 +17,7 @@ use Rattle.debugger_meaning.specs.Session.{AnswersStop, FindsNoMemory, Goes, Ref
 use Rattle.debugger_meaning.specs.Stands.{SessionState, StandsAt}
 use Rattle.probe_texts.specs.declared.stops.Stop.{Stop}
 use Rattle.probe_texts.specs.declared.stops.Stop.TheVariants.{Standing, When, Changes}
-use Rattle.probe.specs.Looked.{answer_at, FindsNoStop, RanToStop, ShortOfMemory, with_number}
+use Rattle.probe.specs.Looked.{answer_at, FindsNoStop, RanShort, RanToStop}
 use Rattle.probe.specs.Making.{FewTurns}
 use Rattle.probe.specs.Probe.{AddsStop, conditions_of, gone_by, GoesBackToStop, GoesOn, HasFewTurns, ProbeState, RefusesBackToStop, RefusesGoing, StopsShort}
 use Rattle.probe_texts.specs.Requests.{is_standing}
@@ -160,9 +160,9 @@ goes_back_standing old new stops (Err fault) all is refuses = refuses_back old n
 -- a run by the probe's own search
 
 pub goes_to_stop : (n end number : ℕ) (old new : SessionState) (stops : List Stop) (answer : Answer)
-    → clock_of old.board.plain + n ≤ 2 ^ 40 → end ≡ clock_of old.board.plain + n → RanToStop stops end old new (Some number)
+    → clock_of old.board.plain + n ≤ 2 ^ 40 → end ≡ clock_of old.board.plain + n → RanToStop stops end old.board new.board (Some number) → new.first ≡ old.first
     → answer ≡ answers.StopAt number (clock_of new.board.plain) → GoesOn n (probe_of old stops) (probe_of new stops) answer
-goes_to_stop n end number old new stops answer within at ran is =
+goes_to_stop n end number old new stops answer within at ran same is =
     let clock = ran.ran.clock in
     let most = ran.within in
     let ended = ran.ended in
@@ -181,14 +181,14 @@ goes_to_stop n end number old new stops answer within at ran is =
       ran = subst (λ k. Ran k old.board new.board) (sym length_is) ran.ran;
       turns = λ other. subst (λ k. FewTurns k old.board new.board) (sym length_is) ran.turns;
       stops = refl;
-      first = ran.first;
+      first = same;
       answer_is = is;
     }
 
 pub goes_to_end : (n end : ℕ) (old new : SessionState) (stops : List Stop) (answer : Answer)
-    → clock_of old.board.plain + n ≤ 2 ^ 40 → end ≡ clock_of old.board.plain + n → RanToStop stops end old new None
+    → clock_of old.board.plain + n ≤ 2 ^ 40 → end ≡ clock_of old.board.plain + n → RanToStop stops end old.board new.board None → new.first ≡ old.first
     → answer ≡ answers.Clock (clock_of new.board.plain) → GoesOn n (probe_of old stops) (probe_of new stops) answer
-goes_to_end n end old new stops answer within at ran is =
+goes_to_end n end old new stops answer within at ran same is =
     let whole : ran.passed ≡ n = let ended = ran.ended.0 in omega (arith, ended, at) in
     record {
       stopped = None;
@@ -197,19 +197,14 @@ goes_to_end n end old new stops answer within at ran is =
       ran = subst (λ k. Ran k old.board new.board) whole ran.ran;
       turns = λ other. subst (λ k. FewTurns k old.board new.board) whole ran.turns;
       stops = refl;
-      first = ran.first;
+      first = same;
       answer_is = is;
     }
 
-pub goes_short : (n end : ℕ) (old new : SessionState) (stops : List Stop) (fault : DebugFault) → clock_of old.board.plain + n ≤ 2 ^ 40
-    → end ≡ clock_of old.board.plain + n → ShortOfMemory stops end old new fault → RefusesGoing n (probe_of old stops) (probe_of new stops) fault
-goes_short n end old new stops ClockLimit within at short = absurd short
-goes_short n end old new stops BadScan within at short = absurd short
-goes_short n end old new stops StampsFall within at short = absurd short
-goes_short n end old new stops BadCommand within at short = absurd short
-goes_short n end old new stops TooManyStops within at short = absurd short
-goes_short n end old new stops (Memory None) within at short = absurd short
-goes_short n end old new stops (Memory (Some clock)) within at short =
+pub goes_short : (n end : ℕ) (old new : SessionState) (stops : List Stop) → clock_of old.board.plain + n ≤ 2 ^ 40 → end ≡ clock_of old.board.plain + n
+    → RanShort stops end old.board new.board → new.first ≡ old.first
+    → RefusesGoing n (probe_of old stops) (probe_of new stops) (Memory (Some (clock_of new.board.plain)))
+goes_short n end old new stops within at short same =
     let gone = short.ran.clock in
     let before = short.before_end in
     record {
@@ -224,18 +219,16 @@ goes_short n end old new stops (Memory (Some clock)) within at short =
       none_passed = subst (λ k. NoneMet stops k old.board.plain) (omega (arith, gone)) short.none;
       turns = λ other. subst (λ k. FewTurns k old.board new.board) (omega (arith, gone)) short.turns;
       stops = refl;
-      first = short.first;
-      clock_is = short.clock_is;
+      first = same;
+      clock_is = refl;
     }
-goes_short n end old new stops BeforeStart within at short = absurd short
-goes_short n end old new stops NoCell within at short = absurd short
 
 -- a way back to what was found
 
-pub goes_back_found : (count clock number : ℕ) (old new : SessionState) (stops : List Stop) (answer told : Answer)
+goes_found_back : (count clock number : ℕ) (old new : SessionState) (stops : List Stop) (told : Answer)
     → MetLast stops (gone_by (probe_of old stops)) old.first.plain clock number → count ≡ clock_of old.board.plain - clock
-    → GoesBack count old new told → answer ≡ answers.StopAt number clock → GoesBackToStop (probe_of old stops) (probe_of new stops) answer
-goes_back_found count clock number old new stops answer told last is goes tells =
+    → GoesBack count old new told → GoesBackToStop (probe_of old stops) (probe_of new stops) (answers.StopAt number clock)
+goes_found_back count clock number old new stops told last is goes =
     let within = last.within in
     let place = last.clock_is in
     let least = goes.within in
@@ -254,36 +247,39 @@ goes_back_found count clock number old new stops answer told last is goes tells 
       stands = subst (λ k. StandsAt k old.first new.board) passed goes.stands;
       first = goes.first;
       stops = refl;
-      answer_is = tells ∙ ap (answers.StopAt number) here;
+      answer_is = ap (answers.StopAt number) here;
     }
 
-pub refuses_back_found : (count clock number : ℕ) (old new : SessionState) (stops : List Stop) (fault : DebugFault)
+refuses_found_back : (count clock number : ℕ) (old new : SessionState) (stops : List Stop) (fault : DebugFault)
     → 1 ≤ length stops → MetLast stops (gone_by (probe_of old stops)) old.first.plain clock number → count ≡ clock_of old.board.plain - clock
     → RefusesBack count old new fault → RefusesBackToStop (probe_of old stops) (probe_of new stops) fault
-refuses_back_found count clock number old new stops ClockLimit some last is refuses = absurd refuses
-refuses_back_found count clock number old new stops BadScan some last is refuses = absurd refuses
-refuses_back_found count clock number old new stops StampsFall some last is refuses = absurd refuses
-refuses_back_found count clock number old new stops BadCommand some last is refuses = absurd refuses
-refuses_back_found count clock number old new stops TooManyStops some last is refuses = absurd refuses
-refuses_back_found count clock number old new stops (Memory None) some last is refuses = (some, same_probe old new stops refuses.1)
-refuses_back_found count clock number old new stops (Memory (Some at)) some last is refuses = absurd refuses
-refuses_back_found count clock number old new stops BeforeStart some last is refuses =
+refuses_found_back count clock number old new stops ClockLimit some last is refuses = absurd refuses
+refuses_found_back count clock number old new stops BadScan some last is refuses = absurd refuses
+refuses_found_back count clock number old new stops StampsFall some last is refuses = absurd refuses
+refuses_found_back count clock number old new stops BadCommand some last is refuses = absurd refuses
+refuses_found_back count clock number old new stops TooManyStops some last is refuses = absurd refuses
+refuses_found_back count clock number old new stops (Memory None) some last is refuses = (some, same_probe old new stops refuses.1)
+refuses_found_back count clock number old new stops (Memory (Some at)) some last is refuses = absurd refuses
+refuses_found_back count clock number old new stops BeforeStart some last is refuses =
     let before = refuses.0 in
     let within = last.within in
     let place = last.clock_is in absurd (omega (arith, before, is, within, place))
-refuses_back_found count clock number old new stops NoCell some last is refuses = absurd refuses
+refuses_found_back count clock number old new stops NoCell some last is refuses = absurd refuses
 
-pub goes_back_by : (p : ProbeState) (count clock number : ℕ) (old new : SessionState) (stops : List Stop) (back : Result Answer DebugFault)
-    → probe_of old stops ≡ p → MetLast p.stops (gone_by p) p.first.plain clock number → 1 ≤ length p.stops
-    → count ≡ clock_of old.board.plain - clock → MatchResult back (GoesBack count old new) (RefusesBack count old new)
-    → MatchResult (with_number back clock number) (GoesBackToStop p (probe_of new stops)) (RefusesBackToStop p (probe_of new stops))
-goes_back_by p count clock number old new stops (Ok told) view last some is goes =
+pub goes_back_found : (p : ProbeState) (count clock number : ℕ) (old new : SessionState) (stops : List Stop) (told : Answer)
+    → probe_of old stops ≡ p → MetLast p.stops (gone_by p) p.first.plain clock number → count ≡ clock_of old.board.plain - clock
+    → GoesBack count old new told → GoesBackToStop p (probe_of new stops) (answers.StopAt number clock)
+goes_back_found p count clock number old new stops told view last is goes =
     subst (λ (q : ProbeState). GoesBackToStop q (probe_of new stops) (answers.StopAt number clock)) view
-    (goes_back_found count clock number old new stops (answers.StopAt number clock) told
-    (subst (λ (q : ProbeState). MetLast q.stops (gone_by q) q.first.plain clock number) (sym view) last) is goes refl)
-goes_back_by p count clock number old new stops (Err fault) view last some is refuses =
+    (goes_found_back count clock number old new stops told
+    (subst (λ (q : ProbeState). MetLast q.stops (gone_by q) q.first.plain clock number) (sym view) last) is goes)
+
+pub refuses_back_found : (p : ProbeState) (count clock number : ℕ) (old new : SessionState) (stops : List Stop) (fault : DebugFault)
+    → probe_of old stops ≡ p → MetLast p.stops (gone_by p) p.first.plain clock number → 1 ≤ length p.stops
+    → count ≡ clock_of old.board.plain - clock → RefusesBack count old new fault → RefusesBackToStop p (probe_of new stops) fault
+refuses_back_found p count clock number old new stops fault view last some is refuses =
     subst (λ (q : ProbeState). RefusesBackToStop q (probe_of new stops) fault) view
-    (refuses_back_found count clock number old new stops fault (subst (λ (q : ProbeState). 1 ≤ length q.stops) (sym view) some)
+    (refuses_found_back count clock number old new stops fault (subst (λ (q : ProbeState). 1 ≤ length q.stops) (sym view) some)
     (subst (λ (q : ProbeState). MetLast q.stops (gone_by q) q.first.plain clock number) (sym view) last) is refuses)
 
 pub finds_no_stop : (old : SessionState) (stops : List Stop) (fault : DebugFault) → 1 ≤ length stops
@@ -357,30 +353,12 @@ condition_added condition old new (Err fault) few is =
 -- a run's end
 
 pub goes_found : (n end : ℕ) (old new : SessionState) (stops : List Stop) (found : Option ℕ)
-    → clock_of old.board.plain + n ≤ 2 ^ 40 → end ≡ clock_of old.board.plain + n → RanToStop stops end old new found
-    → GoesOn n (probe_of old stops) (probe_of new stops) (answer_at found (clock_of new.board.plain))
-goes_found n end old new stops None within at ran = goes_to_end n end old new stops (answers.Clock (clock_of new.board.plain)) within at ran refl
-goes_found n end old new stops (Some number) within at ran =
-    goes_to_stop n end number old new stops (answers.StopAt number (clock_of new.board.plain)) within at ran refl
-
-ran_keeps : (stops : List Stop) (end : ℕ) (old new : SessionState) (found : Option ℕ) → RanToStop stops end old new found → new.stops ≡ old.stops
-ran_keeps stops end old new found ran = ran.kept
-
-short_keeps : (stops : List Stop) (end : ℕ) (old new : SessionState) (fault : DebugFault) → ShortOfMemory stops end old new fault → new.stops ≡ old.stops
-short_keeps stops end old new ClockLimit short = absurd short
-short_keeps stops end old new BadScan short = absurd short
-short_keeps stops end old new StampsFall short = absurd short
-short_keeps stops end old new BadCommand short = absurd short
-short_keeps stops end old new TooManyStops short = absurd short
-short_keeps stops end old new (Memory None) short = absurd short
-short_keeps stops end old new (Memory (Some clock)) short = short.kept
-short_keeps stops end old new BeforeStart short = absurd short
-short_keeps stops end old new NoCell short = absurd short
-
-pub run_keeps : (stops : List Stop) (end : ℕ) (old new : SessionState) (result : Result (Option ℕ) DebugFault)
-    → MatchResult result (RanToStop stops end old new) (ShortOfMemory stops end old new) → new.stops ≡ old.stops
-run_keeps stops end old new (Ok found) is = ran_keeps stops end old new found is
-run_keeps stops end old new (Err fault) is = short_keeps stops end old new fault is
+    → clock_of old.board.plain + n ≤ 2 ^ 40 → end ≡ clock_of old.board.plain + n → RanToStop stops end old.board new.board found
+    → new.first ≡ old.first → GoesOn n (probe_of old stops) (probe_of new stops) (answer_at found (clock_of new.board.plain))
+goes_found n end old new stops None within at ran same =
+    goes_to_end n end old new stops (answers.Clock (clock_of new.board.plain)) within at ran same refl
+goes_found n end old new stops (Some number) within at ran same =
+    goes_to_stop n end number old new stops (answers.StopAt number (clock_of new.board.plain)) within at ran same refl
 
 -- a probe whose session keeps its stops, and of whose stops only the copies differ
 pub probe_on : (old new : SessionState) (watches more : List Watched) → IsProbe old watches → new.stops ≡ old.stops → KeepsStops watches more → IsProbe new more
@@ -407,18 +385,20 @@ stops_with v now more at keeps = ap stops_of (with_more v now more at keeps) ∙
 
 pub goes_with : (p : ProbeState) (n end : ℕ) (old new : SessionState) (v : ArrayVec Watched) (now more : List Watched) (found : Option ℕ) (answer : Answer)
     → probe_of old (stops_of v.items) ≡ p → now ≡ v.items → KeepsStops now more → clock_of old.board.plain + n ≤ 2 ^ 40
-    → end ≡ clock_of old.board.plain + n → RanToStop (stops_of now) end old new found → answer ≡ answer_at found (clock_of new.board.plain)
-    → GoesOn n p (probe_of new (stops_of (with_items v more).items)) answer
-goes_with p n end old new v now more found answer view at keeps within is ran tells =
+    → end ≡ clock_of old.board.plain + n → RanToStop (stops_of now) end old.board new.board found → new.first ≡ old.first
+    → answer ≡ answer_at found (clock_of new.board.plain) → GoesOn n p (probe_of new (stops_of (with_items v more).items)) answer
+goes_with p n end old new v now more found answer view at keeps within is ran same tells =
     subst (λ (q : ProbeState). GoesOn n q (probe_of new (stops_of (with_items v more).items)) answer) view
     (subst (λ stops. GoesOn n (probe_of old (stops_of v.items)) (probe_of new stops) answer) (sym (stops_with v now more at keeps))
     (subst (GoesOn n (probe_of old (stops_of v.items)) (probe_of new (stops_of v.items))) (sym tells)
-    (goes_found n end old new (stops_of v.items) found within is (subst (λ xs. RanToStop (stops_of xs) end old new found) at ran))))
+    (goes_found n end old new (stops_of v.items) found within is (subst (λ xs. RanToStop (stops_of xs) end old.board new.board found) at ran) same)))
 
 pub short_with : (p : ProbeState) (n end : ℕ) (old new : SessionState) (v : ArrayVec Watched) (now more : List Watched) (fault : DebugFault)
     → probe_of old (stops_of v.items) ≡ p → now ≡ v.items → KeepsStops now more → clock_of old.board.plain + n ≤ 2 ^ 40 → end ≡ clock_of old.board.plain + n
-    → ShortOfMemory (stops_of now) end old new fault → RefusesGoing n p (probe_of new (stops_of (with_items v more).items)) fault
-short_with p n end old new v now more fault view at keeps within is short =
+    → RanShort (stops_of now) end old.board new.board → new.first ≡ old.first → fault ≡ Memory (Some (clock_of new.board.plain))
+    → RefusesGoing n p (probe_of new (stops_of (with_items v more).items)) fault
+short_with p n end old new v now more fault view at keeps within is short same tells =
     subst (λ (q : ProbeState). RefusesGoing n q (probe_of new (stops_of (with_items v more).items)) fault) view
     (subst (λ stops. RefusesGoing n (probe_of old (stops_of v.items)) (probe_of new stops) fault) (sym (stops_with v now more at keeps))
-    (goes_short n end old new (stops_of v.items) fault within is (subst (λ xs. ShortOfMemory (stops_of xs) end old new fault) at short)))
+    (subst (RefusesGoing n (probe_of old (stops_of v.items)) (probe_of new (stops_of v.items))) (sym tells)
+    (goes_short n end old new (stops_of v.items) within is (subst (λ xs. RanShort (stops_of xs) end old.board new.board) at short) same)))

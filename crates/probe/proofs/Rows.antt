@@ -1,8 +1,9 @@
 -- Counts worked out by hand: five beginnings in 100 clocks, of an instruction that runs twice, of one after which an
 -- interrupt comes, and of the interrupt.
 use Rattle.std.proofs.Common.{◌≡◌, List, [], ◌∷◌, ◌++◌, None, Some, refl, true, false}
+use Rattle.std.specs.Prelude.{codes}
 use Rattle.board.specs.declared.one_turn.Begun.{Begun}
-use Rattle.probe.specs.Counts.{count_line, lines_of, next_clock, numbers_of, place_name, place_of, type_name, type_of}
+use Rattle.probe.specs.Counts.{count_line, lines_of, next_clock, numbers_of}
 use Rattle.events.specs.declared.event.Event.TheVariants.{Wired}
 use Rattle.events.specs.declared.event.Wire.TheVariants.{Out0, Int}
 use Rattle.probe_texts.specs.declared.telling.Levels.{Levels}
@@ -17,21 +18,16 @@ run =
     ∷ record { clock = 81; cs = 61440; ip = 16; entered = None }
     ∷ []
 
-places : numbers_of place_of run ≡ 4026531856 ∷ 4026531858 ∷ []
-places = refl
-
-types : numbers_of type_of run ≡ 8 ∷ []
-types = refl
+numbers : numbers_of run ≡ 4026531856 ∷ 4026531858 ∷ 4294967304 ∷ []
+numbers = refl
 
 before : next_clock run 100 ≡ 4
 before = refl
 
 -- 3 and 19 clocks at F000:0010, 4 and 9 at F000:0012, and the interrupt's 61
-place_lines : lines_of place_name place_of run 100 ≡ count_line (place_name 4026531856) 2 22 ++ (count_line (place_name 4026531858) 2 13 ++ [])
-place_lines = refl
-
-type_lines : lines_of type_name type_of run 100 ≡ count_line (type_name 8) 1 61 ++ []
-type_lines = refl
+lines : lines_of run 100
+    ≡ count_line (codes "F000:0010") 2 22 ++ (count_line (codes "F000:0012") 2 13 ++ (count_line (codes "entry 08") 1 61 ++ []))
+lines = refl
 
 -- the wires that clock 96 raises
 abbrev low : Levels

@@ -10,8 +10,8 @@ use Rattle.std.specs.Ordering.{nat_cmp}
 use Rattle.board.specs.declared.one_turn.Begun.{Begun}
 use Rattle.probe.specs.declared.counts.Counts.{Counts}
 use Rattle.probe.specs.declared.counts.Tally.{Tally}
-use Rattle.probe.specs.Counts.{clocks_from, is_number, next_clock, place_of, type_of}
-use Rattle.probe.specs.Tallied.{has, one_more, tallied_to, tally_at, tally_of, AreTallies, HasCounted, HasTallied}
+use Rattle.probe.specs.Counts.{clocks_from, is_number, next_clock, number_of}
+use Rattle.probe.specs.Tallied.{one_more, tallied_to, tally_at, tally_of, AreTallies, HasCounted}
 
 -- one more beginning
 
@@ -49,85 +49,58 @@ goes_on : (count clocks more : ℕ) → (count ≡ 0 → clocks ≡ 0) → tally
 goes_on zero clocks more none = ap (λ n. Some (record { count = 1; clocks = n })) (let no = none refl in omega (arith, no))
 goes_on (suc n) clocks more none = ap (λ k. Some (record { count = k; clocks = clocks + more })) (omega arith)
 
-tally_more : (number : Begun → Option ℕ) (bs : List Begun) (b : Begun) (end k : ℕ) (yes : Bool) → has number k b ≡ yes
-    → tally_at number (bs ++ b ∷ []) end k ≡ (if yes then Some (one_more (tally_at number bs b.clock k) (end - b.clock)) else tally_at number bs b.clock k)
-tally_more number bs b end k true is =
-    let count : count_by (has number k) (bs ++ b ∷ []) ≡ suc (count_by (has number k) bs) =
-    count_more (has number k) bs b ∙ ap (λ y. count_by (has number k) bs + (if y then 1 else 0)) is ∙ omega arith in
-    let clocks : clocks_from (has number k) (bs ++ b ∷ []) end ≡ clocks_from (has number k) bs b.clock + (end - b.clock) =
-    clocks_more (has number k) bs b end ∙ ap (λ y. clocks_from (has number k) bs b.clock + (if y then end - b.clock else 0)) is in
-    ap (λ n. tally_of n (clocks_from (has number k) (bs ++ b ∷ []) end)) count
-    ∙ ap (tally_of (suc (count_by (has number k) bs))) clocks
-    ∙ goes_on (count_by (has number k) bs) (clocks_from (has number k) bs b.clock) (end - b.clock) (no_clocks (has number k) bs b.clock)
-tally_more number bs b end k false is =
-    let count : count_by (has number k) (bs ++ b ∷ []) ≡ count_by (has number k) bs =
-    count_more (has number k) bs b ∙ ap (λ y. count_by (has number k) bs + (if y then 1 else 0)) is ∙ omega arith in
-    let clocks : clocks_from (has number k) (bs ++ b ∷ []) end ≡ clocks_from (has number k) bs b.clock =
-    clocks_more (has number k) bs b end ∙ ap (λ y. clocks_from (has number k) bs b.clock + (if y then end - b.clock else 0)) is ∙ omega arith in
-    ap (λ n. tally_of n (clocks_from (has number k) (bs ++ b ∷ []) end)) count
-    ∙ ap (tally_of (count_by (has number k) bs)) clocks
+tally_more : (bs : List Begun) (b : Begun) (end k : ℕ) (yes : Bool) → is_number k b ≡ yes
+    → tally_at (bs ++ b ∷ []) end k ≡ (if yes then Some (one_more (tally_at bs b.clock k) (end - b.clock)) else tally_at bs b.clock k)
+tally_more bs b end k true is =
+    let count : count_by (is_number k) (bs ++ b ∷ []) ≡ suc (count_by (is_number k) bs) =
+    count_more (is_number k) bs b ∙ ap (λ y. count_by (is_number k) bs + (if y then 1 else 0)) is ∙ omega arith in
+    let clocks : clocks_from (is_number k) (bs ++ b ∷ []) end ≡ clocks_from (is_number k) bs b.clock + (end - b.clock) =
+    clocks_more (is_number k) bs b end ∙ ap (λ y. clocks_from (is_number k) bs b.clock + (if y then end - b.clock else 0)) is in
+    ap (λ n. tally_of n (clocks_from (is_number k) (bs ++ b ∷ []) end)) count
+    ∙ ap (tally_of (suc (count_by (is_number k) bs))) clocks
+    ∙ goes_on (count_by (is_number k) bs) (clocks_from (is_number k) bs b.clock) (end - b.clock) (no_clocks (is_number k) bs b.clock)
+tally_more bs b end k false is =
+    let count : count_by (is_number k) (bs ++ b ∷ []) ≡ count_by (is_number k) bs =
+    count_more (is_number k) bs b ∙ ap (λ y. count_by (is_number k) bs + (if y then 1 else 0)) is ∙ omega arith in
+    let clocks : clocks_from (is_number k) (bs ++ b ∷ []) end ≡ clocks_from (is_number k) bs b.clock =
+    clocks_more (is_number k) bs b end ∙ ap (λ y. clocks_from (is_number k) bs b.clock + (if y then end - b.clock else 0)) is ∙ omega arith in
+    ap (λ n. tally_of n (clocks_from (is_number k) (bs ++ b ∷ []) end)) count
+    ∙ ap (tally_of (count_by (is_number k) bs)) clocks
 
--- the tallies after one more beginning that has a number
-pub add_numbered : (number : Begun → Option ℕ) (bs : List Begun) (b : Begun) (n end : ℕ) (old new : BTreeMap ℕ Tally)
-    → number b ≡ Some n → AreTallies number bs b.clock old
+-- the tallies after one more beginning
+add_numbered : (bs : List Begun) (b : Begun) (n end : ℕ) (old new : BTreeMap ℕ Tally)
+    → n ≡ number_of b → AreTallies bs b.clock old
     → ((k : ℕ) → get nat_cmp new k ≡ (if k == n then Some (one_more (get nat_cmp old n) (end - b.clock)) else get nat_cmp old k))
-    → AreTallies number (bs ++ b ∷ []) end new
-add_numbered number bs b n end old new is all added k = numbered_by (k == n) refl
+    → AreTallies (bs ++ b ∷ []) end new
+add_numbered bs b n end old new is all added k = numbered_by (k == n) refl
   where
-    here : (same : Bool) → (k == n) ≡ same → has number k b ≡ same
-    here same at = ap (is_number k) is ∙ (let turned : (n == k) ≡ (k == n) = grind (arith, nat_tests) in turned ∙ at)
+    here : (same : Bool) → (k == n) ≡ same → is_number k b ≡ same
+    here same at = ap (λ m. m == k) (sym is) ∙ (let turned : (n == k) ≡ (k == n) = grind (arith, nat_tests) in turned ∙ at)
 
-    numbered_by : (same : Bool) → (k == n) ≡ same → get nat_cmp new k ≡ tally_at number (bs ++ b ∷ []) end k
+    numbered_by : (same : Bool) → (k == n) ≡ same → get nat_cmp new k ≡ tally_at (bs ++ b ∷ []) end k
     numbered_by true at =
         let one : k ≡ n = grind (arith, nat_tests, at) in
         added k ∙ ap (λ y. if y then Some (one_more (get nat_cmp old n) (end - b.clock)) else get nat_cmp old k) at
         ∙ ap (λ t. Some (one_more t (end - b.clock))) (ap (get nat_cmp old) (sym one) ∙ all k)
-        ∙ sym (tally_more number bs b end k true (here true at))
+        ∙ sym (tally_more bs b end k true (here true at))
     numbered_by false at =
         added k ∙ ap (λ y. if y then Some (one_more (get nat_cmp old n) (end - b.clock)) else get nat_cmp old k) at
         ∙ all k
-        ∙ sym (tally_more number bs b end k false (here false at))
-
--- the tallies after one more beginning that has none
-pub add_numberless : (number : Begun → Option ℕ) (bs : List Begun) (b : Begun) (end : ℕ) (old : BTreeMap ℕ Tally)
-    → number b ≡ None → AreTallies number bs b.clock old → AreTallies number (bs ++ b ∷ []) end old
-add_numberless number bs b end old is all k = all k ∙ sym (tally_more number bs b end k false (ap (is_number k) is))
+        ∙ sym (tally_more bs b end k false (here false at))
 
 pub if_ok : {A B E : Type 0} (result : Result Unit E) → OnOk result A → (A → B) → OnOk result B
 if_ok (Ok x) a f = f a
 if_ok (Err e) a f = a
 
--- the latest is tallied, an instruction or an entry
-
-pub tallied_place : (all : List Begun) (old : Counts) (b : Begun) (n end : ℕ) (new : BTreeMap ℕ Tally)
-    → old.latest ≡ Some b → place_of b ≡ Some n → type_of b ≡ None
-    → ((k : ℕ) → get nat_cmp new k ≡ (if k == n then Some (one_more (get nat_cmp old.places n) (end - b.clock)) else get nat_cmp old.places k))
-    → HasCounted all old → HasTallied all end (record old { places = new })
-tallied_place all old b n end new latest is none added noted =
-    let whole : noted.earlier ++ b ∷ [] ≡ all = sym (noted.all ∙ ap (λ l. noted.earlier ++ option_to_list l) latest) in
-    let places : AreTallies place_of noted.earlier b.clock old.places =
-    subst (λ l. AreTallies place_of noted.earlier (tallied_to l) old.places) latest noted.tallied.places in
-    let types : AreTallies type_of noted.earlier b.clock old.types =
-    subst (λ l. AreTallies type_of noted.earlier (tallied_to l) old.types) latest noted.tallied.types in
-    record {
-      places = subst (λ xs. AreTallies place_of xs end new) whole (add_numbered place_of noted.earlier b n end old.places new is places added);
-      types = subst (λ xs. AreTallies type_of xs end old.types) whole (add_numberless type_of noted.earlier b end old.types none types);
-    }
-
-pub tallied_type : (all : List Begun) (old : Counts) (b : Begun) (n end : ℕ) (new : BTreeMap ℕ Tally)
-    → old.latest ≡ Some b → place_of b ≡ None → type_of b ≡ Some n
-    → ((k : ℕ) → get nat_cmp new k ≡ (if k == n then Some (one_more (get nat_cmp old.types n) (end - b.clock)) else get nat_cmp old.types k))
-    → HasCounted all old → HasTallied all end (record old { types = new })
-tallied_type all old b n end new latest none is added noted =
-    let whole : noted.earlier ++ b ∷ [] ≡ all = sym (noted.all ∙ ap (λ l. noted.earlier ++ option_to_list l) latest) in
-    let places : AreTallies place_of noted.earlier b.clock old.places =
-    subst (λ l. AreTallies place_of noted.earlier (tallied_to l) old.places) latest noted.tallied.places in
-    let types : AreTallies type_of noted.earlier b.clock old.types =
-    subst (λ l. AreTallies type_of noted.earlier (tallied_to l) old.types) latest noted.tallied.types in
-    record {
-      places = subst (λ xs. AreTallies place_of xs end old.places) whole (add_numberless place_of noted.earlier b end old.places none places);
-      types = subst (λ xs. AreTallies type_of xs end new) whole (add_numbered type_of noted.earlier b n end old.types new is types added);
-    }
+-- the latest is tallied
+pub tallied_latest : (all : List Begun) (old : Counts) (b : Begun) (n end : ℕ) (new : BTreeMap ℕ Tally)
+    → old.latest ≡ Some b → n ≡ number_of b
+    → ((k : ℕ) → get nat_cmp new k ≡ (if k == n then Some (one_more (get nat_cmp old.tallies n) (end - b.clock)) else get nat_cmp old.tallies k))
+    → HasCounted all old → AreTallies all end new
+tallied_latest all old b n end new latest is added noted =
+    subst (λ xs. AreTallies xs end new) (sym (noted.all ∙ ap (λ l. noted.earlier ++ option_to_list l) latest))
+    (add_numbered noted.earlier b n end old.tallies new is
+    (subst (λ l. AreTallies noted.earlier (tallied_to l) old.tallies) latest noted.tallied) added)
 
 pub if_text : {A E : Type 0} {P Q : A → Type 0} (result : Result A E) → IfOk result P → ((x : A) → P x → Q x) → IfOk result Q
 if_text (Ok x) p f = f x p

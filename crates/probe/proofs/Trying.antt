@@ -28,7 +28,7 @@ use Rattle.probe_texts.specs.declared.stops.Stop.{Stop}
 use Rattle.probe_texts.specs.declared.stops.Stop.TheVariants.{Standing, When, Changes}
 use Rattle.board_types.proofs.Iterate.{iterate_add, iterate_zero}
 use Rattle.probe.specs.declared.watched.Watched.{Watched}
-use Rattle.probe.specs.Tried.{added, RunsTo, Tried, TriedNext, TriedSoFar}
+use Rattle.probe.specs.Tried.{added, RunsTo, Tried, TriedNext}
 use Rattle.probe.specs.Watched.{all_standing, IsWatched, KeepsStops, stops_of}
 use Rattle.probe.proofs.Copies.{standing_is}
 use Rattle.probe.proofs.Probes.{ends_of}
@@ -212,13 +212,11 @@ copy_ends stops bare copy after trial stamp end stopped is run =
 -- one more clock is tried, or all ranges are known
 pub one_more : (stops same : List Stop) (s bare next : Plain) (trial : Trial)
     (end stamp : ℕ) (ranges more : List Moments) (old new : List Watched) (known : Bool)
-    → same ≡ stops → (TriedSoFar same s bare trial end stamp ranges old → TriedNext known same s next trial end stamp more new)
-    → trial.first ≤ stamp → stamp ≤ trial.last → end ≡ clock_of s + trial.count → Tried stops s bare trial end stamp ranges old
-    → TriedNext known stops s next trial end stamp more new
-one_more stops same s bare next trial end stamp ranges more old new known is tries first last in_time so_far =
+    → same ≡ stops → (Tried same s bare trial end stamp ranges old → TriedNext known same s next trial end stamp more new)
+    → Tried stops s bare trial end stamp ranges old → TriedNext known stops s next trial end stamp more new
+one_more stops same s bare next trial end stamp ranges more old new known is tries so_far =
     subst (λ (xs : List Stop). TriedNext known xs s next trial end stamp more new) is
-    (tries
-    (record { first = first; last = last; in_time = in_time; so_far = subst (λ (xs : List Stop). Tried xs s bare trial end stamp ranges old) (sym is) so_far }))
+    (tries (subst (λ (xs : List Stop). Tried xs s bare trial end stamp ranges old) (sym is) so_far))
 
 -- what `go` answers
 

@@ -4,11 +4,8 @@ use Rattle.board_types.specs.declared.keys.StampedKey.{StampedKey}
 use Rattle.board_plain.specs.Board.{BoardState}
 use Rattle.board_plain.specs.Plain.{clock_of}
 use Rattle.debugger_meaning.specs.declared.answer.Answer.{Answer}
-use Rattle.debugger_meaning.specs.declared.command.Command.{Command}
 use Rattle.debugger_meaning.specs.declared.fault.DebugFault.{DebugFault}
 use Rattle.debugger_meaning.specs.declared.fault.DebugFault.TheVariants.{BadScan, StampsFall, ClockLimit, BadCommand, TooManyStops, Memory, BeforeStart, NoCell}
-use Rattle.debugger_meaning.specs.Commands.{command_of}
-use Rattle.debugger_meaning.specs.Session.{AnswersLine}
 use Rattle.debugger_meaning.specs.Stands.{SessionState, Shown, shown_of, StandsAfter, StandsAt}
 use Rattle.debugger_meaning.proofs.Standing.{stands_early, stands_later, stands_none}
 use Rattle.std.proofs.lemmas.List.Sums.{fold-append}
@@ -18,14 +15,13 @@ use Rattle.debugger.proofs.Adding.{stands_after_with}
 use Rattle.probe_texts.specs.declared.inquiry.Inquiry.{Inquiry}
 use Rattle.probe_texts.specs.declared.inquiry.Inquiry.TheVariants as inquiries
 use Rattle.probe_texts.specs.declared.stops.Request.{Request}
-use Rattle.probe_texts.specs.declared.stops.Request.TheVariants.{Add, Go, BackStop, Try}
+use Rattle.probe_texts.specs.declared.stops.Request.TheVariants.{Add, Go, BackStop, Try, Inquire, Do}
 use Rattle.probe_texts.specs.declared.stops.Stop.{Stop}
-use Rattle.probe_texts.specs.Inquiry.{inquiry_of}
 use Rattle.probe.specs.ProbeLaws.{key_typed, ProbesStand, shown_with, Walk}
 use Rattle.probe.specs.Making.{AnswersMaking, RefusesMaking}
-use Rattle.probe.specs.Probe.{AnswersRequest, AnswersUnless, probe_about, ProbeState, RefusesBackToStop, RefusesGoing, RefusesStop, session_of}
+use Rattle.probe.specs.Probe.{AnswersRequest, AnswersRequested, probe_about, ProbeState, RefusesBackToStop, RefusesGoing, RefusesStop, session_of}
 use Rattle.probe_texts.specs.Requests.{request_of}
-use Rattle.probe.specs.InquirySession.{AnswersInquiry, AnswersOr}
+use Rattle.probe.specs.InquirySession.{AnswersInquiry}
 use Rattle.probe.specs.Typed.{Takes}
 
 -- clocks that are made
@@ -72,7 +68,7 @@ takes first key s t answer at is = (
 )
 
 inquires : (first : Shown) (inquiry : Inquiry) (s t : SessionState) (result : Result Answer DebugFault)
-    → StandsFrom first s → AnswersInquiry inquiry s result t → Leads first (key_typed None (Some inquiry) (clock_of s.board.plain) result) t
+    → StandsFrom first s → AnswersInquiry inquiry s result t → Leads first (key_typed (Some (Inquire inquiry)) (clock_of s.board.plain) result) t
 inquires first inquiries.Chips s t result at is = no_keys first t (same_state first s t at is.1)
 inquires first (inquiries.List lines place count) s t result at is = no_keys first t (same_state first s t at is.1)
 inquires first (inquiries.Counts n) s t result at is = no_keys first t (makes first n _ s t result at is)
@@ -80,16 +76,6 @@ inquires first (inquiries.Signals n) s t result at is = no_keys first t (makes f
 inquires first (inquiries.Events n kinds) s t result at is = no_keys first t (makes first n _ s t result at is)
 inquires first (inquiries.Key code stamp) s t (Ok answer) at is = takes first _ s t answer at is
 inquires first (inquiries.Key code stamp) s t (Err fault) at is = no_keys first t (same_state first s t at is.1)
-
-commanded : (first : Shown) (command : Option Command) (s t : SessionState) (result : Result Answer DebugFault)
-    → StandsFrom first s → AnswersLine command s result t → StandsFrom first t
-commanded first None s t result at is = same_state first s t at is.1
-commanded first (Some command) s t result at is = still_stands first command s t result at is
-
-inquires_or : (first : Shown) (inquiry : Option Inquiry) (line : List ℕ) (s t : SessionState) (result : Result Answer DebugFault)
-    → StandsFrom first s → AnswersOr inquiry line s result t → Leads first (key_typed None inquiry (clock_of s.board.plain) result) t
-inquires_or first None line s t result at is = no_keys first t (commanded first (command_of line) s t result at is)
-inquires_or first (Some inquiry) line s t result at is = inquires first inquiry s t result at is
 
 -- stops
 
@@ -133,23 +119,35 @@ refuses_back first s t (Memory (Some clock)) at is = absurd is
 refuses_back first s t BeforeStart at is = same_state first (session_of s) (session_of t) at (same_session s t is.1)
 refuses_back first s t NoCell at is = absurd is
 
-requested : (first : Shown) (request : Request) (s t : ProbeState) (result : Result Answer DebugFault)
-    → StandsFrom first (session_of s) → AnswersRequest request s result t → StandsFrom first (session_of t)
-requested first (Add stop) s t (Ok answer) at is =
+adds_stop : (first : Shown) (stop : Stop) (s t : ProbeState) (result : Result Answer DebugFault)
+    → StandsFrom first (session_of s) → AnswersRequest (Add stop) s result t → StandsFrom first (session_of t)
+adds_stop first stop s t (Ok answer) at is =
     same_first first (session_of s) (session_of t) at is.first (subst (StandsAfter s.first) (sym is.board) (own first (session_of s) at))
-requested first (Add stop) s t (Err fault) at is = refuses_stop first stop s t fault at is
-requested first (Go n) s t (Ok answer) at is =
-    same_first first (session_of s) (session_of t) at is.first (stands_later s.first _ s.board t.board (own first (session_of s) at) is.ran)
-requested first (Go n) s t (Err fault) at is = refuses_going first n s t fault at is
-requested first BackStop s t (Ok answer) at is = same_first first (session_of s) (session_of t) at is.first (is.last.passed, is.stands)
-requested first BackStop s t (Err fault) at is = refuses_back first s t fault at is
-requested first (Try trial) s t result at is = same_state first (session_of s) (session_of t) at (same_session s t is.1)
+adds_stop first stop s t (Err fault) at is = refuses_stop first stop s t fault at is
 
-pub answered : (first : Shown) (request : Option Request) (line : List ℕ) (s t : ProbeState) (result : Result Answer DebugFault)
-    → StandsFrom first (session_of s) → AnswersUnless request line s result t
-    → Leads first (key_typed request (inquiry_of line) (clock_of s.board.plain) result) (session_of t)
-answered first (Some request) line s t result at is = no_keys first (session_of t) (requested first request s t result at is)
-answered first None line s t result at is = inquires_or first (inquiry_of line) line (session_of s) (session_of t) result at is.0
+goes : (first : Shown) (n : ℕ) (s t : ProbeState) (result : Result Answer DebugFault)
+    → StandsFrom first (session_of s) → AnswersRequest (Go n) s result t → StandsFrom first (session_of t)
+goes first n s t (Ok answer) at is =
+    same_first first (session_of s) (session_of t) at is.first (stands_later s.first _ s.board t.board (own first (session_of s) at) is.ran)
+goes first n s t (Err fault) at is = refuses_going first n s t fault at is
+
+goes_back : (first : Shown) (s t : ProbeState) (result : Result Answer DebugFault)
+    → StandsFrom first (session_of s) → AnswersRequest BackStop s result t → StandsFrom first (session_of t)
+goes_back first s t (Ok answer) at is = same_first first (session_of s) (session_of t) at is.first (is.last.passed, is.stands)
+goes_back first s t (Err fault) at is = refuses_back first s t fault at is
+
+pub answered : (first : Shown) (request : Option Request) (s t : ProbeState) (result : Result Answer DebugFault)
+    → StandsFrom first (session_of s) → AnswersRequested request s result t
+    → Leads first (key_typed request (clock_of s.board.plain) result) (session_of t)
+answered first None s t result at is = no_keys first (session_of t) (same_state first (session_of s) (session_of t) at (same_session s t is.1))
+answered first (Some (Inquire inquiry)) s t result at is = inquires first inquiry (session_of s) (session_of t) result at is.0
+answered first (Some (Do command)) s t result at is =
+    no_keys first (session_of t) (still_stands first command (session_of s) (session_of t) result at is.0)
+answered first (Some (Add stop)) s t result at is = no_keys first (session_of t) (adds_stop first stop s t result at is)
+answered first (Some (Go n)) s t result at is = no_keys first (session_of t) (goes first n s t result at is)
+answered first (Some BackStop) s t result at is = no_keys first (session_of t) (goes_back first s t result at is)
+answered first (Some (Try trial)) s t result at is =
+    no_keys first (session_of t) (same_state first (session_of s) (session_of t) at (same_session s t is.1))
 
 -- lines
 
@@ -162,8 +160,8 @@ through [] keys first s t at walk =
     subst (λ ks. Leads first ks (session_of t)) (sym walk.1)
     (no_keys first (session_of t) (same_state first (session_of s) (session_of t) at (same_session s t walk.0)))
 through (line ∷ lines) keys first s t at walk =
-    let typed : List StampedKey = key_typed (request_of line) (inquiry_of line) (clock_of s.board.plain) walk.result in
-    let led = answered first (request_of line) line s walk.next walk.result at walk.answers in
+    let typed : List StampedKey = key_typed (request_of line) (clock_of s.board.plain) walk.result in
+    let led = answered first (request_of line) s walk.next walk.result at walk.answers in
     let rest =
     through lines walk.later (shown_with first typed) walk.next t (led.0, subst (λ (f : Shown). StandsAfter f walk.next.board) led.0 led.1) walk.after in
     (rest.0 ∙ with_more first typed walk.later ∙ ap (shown_with first) (sym walk.are), rest.1)

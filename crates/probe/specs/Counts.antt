@@ -1,7 +1,7 @@
 -- How a run's clocks are counted: for the instructions that began and the interrupts that were entered, from each up to
 -- the next beginning.
 -- To be believed by callers of this crate: the headline does not rest on it.
-use Rattle.std.specs.Prelude.{ℕ, ◌+◌, ◌-◌, ◌*◌, ◌/◌, ◌%◌, ◌==◌, Bool, false, if◌then◌else◌}
+use Rattle.std.specs.Prelude.{ℕ, ◌+◌, ◌-◌, ◌*◌, ◌/◌, ◌%◌, ◌^◌, ◌==◌, nat_lt, Bool, if◌then◌else◌}
 use Rattle.std.specs.Prelude.{List, [], ◌∷◌, ◌++◌, codes, count_by, Option, None, Some}
 use Rattle.std.specs.BTreeSet.{insert_key}
 use Rattle.std.specs.Fmt.{decimal}
@@ -12,23 +12,18 @@ use Rattle.board.specs.OneTurn.{begun_in}
 use Rattle.board_plain.specs.Plain.{Plain, clock_of}
 use Rattle.board_types.specs.Digits.{hex_byte_text, hex_word}
 
--- CS:IP as one number, with the segment above the offset, unless an interrupt was entered
-abbrev pub place_unless : Option ℕ → ℕ → ℕ → Option ℕ
-place_unless None cs ip = Some (65536 * cs + ip)
-place_unless (Some kind) cs ip = None
+-- what began as one number: CS:IP, with the segment above the offset; or, above all of these, the type of the interrupt
+-- that was entered
+abbrev pub number_unless : Option ℕ → ℕ → ℕ → ℕ
+number_unless None cs ip = 65536 * cs + ip
+number_unless (Some type) cs ip = 2 ^ 32 + type
 
--- the place of the instruction that began
-abbrev pub place_of : Begun → Option ℕ
-place_of b = place_unless b.entered b.cs b.ip
+abbrev pub number_of : Begun → ℕ
+number_of b = number_unless b.entered b.cs b.ip
 
--- the type of the interrupt that was entered
-abbrev pub type_of : Begun → Option ℕ
-type_of b = b.entered
-
--- whether a number is k
-abbrev pub is_number : ℕ → Option ℕ → Bool
-is_number k None = false
-is_number k (Some n) = n == k
+-- whether this is what began
+abbrev pub is_number : ℕ → Begun → Bool
+is_number k b = number_of b == k
 
 -- the clock of the next beginning, or the end
 abbrev pub next_clock : List Begun → ℕ → ℕ
@@ -41,42 +36,33 @@ clocks_from is [] end = 0
 clocks_from is (b ∷ bs) end = (if is b then next_clock bs end - b.clock else 0) + clocks_from is bs end
 
 -- the numbers of what began, rising, each once
-abbrev pub with_number : Option ℕ → List ℕ → List ℕ
-with_number None ks = ks
-with_number (Some k) ks = insert_key nat_cmp ks k
+abbrev pub numbers_of : List Begun → List ℕ
+numbers_of [] = []
+numbers_of (b ∷ bs) = insert_key nat_cmp (numbers_of bs) (number_of b)
 
-abbrev pub numbers_of : (Begun → Option ℕ) → List Begun → List ℕ
-numbers_of number [] = []
-numbers_of number (b ∷ bs) = with_number (number b) (numbers_of number bs)
+-- `F000:0013`, `entry 08`; the type is a byte
+abbrev pub name_of : ℕ → List ℕ
+name_of k =
+    if nat_lt k (2 ^ 32) then hex_word (k / 65536) ++ (codes ":" ++ hex_word (k % 65536))
+    else codes "entry " ++ hex_byte_text (k % 256)
 
 -- a line: a name, how often something began there, and the clocks from it
 abbrev pub count_line : List ℕ → ℕ → ℕ → List ℕ
 count_line name count clocks = name ++ (codes " " ++ (decimal count ++ (codes " " ++ (decimal clocks ++ codes "\n"))))
 
-abbrev pub line_of : (ℕ → List ℕ) → (Begun → Option ℕ) → List Begun → ℕ → ℕ → List ℕ
-line_of name number begun end k =
-    count_line (name k) (count_by (λ b. is_number k (number b)) begun)
-    (clocks_from (λ b. is_number k (number b)) begun end)
+abbrev pub line_of : List Begun → ℕ → ℕ → List ℕ
+line_of begun end k = count_line (name_of k) (count_by (is_number k) begun) (clocks_from (is_number k) begun end)
 
 -- a line for each number
-abbrev pub lines_of : (ℕ → List ℕ) → (Begun → Option ℕ) → List Begun → ℕ → List ℕ
-lines_of name number begun end = flat_map (line_of name number begun end) (numbers_of number begun)
-
--- `F000:0013`, `entry 08`; the type is a byte
-abbrev pub place_name : ℕ → List ℕ
-place_name place = hex_word (place / 65536) ++ (codes ":" ++ hex_word (place % 65536))
-
-abbrev pub type_name : ℕ → List ℕ
-type_name type = codes "entry " ++ hex_byte_text (type % 256)
+abbrev pub lines_of : List Begun → ℕ → List ℕ
+lines_of begun end = flat_map (line_of begun end) (numbers_of begun)
 
 -- the clocks before the first beginning, a line for each CS:IP at which an instruction began and for each type of
 -- interrupt that was entered, and the clock that is reached
 abbrev pub counts_of : List Begun → ℕ → ℕ → List ℕ
 counts_of begun start end =
     codes "before " ++ (decimal (next_clock begun end - start) ++ (codes "\n"
-    ++ (lines_of place_name place_of begun end
-    ++ (lines_of type_name type_of begun end
-    ++ (codes "clock " ++ (decimal end ++ codes "\n"))))))
+    ++ (lines_of begun end ++ (codes "clock " ++ (decimal end ++ codes "\n")))))
 
 -- the counts of n clocks
 unfoldable pub counts_text : Plain → ℕ → List ℕ

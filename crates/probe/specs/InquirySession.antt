@@ -1,11 +1,10 @@
 -- How a session answers inquiries, beside the debugger's commands.
 -- To be believed by callers of this crate: the headline does not rest on it.
-use Rattle.std.specs.Prelude.{ℕ, ◌≡◌, List, Option, None, Some, Result}
+use Rattle.std.specs.Prelude.{◌≡◌, Result}
 use Rattle.board_plain.specs.Plain.{byte_of}
 use Rattle.debugger_meaning.specs.declared.answer.Answer.{Answer}
 use Rattle.debugger_meaning.specs.declared.fault.DebugFault.{DebugFault}
-use Rattle.debugger_meaning.specs.Commands.{command_of}
-use Rattle.debugger_meaning.specs.Session.{AnswersLine, Shows}
+use Rattle.debugger_meaning.specs.Session.{Shows}
 use Rattle.debugger_meaning.specs.Stands.{SessionState}
 use Rattle.probe_texts.specs.declared.inquiry.Inquiry.{Inquiry}
 use Rattle.probe_texts.specs.declared.inquiry.Inquiry.TheVariants.{Chips, List as Listing, Counts}
@@ -13,7 +12,6 @@ use Rattle.probe_texts.specs.declared.inquiry.Inquiry.TheVariants.{Signals, Even
 use Rattle.probe_texts.specs.ChipsText.{chips_text}
 use Rattle.probe.specs.Counts.{counts_text}
 use Rattle.probe_texts.specs.FormLines.{lines_text}
-use Rattle.probe_texts.specs.Inquiry.{inquiry_of}
 use Rattle.probe_texts.specs.Listed.{events_text}
 use Rattle.probe.specs.Making.{AnswersMaking}
 use Rattle.probe_texts.specs.Signals.{signals_text}
@@ -30,11 +28,3 @@ AnswersInquiry (Signals n) old result new = AnswersMaking n (signals_text old.bo
 AnswersInquiry (Events n kinds) old result new =
     AnswersMaking n (events_text kinds.items old.board.plain n) old result new
 AnswersInquiry (Key code at) old result new = AnswersKey code at old result new
-
--- what is no inquiry is answered as the debugger answers it
-abbrev pub AnswersOr : Option Inquiry → List ℕ → SessionState → Result Answer DebugFault → SessionState → Type 0
-AnswersOr None line old result new = AnswersLine (command_of line) old result new
-AnswersOr (Some inquiry) line old result new = AnswersInquiry inquiry old result new
-
-abbrev pub AnswersProbe : List ℕ → SessionState → Result Answer DebugFault → SessionState → Type 0
-AnswersProbe line old result new = AnswersOr (inquiry_of line) line old result new

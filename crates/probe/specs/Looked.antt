@@ -2,7 +2,7 @@
 -- For proofs alone: no public contract rests on it.
 use Rattle.std.proofs.Common.{zero, suc}
 use Rattle.std.specs.Prelude.{ℕ, ◌≡◌, ◌≢◌, ◌+◌, ◌-◌, ◌<◌, ◌≤◌, Bool, if◌then◌else◌}
-use Rattle.std.specs.Prelude.{List, Option, None, Some, Result, Ok, Err}
+use Rattle.std.specs.Prelude.{List, Option, None, Some}
 use Rattle.board_plain.specs.Board.{BoardState, Ran}
 use Rattle.board_plain.specs.Plain.{Plain, after_clock, clock_of, speaker_level}
 use Rattle.debugger_meaning.specs.declared.answer.Answer.{Answer}
@@ -10,7 +10,6 @@ use Rattle.debugger_meaning.specs.declared.answer.Answer.TheVariants as answers
 use Rattle.debugger_meaning.specs.declared.fault.DebugFault.{DebugFault}
 use Rattle.debugger_meaning.specs.declared.fault.DebugFault.TheVariants.{BadScan, StampsFall, ClockLimit, BadCommand}
 use Rattle.debugger_meaning.specs.declared.fault.DebugFault.TheVariants.{TooManyStops, Memory, BeforeStart, NoCell}
-use Rattle.debugger_meaning.specs.Stands.{SessionState}
 use Rattle.events.specs.declared.access.Access.{Access}
 use Rattle.events.specs.Accesses.{accesses_next}
 use Rattle.probe.specs.declared.seen.Turn.{Turn}
@@ -36,38 +35,22 @@ HasEnded stops end passed s (Some number) =
     (1 ≤ passed) × NoneMet stops (passed - 1) s × (meeting_at stops s passed ≡ Some number)
 
 -- a run to the clock `end`, or to a stop
-pub record RanToStop (stops : List Stop) (end : ℕ) (old new : SessionState) (number : Option ℕ) : Type 0 where
+pub record RanToStop (stops : List Stop) (end : ℕ) (old new : BoardState) (number : Option ℕ) : Type 0 where
   pub passed : ℕ
-  pub ran : Ran passed old.board new.board
-  pub turns : FewTurns passed old.board new.board
-  pub within : clock_of new.board.plain ≤ end
-  pub kept : new.stops ≡ old.stops
-  pub first : new.first ≡ old.first
-  pub ended : HasEnded stops end passed old.board.plain number
+  pub ran : Ran passed old new
+  pub turns : FewTurns passed old new
+  pub within : clock_of new.plain ≤ end
+  pub ended : HasEnded stops end passed old.plain number
 
 -- a run that finds no memory for the speaker's next change
-pub record RanShort (stops : List Stop) (end : ℕ) (old new : SessionState) (clock : ℕ) : Type 0 where
+pub record RanShort (stops : List Stop) (end : ℕ) (old new : BoardState) : Type 0 where
   pub passed : ℕ
-  pub ran : Ran passed old.board new.board
-  pub turns : FewTurns passed old.board new.board
-  pub before_end : clock_of new.board.plain < end
-  pub changes_next : speaker_level (after_clock new.board.plain) ≢ speaker_level new.board.plain
-  pub full : new.board.room ≡ 0
-  pub none : NoneMet stops passed old.board.plain
-  pub kept : new.stops ≡ old.stops
-  pub first : new.first ≡ old.first
-  pub clock_is : clock ≡ clock_of new.board.plain
-
-abbrev pub ShortOfMemory : List Stop → ℕ → SessionState → SessionState → DebugFault → Type 0
-ShortOfMemory stops end old new ClockLimit = ⊥
-ShortOfMemory stops end old new BadScan = ⊥
-ShortOfMemory stops end old new StampsFall = ⊥
-ShortOfMemory stops end old new BadCommand = ⊥
-ShortOfMemory stops end old new TooManyStops = ⊥
-ShortOfMemory stops end old new (Memory None) = ⊥
-ShortOfMemory stops end old new (Memory (Some clock)) = RanShort stops end old new clock
-ShortOfMemory stops end old new BeforeStart = ⊥
-ShortOfMemory stops end old new NoCell = ⊥
+  pub ran : Ran passed old new
+  pub turns : FewTurns passed old new
+  pub before_end : clock_of new.plain < end
+  pub changes_next : speaker_level (after_clock new.plain) ≢ speaker_level new.plain
+  pub full : new.room ≡ 0
+  pub none : NoneMet stops passed old.plain
 
 -- the stop that is met n clocks after a board; at its own clock only if it is a session's first
 abbrev pub met_after : Bool → List Stop → Plain → ℕ → Option ℕ
@@ -109,8 +92,3 @@ from_of is_first clock = if is_first then clock else clock + 1
 abbrev pub answer_at : Option ℕ → ℕ → Answer
 answer_at None clock = answers.Clock clock
 answer_at (Some number) clock = answers.StopAt number clock
-
--- the answer of a way back to a stop
-abbrev pub with_number : Result Answer DebugFault → ℕ → ℕ → Result Answer DebugFault
-with_number (Ok answer) clock number = Ok (answers.StopAt number clock)
-with_number (Err fault) clock number = Err fault

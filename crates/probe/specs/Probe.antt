@@ -1,7 +1,7 @@
 -- What a probe is, and how it answers a line.
 -- To be believed by callers of this crate: the headline does not rest on it.
 use Rattle.std.specs.Prelude.{ℕ, ◌≡◌, ◌+◌, ◌-◌, ◌<◌, ◌≤◌, ◌^◌, false, IsTrue, List, [], ◌∷◌}
-use Rattle.std.specs.Prelude.{◌++◌, length, Option, None, Some, Result, MatchResult}
+use Rattle.std.specs.Prelude.{◌++◌, length, Option, None, Some, Result, Err, MatchResult}
 use Rattle.std.specs.List.{list_all}
 use Rattle.board_plain.specs.declared.stop.Condition.{Condition}
 use Rattle.board_plain.specs.declared.stop.Stop.{Stop as End}
@@ -13,15 +13,15 @@ use Rattle.debugger_meaning.specs.declared.answer.Answer.TheVariants as answers
 use Rattle.debugger_meaning.specs.declared.fault.DebugFault.{DebugFault}
 use Rattle.debugger_meaning.specs.declared.fault.DebugFault.TheVariants.{BadScan, StampsFall, ClockLimit, BadCommand}
 use Rattle.debugger_meaning.specs.declared.fault.DebugFault.TheVariants.{TooManyStops, Memory, BeforeStart, NoCell}
-use Rattle.debugger_meaning.specs.Session.{told_of}
+use Rattle.debugger_meaning.specs.Session.{Answers, told_of}
 use Rattle.debugger_meaning.specs.Stands.{SessionState, Shown, shown_of, StandsAt}
 use Rattle.probe_texts.specs.declared.stops.Request.{Request}
-use Rattle.probe_texts.specs.declared.stops.Request.TheVariants.{Add, Go, BackStop, Try}
+use Rattle.probe_texts.specs.declared.stops.Request.TheVariants.{Add, Go, BackStop, Try, Inquire, Do}
 use Rattle.probe_texts.specs.declared.stops.Stop.{Stop}
 use Rattle.probe_texts.specs.declared.stops.Stop.TheVariants.{Standing, When, Changes}
 use Rattle.probe.specs.Moments.{AnswersTrial}
 use Rattle.probe_texts.specs.Requests.{asks_changes, is_standing, request_of}
-use Rattle.probe.specs.InquirySession.{AnswersProbe}
+use Rattle.probe.specs.InquirySession.{AnswersInquiry}
 use Rattle.probe.specs.Making.{FewTurns}
 use Rattle.probe.specs.ProbeStops.{IsEndOf, MetLast, NoneMet, NoneMetFrom}
 
@@ -129,17 +129,20 @@ RefusesBackToStop old new (Memory (Some clock)) = ⊥
 RefusesBackToStop old new BeforeStart = NoneMetFrom old.stops (gone_by old) old.first.plain × (new ≡ old)
 RefusesBackToStop old new NoCell = ⊥
 
+-- what asks about the board, and what another command says, is answered as by a session, and leaves the stops
 abbrev pub AnswersRequest : Request → ProbeState → Result Answer DebugFault → ProbeState → Type 0
 AnswersRequest (Add stop) old result new = MatchResult result (AddsStop stop old new) (RefusesStop stop old new)
 AnswersRequest (Go n) old result new = MatchResult result (GoesOn n old new) (RefusesGoing n old new)
 AnswersRequest BackStop old result new = MatchResult result (GoesBackToStop old new) (RefusesBackToStop old new)
 AnswersRequest (Try trial) old result new = AnswersTrial old.stops old.board.plain trial result × (new ≡ old)
+AnswersRequest (Inquire inquiry) old result new =
+    AnswersInquiry inquiry (session_of old) result (session_of new) × (new.stops ≡ old.stops)
+AnswersRequest (Do command) old result new =
+    Answers command (session_of old) result (session_of new) × (new.stops ≡ old.stops)
 
--- a line that has nothing to do with stops is answered as by the debugger's session, and leaves the stops
-abbrev pub AnswersUnless : Option Request → List ℕ → ProbeState → Result Answer DebugFault → ProbeState → Type 0
-AnswersUnless (Some request) line old result new = AnswersRequest request old result new
-AnswersUnless None line old result new =
-    AnswersProbe line (session_of old) result (session_of new) × (new.stops ≡ old.stops)
+abbrev pub AnswersRequested : Option Request → ProbeState → Result Answer DebugFault → ProbeState → Type 0
+AnswersRequested (Some request) old result new = AnswersRequest request old result new
+AnswersRequested None old result new = (result ≡ Err BadCommand) × (new ≡ old)
 
 abbrev pub AnswersStopping : List ℕ → ProbeState → Result Answer DebugFault → ProbeState → Type 0
-AnswersStopping line old result new = AnswersUnless (request_of line) line old result new
+AnswersStopping line old result new = AnswersRequested (request_of line) old result new

@@ -16,11 +16,11 @@ use Rattle.debugger_meaning.specs.Commands.{command_of}
 use Rattle.debugger_meaning.specs.Session.{AnswersLine}
 use Rattle.debugger_meaning.specs.Stands.{Shown, shown_of, StandsAfter}
 use Rattle.events.specs.WithKey.{with_key}
-use Rattle.probe_texts.specs.declared.inquiry.Inquiry.{Inquiry}
 use Rattle.probe_texts.specs.declared.inquiry.Inquiry.TheVariants.{Key}
 use Rattle.probe_texts.specs.declared.stops.Request.{Request}
+use Rattle.probe_texts.specs.declared.stops.Request.TheVariants.{Inquire}
 use Rattle.probe_texts.specs.declared.stops.Stop.TheVariants.{Standing}
-use Rattle.probe.specs.Counts.{clocks_from, is_number, next_clock, numbers_of, place_of, type_of}
+use Rattle.probe.specs.Counts.{clocks_from, is_number, next_clock, numbers_of}
 use Rattle.probe_texts.specs.Inquiry.{inquiry_of}
 use Rattle.probe.specs.Probe.{AnswersStopping, conditions_of, probe_about, ProbeState, session_of}
 use Rattle.probe_texts.specs.Requests.{request_of, stop_of, trial_of}
@@ -28,17 +28,15 @@ use Rattle.probe.specs.ProbeStops.{IsEndOf, met_from}
 use Rattle.probe.specs.Typed.{typed_key}
 
 -- the clocks of all lines
-abbrev pub clocks_of_lines : (Begun → Option ℕ) → List Begun → ℕ → ℕ
-clocks_of_lines number begun end =
-    sum_by (λ k. clocks_from (λ b. is_number k (number b)) begun end) (numbers_of number begun)
+abbrev pub clocks_of_lines : List Begun → ℕ → ℕ
+clocks_of_lines begun end = sum_by (λ k. clocks_from (is_number k) begun end) (numbers_of begun)
 
 -- the clocks before the first beginning, those of each CS:IP and those of each type add up to all clocks of the run
 abbrev pub CountsAddUp : Type 0
 CountsAddUp =
     (s : Plain) (n : ℕ)
     → (next_clock (begun_in s n) (clock_of s + n) - clock_of s)
-    + (clocks_of_lines place_of (begun_in s n) (clock_of s + n)
-    + clocks_of_lines type_of (begun_in s n) (clock_of s + n))
+    + clocks_of_lines (begun_in s n) (clock_of s + n)
     ≡ n
 
 -- stops that are conditions are the board's: a run ends as its search says, and so does a way back
@@ -66,9 +64,9 @@ AnswersAsDebugger =
     → AnswersLine (command_of line) (session_of old) result (session_of new) × OnlyStand new
 
 -- the key that a line types, if it is taken
-abbrev pub key_typed : Option Request → Option Inquiry → ℕ → Result Answer DebugFault → List StampedKey
-key_typed None (Some (Key code at)) clock (Ok answer) = typed_key clock code at ∷ []
-key_typed request inquiry clock result = []
+abbrev pub key_typed : Option Request → ℕ → Result Answer DebugFault → List StampedKey
+key_typed (Some (Inquire (Key code at))) clock (Ok answer) = typed_key clock code at ∷ []
+key_typed request clock result = []
 
 -- a probe answers a line, and goes on
 pub record AnsweredThen (line : List ℕ) (After : List StampedKey → ProbeState → Type 0)
@@ -78,7 +76,7 @@ pub record AnsweredThen (line : List ℕ) (After : List StampedKey → ProbeStat
   pub next : ProbeState
   pub answers : AnswersStopping line old result next
   pub later : List StampedKey
-  pub are : keys ≡ key_typed (request_of line) (inquiry_of line) (clock_of old.board.plain) result ++ later
+  pub are : keys ≡ key_typed (request_of line) (clock_of old.board.plain) result ++ later
   pub after : After later next
 
 -- a probe before a list of lines and after them, with the keys that they have typed

@@ -66,14 +66,6 @@ pub record Tried (stops : List Stop) (s bare : Plain) (trial : Trial)
   pub stops_are : stops_of watches ≡ stops
   pub watched : All IsWatched watches
 
--- the key can be tried at this clock
-pub record TriedSoFar (stops : List Stop) (s bare : Plain) (trial : Trial)
-    (end stamp : ℕ) (ranges : List Moments) (watches : List Watched) : Type 0 where
-  pub first : trial.first ≤ stamp
-  pub last : stamp ≤ trial.last
-  pub in_time : end ≡ clock_of s + trial.count
-  pub so_far : Tried stops s bare trial end stamp ranges watches
-
 -- all ranges are known, or the key was tried at one clock more
 abbrev pub TriedNext : Bool → List Stop → Plain → Plain → Trial → ℕ → ℕ → List Moments → List Watched → Type 0
 TriedNext true stops s bare trial end stamp ranges watches = AreRanges stops s trial trial.first trial.last ranges

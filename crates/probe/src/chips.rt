@@ -1,16 +1,16 @@
 //! What a board's chips hold, as text.
 ghost use Rattle.std.specs.Prelude.{◌≡◌, IfOk};
 ghost use Rattle.std.specs.String.{string_bytes};
-ghost use Rattle.probe_texts.specs.ChipsText.{chips_text, processor_line};
+ghost use Rattle.probe_texts.specs.ChipsText.{chips_text};
 ghost use Rattle.wiring.specs.EachWire.{inputs_of};
 
 use board::board::Board;
 use ppi8255::ppi::Inputs;
 use probe_texts::chips_text::{
-    adapter_line, keyboard_line, ports_line, processor_boundary, processor_state, speaker_line,
-    timer_lines,
+    push_adapter, push_boundary, push_keyboard, push_ports, push_processor, push_speaker,
+    push_timer,
 };
-use probe_texts::controller_text::controller_line;
+use probe_texts::controller_text::push_controller;
 use std::alloc::{AllocError, Global};
 
 /// Returns the answer to the inquiry `chips`: what the board's chips hold, a line for each chip and counter, and the
@@ -19,19 +19,17 @@ use std::alloc::{AllocError, Global};
 pub(crate) fn chips_text(alloc: Global, board: &Board) -> Result<String, AllocError>
     ensures { IfOk result (λ text. string_bytes text ≡ chips_text board.now.plain) }
 {
-    let mut text = controller_line(alloc, &board.controller().image())?;
-    let timer = timer_lines(alloc, &board.timer())?;
-    text.push_str(timer.as_str())?;
-    let ports = ports_line(alloc, &board.parallel_port(), inputs(board))?;
-    text.push_str(ports.as_str())?;
-    let keyboard = keyboard_line(alloc, board.keyboard())?;
-    text.push_str(keyboard.as_str())?;
-    let speaker = speaker_line(alloc, board.speaker())?;
-    text.push_str(speaker.as_str())?;
-    let adapter = adapter_line(alloc, board.adapter())?;
-    text.push_str(adapter.as_str())?;
-    let processor = processor_line(alloc, board)?;
-    text.push_str(processor.as_str())?;
+    let mut text = String::new(alloc);
+    push_controller(&mut text, &board.controller().image())?;
+    push_timer(&mut text, &board.timer())?;
+    push_ports(&mut text, &board.parallel_port(), inputs(board))?;
+    push_keyboard(&mut text, board.keyboard())?;
+    push_speaker(&mut text, board.speaker())?;
+    push_adapter(&mut text, board.adapter())?;
+    let enabled = board.regs().flags.interrupt_enable;
+    push_processor(&mut text, board.state(), board.busy(), enabled)?;
+    let (shadow, is_step_due) = (board.shadow(), board.is_step_due());
+    push_boundary(&mut text, shadow, is_step_due, board.is_repeating())?;
     Ok(text)
 }
 
@@ -44,16 +42,4 @@ fn inputs(board: &Board) -> Inputs
         latch: board.keyboard().latch(),
         out2: board.timer().out(2),
     }
-}
-
-/// Returns the processor's line in the answer to `chips`: its state, and what decides its next boundary.
-fn processor_line(alloc: Global, board: &Board) -> Result<String, AllocError>
-    ensures { IfOk result (λ text. string_bytes text ≡ processor_line board.now.plain) }
-{
-    let enabled = board.regs().flags.interrupt_enable;
-    let mut text = processor_state(alloc, board.state(), board.busy(), enabled)?;
-    let (shadow, is_step_due) = (board.shadow(), board.is_step_due());
-    let boundary = processor_boundary(alloc, shadow, is_step_due, board.is_repeating())?;
-    text.push_str(boundary.as_str())?;
-    Ok(text)
 }

@@ -9,10 +9,10 @@ ghost use Rattle.board.specs.declared.one_turn.Begun.{Begun};
 ghost use Rattle.board.specs.OneTurn.{begun_in};
 ghost use Rattle.board_plain.specs.Plain.{clock_of};
 ghost use Rattle.probe.specs.Counted.{HasCountedAll};
-ghost use Rattle.probe.specs.Counts.{count_line, counts_of, counts_text, next_clock};
+ghost use Rattle.probe.specs.Counts.{count_line, counts_of, counts_text, name_of, next_clock, number_of};
 ghost use Rattle.probe.specs.Making.{AnswersMaking};
 ghost use Rattle.probe_texts.specs.Asked.{nothing_asked};
-ghost use Rattle.probe.specs.Tallied.{AreBelow, HasCounted, HasTallied, IsBefore, name_of, one_more, tally_line};
+ghost use Rattle.probe.specs.Tallied.{AreBelow, AreTallies, HasCounted, IsBefore, one_more, tally_line};
 
 use crate::making::{Visitor, make, shown};
 use crate::seen::Turn;
@@ -29,6 +29,9 @@ use std::alloc::{AllocError, Global};
 use std::collections::BTreeMap;
 use std::fmt;
 
+/// The least number of an entry into an interrupt: those of places, CS:IP, are below.
+const FIRST_ENTRY: u64 = 1 << 32;
+
 /// How often something began, and the clocks from each beginning up to the next: what `counts` shows of a CS:IP or of a
 /// type of interrupt.
 #[derive(Clone, Copy)]
@@ -44,10 +47,8 @@ pub(crate) struct Counts {
     first: Clock,
     /// What began last. It is tallied once its clocks are known.
     latest: Option<Begun>,
-    /// The tallies of instructions, by CS:IP.
-    places: BTreeMap<u32, Tally>,
-    /// The tallies of entries, by their types.
-    types: BTreeMap<u32, Tally>,
+    /// The tallies, by the numbers of what began.
+    tallies: BTreeMap<u64, Tally>,
 }
 
 impl Counts {
@@ -60,8 +61,7 @@ impl Counts {
         Counts {
             first: start,
             latest: None,
-            places: BTreeMap::new(alloc),
-            types: BTreeMap::new(alloc),
+            tallies: BTreeMap::new(alloc),
         }
     }
 
@@ -99,9 +99,8 @@ impl Counts {
     /// yet, the clocks before the first beginning end here.
     fn tally_latest(&mut self, clock: Clock) -> Result<(), AllocError>
         requires { IsBefore clock self.old }
-        ensures tallied { OnOk result ((all : List Begun) → HasCounted all self.old → HasTallied all clock self.new) }
-        ensures places { OnOk result (AreBelow clock self.new.places) }
-        ensures types { OnOk result (AreBelow clock self.new.types) }
+        ensures tallied { OnOk result ((all : List Begun) → HasCounted all self.old → AreTallies all clock self.new.tallies) }
+        ensures below { OnOk result (AreBelow clock self.new.tallies) }
         ensures before { OnOk result ((all : List Begun) → HasCounted all self.old → self.new.first ≡ next_clock all clock) }
         ensures started { (start : ℕ) → start ≤ clock → start ≤ self.old.first → start ≤ self.new.first }
         ensures latest { self.new.latest ≡ self.old.latest }
@@ -111,10 +110,7 @@ impl Counts {
             return Ok(());
         };
         let clocks = clock.get() - begun.clock.get();
-        match begun.entered {
-            None => add(&mut self.places, place_of(begun), clocks),
-            Some(kind) => add(&mut self.types, u32::from(kind), clocks),
-        }
+        add(&mut self.tallies, number_of(begun), clocks)
     }
 
     /// Returns the answer to `counts`, for a run from `start` to `end`: the clocks before the first beginning, a line
@@ -128,24 +124,27 @@ impl Counts {
     {
         self.tally_latest(end)?;
         let before = self.first.get() - start.get();
-        let places = lines_of(alloc, Kind::Instruction, &self.places)?;
-        let types = lines_of(alloc, Kind::Entry, &self.types)?;
-        let (places, types) = (places.as_str(), types.as_str());
+        let lines = lines_of(alloc, &self.tallies)?;
+        let lines = lines.as_str();
         let end = end.get();
-        format!(in alloc; "before {before}\n{places}{types}clock {end}\n")
+        format!(in alloc; "before {before}\n{lines}clock {end}\n")
     }
 }
 
-/// Returns CS:IP as one number, the segment above the offset, under which the beginnings there are tallied.
-fn place_of(begun: Begun) -> u32
-    ensures { result ≡ 65536 * begun.cs + begun.ip }
+/// Returns the number under which a beginning is tallied: CS:IP, with the segment above the offset, or, above all of
+/// these, the type of the interrupt that was entered.
+fn number_of(begun: Begun) -> u64
+    ensures { result ≡ number_of begun }
 {
-    65536 * u32::from(begun.cs) + u32::from(begun.ip)
+    match begun.entered {
+        None => 65536 * u64::from(begun.cs) + u64::from(begun.ip),
+        Some(kind) => FIRST_ENTRY + u64::from(kind),
+    }
 }
 
-/// Tallies one more beginning under a number, a CS:IP or a type of interrupt, with the clocks from it to the next.
+/// Tallies one more beginning under a number, with the clocks from it to the next.
 #[inline(always)]
-fn add(tallies: &mut BTreeMap<u32, Tally>, number: u32, clocks: u64) -> Result<(), AllocError>
+fn add(tallies: &mut BTreeMap<u64, Tally>, number: u64, clocks: u64) -> Result<(), AllocError>
     requires below { AreBelow (2 ^ 40) tallies.old }
     requires few { clocks ≤ 2 ^ 40 }
     ensures { OnOk result ((k : ℕ) → get nat_cmp tallies.new k
@@ -162,7 +161,7 @@ fn add(tallies: &mut BTreeMap<u32, Tally>, number: u32, clocks: u64) -> Result<(
 /// Tallies the first beginning under a number. Kept out of the loop of turns, which mostly comes to numbers that have
 /// been tallied before.
 #[inline(never)]
-fn add_first(tallies: &mut BTreeMap<u32, Tally>, number: u32, clocks: u64) -> Result<(), AllocError>
+fn add_first(tallies: &mut BTreeMap<u64, Tally>, number: u64, clocks: u64) -> Result<(), AllocError>
     ensures { OnOk result ((k : ℕ) → get nat_cmp tallies.new k
         ≡ (if k == number then Some (one_more None clocks) else get nat_cmp tallies.old k)) }
 {
@@ -170,53 +169,35 @@ fn add_first(tallies: &mut BTreeMap<u32, Tally>, number: u32, clocks: u64) -> Re
     Ok(())
 }
 
-/// What the number of a tally stands for.
-#[derive(Clone, Copy)]
-pub(crate) enum Kind {
-    /// A CS:IP at which an instruction began.
-    Instruction,
-    /// A type of interrupt that was entered.
-    Entry,
-}
-
-/// What a line of `counts` begins with: the CS:IP or the type of interrupt that its tally counts.
+/// What a line of `counts` begins with: the CS:IP or the type of interrupt that a number stands for.
 #[derive(Clone, Copy)]
 pub(crate) struct Name {
-    kind: Kind,
-    number: u32,
+    number: u64,
 }
 
 impl fmt::Display for Name {
-    ghost output = { λ n. Some (name_of n.kind n.number) };
+    ghost output = { λ n. Some (name_of n.number) };
 
     /// Writes CS:IP, or `entry` and the type of an interrupt.
     fn fmt<W: fmt::Write>(&self, f: &mut fmt::Formatter<W>) -> fmt::Result {
-        match self.kind {
-            Kind::Instruction => {
-                let cs = HexWord((self.number / 65536) as u16);
-                let ip = HexWord((self.number % 65536) as u16);
-                write!(f, "{cs}:{ip}")
-            }
-            Kind::Entry => {
-                let kind = HexByte((self.number % 256) as u8);
-                write!(f, "entry {kind}")
-            }
+        if self.number < FIRST_ENTRY {
+            let cs = HexWord((self.number / 65536) as u16);
+            let ip = HexWord((self.number % 65536) as u16);
+            return write!(f, "{cs}:{ip}");
         }
+        let kind = HexByte((self.number % 256) as u8);
+        write!(f, "entry {kind}")
     }
 }
 
-/// Returns the lines of `counts` for all instructions, or for all types of interrupts, by rising numbers.
-fn lines_of(alloc: Global, kind: Kind, tallies: &BTreeMap<u32, Tally>) -> Result<String, AllocError>
-    ensures lines { IfOk result (λ text. string_bytes text ≡ flat_map (tally_line kind) tallies.now.entries) }
+/// Returns the lines of `counts`, by rising numbers.
+fn lines_of(alloc: Global, tallies: &BTreeMap<u64, Tally>) -> Result<String, AllocError>
+    ensures lines { IfOk result (λ text. string_bytes text ≡ flat_map tally_line tallies.now.entries) }
     ensures ordered { OnOk result (IsOrdered nat_cmp tallies.now) }
 {
     let mut text = String::new(alloc);
     for (number, tally) in tallies {
-        let name = Name {
-            kind,
-            number: *number,
-        };
-        push_line(&mut text, name, *tally)?;
+        push_line(&mut text, Name { number: *number }, *tally)?;
     }
     Ok(text)
 }
@@ -224,7 +205,7 @@ fn lines_of(alloc: Global, kind: Kind, tallies: &BTreeMap<u32, Tally>) -> Result
 /// Adds a line of `counts`: what began, how often, and the clocks from there to the next beginnings.
 fn push_line(text: &mut String, name: Name, tally: Tally) -> Result<(), AllocError>
     ensures { OnOk result (string_bytes text.new
-        ≡ string_bytes text.old ++ count_line (name_of name.kind name.number) tally.count tally.clocks) }
+        ≡ string_bytes text.old ++ count_line (name_of name.number) tally.count tally.clocks) }
 {
     let Tally { count, clocks } = tally;
     write!(text, "{name} {count} {clocks}\n")

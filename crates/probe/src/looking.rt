@@ -4,24 +4,24 @@ ghost use Rattle.std.specs.Result.{IfErr};
 ghost use Rattle.board.specs.Found.{found_at};
 ghost use Rattle.board_plain.specs.Plain.{clock_of};
 ghost use Rattle.debugger_meaning.specs.SessionInvariant.{LacksMemory};
-ghost use Rattle.probe.specs.Looked.{IsFoundIn, LooksOn, RanToStop, ShortOfMemory};
+ghost use Rattle.probe.specs.Looked.{IsFoundIn, LooksOn, RanShort, RanToStop};
 ghost use Rattle.probe.specs.Met.{asked_with_stop};
 ghost use Rattle.probe.specs.ProbeStops.{standing};
 ghost use Rattle.probe.specs.Seen.{IsLooked};
 ghost use Rattle.probe.specs.Watched.{asked_of, IsWatched, KeepsStops, stops_of};
 
-use crate::making::lacking;
 use crate::met::{met, standing};
+use crate::running::Running;
 use crate::seen::Turn;
 use crate::watched::{Watched, copy_bytes, renew_bytes};
 use board::board::Board;
 use board_types::clock::Clock;
-use debugger::session::Session;
 use debugger_meaning::fault::DebugFault;
 use events::access::Access;
 use execute_noted::notes::Accesses;
 use probe_texts::asked::Asked;
 use probe_texts::stops::Stop;
+use std::alloc::AllocError;
 
 /// Returns the least number of a stop that is met at the end of a turn of the board, in a run or a search, and brings
 /// copies of bytes up to date. The turn was one clock, or a leap in which nothing happened.
@@ -96,32 +96,33 @@ pub(crate) fn next_clock(clock: u64, end: Clock) -> Clock
     Clock::new(clock + 1).unwrap()
 }
 
-/// Makes a probe's `go`: runs a session to the clock `end`, or up to the first clock after the start at which a stop is
-/// met. Returns the least number of those that are met there, `None` at the end; or `Memory`, with the clock that was
-/// reached.
-pub(crate) fn run_to_stop(
-    session: &mut Session,
+/// Runs a board to the clock `end`, or up to the first clock after the start at which a stop is met. Returns the least
+/// number of those that are met there, `None` at the end. Refused at the clock that was reached if there is no memory.
+pub(crate) fn run_to_stop<R: Running<Accesses>>(
+    run: &mut R,
     watches: &mut [Watched],
     end: Clock,
-) -> Result<Option<usize>, DebugFault>
+) -> Result<Option<usize>, AllocError>
     requires within { All IsWatched watches.old }
-    requires from { clock_of session.old.board.plain ≤ end }
-    ensures ran { MatchResult result (RanToStop (stops_of watches.old) end session.old session.new)
-        (ShortOfMemory (stops_of watches.old) end session.old session.new) }
+    requires few { length (R.state run.old).trail ≤ 32 }
+    requires from { clock_of (R.state run.old).plain ≤ end }
+    ensures ran { MatchResult result (RanToStop (stops_of watches.old) end (R.state run.old) (R.state run.new))
+        (λ fault. RanShort (stops_of watches.old) end (R.state run.old) (R.state run.new)) }
+    ensures rest { R.rest run.new ≡ R.rest run.old }
     ensures keeps { KeepsStops watches.old watches.new }
 {
-    copy_bytes(watches, session.board());
+    copy_bytes(watches, run.now());
     let mut accesses = Accesses::new();
-    let start = session.board().clock().get();
-    let mut turn = Turn::none(session.board(), asked_by(watches));
-    'turns: while session.board().clock() < end {
+    let start = run.now().clock().get();
+    let mut turn = Turn::none(run.now(), asked_by(watches));
+    'turns: while run.now().clock() < end {
         let to = turn_end(turn.after.clock, start, end);
         let next = next_clock(turn.after.clock, to);
-        let Ok(begun) = session.run_turn(next, to, &mut accesses, !turn.asked.wires) else {
-            return Err(lacking(session));
+        let Ok(begun) = run.make_turn(next, to, &mut accesses, !turn.asked.wires) else {
+            return Err(AllocError);
         };
-        turn.next(begun, session.board());
-        let number = found(watches, &turn, accesses.as_slice(), session.board());
+        turn.next(begun, run.now());
+        let number = found(watches, &turn, accesses.as_slice(), run.now());
         if number.is_some() {
             return Ok(number);
         }

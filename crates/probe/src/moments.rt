@@ -4,25 +4,21 @@ ghost use Rattle.std.specs.List.{flat_map};
 ghost use Rattle.std.specs.Result.{IfErr};
 ghost use Rattle.board_plain.specs.Plain.{Plain, clock_of};
 ghost use Rattle.debugger_meaning.specs.SessionInvariant.{LacksMemory};
-ghost use Rattle.debugger_meaning.specs.Stands.{session_about};
 ghost use Rattle.events.specs.WithKey.{with_key};
-ghost use Rattle.probe.specs.Looked.{RanToStop};
 ghost use Rattle.probe.specs.Moments.{AnswersTrial, AreRanges, CanBeTried, CannotBeTried, names_keys, span_of, with_tried};
 ghost use Rattle.probe_texts.specs.Requests.{IsRising};
 ghost use Rattle.probe.specs.ProbeStops.{IsEndOf};
-ghost use Rattle.probe.specs.Tried.{RunsTo, TriedNext, TriedSoFar, added, ends_of, ends_with, joined, moments_of};
+ghost use Rattle.probe.specs.Tried.{RunsTo, Tried, TriedNext, added, ends_of, ends_with, joined, moments_of};
 ghost use Rattle.probe.specs.Watched.{IsWatched, KeepsStops, all_standing, stops_of};
 
-use crate::looking::{asked_by, found, next_clock, turn_end};
-use crate::seen::Turn;
-use crate::watched::{Watched, all_stand, conditions_of, copy_bytes};
+use crate::looking::run_to_stop;
+use crate::watched::{Watched, all_stand, conditions_of};
 use board::board::Board;
 use board_plain::stop::{Stop, Stopped};
 use board_types::clock::Clock;
 use board_types::keys::{StampedKey, is_scan_code};
 use debugger_meaning::answer::Answer;
 use debugger_meaning::fault::DebugFault;
-use execute_noted::notes::Accesses;
 use probe_texts::moments_text::{Ends, Moments, Second, Trial, moments_text};
 use std::alloc::{AllocError, Global};
 
@@ -137,14 +133,16 @@ fn try_at(
     ranges: &mut Vec<Moments>,
 ) -> Result<bool, DebugFault>
     requires start { 1 ≤ stamp }
+    requires first { trial.first ≤ stamp }
+    requires last { stamp ≤ trial.last }
     requires limit { stamp + span_of trial.second ≤ 2 ^ 40 }
     requires before { clock_of bare.old.plain < stamp }
     requires in_time { clock_of bare.old.plain ≤ end }
     requires trail { length bare.old.trail ≤ 32 }
     requires within { All IsWatched watches.old }
     requires few { length (stops_of watches.old) ≤ 16 }
-    ensures tried { IfOk result (λ known. (s : Plain)
-        → TriedSoFar (stops_of watches.old) s bare.old.plain trial end stamp ranges.old.items watches.old
+    ensures tried { IfOk result (λ known. (s : Plain) → end ≡ clock_of s + trial.count
+        → Tried (stops_of watches.old) s bare.old.plain trial end stamp ranges.old.items watches.old
         → TriedNext known (stops_of watches.old) s bare.new.plain trial end stamp ranges.new.items watches.new) }
     ensures trail { IfOk result (λ known. length bare.new.trail ≤ 32) }
     ensures fault { IfErr result LacksMemory }
@@ -233,47 +231,13 @@ fn run(board: &mut Board, watches: &mut [Watched], end: Clock) -> Result<Stopped
     if all_stand(watches) {
         return run_standing(board, watches, end);
     }
-    match run_board(board, watches, end)? {
+    match run_to_stop(board, watches, end)? {
         Some(number) => Ok(Some(Stop {
             number,
             clock: board.clock(),
         })),
         None => Ok(None),
     }
-}
-
-/// Makes a run of a trial whose stops aren't all conditions, turn by turn: to the clock `end`, or up to the first clock
-/// after the start at which a stop is met. Returns the least number of those that are met there, `None` if none is.
-fn run_board(
-    board: &mut Board,
-    watches: &mut [Watched],
-    end: Clock,
-) -> Result<Option<usize>, DebugFault>
-    requires within { All IsWatched watches.old }
-    requires from { clock_of board.old.plain ≤ end }
-    requires trail { length board.old.trail ≤ 32 }
-    ensures ran { IfOk result (RanToStop (stops_of watches.old) end (session_about board.old)
-        (record (session_about board.old) { board = board.new })) }
-    ensures fault { IfErr result LacksMemory }
-    ensures keeps { KeepsStops watches.old watches.new }
-{
-    copy_bytes(watches, board);
-    let mut accesses = Accesses::new();
-    let start = board.clock().get();
-    let mut turn = Turn::none(board, asked_by(watches));
-    'turns: while board.clock() < end {
-        let to = turn_end(turn.after.clock, start, end);
-        let next = next_clock(turn.after.clock, to);
-        let Ok(begun) = board.run_turn(next, to, &mut accesses, !turn.asked.wires) else {
-            return Err(DebugFault::Memory(None));
-        };
-        turn.next(begun, board);
-        let number = found(watches, &turn, accesses.as_slice(), board);
-        if number.is_some() {
-            return Ok(number);
-        }
-    }
-    Ok(None)
 }
 
 /// Makes a run of a trial whose stops are all conditions, by the board's own search, which is faster.
@@ -390,24 +354,10 @@ fn ends_with(ends: &Option<Ends>, stopped: &Stopped) -> Option<Option<Ends>>
             }
             Some(Some(Ends {
                 number: ends.number,
-                least: earlier(ends.least, stop.clock),
-                greatest: later(ends.greatest, stop.clock),
+                least: ends.least.min(stop.clock),
+                greatest: ends.greatest.max(stop.clock),
             }))
         }
         (None, Some(_)) | (Some(_), None) => None,
     }
-}
-
-/// The earlier of two clocks, for a range's least end.
-fn earlier(a: Clock, b: Clock) -> Clock
-    ensures { result ≡ min a b }
-{
-    if a <= b { a } else { b }
-}
-
-/// The later of two clocks, for a range's greatest end.
-fn later(a: Clock, b: Clock) -> Clock
-    ensures { result ≡ max a b }
-{
-    if a <= b { b } else { a }
 }

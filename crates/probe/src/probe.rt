@@ -4,18 +4,19 @@ ghost use Rattle.std.specs.Result.{IfErr};
 ghost use Rattle.board_plain.specs.Plain.{clock_of};
 ghost use Rattle.debugger_meaning.specs.Stands.{Stands, gone, shown_of};
 ghost use Rattle.probe.specs.Lab.{left_by, shown_edited, takes_edit};
-ghost use Rattle.probe.specs.Looked.{FindsNoStop, answer_at, from_of, with_number};
+ghost use Rattle.probe.specs.Looked.{FindsNoStop, answer_at, from_of};
 ghost use Rattle.probe.specs.Moments.{AnswersTrial};
 ghost use Rattle.probe_texts.specs.Wishes.{HasPlaces};
-ghost use Rattle.probe.specs.Probe.{AddsStop, AnswersStopping, GoesBackToStop, GoesOn, RefusesBackToStop, RefusesGoing, RefusesStop, conditions_of, gone_by, probe_about, session_of};
-ghost use Rattle.probe_texts.specs.Requests.{HasBytes, IsRising};
+ghost use Rattle.probe.specs.Probe.{AddsStop, AnswersRequest, AnswersStopping, GoesBackToStop, GoesOn, RefusesBackToStop, RefusesGoing, RefusesStop, conditions_of, gone_by, probe_about, session_of};
+ghost use Rattle.probe_texts.specs.Requests.{HasBytes, IsRequest, IsRising};
 ghost use Rattle.probe.specs.ProbeStops.{MetLast};
 ghost use Rattle.probe.specs.Watched.{IsWatched, KeepsStops, stops_of};
 
 use crate::edits::{edit_board, edit_session, takes_edit};
 use crate::looking::{last_met, run_to_stop};
+use crate::making::lacking;
 use crate::moments::tell_moments;
-use crate::session::command;
+use crate::session::inquire;
 use crate::watched::{Watched, Watches, all_stand, with_room};
 use board::board::Board;
 use board_types::clock::Clock;
@@ -67,28 +68,33 @@ impl Probe {
         })
     }
 
-    /// Answers a typed line: by the probe's own stops if the line has to do with stops, else as a command of the
-    /// debugger or an inquiry. After each line the board is the one with which the probe began, some clocks later.
+    /// Answers a typed line, or refuses it: as `BadCommand` if it asks for nothing. After each line the board is the one
+    /// with which the probe began, some clocks later.
     pub fn command(&mut self, alloc: Global, line: &str) -> Result<Answer, DebugFault>
         ensures answers { AnswersStopping line.now self.old result self.new }
         ensures stands { Stands (session_of self.new) }
     {
-        let answer = self.answer(alloc, line);
+        let answer = match read_request(line) {
+            Some(request) => self.answer(alloc, request),
+            None => Err(DebugFault::BadCommand),
+        };
         // whatever the answer, the board stands some clocks after the first one
         let _board = self.session.board();
         answer
     }
 
-    /// Does what a typed line asks for: runs, stops and trials here, and any other line in the session.
-    fn answer(&mut self, alloc: Global, line: &str) -> Result<Answer, DebugFault>
-        ensures { AnswersStopping line.now self.old result self.new }
+    /// Does what a line asks for, once it has been read.
+    fn answer(&mut self, alloc: Global, request: Request) -> Result<Answer, DebugFault>
+        requires { IsRequest request }
+        ensures { AnswersRequest request self.old result self.new }
     {
-        match read_request(line) {
-            Some(Request::Add(stop)) => self.add(alloc, stop),
-            Some(Request::Go(count)) => self.go(count),
-            Some(Request::BackStop) => self.back_stop(),
-            Some(Request::Try(trial)) => self.moments(alloc, trial),
-            None => command(&mut self.session, alloc, line),
+        match request {
+            Request::Add(stop) => self.add(alloc, stop),
+            Request::Go(count) => self.go(count),
+            Request::BackStop => self.back_stop(),
+            Request::Try(trial) => self.moments(alloc, trial),
+            Request::Inquire(inquiry) => inquire(&mut self.session, alloc, inquiry),
+            Request::Do(command) => self.session.answer(alloc, command),
         }
     }
 
@@ -134,7 +140,7 @@ impl Probe {
         let end = Clock::new(start + count).unwrap();
         match run_to_stop(&mut self.session, self.watches.as_mut_slice(), end) {
             Ok(found) => Ok(told(found, self.session.board().clock())),
-            Err(fault) => Err(fault),
+            Err(_) => Err(lacking(&self.session)),
         }
     }
 
@@ -159,7 +165,13 @@ impl Probe {
         ensures { MatchResult result (GoesBackToStop self.old self.new) (RefusesBackToStop self.old self.new) }
     {
         let count = self.session.board().clock().get() - clock.get();
-        with_number(self.session.back(count), clock, number)
+        match self.session.back(count) {
+            Ok(answer) => {
+                drop(answer);
+                Ok(Answer::StopAt(number, clock))
+            }
+            Err(fault) => Err(fault),
+        }
     }
 
     /// Answers the line `moments`: how runs from here would end with the trial's keys, for each clock of the first. The
@@ -314,23 +326,5 @@ fn told(found: Option<usize>, clock: Clock) -> Answer
     match found {
         Some(number) => Answer::StopAt(number, clock),
         None => Answer::Clock(clock),
-    }
-}
-
-/// Turns the session's answer to a way back into that of `back stop`: the clock, with the number of the stop that was
-/// found there. A refusal stays.
-fn with_number(
-    back: Result<Answer, DebugFault>,
-    clock: Clock,
-    number: usize,
-) -> Result<Answer, DebugFault>
-    ensures { result ≡ with_number back clock number }
-{
-    match back {
-        Ok(answer) => {
-            drop(answer);
-            Ok(Answer::StopAt(number, clock))
-        }
-        Err(fault) => Err(fault),
     }
 }

@@ -2,10 +2,9 @@
 ghost use Rattle.std.specs.Prelude.{◌≡◌};
 ghost use Rattle.probe_texts.specs.ChipsText.{chips_text};
 ghost use Rattle.probe_texts.specs.FormLines.{lines_text};
-ghost use Rattle.probe.specs.InquirySession.{AnswersInquiry, AnswersProbe};
+ghost use Rattle.probe.specs.InquirySession.{AnswersInquiry};
 ghost use Rattle.board_plain.specs.Plain.{byte_of};
 ghost use Rattle.debugger_meaning.specs.Session.{Shows};
-ghost use Rattle.debugger_meaning.specs.Stands.{Stands};
 
 use crate::board_bytes::BoardBytes;
 use crate::chips::chips_text;
@@ -15,28 +14,17 @@ use crate::typed::type_key;
 use debugger::session::Session;
 use debugger_meaning::answer::Answer;
 use debugger_meaning::fault::DebugFault;
-use probe_texts::inquiry::{Inquiry, Lines, Place, read_inquiry};
+use probe_texts::inquiry::{Inquiry, Lines, Place};
 use probe_texts::list_text::lines_text;
 use std::alloc::Global;
 
-/// Answers a typed line: an inquiry here, and any other line as the debugger's session does. `chips`, `list` and `forms`
-/// change nothing; `counts`, `signals` and `events` run for some clocks; `key` adds a key that is still to come. An inquiry is
-/// refused as `Memory` if there is none. The board always stays the session's first one some clocks later.
-pub fn command(session: &mut Session, alloc: Global, line: &str) -> Result<Answer, DebugFault>
-    ensures answers { AnswersProbe line.now session.old result session.new }
-    ensures stands { Stands session.new }
-{
-    let answer = match read_inquiry(line) {
-        None => session.command(alloc, line),
-        Some(inquiry) => answer(session, alloc, inquiry),
-    };
-    // whatever the answer, the board stands some clocks after the first one
-    let _board = session.board();
-    answer
-}
-
-/// Answers an inquiry, once its line has been read, or refuses it.
-fn answer(session: &mut Session, alloc: Global, inquiry: Inquiry) -> Result<Answer, DebugFault>
+/// Answers an inquiry. `chips`, `list` and `forms` change nothing; `counts`, `signals` and `events` run for some clocks;
+/// `key` adds a key that is still to come. Refused as `Memory` if there is none.
+pub(crate) fn inquire(
+    session: &mut Session,
+    alloc: Global,
+    inquiry: Inquiry,
+) -> Result<Answer, DebugFault>
     ensures { AnswersInquiry inquiry session.old result session.new }
 {
     match inquiry {

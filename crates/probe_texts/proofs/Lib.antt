@@ -4,3 +4,4 @@ pub mod Listing
 pub mod Asking
 pub mod Hearing
 pub mod Clocks
+pub mod Pieces

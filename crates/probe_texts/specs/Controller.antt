@@ -20,7 +20,7 @@ awaited_text Icw4 = codes "ICW4"
 awaited_text Operation = codes "none"
 
 -- the request lines and the three registers, a bit for each level
-unfoldable pub controller_registers : PicState → List ℕ
+abbrev pub controller_registers : PicState → List ℕ
 controller_registers s =
     codes "controller IR " ++ (hex_byte_text (byte_of s.high)
     ++ (codes " IRR " ++ (hex_byte_text (byte_of (requests s))
@@ -29,7 +29,7 @@ controller_registers s =
 
 -- the level with the lowest priority; the interrupt output, and the vector that an acknowledge would give now; and the
 -- command word that is awaited
-unfoldable pub controller_output : PicState → List ℕ
+abbrev pub controller_output : PicState → List ℕ
 controller_output s =
     codes " lowest " ++ (decimal (slice_index s.order 7)
     ++ (codes " INT " ++ (flag_text (is_requesting s)
@@ -38,7 +38,7 @@ controller_output s =
 
 -- what the initialisation has set: level mode (LTIM of ICW1), 8086 mode (µPM of ICW4) and automatic end of interrupt
 -- (AEOI); and rotation in that mode
-unfoldable pub controller_modes : PicState → List ℕ
+abbrev pub controller_modes : PicState → List ℕ
 controller_modes s =
     codes " LTIM " ++ (flag_text s.is_level_triggered
     ++ (codes " uPM " ++ (flag_text s.is_8086
@@ -47,7 +47,7 @@ controller_modes s =
 
 -- what OCW3 has set: special mask mode (SMM), a poll that waits for its read (P), and that reads give the levels in
 -- service (RIS)
-unfoldable pub controller_reads : PicState → List ℕ
+abbrev pub controller_reads : PicState → List ℕ
 controller_reads s =
     codes " SMM " ++ (flag_text s.special_mask
     ++ (codes " P " ++ (flag_text s.polled
@@ -55,7 +55,7 @@ controller_reads s =
 
 -- the levels whose line has risen since they were last taken, a bit a level, whatever the lines are now; and by ICW1
 -- that no ICW3 belongs to the sequence (SNGL), and that ICW4 does (IC4)
-unfoldable pub controller_kept : PicState → List ℕ
+abbrev pub controller_kept : PicState → List ℕ
 controller_kept s =
     codes " risen " ++ (hex_byte_text (byte_of s.risen)
     ++ (codes " SNGL " ++ (flag_text (not s.is_cascaded)

@@ -13,7 +13,7 @@ abbrev pub newest_of : CounterState → Option ℕ
 newest_of c = if is_awaited c.progress then None else Some (digits_of c.radix c.newest)
 
 -- the counter's number; the control word's mode, access (RW) and radix (BCD); the running count and the newest one
-unfoldable pub counter_counts : ℕ → CounterState → List ℕ
+abbrev pub counter_counts : ℕ → CounterState → List ℕ
 counter_counts n c =
     codes "counter " ++ (decimal n
     ++ (codes " mode " ++ (decimal (mode_number c.mode)
@@ -28,7 +28,7 @@ loads_next c = not (after_tick (record c { is_null = true })).is_null
 
 -- whether the next tick loads the newest count; output and gate; the first byte of a count whose second is still to be
 -- written; the latched count; and whether the next read of the count gives its high byte
-unfoldable pub counter_lines : CounterState → List ℕ
+abbrev pub counter_lines : CounterState → List ℕ
 counter_lines c =
     codes " load " ++ (flag_text (loads_next c)
     ++ (codes " OUT " ++ (line_text c.out
@@ -39,7 +39,7 @@ counter_lines c =
 
 -- whether a count was loaded since the control word; whether a full count or a trigger asked for the next load; whether
 -- the strobe of the loaded count is still to come; and the running count's radix
-unfoldable pub counter_running : CounterState → List ℕ
+abbrev pub counter_running : CounterState → List ℕ
 counter_running c =
     codes " loaded " ++ (flag_text (is_loaded c.progress)
     ++ (codes " due " ++ (flag_text c.load_due

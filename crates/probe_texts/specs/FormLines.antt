@@ -5,8 +5,8 @@ use Rattle.std.specs.Prelude.{ℕ, ◌-◌, ◌%◌, ◌==◌, Bool, true, false
 use Rattle.std.specs.Prelude.{codes, length, Option, None, Some}
 use Rattle.std.specs.Fmt.{decimal}
 use Rattle.std.specs.List.{flat_map}
-use Rattle.board_types.specs.Address.{offset_after}
-use Rattle.board_types.specs.Digits.{hex_byte_text, hex_word}
+use Rattle.board_types.specs.Address.{offset_after, physical}
+use Rattle.board_types.specs.Digits.{hex_byte_text}
 use Rattle.board_types.specs.Iterate.{gathered}
 use Rattle.board_types.specs.declared.choice.ClockTable.TheVariants.{C1, C2}
 use Rattle.board_types.specs.declared.regs.Flags.{Flags}
@@ -34,7 +34,7 @@ use Rattle.forms.specs.StackMove.{move_of}
 use Rattle.forms.specs.StepClocks.{clocks_told}
 use Rattle.probe_texts.specs.declared.inquiry.Lines.{Lines}
 use Rattle.probe_texts.specs.declared.inquiry.Lines.TheVariants.{Texts, Forms}
-use Rattle.probe_texts.specs.Listing.{bytes_listed, line_of, offset_listed_next, size_listed, stands_at}
+use Rattle.probe_texts.specs.Listing.{bytes_listed, offset_listed_next, place_text, size_listed, stands_at, text_listed}
 
 abbrev pub flow_word : Flow → List ℕ
 flow_word flows.Next = codes "next"
@@ -46,9 +46,6 @@ flow_word flows.Enter = codes "enter"
 flow_word flows.MayEnter = codes "may-enter"
 flow_word flows.Halt = codes "halt"
 flow_word flows.Repeat = codes "repeat"
-
-abbrev pub place_text : ℕ → ℕ → List ℕ
-place_text segment offset = hex_word segment ++ (codes ":" ++ hex_word offset)
 
 -- where an instruction leads, if the next one stands at this place: another place, or what has it
 abbrev pub target_text : Target → ℕ → ℕ → List ℕ
@@ -70,11 +67,8 @@ move_text (moves.Or bytes) = signed_text bytes ++ codes "/0"
 move_text moves.Loads = codes "loads"
 
 -- a name after others, if it is to be there, with a comma between them
-abbrev pub comma_after : List ℕ → List ℕ
-comma_after text = if length text == 0 then [] else codes ","
-
 unfoldable pub with_name : List ℕ → Bool → List ℕ → List ℕ
-with_name text true name = text ++ (comma_after text ++ name)
+with_name text true name = text ++ ((if length text == 0 then [] else codes ",") ++ name)
 with_name text false name = text
 
 abbrev pub names_after : List ℕ → List (Bool × List ℕ) → List ℕ
@@ -82,27 +76,17 @@ names_after text [] = text
 names_after text (name ∷ names) = names_after (with_name text name.0 name.1) names
 
 -- a word if nothing stands there
-unfoldable pub or_word : List ℕ → List ℕ → List ℕ
-or_word text word = text ++ (if length text == 0 then word else [])
+abbrev pub or_word : List ℕ → List ℕ → List ℕ
+or_word text word = if length text == 0 then word else text
 
 -- the registers that an instruction may change, in the order of `regs`; where it leads tells CS and IP
-abbrev pub words_set : Instr → List (Bool × List ℕ)
-words_set i =
-    (sets_word i Ax, codes "AX") ∷ (sets_word i Bx, codes "BX") ∷ (sets_word i Cx, codes "CX")
-    ∷ (sets_word i Dx, codes "DX") ∷ []
-
-abbrev pub pointers_set : Instr → List (Bool × List ℕ)
-pointers_set i =
-    (sets_word i Sp, codes "SP") ∷ (sets_word i Bp, codes "BP") ∷ (sets_word i Si, codes "SI")
-    ∷ (sets_word i Di, codes "DI") ∷ []
-
-abbrev pub segments_set : Instr → List (Bool × List ℕ)
-segments_set i =
-    (sets_segment i Ds, codes "DS") ∷ (sets_segment i Es, codes "ES") ∷ (sets_segment i Ss, codes "SS") ∷ []
-
 unfoldable pub sets_text : Instr → List ℕ
 sets_text i =
-    or_word (names_after (names_after (names_after [] (words_set i)) (pointers_set i)) (segments_set i)) (codes "none")
+    names_after [] (
+    (sets_word i Ax, codes "AX") ∷ (sets_word i Bx, codes "BX") ∷ (sets_word i Cx, codes "CX")
+    ∷ (sets_word i Dx, codes "DX") ∷ (sets_word i Sp, codes "SP") ∷ (sets_word i Bp, codes "BP")
+    ∷ (sets_word i Si, codes "SI") ∷ (sets_word i Di, codes "DI") ∷ (sets_segment i Ds, codes "DS")
+    ∷ (sets_segment i Es, codes "ES") ∷ (sets_segment i Ss, codes "SS") ∷ [])
 
 abbrev pub letter : Bool → List ℕ → List ℕ
 letter true name = name
@@ -110,19 +94,14 @@ letter false name = []
 
 -- the flags that an instruction may change
 unfoldable pub alters_text : Flags → List ℕ
-alters_text f = or_word (
+alters_text f =
     letter f.overflow (codes "O") ++ (letter f.direction (codes "D") ++ (letter f.interrupt_enable (codes "I")
     ++ (letter f.trap (codes "T") ++ (letter f.sign (codes "S") ++ (letter f.zero (codes "Z")
-    ++ (letter f.auxiliary_carry (codes "A") ++ (letter f.parity (codes "P") ++ letter f.carry (codes "C")))))))))
-    (codes "-")
+    ++ (letter f.auxiliary_carry (codes "A") ++ (letter f.parity (codes "P") ++ letter f.carry (codes "C"))))))))
 
 -- a number if an interrupt is entered, and one if it isn't, if they differ
 abbrev pub either_text : ℕ → ℕ → List ℕ
 either_text entered not = if entered == not then decimal not else decimal entered ++ (codes "/" ++ decimal not)
-
--- bytes that are read, and bytes that are written: by one step, or for one element of a repeat
-abbrev pub reached_text : Accesses → Accesses → List ℕ
-reached_text entered not = either_text entered.read not.read ++ (codes " " ++ either_text entered.written not.written)
 
 abbrev pub port_name_text : PortName → List ℕ
 port_name_text ports.InDx = codes "DX"
@@ -149,17 +128,23 @@ leads_text i segment next =
     codes " does " ++ (flow_word (flow_of i) ++ (codes " to " ++ (target_text (target_of i) segment next
     ++ (codes " sp " ++ move_text (move_of i)))))
 
--- what it may change and reach, and its clocks by each table
+-- what it may change
 unfoldable pub changes_text : Instr → List ℕ
 changes_text i =
-    codes " sets " ++ (sets_text i ++ (codes " alters " ++ alters_text (alters_of i)))
+    codes " sets " ++ (or_word (sets_text i) (codes "none")
+    ++ (codes " alters " ++ or_word (alters_text (alters_of i)) (codes "-")))
 
+-- what it reaches: bytes that are read, and that are written, by one step, or for one element of a repeat; a port; and
+-- its clocks by each table
 unfoldable pub reaches_text : Instr → List ℕ
 reaches_text i =
-    codes " mem " ++ (reached_text (accesses_of i true) (accesses_of i false)
+    let entered : Accesses = accesses_of i true in
+    let not : Accesses = accesses_of i false in
+    codes " mem " ++ (either_text entered.read not.read
+    ++ (codes " " ++ (either_text entered.written not.written
     ++ (codes " ports " ++ (port_text (port_of i)
     ++ (codes " clocks " ++ (clocks_text (clocks_told i C1) ++ (codes " " ++ (clocks_text (clocks_told i C2)
-    ++ codes "\n")))))))
+    ++ codes "\n")))))))))
 
 -- a byte that begins no instruction does nothing
 abbrev pub done_text : Decoded → ℕ → ℕ → List ℕ
@@ -168,17 +153,19 @@ done_text (Found i size) segment offset =
 done_text NoRow segment offset =
     codes " does nothing to none sp 0 sets none alters - mem 0 0 ports none clocks 0 0\n"
 
--- a line: `F000:0013 B008 does next to F000:0015 sp 0 sets AX alters - mem 0 0 ports none clocks 4 4`
-abbrev pub form_by : (ℕ → ℕ) → ℕ → ℕ → Decoded → List ℕ
-form_by bytes segment offset stands =
+-- what `list` says of what stands at a place, or what `forms` says; the listing shows the first byte if it begins no
+-- instruction
+abbrev pub said_by : Lines → Decoded → ℕ → ℕ → ℕ → List ℕ
+said_by Texts stands segment offset first = text_listed stands offset first
+said_by Forms stands segment offset first = done_text stands segment offset
+
+-- a line: the place, the bytes, and what is said of them, as `F000:0013 B008 MOV AL,008h`, or `F000:0013 B008 does next
+-- to F000:0015 sp 0 sets AX alters - mem 0 0 ports none clocks 4 4`
+abbrev pub line_by : Lines → (ℕ → ℕ) → ℕ → ℕ → Decoded → List ℕ
+line_by lines bytes segment offset stands =
     place_text segment offset
     ++ (codes " " ++ (flat_map hex_byte_text (bytes_listed bytes segment offset (size_listed stands))
-    ++ done_text stands segment offset))
-
--- a line of `list`, or of `forms`
-abbrev pub line_by : Lines → (ℕ → ℕ) → ℕ → ℕ → Decoded → List ℕ
-line_by Texts = line_of
-line_by Forms = form_by
+    ++ said_by lines stands segment offset (bytes (physical segment offset))))
 
 unfoldable pub line_at : Lines → (ℕ → ℕ) → ℕ → ℕ → List ℕ
 line_at lines bytes segment offset = line_by lines bytes segment offset (stands_at bytes segment offset)

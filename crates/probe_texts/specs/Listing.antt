@@ -1,7 +1,7 @@
 -- What stands in memory as instructions, as text.
 -- To be believed by callers of this crate: the headline does not rest on it.
 use Rattle.std.specs.Prelude.{ℕ, List, ◌++◌, codes, map}
-use Rattle.std.specs.List.{flat_map, range_with_len}
+use Rattle.std.specs.List.{range_with_len}
 use Rattle.board_types.specs.Address.{offset_after, physical}
 use Rattle.board_types.specs.Digits.{hex_byte_text, hex_word}
 use Rattle.decode.specs.declared.decoding.Decoding.{Decoding as Decoded}
@@ -23,17 +23,13 @@ abbrev pub bytes_listed : (ℕ → ℕ) → ℕ → ℕ → ℕ → List ℕ
 bytes_listed bytes segment offset size =
     map (λ k. bytes (physical segment (offset_after offset k))) (range_with_len 0 size)
 
--- an instruction, or a byte
-abbrev pub text_listed : Decoded → ℕ → ℕ → List ℕ
-text_listed (Found i size) offset byte = instr_text i offset
-text_listed NoRow offset byte = codes "DB 0" ++ (hex_byte_text byte ++ codes "h")
+abbrev pub place_text : ℕ → ℕ → List ℕ
+place_text segment offset = hex_word segment ++ (codes ":" ++ hex_word offset)
 
--- a line of the listing: `F000:0013 B008 MOV AL,008h`, `F000:0017 0F DB 00Fh`
-abbrev pub line_of : (ℕ → ℕ) → ℕ → ℕ → Decoded → List ℕ
-line_of bytes segment offset stands =
-    hex_word segment ++ (codes ":" ++ (hex_word offset ++ (codes " "
-    ++ (flat_map hex_byte_text (bytes_listed bytes segment offset (size_listed stands))
-    ++ (codes " " ++ (text_listed stands offset (bytes (physical segment offset)) ++ codes "\n"))))))
+-- the end of a line of the listing, an instruction or a byte: `F000:0013 B008 MOV AL,008h`, `F000:0017 0F DB 00Fh`
+abbrev pub text_listed : Decoded → ℕ → ℕ → List ℕ
+text_listed (Found i size) offset byte = codes " " ++ (instr_text i offset ++ codes "\n")
+text_listed NoRow offset byte = codes " DB 0" ++ (hex_byte_text byte ++ codes "h\n")
 
 -- the offset at which the next line begins
 unfoldable pub offset_listed_next : (ℕ → ℕ) → ℕ → ℕ → ℕ

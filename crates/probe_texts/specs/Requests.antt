@@ -1,21 +1,23 @@
--- What a line asks for that has to do with stops.
+-- What a line asks a probe for.
 -- To be believed by callers of this crate: the headline does not rest on it.
-use Rattle.std.specs.Prelude.{ℕ, ◌+◌, ◌≤◌, ◌^◌, Bool, true, false, ◌&&◌, nat_le, if◌then◌else◌}
+use Rattle.std.specs.Prelude.{ℕ, ◌≡◌, ◌+◌, ◌≤◌, ◌^◌, Bool, true, false, ◌&&◌, nat_le, if◌then◌else◌}
 use Rattle.std.specs.Prelude.{List, [], ◌∷◌, codes, Option, None, Some, option_map}
 use Rattle.std.specs.Str.{bytes_eq}
 use Rattle.board_plain.specs.declared.stop.Condition.TheVariants as conditions
 use Rattle.board_plain.specs.Stops.{HasAddress}
 use Rattle.debugger_meaning.specs.declared.command.Command.{Command}
 use Rattle.debugger_meaning.specs.declared.command.Command.TheVariants as commands
-use Rattle.debugger_meaning.specs.Commands.{command_of}
+use Rattle.debugger_meaning.specs.Commands.{command_of, IsWithin}
 use Rattle.debugger_meaning.specs.CommandWords.{count_of, hex_number, words_of}
 use Rattle.probe_texts.specs.declared.kinds.Kind.{Kind}
+use Rattle.probe_texts.specs.declared.inquiry.Inquiry.{Inquiry}
 use Rattle.probe_texts.specs.declared.moments_text.Second.{Second}
 use Rattle.probe_texts.specs.declared.moments_text.Trial.{Trial}
 use Rattle.probe_texts.specs.declared.stops.Request.{Request}
-use Rattle.probe_texts.specs.declared.stops.Request.TheVariants.{Add, Go, BackStop, Try}
+use Rattle.probe_texts.specs.declared.stops.Request.TheVariants.{Add, Go, BackStop, Try, Inquire, Do}
 use Rattle.probe_texts.specs.declared.stops.Stop.{Stop}
 use Rattle.probe_texts.specs.declared.stops.Stop.TheVariants.{Standing, When, Changes}
+use Rattle.probe_texts.specs.Inquiry.{inquiry_of}
 use Rattle.probe_texts.specs.Kinds.{kinds_from}
 
 -- 1 to 65,536 bytes, all of them below 100000h
@@ -85,25 +87,23 @@ unfoldable pub trial_of : List ℕ → Option Trial
 trial_of line = trial_in (words_of line)
 
 -- what a command of the debugger asks for
-abbrev pub request_by : Option Command → Option Request
-request_by (Some (commands.Break cs ip)) = Some (Add (Standing (conditions.At cs ip)))
-request_by (Some (commands.Byte address byte)) = Some (Add (Standing (conditions.Byte address byte)))
-request_by (Some commands.Sound) = Some (Add (Standing conditions.Sound))
-request_by (Some commands.Halted) = Some (Add (Standing conditions.Halted))
-request_by (Some (commands.Go count)) = Some (Go count)
-request_by (Some commands.BackStop) = Some BackStop
-request_by _ = None
+abbrev pub request_by : Command → Request
+request_by (commands.Break cs ip) = Add (Standing (conditions.At cs ip))
+request_by (commands.Byte address byte) = Add (Standing (conditions.Byte address byte))
+request_by commands.Sound = Add (Standing conditions.Sound)
+request_by commands.Halted = Add (Standing conditions.Halted)
+request_by (commands.Go count) = Go count
+request_by commands.BackStop = BackStop
+request_by command = Do command
 
-abbrev pub request_in : Option Stop → Option Command → Option Request
-request_in (Some stop) command = Some (Add stop)
-request_in None command = request_by command
-
-abbrev pub request_with : Option Trial → Option Stop → Option Command → Option Request
-request_with (Some trial) stop command = Some (Try trial)
-request_with None stop command = request_in stop command
+abbrev pub request_in : Option Trial → Option Stop → Option Inquiry → Option Command → Option Request
+request_in (Some trial) stop inquiry command = Some (Try trial)
+request_in None (Some stop) inquiry command = Some (Add stop)
+request_in None None (Some inquiry) command = Some (Inquire inquiry)
+request_in None None None command = option_map request_by command
 
 abbrev pub request_of : List ℕ → Option Request
-request_of line = request_with (trial_of line) (stop_of line) (command_of line)
+request_of line = request_in (trial_of line) (stop_of line) (inquiry_of line) (command_of line)
 
 -- the bytes for which a stop waits have addresses, and are few
 abbrev pub HasBytes : Stop → Type 0
@@ -115,12 +115,15 @@ HasBytes (Changes address count) = (1 ≤ count) × ((count ≤ 65536) × (addre
 abbrev pub IsRising : Trial → Type 0
 IsRising trial = trial.first ≤ trial.last
 
--- a request's stop waits for changes of bytes that have addresses, and a request's trial has rising clocks
+-- a request's stop waits for changes of bytes that have addresses, its trial has rising clocks, and its command is one
+-- of those that have nothing to do with stops
 abbrev pub IsRequest : Request → Type 0
 IsRequest (Add stop) = HasBytes stop
 IsRequest (Go count) = Unit {0}
 IsRequest BackStop = Unit {0}
 IsRequest (Try trial) = IsRising trial
+IsRequest (Inquire inquiry) = Unit {0}
+IsRequest (Do command) = IsWithin (Some command) × (request_by command ≡ Do command)
 
 -- a stop is a condition
 abbrev pub is_standing : Stop → Bool

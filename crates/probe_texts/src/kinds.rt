@@ -1,7 +1,7 @@
 //! The kinds of events that are listed, and how words name them.
-ghost use Rattle.std.specs.Prelude.{◌≡◌, ◌^◌, ◌<◌, ◌≤◌, [], length, option_map, position, IfSome};
+ghost use Rattle.std.specs.Prelude.{◌≡◌, ◌==◌, ◌^◌, ◌<◌, ◌≤◌, [], length, option_map, position, IfSome};
 ghost use Rattle.debugger_meaning.specs.CommandWords.{words_of};
-ghost use Rattle.probe_texts.specs.Kinds.{is_equals, is_hyphen, kind_of, kind_with, kinds_from, plain_kind, range_of};
+ghost use Rattle.probe_texts.specs.Kinds.{kind_of, kind_with, kinds_from, plain_kind, range_of};
 
 use arrayvec::ArrayVec;
 use debugger_meaning::word::{hex_number, next_word};
@@ -55,27 +55,19 @@ pub fn read_kinds(line: &[u8]) -> Option<Kinds>
 fn kind_of(word: &[u8]) -> Option<Kind>
     ensures { result ≡ kind_of word.now }
 {
-    match equals_place(word) {
+    match mark_place(word, b'=') {
         Some(place) => kind_with(&word[..place], &word[place + 1..]),
         None => plain_kind(word),
     }
 }
 
-/// Returns the index of a word's first `=`, which parts a kind's name and its range; `None` if it has none.
-fn equals_place(word: &[u8]) -> Option<usize>
-    ensures value { result ≡ position is_equals word.now }
+/// Returns the index of a word's first `mark`: `=` parts a kind's name and its range, and a hyphen the first and the last
+/// number of a range; `None` if it has none.
+fn mark_place(word: &[u8], mark: u8) -> Option<usize>
+    ensures value { result ≡ position (λ b. b == mark) word.now }
     ensures bound { IfSome result (λ at. at < length word.now) }
 {
-    word.iter().position(|byte| *byte == b'=')
-}
-
-/// Returns the index of a word's first hyphen, which parts the first and the last number of a range; `None` if it has
-/// none.
-fn hyphen_place(word: &[u8]) -> Option<usize>
-    ensures value { result ≡ position is_hyphen word.now }
-    ensures bound { IfSome result (λ at. at < length word.now) }
-{
-    word.iter().position(|byte| *byte == b'-')
+    word.iter().position(|byte| *byte == mark)
 }
 
 /// Reads a word without a range as a kind of events; `writes` and `ports` then mean all addresses and all ports.
@@ -126,7 +118,7 @@ fn range_of(most: usize, word: &[u8]) -> Option<(u32, u32)>
     ensures value { result ≡ range_of most word.now }
     ensures bound { IfSome result (λ range. (range.0 < 16 ^ most) × (range.1 < 16 ^ most)) }
 {
-    let place = hyphen_place(word)?;
+    let place = mark_place(word, b'-')?;
     let first = hex_number(most, &word[..place])?;
     let last = hex_number(most, &word[place + 1..])?;
     if last < first {

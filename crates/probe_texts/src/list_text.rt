@@ -2,11 +2,12 @@
 ghost use Rattle.std.specs.Prelude.{◌≡◌, ◌++◌, IfOk, OnOk, Some};
 ghost use Rattle.std.specs.List.{flat_map};
 ghost use Rattle.std.specs.String.{string_bytes};
+ghost use Rattle.board_types.specs.Address.{offset_after};
 ghost use Rattle.board_types.specs.Digits.{hex_byte_text};
-ghost use Rattle.probe_texts.specs.FormLines.{line_at, line_by, lines_text};
-ghost use Rattle.probe_texts.specs.Listing.{bytes_listed, line_of, offset_listed_next, size_listed, stands_at, text_listed};
+ghost use Rattle.probe_texts.specs.FormLines.{line_at, lines_text, said_by};
+ghost use Rattle.probe_texts.specs.Listing.{bytes_listed, offset_listed_next, place_text, size_listed, text_listed};
 
-use crate::forms_text::form_by;
+use crate::forms_text::push_form;
 use crate::inquiry::{Lines, Place};
 use board_types::address::physical;
 use board_types::bytes::Bytes;
@@ -17,32 +18,26 @@ use disassembler::text::InstrText;
 use std::alloc::{AllocError, Global};
 use std::fmt;
 
-/// What the inquiry `list` shows at an offset: an instruction, or a byte that begins none.
-#[derive(Drop)]
-struct Listed<'a> {
-    stands: &'a Decoding,
-    offset: u16,
-    byte: u8,
+impl Place {
+    /// Returns the place so many bytes on; its offset wraps around in the segment.
+    pub(crate) fn after(self, bytes: u16) -> Place
+        ensures segment { result.segment ≡ self.segment }
+        ensures offset { result.offset ≡ offset_after self.offset bytes }
+    {
+        let mut place = self;
+        place.offset = place.offset.wrapping_add(bytes);
+        place
+    }
 }
 
-impl fmt::Display for Listed<'_> {
-    ghost output = { λ l. Some (text_listed l.stands.now l.offset l.byte) };
+impl fmt::Display for Place {
+    ghost output = { λ p. Some (place_text p.segment p.offset) };
 
-    /// Writes the instruction as a source has it, or `DB` and the byte that begins none.
+    /// Writes both numbers, four hexadecimal digits each, with a colon between them.
     fn fmt<W: fmt::Write>(&self, f: &mut fmt::Formatter<W>) -> fmt::Result {
-        match self.stands {
-            Decoding::Found(instr, _) => {
-                let text = InstrText {
-                    instr,
-                    ip: self.offset,
-                };
-                write!(f, "{text}")
-            }
-            Decoding::NoRow => {
-                let byte = HexByte(self.byte);
-                write!(f, "DB 0{byte}h")
-            }
-        }
+        let segment = HexWord(self.segment);
+        let offset = HexWord(self.offset);
+        write!(f, "{segment}:{offset}")
     }
 }
 
@@ -57,61 +52,40 @@ pub fn lines_text<B: Bytes>(
     ensures { IfOk result (λ text. string_bytes text
         ≡ lines_text lines (B.byte_at memory.now) place.segment place.offset count) }
 {
-    let segment = place.segment;
-    let mut offset = place.offset;
+    let mut next = place;
     let mut text = String::new(alloc);
     for _ in 0..count {
-        offset = push_line(alloc, &mut text, memory, lines, segment, offset)?;
+        next = push_line(&mut text, memory, lines, next)?;
     }
     Ok(text)
 }
 
-/// Adds the line of what stands at a place. Returns the offset of the next line, which wraps around in the segment.
+/// Adds the line of what stands at a place: the place, the bytes, and what `list` or `forms` says of it. Returns the
+/// place of the next line.
 #[tactic(auto, unfolding(crate::specs::FormLines::line_at, crate::specs::Listing::offset_listed_next))]
 fn push_line<B: Bytes>(
-    alloc: Global,
     text: &mut String,
     memory: &B,
     lines: Lines,
-    segment: u16,
-    offset: u16,
-) -> Result<u16, AllocError>
-    ensures line { OnOk result
-        (string_bytes text.new ≡ string_bytes text.old ++ line_at lines (B.byte_at memory.now) segment offset) }
-    ensures next { IfOk result (λ next. next ≡ offset_listed_next (B.byte_at memory.now) segment offset) }
+    place: Place,
+) -> Result<Place, AllocError>
+    ensures line { OnOk result (string_bytes text.new
+        ≡ string_bytes text.old ++ line_at lines (B.byte_at memory.now) place.segment place.offset) }
+    ensures segment { IfOk result (λ next. next.segment ≡ place.segment) }
+    ensures offset { IfOk result (λ next. next.offset
+        ≡ offset_listed_next (B.byte_at memory.now) place.segment place.offset) }
 {
-    let stands = stands_at(memory, segment, offset);
-    let line = line_by(alloc, memory, lines, segment, offset, &stands)?;
-    text.push_str(line.as_str())?;
-    Ok(offset.wrapping_add(size_listed(&stands)))
+    let stands = decoding_at(memory, place.segment, place.offset);
+    let size = size_listed(&stands);
+    write!(text, "{place} ")?;
+    push_bytes(text, memory, place, size)?;
+    let first = memory.byte(physical(place.segment, place.offset));
+    push_said(text, lines, &stands, place, first)?;
+    Ok(place.after(size))
 }
 
-/// Returns the line of `list` or of `forms` for what was decoded at a place.
-fn line_by<B: Bytes>(
-    alloc: Global,
-    memory: &B,
-    lines: Lines,
-    segment: u16,
-    offset: u16,
-    stands: &Decoding,
-) -> Result<String, AllocError>
-    ensures { IfOk result (λ text. string_bytes text ≡ line_by lines (B.byte_at memory.now) segment offset stands.now) }
-{
-    match lines {
-        Lines::Texts => line_of(alloc, memory, segment, offset, stands),
-        Lines::Forms => form_by(alloc, memory, segment, offset, stands),
-    }
-}
-
-/// Decodes what stands at a place in memory, for its line of `list` or `forms`.
-fn stands_at<B: Bytes>(memory: &B, segment: u16, offset: u16) -> Decoding
-    ensures { result ≡ stands_at (B.byte_at memory.now) segment offset }
-{
-    decoding_at(memory, segment, offset)
-}
-
-/// How many bytes a line of `list` or `forms` shows: the instruction's, or the one that begins none.
-pub(crate) fn size_listed(stands: &Decoding) -> u16
+/// How many bytes a line shows: the instruction's, or the one that begins none.
+fn size_listed(stands: &Decoding) -> u16
     ensures { result ≡ size_listed stands.now }
 {
     match stands {
@@ -120,52 +94,53 @@ pub(crate) fn size_listed(stands: &Decoding) -> u16
     }
 }
 
-/// Returns the line of `list` for what was decoded at a place: the place, the bytes, and the instruction's text.
-fn line_of<B: Bytes>(
-    alloc: Global,
+/// Adds the `size` bytes from a place on, two hexadecimal digits each.
+fn push_bytes<B: Bytes>(
+    text: &mut String,
     memory: &B,
-    segment: u16,
-    offset: u16,
-    stands: &Decoding,
-) -> Result<String, AllocError>
-    ensures { IfOk result (λ text. string_bytes text ≡ line_of (B.byte_at memory.now) segment offset stands.now) }
-{
-    let bytes = bytes_text(alloc, memory, segment, offset, size_listed(stands))?;
-    let bytes = bytes.as_str();
-    let listed = Listed {
-        stands,
-        offset,
-        byte: memory.byte(physical(segment, offset)),
-    };
-    let segment = HexWord(segment);
-    let offset = HexWord(offset);
-    format!(in alloc; "{segment}:{offset} {bytes} {listed}\n")
-}
-
-/// Returns the `size` bytes from a place on, two hexadecimal digits each, for a line of `list` or `forms`.
-pub(crate) fn bytes_text<B: Bytes>(
-    alloc: Global,
-    memory: &B,
-    segment: u16,
-    offset: u16,
+    place: Place,
     size: u16,
-) -> Result<String, AllocError>
-    ensures { IfOk result (λ text. string_bytes text
-        ≡ flat_map hex_byte_text (bytes_listed (B.byte_at memory.now) segment offset size)) }
+) -> Result<(), AllocError>
+    ensures { OnOk result (string_bytes text.new ≡ string_bytes text.old
+        ++ flat_map hex_byte_text (bytes_listed (B.byte_at memory.now) place.segment place.offset size)) }
 {
-    let mut text = String::new(alloc);
     for passed in 0..size {
-        let byte = memory.byte(physical(segment, offset.wrapping_add(passed)));
-        let shown = byte_text(alloc, byte)?;
-        text.push_str(shown.as_str())?;
+        let at = place.after(passed);
+        let byte = HexByte(memory.byte(physical(at.segment, at.offset)));
+        write!(text, "{byte}")?;
     }
-    Ok(text)
+    Ok(())
 }
 
-/// Returns a byte in two hexadecimal digits, as a line of `list` shows an instruction's bytes.
-fn byte_text(alloc: Global, byte: u8) -> Result<String, AllocError>
-    ensures { IfOk result (λ text. string_bytes text ≡ hex_byte_text byte) }
+/// Adds what `list` or `forms` says of what was decoded at a place, where `first` is the first byte.
+fn push_said(
+    text: &mut String,
+    lines: Lines,
+    stands: &Decoding,
+    place: Place,
+    first: u8,
+) -> Result<(), AllocError>
+    ensures { OnOk result (string_bytes text.new
+        ≡ string_bytes text.old ++ said_by lines stands.now place.segment place.offset first) }
 {
-    let byte = HexByte(byte);
-    format!(in alloc; "{byte}")
+    match lines {
+        Lines::Texts => push_text(text, stands, place.offset, first),
+        Lines::Forms => push_form(text, stands, place),
+    }
+}
+
+/// Adds an instruction at an offset as a source has it, or `DB` and the byte that begins none.
+fn push_text(text: &mut String, stands: &Decoding, offset: u16, byte: u8) -> Result<(), AllocError>
+    ensures { OnOk result (string_bytes text.new ≡ string_bytes text.old ++ text_listed stands.now offset byte) }
+{
+    match stands {
+        Decoding::Found(instr, _) => {
+            let instr = InstrText { instr, ip: offset };
+            write!(text, " {instr}\n")
+        }
+        Decoding::NoRow => {
+            let byte = HexByte(byte);
+            write!(text, " DB 0{byte}h\n")
+        }
+    }
 }

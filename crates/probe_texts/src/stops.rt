@@ -1,8 +1,10 @@
-//! The stops of a probe's runs, and how a line that has to do with stops is read.
-ghost use Rattle.std.specs.Prelude.{◌≡◌, ◌<◌, ◌^◌, IfSome, length};
+//! The stops of a probe's runs, and how a line is read.
+ghost use Rattle.std.specs.Prelude.{◌≡◌, ◌<◌, ◌^◌, IfSome, Some, length};
+ghost use Rattle.debugger_meaning.specs.Commands.{IsWithin};
 ghost use Rattle.debugger_meaning.specs.CommandWords.{words_of};
-ghost use Rattle.probe_texts.specs.Requests.{changes_in, is_standing, request_of, second_in, stop_of, trial_of, HasBytes, IsRequest, IsRising};
+ghost use Rattle.probe_texts.specs.Requests.{changes_in, is_standing, request_by, request_of, second_in, stop_of, trial_of, HasBytes, IsRequest, IsRising};
 
+use crate::inquiry::{Inquiry, read_inquiry};
 use crate::kinds::{Kinds, read_kinds};
 use crate::moments_text::{Second, Trial};
 use arrayvec::ArrayVec;
@@ -32,7 +34,7 @@ impl Default for Stop {
 /// The stops of a probe's runs, numbered from 1.
 pub type Stops = ArrayVec<Stop, 16>;
 
-/// What a line asks for that has to do with stops.
+/// What a line asks a probe for.
 #[derive(Drop)]
 pub enum Request {
     /// Adds a stop.
@@ -43,10 +45,13 @@ pub enum Request {
     BackStop,
     /// Answers how a run would end with one more key, or two, for each clock of the trial.
     Try(Trial),
+    /// Asks about the board, or types a key.
+    Inquire(Inquiry),
+    /// Does what another command of the debugger says.
+    Do(Command),
 }
 
-/// Reads a typed line that adds a stop, runs to one or goes back to one, or tries a key; `None` if it is another line,
-/// which the session then answers.
+/// Reads a typed line; `None` if it asks for nothing that a probe does.
 pub fn read_request(line: &str) -> Option<Request>
     ensures value { result ≡ request_of line.now }
     ensures within { IfSome result IsRequest }
@@ -57,22 +62,30 @@ pub fn read_request(line: &str) -> Option<Request>
     if let Some(stop) = read_stop(line) {
         return Some(Request::Add(stop));
     }
-    match read_command(line)? {
-        Command::Break(cs, ip) => Some(standing(Condition::At(cs, ip))),
-        Command::Byte(address, byte) => Some(standing(Condition::Byte(address, byte))),
-        Command::Sound => Some(standing(Condition::Sound)),
-        Command::Halted => Some(standing(Condition::Halted)),
-        Command::Go(count) => Some(Request::Go(count)),
-        Command::BackStop => Some(Request::BackStop),
-        _ => None,
+    if let Some(inquiry) = read_inquiry(line) {
+        return Some(Request::Inquire(inquiry));
     }
+    let command = read_command(line)?;
+    Some(request_by(command))
 }
 
-/// What a command such as `break` asks a probe for: a stop that is a condition of the board.
-fn standing(condition: Condition) -> Request
-    ensures { result ≡ Request.Add (Stop.Standing condition) }
+/// What a command of the debugger asks a probe for, whose stops and runs are its own.
+fn request_by(command: Command) -> Request
+    requires { IsWithin (Some command) }
+    ensures value { result ≡ request_by command }
+    ensures within { IsRequest result }
 {
-    Request::Add(Stop::Standing(condition))
+    match command {
+        Command::Break(cs, ip) => Request::Add(Stop::Standing(Condition::At(cs, ip))),
+        Command::Byte(address, byte) => Request::Add(Stop::Standing(Condition::Byte(
+            address, byte,
+        ))),
+        Command::Sound => Request::Add(Stop::Standing(Condition::Sound)),
+        Command::Halted => Request::Add(Stop::Standing(Condition::Halted)),
+        Command::Go(count) => Request::Go(count),
+        Command::BackStop => Request::BackStop,
+        _ => Request::Do(command),
+    }
 }
 
 /// Reads a line that begins with `when` or `changes` as a stop on events or on changes of bytes; `None` if it is no

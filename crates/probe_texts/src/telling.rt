@@ -87,12 +87,7 @@ pub fn tell_state<L: Listener>(
 fn is_same_state(before: State, after: State) -> bool
     ensures { result ≡ is_same_state before after }
 {
-    match (before, after) {
-        (State::Running, State::Running) => true,
-        (State::Halted, State::Halted) => true,
-        (State::Jammed, State::Jammed) => true,
-        _ => false,
-    }
+    before == after
 }
 
 /// Tells of the codes that arrive, or are lost, at a clock at which `waiting` wait already. Returns how many wait then,

@@ -6,4 +6,4 @@ use Rattle.probe.specs.Tallied.{tally_line}
 use Rattle.probe.proofs.counts.lines_of.Given as goal
 
 abbrev pub invariant-loop-number : goal.invariant-loop-number
-invariant-loop-number l = string_bytes l.text ≡ flat_map (tally_line l.kind) (map deref_pair l.yielded)
+invariant-loop-number l = string_bytes l.text ≡ flat_map tally_line (map deref_pair l.yielded)

@@ -13,7 +13,7 @@ use Rattle.probe.proofs.moments.try_at.Goals.{then-is_some-via-then-is_some, the
 use Rattle.probe.proofs.moments.try_at.Goals as goal
 
 pub returns-then-is_some-clause-tried : goal.returns-then-is_some-clause-tried
-returns-then-is_some-clause-tried c = λ s so.
+returns-then-is_some-clause-tried c = λ s in_time so_far.
     let stops = stops_of c.args.watches.now in
     let before = c.clock_before-before.result in
     let from : clock_of c.args.bare.now.plain ≤ before = omega (arith, c.clock_before-before.ensures, c.requires.before, c.requires.in_time) in
@@ -27,7 +27,7 @@ returns-then-is_some-clause-tried c = λ s so.
     ] in
     subst (λ (ranges : List Moments). AreRanges stops s c.args.trial c.args.trial.first c.args.trial.last ranges) (sym c.in_ok-add.ensures)
     (rest stops s c.args.bare.now.plain c.run.new.board.plain c.args.trial c.args.end before c.args.stamp c.args.ranges.now.items
-    c.args.watches.now c.in_ok-stopped.stopped so.so_far so.first so.last from early within so.in_time decided c.in_ok-stopped.ensures.runs)
+    c.args.watches.now c.in_ok-stopped.stopped so_far c.requires.first c.requires.last from early within in_time decided c.in_ok-stopped.ensures.runs)
 
 pub run-requires-2-clause-from : goal.run-requires-2-clause-from
 run-requires-2-clause-from c =
@@ -47,7 +47,7 @@ returns-in_err-add-2-clause-keeps c = record {
 }
 
 pub returns-clause-tried : goal.returns-clause-tried
-returns-clause-tried c = λ s so.
+returns-clause-tried c = λ s in_time so_far.
     let stops = stops_of c.args.watches.now in
     let before = c.clock_before-before.result in
     let bare = c.args.bare.now.plain in
@@ -59,7 +59,7 @@ returns-clause-tried c = λ s so.
     let undecided_yet : (is_some c.in_ok-stopped.stopped || nat_eq before c.args.end) ≡ false =
     ap (λ (b : Bool). b || nat_eq before c.args.end) (sym c.is_some.ensures ∙ c.if-is_some.false) ∙ sym c.eq.ensures ∙ c.if-eq.false in
     let moved =
-    on_none stops s bare next c.args.trial c.args.end before c.args.stamp ranges c.args.watches.now c.run.new.watches so.so_far from early within
+    on_none stops s bare next c.args.trial c.args.end before c.args.stamp ranges c.args.watches.now c.run.new.watches so_far from early within
     (undecided stops c.args.end before bare next c.in_ok-stopped.stopped undecided_yet c.in_ok-stopped.ensures.runs) c.in_ok-stopped.ensures.keeps in
     let ended =
     copy_ends stops next c.in_ok-tried.tried.plain c.run-2.new.board.plain c.args.trial c.args.stamp c.args.end c.in_ok-stopped-2.stopped
@@ -68,4 +68,4 @@ returns-clause-tried c = λ s so.
     c.in_ok-stopped.ensures.keeps.stops c.in_ok-stopped-2.ensures.runs) in
     subst (λ (rs : List Moments). Tried stops s next c.args.trial c.args.end (c.args.stamp + 1) rs c.run-2.new.watches) (sym c.in_ok-add-2.ensures)
     (tried_more stops s next c.args.trial c.args.end c.args.stamp ranges c.run.new.watches c.run-2.new.watches
-    c.in_ok-stopped-2.stopped moved so.first so.in_time ended c.in_ok-stopped-2.ensures.keeps)
+    c.in_ok-stopped-2.stopped moved c.requires.first in_time ended c.in_ok-stopped-2.ensures.keeps)

@@ -28,7 +28,7 @@ returns-then-branch-clause-ranges c =
     c.if-branch.true
     (one_more stops (stops_of c.stamps.watches) s c.stamps.bare.plain c.try_at.new.bare.plain c.args.trial c.args.end c.stamps.stamp
     c.stamps.ranges.items c.try_at.new.ranges.items c.stamps.watches c.try_at.new.watches c.in_ok-try_at.field-0 c.stamps.invariant.0.stops_are
-    (c.in_ok-try_at.ensures.tried s) (omega (arith, c.stamps.auto.stamp)) (omega (arith, c.stamps-test.true)) c.requires.end c.stamps.invariant.0)
+    (c.in_ok-try_at.ensures.tried s c.requires.end) c.stamps.invariant.0)
 
 pub stamps-preserved : goal.stamps-preserved
 stamps-preserved c =
@@ -39,7 +39,7 @@ stamps-preserved c =
           c.if-branch.false
           (one_more stops (stops_of c.stamps.watches) s c.stamps.bare.plain c.try_at.new.bare.plain c.args.trial c.args.end c.stamps.stamp
           c.stamps.ranges.items c.try_at.new.ranges.items c.stamps.watches c.try_at.new.watches c.in_ok-try_at.field-0 c.stamps.invariant.0.stops_are
-          (c.in_ok-try_at.ensures.tried s) (omega (arith, c.stamps.auto.stamp)) (omega (arith, c.stamps-test.true)) c.requires.end c.stamps.invariant.0),
+          (c.in_ok-try_at.ensures.tried s c.requires.end) c.stamps.invariant.0),
       c.in_ok-try_at.ensures.trail,
     )
 

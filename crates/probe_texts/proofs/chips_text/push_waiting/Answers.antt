@@ -1,4 +1,4 @@
-use Rattle.std.proofs.Common.{◌≡◌, ◌≤◌, ◌∙◌, ◌++◌, List, ℕ, sym, ap, length, arith, Some, None}
+use Rattle.std.proofs.Common.{◌≡◌, ◌≤◌, ◌∙◌, ◌++◌, List, ℕ, refl, sym, ap, length, arith, Some, None}
 use Rattle.std.specs.List.{slice_get}
 use Rattle.std.specs.String.{string_bytes}
 use Rattle.std.proofs.lemmas.Option.{slice_get_within}
@@ -13,7 +13,7 @@ loop-code-preserved c =
     let most : length c.args.keyboard.now.waiting ≤ 16 = c.waiting.ensures.few in
     record {
       text = rw (entry_more spaced_byte c.args.keyboard.now.waiting c.loop-code.index c.in-Some.code there)
-          (pushed _ _ _ _ _ _ c.in_ok-push_str.ensures.bytes c.loop-code.invariant.text (c.as_str.ensures.value ∙ c.in_ok-shown.ensures));
+          (pushed _ _ _ _ _ _ c.in_ok-write.ensures.bytes c.loop-code.invariant.text refl);
       within = omega arith;
       small = omega arith;
     }

@@ -11,7 +11,7 @@ use Rattle.probe.specs.Looked.{answer_at}
 use Rattle.probe.proofs.Copies.{standing_is}
 use Rattle.probe.proofs.Counting.{ends_at}
 use Rattle.probe.proofs.Passing.{goes_keep}
-use Rattle.probe.proofs.Probes.{goes_standing, goes_with, probe_of, probe_with, run_keeps, short_with}
+use Rattle.probe.proofs.Probes.{goes_standing, goes_with, probe_of, probe_with, short_with}
 use Rattle.probe.proofs.probe.Probe.go.Goals as goal
 use Rattle.probe.proofs.probe.Probe.go.Goals.{in-Ok, in-Err}
 
@@ -49,10 +49,9 @@ run_to_stop-requires-clause-from c =
 
 pub invariant_of-self-2 : goal.invariant_of-self-2
 invariant_of-self-2 c =
-    probe_with c.self.inside.session c.run_to_stop.new.session
-    c.self.inside.watches c.as_mut_slice.result.now c.run_to_stop.new.watches c.as_mut_slice.ensures.value c.self.invariant (run_keeps
-    (stops_of c.as_mut_slice.result.now) c.unwrap-end.result c.self.inside.session c.run_to_stop.new.session c.run_to_stop.result c.run_to_stop.ensures.ran)
-    c.run_to_stop.ensures.keeps
+    probe_with c.self.inside.session c.run_to_stop.new.run
+    c.self.inside.watches c.as_mut_slice.result.now c.run_to_stop.new.watches c.as_mut_slice.ensures.value c.self.invariant
+    (ap (λ r. r.1) c.run_to_stop.ensures.rest) c.run_to_stop.ensures.keeps
 
 pub returns : goal.returns
 returns c =
@@ -62,16 +61,16 @@ returns c =
     let start : c.get-start.result ≡ clock_of c.self.inside.session.board.plain =
     c.get-start.ensures.value ∙ c.clock.ensures ∙ ap (λ (b : BoardState). clock_of b.plain) c.board.ensures.board in
     let within : clock_of c.self.inside.session.board.plain + c.args.count ≤ 2 ^ 40 = omega (arith, c.if-start-count.false, start, c.get-start.ensures.bound) in
-    let new : ProbeState = probe_of c.run_to_stop.new.session (stops_of (with_items c.self.inside.watches c.run_to_stop.new.watches).items) in
+    let new : ProbeState = probe_of c.run_to_stop.new.run (stops_of (with_items c.self.inside.watches c.run_to_stop.new.watches).items) in
     elim c.match-run_to_stop.branch [
       | in-Ok w ↦ subst (λ r. MatchResult r (GoesOn c.args.count c.args.self.now new) (RefusesGoing c.args.count c.args.self.now new)) (sym w.result-is)
           (goes_with c.args.self.now c.args.count c.unwrap-end.result c.self.inside.session
-          c.run_to_stop.new.session c.self.inside.watches c.as_mut_slice.result.now c.run_to_stop.new.watches
+          c.run_to_stop.new.run c.self.inside.watches c.as_mut_slice.result.now c.run_to_stop.new.watches
           w.in-Ok.found w.told.result c.self.view_is c.as_mut_slice.ensures.value c.run_to_stop.ensures.keeps
-          within end w.in-Ok.ensures.ran
+          within end w.in-Ok.ensures.ran (ap (λ r. r.0) c.run_to_stop.ensures.rest)
           (w.told.ensures ∙ ap (answer_at w.in-Ok.found) (w.clock-in-Ok.ensures ∙ ap (λ (b : BoardState). clock_of b.plain) w.board-in-Ok.ensures.board)))
       | in-Err w ↦ subst (λ r. MatchResult r (GoesOn c.args.count c.args.self.now new) (RefusesGoing c.args.count c.args.self.now new)) (sym w.result-is)
-          (short_with c.args.self.now c.args.count c.unwrap-end.result c.self.inside.session c.run_to_stop.new.session c.self.inside.watches
-          c.as_mut_slice.result.now c.run_to_stop.new.watches w.in-Err.fault c.self.view_is c.as_mut_slice.ensures.value c.run_to_stop.ensures.keeps
-          within end w.in-Err.ensures.ran)
+          (short_with c.args.self.now c.args.count c.unwrap-end.result c.self.inside.session c.run_to_stop.new.run c.self.inside.watches
+          c.as_mut_slice.result.now c.run_to_stop.new.watches w.lacking.result c.self.view_is c.as_mut_slice.ensures.value c.run_to_stop.ensures.keeps
+          within end w.in-Err.ensures.ran (ap (λ r. r.0) c.run_to_stop.ensures.rest) w.lacking.ensures)
     ]
