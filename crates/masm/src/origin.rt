@@ -1,7 +1,7 @@
 //! Which assembler a source is written for.
 
 use board_types::text::next_line;
-use masm_line::statement::is_among;
+use masm_line::statement::{is_among, is_listed};
 use masm_text::raw::{split_word, without_comment};
 use masm_text::token::after_blanks;
 
@@ -45,6 +45,7 @@ pub fn origin_of(text: &[u8]) -> Option<(Origin, u32)> {
 fn origin_of_line(line: &[u8]) -> Option<Origin> {
     let Some((first, after)) = split_word(line) else {
         return match after_blanks(line) {
+            [b'%', after @ ..] if is_listed(after) => Some(Origin::Masm),
             [b'%' | b'[', ..] => Some(Origin::Nasm),
             _ => None,
         };

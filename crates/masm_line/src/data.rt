@@ -1,6 +1,7 @@
 //! The items of lines of data.
 use crate::output::{write_name, write_number, write_terms};
 use crate::statement::{around_dup, inside, split_item};
+use masm_text::number::Spelling;
 use masm_text::refusal::{Reason, Stop};
 use masm_text::token::Token;
 use masm_value::expression::{Light, value_of};
@@ -198,7 +199,10 @@ fn fits(width: Width, number: Option<i64>) -> bool {
 /// Writes an item as words: a place as its offset and its segment, a number from its lowest word on.
 fn write_words(out: &mut Vec<u8>, form: Form, value: &Value) -> Result<(), Stop> {
     if let Some(number) = value.constant() {
-        return write_number_words(out, form, number);
+        return match (form.width, value.spelling) {
+            (Width::Ten, Some(Spelling::Decimal)) => write_decimal_words(out, number),
+            _ => write_number_words(out, form, number),
+        };
     }
     let name = value.plus.ok_or(Reason::BadData)?;
     if form.width != Width::Double {
@@ -214,23 +218,37 @@ fn write_words(out: &mut Vec<u8>, form: Form, value: &Value) -> Result<(), Stop>
 
 /// Writes a number as words, from its lowest one on.
 fn write_number_words(out: &mut Vec<u8>, form: Form, number: i64) -> Result<(), Stop> {
-    if form.width == Width::Ten && number != 0 {
-        // MASM has ten bytes as decimal digits, or as a float
-        return Err(Stop::Refused(Reason::BadData));
-    }
     for place in 0..form.words {
         if place > 0 {
             out.push(b',')?;
         }
-        // the fifth word is that of ten bytes, which are zero
-        let word = if place < 4 {
-            number >> (16 * place as u32) & 0xFFFF
-        } else {
-            0
-        };
-        write_number(out, word)?;
+        // a fifth word, of ten bytes, has the sign alone
+        write_number(out, number >> (16 * place as u32).min(63) & 0xFFFF)?;
     }
     Ok(())
+}
+
+/// Writes a number as ten bytes, of which nine have two decimal digits each, from the lowest ones on, and the last one
+/// the sign.
+fn write_decimal_words(out: &mut Vec<u8>, number: i64) -> Result<(), Stop> {
+    let mut rest = number.unsigned_abs();
+    if rest >= 1_000_000_000_000_000_000 {
+        return Err(Stop::Refused(Reason::BadData));
+    }
+    for place in 0..5 {
+        let sign = if number < 0 && place == 4 { 0x8000 } else { 0 };
+        if place > 0 {
+            out.push(b',')?;
+        }
+        write_number(out, decimal_word((rest % 10_000) as i64) | sign)?;
+        rest /= 10_000;
+    }
+    Ok(())
+}
+
+/// The word that has the four decimal digits of a number in half a byte each.
+fn decimal_word(digits: i64) -> i64 {
+    digits % 10 | digits / 10 % 10 << 4 | digits / 100 % 10 << 8 | digits / 1000 % 10 << 12
 }
 
 /// Writes the characters of a text, and says how many they are: those that the dialect takes between quotes, the others

@@ -279,11 +279,12 @@ fn write_override(out: &mut Vec<u8>, operand: Option<Value>) -> Result<(), Alloc
     }
 }
 
-/// Instructions that only later processors have.
+/// Instructions that only later processors have, or coprocessors.
 const LATER: &str =
     "PUSHA POPA PUSHAD POPAD PUSHFD POPFD ENTER LEAVE BOUND INS INSB INSW OUTS OUTSB OUTSW MOVZX MOVSX SHLD \
     SHRD BT BTS BTR BTC BSF BSR CWDE CDQ BSWAP XADD CMPXCHG CPUID RDTSC SETC SETNC SETZ SETNZ SETE SETNE MOVSD STOSD LODSD \
-    CMPSD SCASD IRETD JECXZ LFS LGS LSS";
+    CMPSD SCASD IRETD JECXZ LFS LGS LSS FINIT FNINIT FLD FLDZ FLD1 FLDPI FST FSTP FILD FIST FISTP FBLD FBSTP FADD FADDP FSUB \
+    FSUBP FMUL FMULP FDIV FDIVP FSQRT FABS FCHS FCOM FCOMP FCOMPP FTST FXCH FSTSW FNSTSW FSTCW FLDCW FWAIT";
 
 /// The letter that ends the name of an instruction with strings.
 fn width_letter(operands: Operands) -> Result<u8, Stop> {
@@ -328,7 +329,7 @@ fn write_operand(
             write_terms(out, &value, false)
         }
         Kind::Number | Kind::Near | Kind::Far | Kind::Type(_) | Kind::Structure => {
-            if value.is_short && matches!(setting.mnemonic, Mnemonic::Jmp) {
+            if is_short(&value) && matches!(setting.mnemonic, Mnemonic::Jmp) {
                 out.extend_from_slice(b"SHORT ")?;
             }
             match (value.kind, value.constant()) {
@@ -338,6 +339,14 @@ fn write_operand(
                 _ => write_terms(out, &value, false),
             }
         }
+    }
+}
+
+/// Whether a target is reached by a short jump: by SHORT, or since it is so near to `$`, whose place MASM knows.
+fn is_short(value: &Value) -> bool {
+    match (value.plus, value.minus, value.number) {
+        (Some(name), None, -126..=129) if name.is(b"$") => true,
+        _ => value.is_short,
     }
 }
 

@@ -2,6 +2,7 @@
 ghost use Rattle.std.specs.Prelude.{◌≤◌, ◌<◌, length, IfSome};
 
 use masm_text::name::Name;
+use masm_text::raw::split_word;
 use masm_text::refusal::{Reason, Remark};
 use masm_text::token::{Mark, Token};
 use masm_value::symbol::is_segment_register;
@@ -200,6 +201,17 @@ fn directive<'t, 'a>(first: Name, after: &'t [Token<'a>]) -> Option<Statement<'t
         },
     };
     Some(statement)
+}
+
+/// What stands after `%` in directives of MASM and TASM that place nothing.
+const LISTED: &str = "OUT TITLE SUBTTL NEWPAGE LIST NOLIST";
+
+/// Whether what follows `%` makes a directive of MASM or TASM that places nothing.
+pub fn is_listed(after: &[u8]) -> bool {
+    match split_word(after) {
+        Some((word, _)) => is_among(word, LISTED),
+        None => false,
+    }
 }
 
 /// Directives with a dot that place nothing, and change nothing here.

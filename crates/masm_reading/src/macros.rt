@@ -3,6 +3,7 @@ use crate::action::Action;
 use masm_text::name::{Key, Name};
 use masm_text::raw::{Bindings, bare, split_argument, split_word, with_arguments};
 use masm_text::refusal::{Reason, Stop};
+use masm_text::token::after_blanks;
 use std::alloc::{AllocError, Global};
 use std::collections::BTreeMap;
 
@@ -174,12 +175,26 @@ fn nesting_of(line: &[u8]) -> Nesting {
         return Nesting::Stays;
     };
     match first.text() {
+        _ if is_name(after) => Nesting::Stays,
         b"ENDM" => Nesting::Ends,
         b"REPT" | b"REPEAT" | b"IRP" | b"FOR" | b"IRPC" | b"FORC" | b"WHILE" => Nesting::Begins,
         _ => match split_word(after) {
             Some((second, _)) if second.is(b"MACRO") => Nesting::Begins,
             _ => Nesting::Stays,
         },
+    }
+}
+
+/// Whether what follows the first word of a line makes it a name, or a label, whatever word it is.
+pub fn is_name(after: &[u8]) -> bool {
+    match split_word(after) {
+        Some((second, _)) => {
+            matches!(
+                second.text(),
+                b"DB" | b"DW" | b"DD" | b"DQ" | b"DT" | b"EQU"
+            )
+        }
+        None => matches!(after_blanks(after), [b'=' | b':', ..]),
     }
 }
 

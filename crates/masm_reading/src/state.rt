@@ -1,13 +1,15 @@
 //! What the lines of a source do in the first pass: macros, conditions and repetitions, and the meanings of names.
 use crate::action::Action;
 use crate::condition::{ConditionLine, Conditions, Question, condition_line};
-use crate::macros::{Macros, Purpose, arguments_of, characters_of, names_of};
+use crate::macros::{Macros, Purpose, arguments_of, characters_of, is_name, names_of};
 use crate::names::Names;
+use masm_line::statement::is_listed;
 use masm_text::name::Name;
 use masm_text::raw::{Bindings, bare, split_argument, split_word, with_arguments};
 use masm_text::refusal::{Reason, Stop};
 use masm_text::token::{after_blanks, tokens_of};
 use masm_value::expression::value_of;
+use masm_value::value::Width;
 use std::alloc::{AllocError, Global};
 
 /// What the first pass knows.
@@ -21,6 +23,8 @@ pub struct State {
     texts: Bindings,
     /// The character that ends a COMMENT.
     comment: Option<u8>,
+    /// The lines with which the next one is a single line.
+    unfinished: Option<Vec<u8>>,
     /// Whether END has come.
     is_ended: bool,
 }
@@ -35,13 +39,14 @@ impl State {
             names: Names::new(alloc),
             texts: Bindings::new(alloc),
             comment: None,
+            unfinished: None,
             is_ended: false,
         }
     }
 
     /// Whether lines are gathered whose end hasn't come.
     pub fn is_gathering(&self) -> bool {
-        self.macros.is_gathering()
+        self.macros.is_gathering() || self.unfinished.is_some()
     }
 
     /// Whether an IF, a structure or a COMMENT has no end.
@@ -84,9 +89,44 @@ impl State {
         if let Some(action) = self.macros.gather(line)? {
             return Ok(action);
         }
-        let Some((first, after)) = split_word(line) else {
-            return self.keep(line);
+        if !self.conditions.is_skipped()
+            && let Some(action) = self.join(line)?
+        {
+            return Ok(action);
+        }
+        match split_word(line) {
+            Some((first, after)) if is_name(after) && !self.conditions.is_skipped() => {
+                self.take_text(line, first, after)
+            }
+            Some((first, after)) => self.take_words(line, first, after),
+            None => match after_blanks(line) {
+                [b'%', after @ ..] if is_listed(after) => Ok(Action::Leave),
+                _ => self.keep(line),
+            },
+        }
+    }
+
+    /// Joins a line to those that it goes on with; `None` if it stands alone.
+    fn join(&mut self, line: &[u8]) -> Result<Option<Action>, Stop> {
+        let front = front_of_longer(line, self.unfinished.is_some());
+        let Some(mut joined) = self.unfinished.take() else {
+            let Some(front) = front else {
+                return Ok(None);
+            };
+            self.unfinished = Some(Vec::from_slice(self.alloc, front)?);
+            return Ok(Some(Action::Gather));
         };
+        joined.extend_from_slice(front.unwrap_or(line))?;
+        if front.is_some() {
+            self.unfinished = Some(joined);
+            return Ok(Some(Action::Leave));
+        }
+        self.macros.count(1)?;
+        Ok(Some(Action::Repeat(vec![in self.alloc; joined]?, 1)))
+    }
+
+    /// Takes in a line by its first word, which isn't a name that the line defines.
+    fn take_words(&mut self, line: &[u8], first: Name, after: &[u8]) -> Result<Action, Stop> {
         if let Some(condition) = condition_line(first) {
             self.take_condition(condition, after)?;
             return Ok(Action::Leave);
@@ -103,11 +143,8 @@ impl State {
         }
     }
 
-    /// Takes in a line by its first word.
+    /// Takes in a line by its first word, which begins neither an IF nor lines that are gathered.
     fn take_first(&mut self, line: &[u8], first: Name, after: &[u8]) -> Result<Action, Stop> {
-        if is_name(after) {
-            return self.take_text(line, first, after);
-        }
         match first.text() {
             b"TITLE" | b"SUBTTL" | b"SUBTITLE" | b"PAGE" | b"NAME" | b"INCLUDELIB" => {
                 Ok(Action::Leave)
@@ -269,27 +306,32 @@ impl State {
     }
 }
 
-/// Whether what follows the first word makes it a name, whatever word it is.
-fn is_name(after: &[u8]) -> bool {
-    match split_word(after) {
-        Some((second, _)) => {
-            matches!(
-                second.text(),
-                b"DB" | b"DW" | b"DD" | b"DQ" | b"DT" | b"EQU"
-            )
-        }
-        None => matches!(after_blanks(after), [b'=', ..]),
+/// The line that the next one goes on with: after a backslash at its end, which is left out, or a comma in data, also
+/// of one that goes on with others if `is_later` says so. `None` if it goes on with none.
+fn front_of_longer(line: &[u8], is_later: bool) -> Option<&[u8]> {
+    match bare(line) {
+        [front @ .., b'\\'] => Some(front),
+        [.., b','] if is_later || is_data(line) => Some(line),
+        _ => None,
     }
 }
 
-/// Whether an EQU stands for a text: one in angle brackets, or in quotes and longer than a number may be.
+/// Whether the line places data by its first word, or by the one after a name.
+fn is_data(line: &[u8]) -> bool {
+    let Some((first, after)) = split_word(line) else {
+        return false;
+    };
+    let (second, _) = split_word(after).unwrap_or((first, after));
+    Width::of_directive(first.text()).is_some() || Width::of_directive(second.text()).is_some()
+}
+
+/// Whether an EQU stands for a text: one in angle brackets, or in quotes and longer than a number may be, or a list.
 fn is_text(text: &[u8]) -> bool {
     match after_blanks(text) {
         [b'<', ..] => true,
-        [quote @ (b'\'' | b'"'), first, second, third, ..] => {
-            first != quote && second != quote && third != quote
-        }
-        _ => false,
+        [quote @ (b'\'' | b'"'), first, second, third, ..]
+            if first != quote && second != quote && third != quote => { true }
+        text => split_argument(text).1.is_some(),
     }
 }
 

@@ -159,7 +159,12 @@ impl Reader {
         }
         match token {
             Token::Mark(Mark::OpenBracket) => {
-                self.reduce(light, Infix::Index.strength())?;
+                // the sign is the number's: -2[BP] is [BP-2]
+                let strength = match self.waiting.last() {
+                    Some(Waiting::Prefix(Prefix::Minus)) => Prefix::Minus.strength(),
+                    _ => Infix::Index.strength(),
+                };
+                self.reduce(light, strength)?;
                 self.wait(Waiting::Infix(Infix::Index))?;
                 self.wait(Waiting::Bracket)
             }

@@ -243,7 +243,9 @@ impl Symbols {
             return Ok(Value::of(Kind::Type(class)));
         }
         match name.text() {
-            b"@DATA" | b"DGROUP" => Ok(paragraph_value(self.named_paragraph(b"_DATA"))),
+            b"@DATA" | b"@FARDATA" | b"DGROUP" => {
+                Ok(paragraph_value(self.named_paragraph(b"_DATA")))
+            }
             b"@CODE" => Ok(paragraph_value(self.named_paragraph(b"_TEXT"))),
             b"EAX" | b"EBX" | b"ECX" | b"EDX" | b"ESI" | b"EDI" | b"EBP" | b"ESP" | b"FS" | b"GS" =>
                 { Err(Reason::LaterProcessor) }

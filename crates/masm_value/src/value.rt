@@ -240,7 +240,7 @@ impl Value {
 
     /// The difference of both; a number if both are places whose distance is known.
     pub fn minus(self, other: Value) -> Result<Value, Reason> {
-        if matches!(other.kind, Kind::Register(_) | Kind::Type(_)) {
+        if other.is_addressed() || matches!(other.kind, Kind::Register(_) | Kind::Type(_)) {
             return Err(Reason::BadExpression);
         }
         if let (Some(distance), None) = (distance(&self, &other), other.minus) {
