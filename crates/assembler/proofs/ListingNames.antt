@@ -1,10 +1,7 @@
 -- How long a name is.
-use Rattle.std.proofs.Common.{◌≡◌, ℕ, zero, suc, ◌+◌, ◌<◌, List, [], ◌∷◌, length, get_or, refl, arith, Bool, true, nat_lt}
+use Rattle.std.proofs.Common.{◌≡◌, ℕ, zero, suc, ◌+◌, ◌<◌, List, [], ◌∷◌, length, get_or, refl, arith, true, nat_lt}
 use Rattle.std.specs.List.{prefix_len}
 use Rattle.std.proofs.lemmas.Bool.Decides.{nat_tests}
-
-abbrev pub is_letter : ℕ → Bool
-is_letter letter = nat_lt 0 letter
 
 -- the first n bytes are letters
 abbrev pub AreLetters : List ℕ → ℕ → Type 0

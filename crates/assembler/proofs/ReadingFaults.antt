@@ -1,9 +1,8 @@
 -- What a line without a fault keeps to, and its row.
 use Rattle.std.proofs.Common.{◌≡◌, ℕ, ◌+◌, ◌^◌, ◌≤◌, refl, sym, ap, ◌∙◌, subst, arith, Bool, true, false, ◌||◌}
-use Rattle.std.proofs.Common.{if◌then◌else◌, List, ◌++◌, Option, None, Some, Ok, Err, IfSome, append_assoc, inl, inr, length}
+use Rattle.std.proofs.Common.{if◌then◌else◌, List, ◌++◌, Option, None, Some, Ok, IfSome, append_assoc, inr, length}
 use Rattle.isa.specs.Encoding.{IsForm}
 use Rattle.isa.specs.declared.form.Form.{Form}
-use Rattle.assembler_lexeme.specs.declared.fault.SyntaxFault.{SyntaxFault}
 use Rattle.assembler_syntax.specs.declared.statement.Line.{Line}
 use Rattle.assembler_syntax.specs.declared.statement.Statement.{Statement}
 use Rattle.assembler_syntax.specs.declared.statement.Statement.TheVariants.{Empty, Segment, Ends, Equ, Org, Data, Instruction}
@@ -18,7 +17,7 @@ use Rattle.assembler_meaning.specs.Values.{Names, AreSmall, term_limit}
 use Rattle.assembler.specs.LocatedLines.{IsFormOf, IsLocatedLine, defines_again, early_fault, has_unknown_constant, has_wrong_constant}
 use Rattle.assembler.specs.LocatedLines.{label_definition, lacks_form, opens_within, size_of, stands_outside, statement_definition}
 use Rattle.assembler.specs.Placement.{content_of}
-use Rattle.assembler.specs.FirstFault.{IsTextFault, fault_of_line}
+use Rattle.assembler.specs.FirstFault.{IsTextFault}
 use Rattle.assembler_meaning.specs.declared.symbol.Symbol.{Symbol}
 use Rattle.assembler_lexeme.specs.declared.name.Name.{Name}
 use Rattle.assembler.specs.Gives.{source_limit}
@@ -64,10 +63,6 @@ is_clean names location line form none =
 pub is_located_line : (names : Names) (location : Option Location) (text : List ℕ) (line : Line) (form : Option Form)
     → read_line text ≡ Ok line → IsFormOf names line.statement form → IsLocatedLine names location text (located_of names location line form)
 is_located_line names location text line form reads chosen = record { reads = reads; form = chosen; size = refl; location = refl; next = refl; names = refl }
-
-pub read_fault : (names : Names) (location : Option Location) (text : List ℕ) (found : SyntaxFault)
-    → read_line text ≡ Err found → IsTextFault names location text (fault_of_line found)
-read_fault names location text found reads = inl (found, reads, refl)
 
 pub located_fault : (names : Names) (location : Option Location) (text : List ℕ) (line : Line) (form : Option Form) (fault : SourceFault)
     → read_line text ≡ Ok line → IsFormOf names line.statement form → early_fault names location line form ≡ Some fault → IsTextFault names location text fault

@@ -10,14 +10,14 @@ use Rattle.assembler.specs.declared.kept_line.KeptLine.{KeptLine}
 use Rattle.assembler.specs.declared.early.Before.{Before}
 use Rattle.assembler_meaning.specs.declared.symbol.Location.{Location}
 use Rattle.assembler_meaning.specs.Values.{AreSmall, Names}
-use Rattle.assembler.specs.LocatedLines.{LocatedLine, AreLocatedLines, IsCleanLine, IsLocatedLine, early_fault, names_of, location_following}
+use Rattle.assembler.specs.LocatedLines.{LocatedLine, IsCleanLine, IsLocatedLine, early_fault, names_of, location_following}
 use Rattle.assembler.specs.FirstFault.{IsFirst, IsTextFault}
 use Rattle.assembler.specs.FirstPass.{HasRead, KeepsLine, KeepsText, StopsAt, offset_of, size_limit}
 use Rattle.assembler.specs.Gives.{source_limit}
 use Rattle.std.specs.List.{AllByRecursion}
-use Rattle.assembler.specs.KeptLines.{AreKept, IsSteady, Keeps, Reads}
+use Rattle.assembler.specs.KeptLines.{AreKept, IsSteady, Keeps}
 use Rattle.assembler.proofs.ReadingNames.{small_none}
-use Rattle.assembler.proofs.ReadingLines.{all_push, kept_push, names_push, no_more, lines_push, location_push}
+use Rattle.assembler.proofs.ReadingLines.{all_push, kept_push, names_push, lines_push, location_push}
 
 -- a line of the rest, and what follows it
 pub record IsLine (rest text after : List ℕ) : Type 0 where
@@ -106,21 +106,6 @@ reads_more source rest text after number start old new kept more read line start
           (length read.passed) (length took) read.room adds.grows (taken_size rest text after line) some);
       small = adds.small;
       steady = subst (λ (ks : List KeptLine). AllByRecursion IsSteady ks) (sym keeps.kept_last) (all_push IsSteady kept keeps.kept read.steady adds.steady);
-    }
-
--- if no line is left, the source is read
-pub reads_all : (source rest : List ℕ) (number : ℕ) (state : Before) (kept : List KeptLine)
-    → HasRead source rest number state kept → text_lines rest ≡ [] → length source ≤ source_limit → Reads source state.symbols.entries kept
-reads_all source rest number state kept read none within =
-    let all : text_lines source ≡ read.front = read.texts ∙ ap (λ (ls : List (List ℕ)). read.front ++ ls) none ∙ no_more read.front in
-    record {
-      within = within;
-      located_lines = read.located_lines;
-      are_located_lines = subst (λ (ts : List (List ℕ)). AreLocatedLines [] ts read.located_lines) (sym all) read.are_located_lines;
-      are_kept = subst (λ (ts : List (List ℕ)). AreKept source ts kept read.located_lines) (sym all) read.are_kept;
-      names_are = read.names;
-      small = read.small;
-      steady = read.steady;
     }
 
 fault_after : (state : Before) (located_lines : List LocatedLine) (text : List ℕ) (fault : SourceFault) → state.symbols.entries ≡ names_of located_lines

@@ -1,5 +1,5 @@
 -- The form that the text of an instruction takes gets its numbers.
-use Rattle.std.proofs.Common.{◌≡◌, ◌∙◌, ℕ, ◌+◌, ◌%◌, Contains, refl, sym, ap, subst, Bool, true, false, if◌then◌else◌, Some}
+use Rattle.std.proofs.Common.{◌≡◌, ◌∙◌, ℕ, ◌+◌, ◌%◌, refl, sym, ap, subst, Bool, true, false, if◌then◌else◌, Some}
 use Rattle.std.specs.Prelude.{ℤ, pos, negsuc, ◌-ℤ◌}
 use Rattle.isa.specs.declared.operation.Operation.{Operation}
 use Rattle.isa.specs.declared.operation.Operation.TheVariants.{Arithmetic, Control, Transfer}
@@ -87,9 +87,6 @@ given before names location size i f x y n a says one two formed fits =
 
 chosen_form : (a : Asked) (f : Form) → IsChosen a f → IsForm f
 chosen_form a f choice = form_of_first f f.row a rows choice.parts refl choice.first
-
-row_there : (a : Asked) (f : Form) → IsChosen a f → Contains rows f.row
-row_there a f choice = (chosen_form a f choice).row
 
 abbrev Goal : Names → Location → Instr → Form → Type 0
 Goal names location i f =

@@ -1,8 +1,8 @@
 -- Renamed names have the meanings that they had, and expressions the values.
-use Rattle.std.proofs.Common.{◌≡◌, ℕ, Bool, ◌&&◌, ◌||◌, if◌then◌else◌, List, [], ◌∷◌, ◌++◌, map, None, Some, option_and_then, refl, ap}
+use Rattle.std.proofs.Common.{◌≡◌, ℕ, Bool, ◌&&◌, if◌then◌else◌, List, [], ◌∷◌, ◌++◌, map, None, Some, option_and_then, refl, ap}
 use Rattle.std.specs.Prelude.{pos, cond, is_some}
 use Rattle.std.specs.Option.{option_map}
-use Rattle.std.specs.List.{list_all, list_any, flat_map}
+use Rattle.std.specs.List.{list_all, flat_map}
 use Rattle.assembler_lexeme.specs.declared.name.Name.{Name}
 use Rattle.assembler_syntax.specs.declared.expression.Atom.{Atom}
 use Rattle.assembler_syntax.specs.declared.expression.Atom.TheVariants.{Number, Named, Here, SegmentOf}
@@ -17,10 +17,6 @@ use Rattle.assembler_laws.specs.Sameness.{IsOneToOne, renamed_atom, renamed_term
 pub all_changed : {A B : Type 0} (f : A → B) (p : B → Bool) (q : A → Bool) → ((x : A) → p (f x) ≡ q x) → (xs : List A) → list_all p (map f xs) ≡ list_all q xs
 all_changed f p q same [] = refl
 all_changed f p q same (x ∷ xs) = λ i. same x i && all_changed f p q same xs i
-
-pub any_changed : {A B : Type 0} (f : A → B) (p : B → Bool) (q : A → Bool) → ((x : A) → p (f x) ≡ q x) → (xs : List A) → list_any p (map f xs) ≡ list_any q xs
-any_changed f p q same [] = refl
-any_changed f p q same (x ∷ xs) = λ i. same x i || any_changed f p q same xs i
 
 pub flat_changed : {A B C : Type 0} (f : A → B) (p : B → List C) (q : A → List C)
     → ((x : A) → p (f x) ≡ q x) → (xs : List A) → flat_map p (map f xs) ≡ flat_map q xs

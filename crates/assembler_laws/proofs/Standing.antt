@@ -203,10 +203,6 @@ IsIn paragraph here = (offset : ℕ) × (here ≡ Some (at_place paragraph offse
 abbrev IsTo : ℕ → Option Location → Type 0
 IsTo offset here = (paragraph : ℕ) × (here ≡ Some (at_place paragraph offset))
 
-some_there : (o : Option ℤ) → is_none o ≡ false → (n : ℤ) × (o ≡ Some n)
-some_there (Some n) is = (n, refl)
-some_there None is = absurd (let never : true ≡ false = is in cc)
-
 set_within : (paragraph : ℕ) (o : Option ℤ) (here : Option Location) → is_none o ≡ false → IsIn paragraph here
     → IsIn paragraph (option_and_then (λ v. option_map (set_to v) here) o)
 set_within paragraph None here known is = absurd (let never : true ≡ false = known in cc)

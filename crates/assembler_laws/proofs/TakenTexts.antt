@@ -59,13 +59,6 @@ use Rattle.assembler_laws.proofs.Outcome.{form_for}
 use Rattle.assembler_laws.proofs.TextForms.{ask_both, ax, exchanged_is, first_asked, has_memory, has_size, kind_fits, nop_says, not_true}
 use Rattle.assembler_laws.proofs.TextForms.{numbers_said, plain_says, remembered_is, row_agrees, second_asked, unremembered, RowAgrees, Says}
 
--- ---- an operand that is written is one of its kind
-byte_size_is : (s : Option Size) → s ≡ Some sizes.Byte → is_byte_size s ≡ true
-byte_size_is s is = ap is_byte_size is
-
-word_size_is : (s : Option Size) → s ≡ Some sizes.Word → is_word_size s ≡ true
-word_size_is s is = ap is_word_size is
-
 byte_place_taken : (op : Operation) (kw : Option Keyword) (p : Place) (d : ℕ) (other : KnownOperand)
     → IsPlace p → size_or (said_size kw) (size_beside op other) ≡ Some sizes.Byte → is_of op kinds.Rm8 (sized op (asked_by (byte_operand p kw d)) other) ≡ true
 byte_place_taken op kw places.Absent d other is e = absurd is

@@ -63,9 +63,6 @@ pub says_opens : (a : List ℕ) (c : ℕ) (b : List ℕ) (ts us : List Token)
 says_opens a c b ts us parts one two rest vs reads =
     assoc_reads a (c ∷ b) rest ts us vs (one (c ∷ (b ++ rest)) (us ++ vs) parts (two rest vs reads))
 
-pub says_nothing : Says [] []
-says_nothing rest us here reads = reads
-
 -- ---- marks and blanks
 token_more : (lexeme : List ℕ) (lexemes : List (List ℕ)) (t : Token) (ts : List Token) → token_of lexeme ≡ Some t → tokens_of lexemes ≡ Ok ts
     → tokens_of (lexeme ∷ lexemes) ≡ Ok (t ∷ ts)
@@ -74,9 +71,6 @@ token_more lexeme lexemes t ts is more = rw (is, more) refl
 
 pub opens_blank : Opens (32 ∷ []) []
 opens_blank rest us reads = record { characters = reads.characters; tokens = reads.tokens }
-
-abbrev IsPunctuatorAt : ℕ → Token → Type 0
-IsPunctuatorAt b t = (rest : List ℕ) → lexemes_from false (b ∷ rest) ≡ (b ∷ []) ∷ lexemes_from false rest
 
 pub opens_punctuator : (b : ℕ) (t : Token) → ((rest : List ℕ) → lexemes_from false (b ∷ rest) ≡ (b ∷ []) ∷ lexemes_from false rest)
     → is_character b ≡ true → token_of (b ∷ []) ≡ Some t → Opens (b ∷ []) (t ∷ [])

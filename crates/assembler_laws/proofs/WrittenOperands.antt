@@ -25,7 +25,7 @@ use Rattle.dialect.specs.declared.keyword.Keyword.TheVariants as keywords
 use Rattle.disassembler.specs.declared.written.Written.{Written}
 use Rattle.disassembler.specs.declared.written.Written.TheVariants.{Nothing, Register, One, Byte, Word, Short, Far, Memory}
 use Rattle.disassembler.specs.Text.{is_nop}
-use Rattle.disassembler.specs.Written.{byte_operand, far_size, memory_operand, size_beside, target_operand, tells_size, word_operand, written_operand}
+use Rattle.disassembler.specs.Written.{byte_operand, far_size, size_beside, target_operand, tells_size, word_operand, written_operand}
 use Rattle.assembler_syntax.specs.declared.operand.Operand.{Operand}
 use Rattle.assembler_syntax.specs.declared.operand.Operand.TheVariants as operands
 use Rattle.assembler_syntax.specs.Spelling.{IsInner, IsOperand}
@@ -101,14 +101,6 @@ signed_small n = by (nat_lt n 128) refl
     by : (b : Bool) → nat_lt n 128 ≡ b → (if b then n else (n + 65280) % 65536) < 65536
     by true is = grind (arith, nat_tests)
     by false is = omega arith
-
-address_written : (size : Option Keyword) → IsSizeWord size → (place : Place) (d : ℕ) → d < 65536 → MayBeWritten (memory_operand place size d)
-address_written size is places.Absent d small = inl refl
-address_written size is (places.Register n) d small = inl refl
-address_written size is places.Direct d small = inr (is, small)
-address_written size is (places.Base base) d small = inr (is, tt)
-address_written size is (places.BaseByte base) d small = inr (is, signed_small d)
-address_written size is (places.BaseWord base) d small = inr (is, small)
 
 byte_written : (size : Option Keyword) → IsSizeWord size → (place : Place) (d : ℕ) → d < 65536 → MayBeWritten (byte_operand place size d)
 byte_written size is places.Absent d small = inl refl

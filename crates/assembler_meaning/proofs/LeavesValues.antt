@@ -4,7 +4,7 @@ use Rattle.std.proofs.Common.{◌≤◌, List, ◌∷◌, length, get_or, drop, 
 use Rattle.std.specs.Prelude.{option_and_then}
 use Rattle.std.proofs.lemmas.Int.{ints, to_z-of_z}
 use Rattle.std.proofs.lemmas.Bool.Decides.{nat_tests}
-use Rattle.std.proofs.lemmas.List.{at_drop_more, at_drop_all}
+use Rattle.std.proofs.lemmas.List.{at_drop_more}
 use Rattle.assembler_syntax.specs.declared.expression.Term.{Term}
 use Rattle.assembler_lexeme.specs.declared.name.Name.{Name}
 use Rattle.assembler_meaning.specs.declared.symbol.Location.{Location}
@@ -57,13 +57,6 @@ added_again : (a b : ℤ) (o : Option ℤ) → added (Some a) (added (Some b) o)
 added_again a b None = refl
 added_again a b (Some n) = ap Some (omega (arith, ints))
 
-pub value_none : (names : Names) (here : ℕ) (terms : List Term) (i : ℕ) (d : Term) (sum : ℤ) → i < length terms
-    → term_value names here (get_or terms i d) ≡ None → added (Some sum) (value_of names here (drop i terms)) ≡ None
-unfolding value_of
-value_none names here terms i d sum within none =
-    at_drop_more (λ ts. added (Some sum) (value_of names here ts)) terms i d within
-    ∙ ap (λ t. added (Some sum) (added t (value_of names here (drop (i + 1) terms)))) none
-
 pub value_more : (names : Names) (here : ℕ) (terms : List Term) (i : ℕ) (d : Term) (sum value : ℤ) → i < length terms
     → term_value names here (get_or terms i d) ≡ Some value
     → added (Some sum) (value_of names here (drop i terms)) ≡ added (Some (sum +ℤ value)) (value_of names here (drop (i + 1) terms))
@@ -72,12 +65,6 @@ value_more names here terms i d sum value within some =
     at_drop_more (λ ts. added (Some sum) (value_of names here ts)) terms i d within
     ∙ ap (λ t. added (Some sum) (added t (value_of names here (drop (i + 1) terms)))) some
     ∙ added_again sum value (value_of names here (drop (i + 1) terms))
-
-pub value_all : (names : Names) (here : ℕ) (terms : List Term) (i : ℕ) (sum : ℤ) → length terms ≤ i
-    → added (Some sum) (value_of names here (drop i terms)) ≡ Some sum
-unfolding value_of
-value_all names here terms i sum past =
-    at_drop_all (λ ts. added (Some sum) (value_of names here ts)) terms i past ∙ ap Some (omega (arith, ints))
 
 label_at : (found : Option Symbol) (place : Location) → option_and_then label_place found ≡ Some place → found ≡ Some (Label place)
 label_at (Some (Label other)) place is = cc

@@ -58,12 +58,6 @@ gathered_add step seen a (suc b) s =
     ∙ append_assoc (gathered step seen a s) (gathered step seen b (iterate step a s)) (seen (iterate step b (iterate step a s)))
     ∙ ap (λ xs. gathered step seen a s ++ xs) (sym (gathered_suc step seen b (iterate step a s)))
 
--- nothing is gathered if no state shows anything
-pub gathered_none : {S A : Type 0} (step : S → S) (seen : S → List A) → ((t : S) → seen t ≡ []) → (n : ℕ) (s : S) → gathered step seen n s ≡ []
-gathered_none step seen none zero s = gathered_zero step seen s
-gathered_none step seen none (suc n) s =
-    gathered_suc step seen n s ∙ ap (λ xs. xs ++ seen (iterate step n s)) (gathered_none step seen none n s) ∙ none (iterate step n s)
-
 pub total_zero : {S : Type 0} (step : S → S) (cost : S → ℕ) (s : S) → total step cost 0 s ≡ 0
 unfolding total
 total_zero step cost s = refl

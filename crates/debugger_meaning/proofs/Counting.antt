@@ -51,9 +51,6 @@ cut_twice_by true x d m is =
     rw (min-eq_right over) (min-eq_right first ∙ sym (min-eq_right second))
 cut_twice_by false x d m is = let under : x ≤ m = not_larger m x is in rw (min-eq_left under) refl
 
-within : (n base : ℕ) → nat_lt n base ≡ true → n < base
-within n base is = grind (arith, nat_tests)
-
 fits : (n base : ℕ) → n < base → nat_lt n base ≡ true
 fits n base is = grind (arith, nat_tests)
 
@@ -65,16 +62,6 @@ digit_more base n i digits some in_list low =
     let is : nat_lt (digit_of (get_or digits i 0)) base ≡ true = fits (digit_of (get_or digits i 0)) base low in
     rw (cut_twice_by (nat_lt (2 ^ 64 - 1) (n * base)) (n * base) (digit_of (get_or digits i 0)) (2 ^ 64 - 1) refl)
     (cut_front base (n * base + digit_of (get_or digits i 0)) (drop (suc i) digits) some ∙ rw (drop-cons digits i 0, is) refl)
-
--- at a byte that is no digit of the base there is no number
-pub stops_at : (base n i : ℕ) (digits : List ℕ) → i < length digits → base ≤ digit_of (get_or digits i 0)
-    → None ≡ at_most_greatest (spelled base n (drop i digits))
-stops_at base n i digits in_list high =
-    let no : nat_lt (digit_of (get_or digits i 0)) base ≡ false = too_high (digit_of (get_or digits i 0)) base high in
-    rw (drop-cons digits i 0, no) refl
-  where
-    too_high : (m k : ℕ) → k ≤ m → nat_lt m k ≡ false
-    too_high m k low = grind (arith, nat_tests)
 
 hex_step : (n front d p : ℕ) → d < 16 → n < (front * 16 + d + 1) * p → n < (front + 1) * (16 * p)
 hex_step n front d p low below = grind arith

@@ -26,13 +26,6 @@ held_on stops m j s p here is past holds =
     ∙ ap (holding stops) (iterate_add after_clock m (j - m) s ∙ ap (λ q. after_clocks q (j - m)) (sym is))
     ∙ holds
 
-pub searched_none : (stops : List Condition) (bound n : ℕ) (s : Plain) → bound ≡ clock_of s + n → Searched stops bound n s
-searched_none stops bound n s is = record {
-  least = omega (arith, is);
-  most = omega (arith, is);
-  none = λ j past within. absurd (omega (arith, is, past, within));
-}
-
 -- nothing is found in the k clocks from the board p on
 pub searched_more : (stops : List Condition) (m k bound n : ℕ) (s p : Plain) → p ≡ after_clocks s m → clock_of p ≡ clock_of s + m
     → bound ≡ clock_of p + k → Searched stops bound n s → NoneHeld stops k p → Searched stops (clock_of p) n s
@@ -45,9 +38,6 @@ searched_more stops m k bound n s p is clock top so_far nothing = record {
         | inr late ↦ so_far.none j late within
       ];
 }
-
-pub searched_all : (stops : List Condition) (bound n : ℕ) (s : Plain) → bound ≤ clock_of s → Searched stops bound n s → NoneHeld stops n s
-searched_all stops bound n s low so_far = λ j within. so_far.none j (omega (arith, low)) within
 
 -- what is found in the last of the stretches
 pub found_after : (stops : List Condition) (m k bound n clock number : ℕ) (s p : Plain) → p ≡ after_clocks s m → clock_of p ≡ clock_of s + m

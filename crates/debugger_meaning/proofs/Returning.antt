@@ -1,17 +1,15 @@
 -- Where a session stands after it has gone back, and why it hasn't.
-use Rattle.std.proofs.Common.{◌≡◌, ℕ, ◌+◌, ◌-◌, ◌≤◌, List, [], ◌∷◌, length, None, Some, refl, sym, ap, ◌∙◌, subst, arith}
+use Rattle.std.proofs.Common.{◌≡◌, ℕ, ◌+◌, ◌-◌, ◌≤◌, List, [], ◌∷◌, length, None, refl, ap, ◌∙◌, subst, arith}
 use Rattle.std.specs.Prelude.{true, ◌==◌}
 use Rattle.std.proofs.lemmas.Bool.Decides.{Decides-eqb}
 use Rattle.board_plain.specs.declared.stop.Condition.{Condition}
 use Rattle.board_plain.specs.Lasts.{HeldLast, NoneHeld}
 use Rattle.board_plain.specs.Plain.{Plain, after_clocks, clock_of}
 use Rattle.board_plain.specs.Stops.{holding}
-use Rattle.debugger_meaning.specs.Back.{GoesBack, GoesBackTo, RefusesBack, RefusesBackTo}
+use Rattle.debugger_meaning.specs.Back.{GoesBack, GoesBackTo}
 use Rattle.debugger_meaning.specs.declared.answer.Answer.{Answer}
 use Rattle.debugger_meaning.specs.declared.answer.Answer.TheVariants.{Clock}
-use Rattle.debugger_meaning.specs.declared.fault.DebugFault.{DebugFault}
-use Rattle.debugger_meaning.specs.declared.fault.DebugFault.TheVariants.{BadScan, StampsFall, ClockLimit, BadCommand, TooManyStops, Memory, BeforeStart, NoCell}
-use Rattle.debugger_meaning.specs.SessionInvariant.{FindsNone, StandsNow}
+use Rattle.debugger_meaning.specs.SessionInvariant.{StandsNow}
 use Rattle.debugger_meaning.specs.Stands.{SessionState, StandsAt, gone}
 
 pub goes_back : (n clock told : ℕ) (old new : SessionState) → 1 ≤ n → clock_of old.first.plain + n ≤ clock_of old.board.plain
@@ -48,27 +46,6 @@ goes_back_to sought tell clock number old new answer last now tells =
       stops = now.stops;
       answer_is = tells ∙ ap (tell number) same;
     }
-
--- ---- refusals
-pub lacks_back : (n : ℕ) (old new : SessionState) (fault : DebugFault)
-    → fault ≡ Memory None → clock_of old.first.plain + n ≤ clock_of old.board.plain → new ≡ old → RefusesBack n old new fault
-lacks_back n old new fault is within same = subst (RefusesBack n old new) (sym is) (within, same)
-
-pub lacks_back_to : (sought : List Condition) (old new : SessionState) (fault : DebugFault)
-    → fault ≡ Memory None → 1 ≤ length sought → new ≡ old → RefusesBackTo sought old new fault
-lacks_back_to sought old new fault is some same = subst (RefusesBackTo sought old new) (sym is) (some, same)
-
-pub finds_none : (sought : List Condition) (old new : SessionState) (fault : DebugFault)
-    → FindsNone sought old fault → 1 ≤ length sought → new ≡ old → RefusesBackTo sought old new fault
-finds_none sought old new ClockLimit is some same = absurd is
-finds_none sought old new BadScan is some same = absurd is
-finds_none sought old new StampsFall is some same = absurd is
-finds_none sought old new BadCommand is some same = absurd is
-finds_none sought old new TooManyStops is some same = absurd is
-finds_none sought old new (Memory None) is some same = (some, same)
-finds_none sought old new (Memory (Some clock)) is some same = absurd is
-finds_none sought old new BeforeStart is some same = (is, same)
-finds_none sought old new NoCell is some same = absurd is
 
 nothing_holds : (s : Plain) → holding [] s ≡ None
 unfolding holding

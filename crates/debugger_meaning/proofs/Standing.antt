@@ -13,9 +13,9 @@ use Rattle.board_plain.proofs.LastEntries.{last_within}
 use Rattle.board_plain.proofs.Runs.{ran_none, runs_join}
 use Rattle.debugger_meaning.specs.declared.fault.DebugFault.{DebugFault}
 use Rattle.debugger_meaning.specs.declared.fault.DebugFault.TheVariants.{BadScan, StampsFall, ClockLimit, BadCommand, TooManyStops, Memory, BeforeStart, NoCell}
-use Rattle.debugger_meaning.specs.SessionInvariant.{AreKept, IsSession, StandsNow}
+use Rattle.debugger_meaning.specs.SessionInvariant.{AreKept, IsSession}
 use Rattle.debugger_meaning.specs.Session.{RefusesRun, Runs}
-use Rattle.debugger_meaning.specs.Stands.{SessionState, Shown, shown_of, Stands, StandsAfter, StandsAt}
+use Rattle.debugger_meaning.specs.Stands.{SessionState, Shown, shown_of, StandsAfter, StandsAt}
 
 -- a board that shows this, without room
 abbrev board_of : Shown → BoardState
@@ -97,11 +97,6 @@ pub copied : (first : Shown) (board : BoardState) (result : Result BoardState De
 copied first board (Ok copy) same at = stands_same first board copy same at
 copied first board (Err fault) same at = tt
 
--- the parts of a session stand as what it shows does
-pub board_stands : (first board : BoardState) (kept : List BoardState) (stops : List Condition) (s : SessionState)
-    → record { first = shown_of first; board = board; stops = stops } ≡ s → IsSession first board kept stops → Stands s
-board_stands first board kept stops s is all = subst Stands is all.stands
-
 pub kept_stand : (first board : BoardState) (kept : List BoardState) (stops : List Condition) (s : SessionState) (one : BoardState)
     → record { first = shown_of first; board = board; stops = stops } ≡ s → IsSession first board kept stops → Contains kept one → StandsAfter s.first one
 kept_stand first board kept stops s one is all there =
@@ -144,24 +139,6 @@ pub after_keeping : (first board : BoardState) (kept more : List BoardState) (st
     → IsSession first board kept stops → AreKept kept board more → IsSession first board more stops
 after_keeping first board kept more stops all are =
     record { addresses = all.addresses; stands = all.stands; copies = all_stand (shown_of first) kept more board all.copies all.stands are }
-
--- a session at another clock: the board there, and the same first board and stops
-pub at_clock : (clock left : ℕ) (old : SessionState) (first b c : BoardState) (stops : List Condition)
-    → StandsAfter old.first b → clock ≡ clock_of b.plain + left → Ran left b c → shown_of first ≡ old.first → stops ≡ old.stops
-    → StandsNow clock old (record { first = shown_of first; board = c; stops = stops })
-at_clock clock left old first b c stops at is ran same_first same_stops =
-    let from = at.1.clock in record {
-      passed = at.0 + left;
-      clock_is = omega (arith, is, from);
-      stands = stands_on old.first at.0 left b c at.1 ran;
-      first = same_first;
-      stops = same_stops;
-    }
-
-pub stands_from : (first board : BoardState) (stops : List Condition) (s : SessionState) (left : ℕ) (b c : BoardState)
-    → record { first = shown_of first; board = board; stops = stops } ≡ s → StandsAfter s.first b → Ran left b c → StandsAfter (shown_of first) c
-stands_from first board stops s left b c is at ran =
-    subst (λ (f : Shown). StandsAfter f c) (sym (ap (λ (s : SessionState). s.first) is)) (stands_later s.first left b c at ran)
 
 pub earlier : (first board : BoardState) → StandsAfter (shown_of first) board → clock_of first.plain ≤ clock_of board.plain
 earlier first board at = let clock = at.1.clock in omega (arith, clock)

@@ -6,12 +6,11 @@ use Rattle.isa.specs.declared.register.SegmentRegister.{SegmentRegister}
 use Rattle.isa.specs.declared.form.Instr.{Instr}
 use Rattle.isa.specs.Row.{first_of, second_of}
 use Rattle.bus.specs.Bus.{BusMeaning}
-use Rattle.bus.specs.PortWriteBus.{after_port_writes}
 use Rattle.execute_machine.specs.Locations.{Machine}
 use Rattle.execute_machine.proofs.Kept.{Kept, kept_by_pop, kept_by_push, kept_by_put}
-use Rattle.execute_transfer.specs.TransferMeaning.{after_byte_input, after_in, after_lea, after_mov, after_out, after_pointer_load}
+use Rattle.execute_transfer.specs.TransferMeaning.{after_byte_input, after_in, after_lea, after_mov, after_pointer_load}
 use Rattle.execute_transfer.specs.TransferMeaning.{after_pop_operand, after_popf, after_push_operand, after_transfer}
-use Rattle.execute_transfer.specs.TransferMeaning.{after_word_input, after_xchg, after_xlat, is_ax, outputs_at, outputs_of, port_of}
+use Rattle.execute_transfer.specs.TransferMeaning.{after_word_input, after_xchg, after_xlat, is_ax, port_of}
 
 kept_by_pointer_load : {S : Type 0} (bus : BusMeaning S) (P : S → Type 0)
     → Kept bus P → (m : Machine S) (segment : SegmentRegister) (i : Instr) → P m.bus → P (after_pointer_load bus m segment i).bus
@@ -51,13 +50,3 @@ kept_by_transfer bus P kept inputs m Xlat i other holds = holds
 kept_by_transfer bus P kept inputs m In i other holds =
     kept_by_input bus P inputs m (port_of (second_of i.form.row) m.registers.dx i.values.number) (is_ax (first_of i.form.row)) holds
 kept_by_transfer bus P kept inputs m Out i other holds = absurd (other refl)
-
-kept_by_outputs : {S : Type 0} (bus : BusMeaning S) (P : S → Type 0) → ((s : S) (port byte : ℕ) → P s → P (bus.after_output s port byte))
-    → (s : S) (port ax : ℕ) (both : Bool) → P s → P (after_port_writes bus.after_output s (outputs_at port ax both))
-kept_by_outputs bus P output s port ax true holds = output _ _ _ (output _ _ _ holds)
-kept_by_outputs bus P output s port ax false holds = output _ _ _ holds
-
-pub kept_by_out : {S : Type 0} (bus : BusMeaning S) (P : S → Type 0)
-    → ((s : S) (port byte : ℕ) → P s → P (bus.after_output s port byte)) → (m : Machine S) (i : Instr) → P m.bus → P (after_out bus m i).bus
-unfolding after_out outputs_of
-kept_by_out bus P output m i holds = kept_by_outputs bus P output m.bus _ _ _ holds

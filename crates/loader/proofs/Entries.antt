@@ -1,38 +1,21 @@
 -- The keys of a run file, one by one.
 use Rattle.std.proofs.Common.{◌≡◌, ◌∙◌, sym, ap, refl, ℕ, ◌+◌, ◌-◌, ◌<◌, arith, List, [], ◌∷◌, ◌++◌, length, append_assoc}
-use Rattle.std.proofs.Common.{append-nil, length-append, map, drop, get_or, suc, Option, None, Some, unwrap_or}
-use Rattle.std.specs.Prelude.{Result, Ok, Err}
+use Rattle.std.proofs.Common.{length-append, map, drop, get_or, suc, Option, None, unwrap_or}
+use Rattle.std.specs.Prelude.{Result}
 use Rattle.std.proofs.Math.Seq.{drop-cons, get_or-append_seam}
 use Rattle.std.specs.Option.{option_map}
 use Rattle.std.proofs.lemmas.Option.{slice_get-get_or}
-use Rattle.serde_json.specs.View.{view, items_view}
+use Rattle.serde_json.specs.View.{items_view}
 use Rattle.serde_json.specs.declared.value.Value.{Value}
 use Rattle.board_types.specs.Keys.{last_stamp}
 use Rattle.board_types.specs.declared.keys.StampedKey.{StampedKey}
 use Rattle.loader.specs.declared.run_file.KeyEntry.{KeyEntry}
 use Rattle.loader.specs.declared.run_fault.RunFault.{RunFault}
-use Rattle.loader.specs.declared.run_fault.RunFault.TheVariants.{NotJson, BadField, BadScan, StampsFall, BudgetTooLarge, Memory}
-use Rattle.loader.specs.RunFile.{Answers, FaultAnswer, entries_of, entry_of, entry_fault, key_of, keys_fault, keys_of, pair_of, unless, with_first}
+use Rattle.loader.specs.RunFile.{entry_fault, key_of, keys_fault, pair_of, unless}
 
 -- entries after those before them
 abbrev pub after_front : List KeyEntry → Option (List KeyEntry) → Option (List KeyEntry)
 after_front front found = option_map (λ rest. front ++ rest) found
-
-pub front_more : (front : List KeyEntry) (entry : KeyEntry) (rest : Option (List KeyEntry))
-    → after_front (front ++ entry ∷ []) rest ≡ after_front front (with_first (Some entry) rest)
-front_more front entry None = refl
-front_more front entry (Some others) = ap (λ all. Some all) (append_assoc front (entry ∷ []) others)
-
-pub front_whole : (front : List KeyEntry) → after_front front (Some []) ≡ Some front
-front_whole front = ap (λ all. Some all) (append-nil front)
-
-pub front_step : (front more : List KeyEntry) (entry : KeyEntry) (value : Value) (others : List Value) → more ≡ front ++ entry ∷ []
-    → Some entry ≡ entry_of (view value) → after_front more (entries_of (items_view others)) ≡ after_front front (entries_of (items_view (value ∷ others)))
-front_step front more entry value others pushed read = rw (pushed, sym read) (front_more front entry (entries_of (items_view others)))
-
-pub front_none : (front : List KeyEntry) (value : Value) (others : List Value) → None ≡ entry_of (view value)
-    → after_front front (entries_of (items_view (value ∷ others))) ≡ None
-front_none front value others bad = rw (sym bad) refl
 
 pub last_pushed : (keys : List StampedKey) (key : StampedKey) → last_stamp (keys ++ key ∷ []) ≡ key.stamp
 last_pushed keys key =
@@ -50,20 +33,6 @@ pub keys_step : (keys more : List StampedKey) (entry : KeyEntry) (rest : List Ke
     → more ≡ keys ++ key_of entry ∷ [] → entry_fault (last_stamp keys) entry ≡ None → keys_after more rest ≡ keys_after keys (entry ∷ rest)
 keys_step keys more entry rest pushed taken =
     rw (pushed, taken, last_pushed keys (key_of entry), append_assoc keys (key_of entry ∷ []) (map key_of rest)) refl
-
-pub keys_refused : (keys : List StampedKey) (entry : KeyEntry) (rest entries : List KeyEntry) (fault : RunFault)
-    → FaultAnswer fault (entry_fault (last_stamp keys) entry) → keys_after keys (entry ∷ rest) ≡ keys_after [] entries → Answers (Err fault) (keys_of entries)
-unfolding keys_of
-keys_refused keys entry rest entries Memory found same = tt
-keys_refused keys entry rest entries NotJson found same = rw found at same
-keys_refused keys entry rest entries BadField found same = rw found at same
-keys_refused keys entry rest entries BadScan found same = rw found at same
-keys_refused keys entry rest entries StampsFall found same = rw found at same
-keys_refused keys entry rest entries BudgetTooLarge found same = rw found at same
-
-pub keys_whole : (keys : List StampedKey) (entries : List KeyEntry) → keys_after keys [] ≡ keys_after [] entries → Ok keys ≡ keys_of entries
-unfolding keys_of
-keys_whole keys entries same = ap (λ all. Ok all) (sym (append-nil keys)) ∙ same
 
 -- the item of a loop over a slice, before those after it
 pub next_item : {X : Type 0} (xs : List X) (i : ℕ) (x : X) → i < length xs → x ≡ get_or xs i x → drop i xs ≡ x ∷ drop (i + 1) xs

@@ -1,7 +1,6 @@
 -- What the definitions of a run file make of a `Value`'s own lists, of a text and of good fields.
-use Rattle.std.proofs.Common.{◌≡◌, ℕ, List, [], ◌∷◌, map, Bool, true, false, ◌&&◌, refl, ap, String, string_bytes, Some, None, Option, Ok, IsUtf8}
+use Rattle.std.proofs.Common.{◌≡◌, ℕ, List, [], ◌∷◌, map, Bool, true, false, ◌&&◌, refl, ap, String, string_bytes, Some, None, IsUtf8}
 use Rattle.std.specs.List.{list_all}
-use Rattle.std.specs.Option.{ok_or}
 use Rattle.std.specs.Str.{is_utf8}
 use Rattle.std.specs.declared.alloc.Global.{Global}
 use Rattle.std.proofs.lemmas.Str.{IsUtf8-from_is_utf8, is_utf8-from_IsUtf8}
@@ -9,7 +8,6 @@ use Rattle.serde_json.specs.Data.{Data}
 use Rattle.serde_json.specs.Read.{read}
 use Rattle.serde_json.specs.View.{members_view}
 use Rattle.serde_json.specs.declared.value.Value.{Value}
-use Rattle.loader.specs.declared.run_fault.RunFault.TheVariants.{BadField}
 use Rattle.loader.specs.RunFile.{are_fields, is_field_of, value_of}
 
 pub are_fields_view : (version : ℕ) (members : List (String Global × Value))
@@ -29,8 +27,3 @@ refused_where text false is none = rw is refl
 
 pub value_refused : (text : List ℕ) → (IsUtf8 text → read text ≡ None) → value_of text ≡ None
 value_refused text none = refused_where text (is_utf8 text) refl none
-
--- a number that was read
-pub number_read : (o : Option ℕ) (n : ℕ) → Ok n ≡ ok_or o BadField → o ≡ Some n
-number_read None n is = cc
-number_read (Some m) n is = cc

@@ -1,11 +1,10 @@
 -- What a mark recalls of text memory shows which cells haven't changed.
-use Rattle.std.proofs.Common.{◌≡◌, ℕ, ◌+◌, ◌-◌, ◌*◌, ◌/◌, ◌%◌, ◌<◌, ◌≤◌, ◌==◌, Bool, true, false, not, ◌||◌, List, length, get_or}
-use Rattle.std.proofs.Common.{slice_index, take, drop, slice_set, refl, sym, ap, ◌∙◌, arith, eq-eqb, subst, inl, inr, ◌≢◌}
+use Rattle.std.proofs.Common.{◌≡◌, ℕ, ◌+◌, ◌-◌, ◌*◌, ◌/◌, ◌%◌, ◌<◌, ◌≤◌, ◌==◌, Bool, true, false, not, ◌||◌, List, get_or}
+use Rattle.std.proofs.Common.{slice_index, take, drop, refl, sym, ap, ◌∙◌, arith, eq-eqb, subst, ◌≢◌}
 use mathlib.Core.Bool.{beq}
-use Rattle.std.proofs.lemmas.Bool.{cases_eq, true≢false}
-use Rattle.std.proofs.lemmas.Grind.{get_or-set_at}
+use Rattle.std.proofs.lemmas.Bool.{true≢false}
 use Rattle.std.proofs.lemmas.Bool.Decides.{nat_tests}
-use Rattle.std.proofs.lemmas.List.{get_or-set_other, get_or-take, get_or-drop, length-take}
+use Rattle.std.proofs.lemmas.List.{get_or-take, get_or-drop, length-take}
 use Rattle.std.proofs.lemmas.List.FromFn.{get_or-map-range_with_len}
 use Rattle.mda_text.specs.Difference.{DiffersFirstAt}
 use Rattle.mda_text.specs.Mda.{MdaState, cell_count, text_byte}
@@ -52,18 +51,6 @@ unfolding characters nth_character cell character_at text_byte
 recalled m v copy written same kept copied = record {
   shown = ap (λ s. s.kept) same ∙ kept ∙ ap characters (sym same) ∙ ap (λ xs. characters (showing xs v.start v.video)) (sym copied);
   copied = λ k below unwritten. ap (λ xs. slice_index xs k) (sym copied);
-}
-
--- a byte that is written marks its block
-pub still_recalled : (bytes kept copy : List ℕ) (start : ℕ) (video : Bool) (written : List Bool) (offset value : ℕ) → length written ≡ 128 → offset < 4096
-    → Recalls bytes kept copy start video written → Recalls (slice_set bytes offset value) kept copy start video (slice_set written (offset / 32) true)
-still_recalled bytes kept copy start video written offset value whole within recalls = record {
-  shown = recalls.shown;
-  copied = λ k below unwritten. elim (cases_eq (k / 32) (offset / 32)) [
-    | inl same ↦ absurd (true≢false (sym (get_or-set_at written (offset / 32) (k / 32) true false same (omega (arith, whole))) ∙ unwritten))
-    | inr other ↦ get_or-set_other bytes offset k value 0 (λ is. other (ap (λ i. i / 32) is))
-        ∙ recalls.copied k below (sym (get_or-set_other written (offset / 32) (k / 32) true false other) ∙ unwritten)
-  ];
 }
 
 read_part : (xs : List ℕ) (from count k : ℕ) → from ≤ k → k < from + count → slice_index (take count (drop from xs)) (k - from) ≡ slice_index xs k

@@ -1,7 +1,6 @@
 -- The lines of an input as they are read, and what is printed on them.
-use Rattle.std.proofs.Common.{ℕ, zero, suc, ◌≡◌, ◌∙◌, ◌<◌, ◌==◌, Bool, true, false, List, [], ◌∷◌, ◌++◌, length, take, get_or, refl}
+use Rattle.std.proofs.Common.{ℕ, ◌≡◌, ◌∙◌, ◌<◌, ◌==◌, Bool, true, false, List, [], ◌∷◌, ◌++◌, length, refl}
 use Rattle.std.proofs.Common.{sym, ap, subst, arith, append_assoc, Option, None, Some, IfErr, MatchBool, Ok, Err, Result, inl, inr}
-use Rattle.std.specs.Prelude.{◌⊎◌}
 use Rattle.std.proofs.lemmas.List.{append-nil}
 use Rattle.std.proofs.lemmas.Bool.Decides.{nat_tests}
 use Rattle.std.proofs.lemmas.Str.{IsUtf8-from_is_utf8, is_utf8-from_IsUtf8}
@@ -15,28 +14,13 @@ use Rattle.debugger_meaning.specs.Commands.{is_quit}
 use Rattle.streams.specs.ByteInput.{CountsNone}
 use Rattle.pcboard_texts.specs.declared.unanswered.Unanswered.{Unanswered}
 use Rattle.pcboard_texts.specs.declared.unanswered.Unanswered.TheVariants.{Failed, Refused}
-use Rattle.pcboard_texts.specs.Answer.{AppendsA, EndsInQuit}
+use Rattle.pcboard_texts.specs.Answer.{AppendsA}
 use Rattle.pcboard_texts.specs.Refusal.{BeginsTranscript}
 use Rattle.pcboard_texts.specs.Taking.{GivesByte, GivesLine, GivesSome, NoFeed}
 use Rattle.pcboard_texts.specs.Given.{Of}
 use Rattle.pcboard_texts.specs.Printing.{PrintsSession}
 use Rattle.pcboard_texts.specs.Unanswered.{WhereRefused}
 use Rattle.pcboard_texts.specs.Transcript.{Answering, AnswersTyped, Replies, Transcript, ends_session, input_lines, reply_text}
-
--- what one read gives
-pub gives_end : (Gave : List ℕ → Type 0) (Ended : Type 0) (buf : List ℕ) (n : ℕ) → Gave (take n buf) → n ≡ 0 → Ended → GivesByte Gave Ended None
-gives_end Gave Ended buf n gave none ends = (subst (λ (k : ℕ). Gave (take k buf)) none gave, ends)
-
-first_alone : (buf : List ℕ) (n : ℕ) → 0 < n → length buf ≡ 1 → take n buf ≡ get_or buf 0 0 ∷ []
-first_alone [] n some one = absurd (omega arith)
-first_alone (b ∷ []) zero some one = absurd (omega arith)
-first_alone (b ∷ []) (suc zero) some one = refl
-first_alone (b ∷ []) (suc (suc n)) some one = refl
-first_alone (b ∷ c ∷ bs) n some one = absurd (omega arith)
-
-pub gives_first : (Gave : List ℕ → Type 0) (Ended : Type 0) (buf : List ℕ) (n : ℕ) → Gave (take n buf) → 0 < n → length buf ≡ 1
-    → GivesByte Gave Ended (Some (get_or buf 0 0))
-gives_first Gave Ended buf n gave some one = subst Gave (first_alone buf n some one) gave
 
 pub differs : (b c : ℕ) → (b ≡ c → ⊥) → (b == c) ≡ false
 differs b c other = grind (arith, nat_tests)
@@ -61,17 +45,9 @@ line_alone : (b : ℕ) (bs : List ℕ) → NoFeed (b ∷ bs) → input_lines (b 
 line_alone b [] none = rw none.0 refl
 line_alone b (c ∷ cs) none = rw none.0 (ap (onto_first b) (line_alone c cs none.1))
 
-pub line_begins : (Gave : List ℕ → Type 0) (line : List ℕ) → Gave [] → line ≡ [] → LineSoFar Gave line
-line_begins Gave line gave empty = rw empty (gave, tt)
-
 pub line_grows : {I : Type 0} (Gave : I → I → List ℕ → Type 0) → InOrder Gave → (Ended : Type 0) (s t u : I) (line new : List ℕ) (b : ℕ)
     → LineSoFar (Gave s t) line → GivesByte (Gave t u) Ended (Some b) → (b == 10) ≡ false → new ≡ line ++ b ∷ [] → LineSoFar (Gave s u) new
 line_grows Gave on Ended s t u line new b so_far gives other is = rw is (on s t u line (b ∷ []) so_far.0 gives, no_feed_more line b so_far.1 other)
-
-pub line_ends : {I : Type 0} (Gave : I → I → List ℕ → Type 0) → InOrder Gave → (Ended : Type 0) (s t u : I) (line : List ℕ) (b : ℕ)
-    → LineSoFar (Gave s t) line → GivesByte (Gave t u) Ended (Some b) → b ≡ 10 → GivesLine (Gave s u) Ended line false
-line_ends Gave on Ended s t u line b so_far gives is =
-    (so_far.1, subst (λ (c : ℕ). Gave s u (line ++ c ∷ [])) is (on s t u line (b ∷ []) so_far.0 gives))
 
 pub line_last : {I : Type 0} (Gave : I → I → List ℕ → Type 0) → InOrder Gave → (Ended : Type 0) (s t u : I) (line : List ℕ)
     → LineSoFar (Gave s t) line → GivesByte (Gave t u) Ended None → GivesLine (Gave s u) Ended line true
@@ -271,11 +247,6 @@ printed_cut By first now Gave on s t u old new so_far gives = (
     so_far.2.grown,
   ),
 )
-
-pub cut_on : {A : Type 0} (result : Result A Unanswered) (P Q : Type 0) → (P → Q) → IfErr result (WhereRefused P) → IfErr result (WhereRefused Q)
-cut_on (Ok value) P Q more is = tt
-cut_on (Err Failed) P Q more is = tt
-cut_on (Err (Refused fault)) P Q more is = more is
 
 -- an input that hasn't failed so far
 pub counts_first : (count : Option ℕ) → CountsNone count count

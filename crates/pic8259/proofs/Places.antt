@@ -1,7 +1,7 @@
 -- The place of a list's first element that passes a test, and what a count says of it.
 use Rattle.std.proofs.Common.{◌≡◌, ℕ, ◌+◌, ◌<◌, ◌≤◌, Bool, true, false, not, ◌||◌, cond, List, [], ◌∷◌, ◌++◌, length, get_or}
 use Rattle.std.proofs.Common.{take, find, count_by, All, None, Some, refl, sym, ap, ◌∙◌, arith, append-nil, inl, inr}
-use Rattle.std.specs.List.{list_any, before_first, position_or_len}
+use Rattle.std.specs.List.{list_any, before_first}
 use Rattle.std.proofs.lemmas.Bool.{cases_Bool}
 use Rattle.std.proofs.Math.Bool.{or-true}
 use Rattle.std.proofs.lemmas.List.Elements.{All-nil, All-cons, All-head, All-tail, All-from_get_or}
@@ -93,28 +93,6 @@ none_counted p xs d none =
       | inl passes ↦ let some : 0 < count_by p xs = counted_here p xs i d within passes in absurd (omega arith)
       | inr fails ↦ fails
     ])
-
-passing_step : {X : Type 0} (p : X → Bool) (x : X) (xs : List X) (b : Bool)
-    → p x ≡ b → 0 < count_by p (x ∷ xs) → (0 < count_by p xs → position_or_len p xs < length xs) → position_or_len p (x ∷ xs) < length (x ∷ xs)
-passing_step p x xs true passes some more =
-    let first : position_or_len p (x ∷ xs) ≡ 0 = ap (λ b. cond (not b) (1 + position_or_len p xs) 0) passes in
-    rw first (omega arith)
-passing_step p x xs false fails some more =
-    let next : position_or_len p (x ∷ xs) ≡ 1 + position_or_len p xs = ap (λ b. cond (not b) (1 + position_or_len p xs) 0) fails in
-    let counts : count_by p (x ∷ xs) ≡ cond (p x) 1 0 + count_by p xs = sum_by-cons (λ y. cond (p y) 1 0) x xs in
-    let none : cond {A = ℕ} (p x) 1 0 ≡ 0 = ap (λ b. cond b 1 0) fails in
-    let later : position_or_len p xs < length xs = more (omega arith) in
-    rw next (omega arith)
-
--- if something is counted, something passes
-pub passing_counted : {X : Type 0} (p : X → Bool) (xs : List X) → 0 < count_by p xs → position_or_len p xs < length xs
-passing_counted p [] some = absurd (omega arith)
-passing_counted p (x ∷ xs) some = passing_step p x xs (p x) refl some (passing_counted p xs)
-
--- what holds of all holds of each part
-pub all_left : {X : Type 0} (P : X → Type 0) (xs ys : List X) → All P (xs ++ ys) → All P xs
-all_left P [] ys all = All-nil P
-all_left P (x ∷ xs) ys all = All-cons P x xs (All-head P x (xs ++ ys) all) (all_left P xs ys (All-tail P x (xs ++ ys) all))
 
 pub all_right : {X : Type 0} (P : X → Type 0) (xs ys : List X) → All P (xs ++ ys) → All P ys
 all_right P [] ys all = all

@@ -85,10 +85,6 @@ halves_zero : (b : Bool) (count : ℕ) → count ≤ 1 → (if b then (count + 1
 halves_zero true count small = omega arith
 halves_zero false count small = omega arith
 
-halves_none : (b : Bool) (count : ℕ) → count ≡ 0 → (if b then (count + 1) / 2 else count / 2) ≡ 0
-halves_none true count none = omega arith
-halves_none false count none = omega arith
-
 pub squares_short : (c : CounterState) (n : ℕ) → 0 < n → 0 < half_short c - n → after_square c n ≡ record c { count = 2 * (half_short c - n) }
 unfolding after_square
 squares_short c n some short =
