@@ -1,6 +1,6 @@
 /* What a program asks of the system beside the C library and c/memory.c: its words and the number of an error, and on Windows files
  * and streams of bytes, whose names are UTF-8. It is linked with --wrap=main, since musl tells the words to main alone; for Windows
- * with --wrap of open, read and write too. */
+ * with --wrap of open, read and write too. For macOS, whose linker wraps nothing, the program's own main and open have other names. */
 #include <errno.h>
 #include <stdint.h>
 #include <stdlib.h>
@@ -43,10 +43,12 @@ int __xpg_strerror_r(int error, char *into, size_t room) {
     return 0;
 }
 
-/* Opens a file to read, which is all that the programs do. */
+/* Opens a file to read, which is all that the programs do; standard input by the name that it has elsewhere. */
 int __wrap_open(const char *path, int flags, ...) {
     wchar_t wide[4096];
     (void)flags;
+    if (!strcmp(path, "/dev/stdin"))
+        return _dup(0);
     if (MultiByteToWideChar(CP_UTF8, MB_ERR_INVALID_CHARS, path, -1, wide, 4096))
         return _wopen(wide, _O_RDONLY | _O_BINARY | _O_NOINHERIT);
     errno = ENOENT;
@@ -71,6 +73,30 @@ static void take_words(void) {
     }
     for (int file = 0; file < 3; file++)
         _setmode(file, _O_BINARY);
+}
+#endif
+
+#ifdef __APPLE__
+#define READ_AND_CLOSE_ON_EXEC 0x1000000
+#define __wrap_main main
+
+typedef void (*handler)(int);
+int open(const char *path, int flags, ...);
+int strerror_r(int error, char *into, size_t room);
+handler signal(int number, handler by);
+
+handler __sysv_signal(int number, handler by) {
+    return signal(number, by);
+}
+
+int __xpg_strerror_r(int error, char *into, size_t room) {
+    return strerror_r(error, into, room);
+}
+
+/* Opens a file to read; its flags have other numbers here. */
+int __wrap_open(const char *path, int flags, ...) {
+    (void)flags;
+    return open(path, READ_AND_CLOSE_ON_EXEC);
 }
 #endif
 

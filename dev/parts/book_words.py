@@ -80,7 +80,7 @@ WAYS: list[tuple[str, list[Node]]] = [
         [('debugger_meaning', 'Back', 'GoesBack'), ('debugger_meaning', 'Back', 'GoesBackTo'), ('debugger_meaning', 'Stands', 'StandsAt')],
     ),
     ('when `back` is refused', [('debugger_meaning', 'Back', 'RefusesBack'), ('debugger_meaning', 'Back', 'RefusesBackTo')]),
-    ('what the probe answers', [('probe', 'Probe', 'AnswersStopping'), ('probe', 'InquirySession', 'AnswersProbe')]),
+    ('what the probe answers', [('probe', 'Probe', 'AnswersStopping'), ('probe', 'InquirySession', 'AnswersInquiry')]),
     ('when a stop on what happens holds', [('probe', 'ProbeStops', 'meets')]),
     ("where the probe's `go` stops", [('probe', 'ProbeStops', 'EndsAt')]),
     ('what pcprobe prints', [('pcprobe_program', 'Probing', 'PrintsProbing')]),

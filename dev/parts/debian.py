@@ -19,7 +19,10 @@ from toolbox.proved import PROGRAMS
 
 MAINTAINER = 'The developers of Zebludor <zebludor@localhost>'
 TIME = 1_000_000_000  # of every file: a second of 2001, since Debian takes none before 1984
-ROOM, LIBRARIES, DOCS = 'usr/lib/zebludor', 'usr/lib/x86_64-linux-gnu', 'usr/share/doc/zebludor'
+ROOM, DOCS = 'usr/lib/zebludor', 'usr/share/doc/zebludor'
+# Each architecture: its name, its folder of libraries, and what its tools' names begin with.
+Machine = tuple[str, str, str]
+AMD64, ARM64 = ('amd64', 'usr/lib/x86_64-linux-gnu', ''), ('arm64', 'usr/lib/aarch64-linux-gnu', 'aarch64-linux-gnu-')
 LINKED = (
     'README.md',
     'CHANGELOG.md',
@@ -36,7 +39,7 @@ LINKED = (
 )
 CONTROL = """Package: zebludor
 Version: {version}
-Architecture: amd64
+Architecture: {architecture}
 Maintainer: {maintainer}
 Installed-Size: {size}
 Depends: libc6 (>= 2.34), python3 (>= 3.10)
@@ -84,9 +87,9 @@ PACKAGE = re.compile(r'^prefix=.*\nlibdir=.*\nincludedir=.*\n')
 Files = dict[str, tuple[bytes, bool]]
 
 
-def name(version: str) -> str:
+def name(version: str, machine: Machine = AMD64) -> str:
     """The package's file name."""
-    return f'zebludor_{version}_amd64.deb'
+    return f'zebludor_{version}_{machine[0]}.deb'
 
 
 def packed(octets: bytes) -> bytes:
@@ -97,12 +100,12 @@ def packed(octets: bytes) -> bytes:
     return written.getvalue()
 
 
-def stripped(octets: bytes, *words: str) -> bytes:
+def stripped(machine: Machine, octets: bytes, *words: str) -> bytes:
     """A program or library without what only debuggers of it read."""
     with tempfile.TemporaryDirectory() as room:
         with open(f'{room}/it', 'wb') as file:
             file.write(octets)
-        done = subprocess.run(['strip', '--enable-deterministic-archives', *words, f'{room}/it'], capture_output=True, text=True, check=False)
+        done = subprocess.run([f'{machine[2]}strip', '--enable-deterministic-archives', *words, f'{room}/it'], capture_output=True, text=True, check=False)
         if done.returncode:
             raise Sorry(f'strip: {done.stderr.strip()}')
         with open(f'{room}/it', 'rb') as file:
@@ -115,26 +118,26 @@ def for_debian(octets: bytes) -> bytes:
     return re.sub(rb'\A#!/usr/bin/env bash\n', b'#!/bin/bash\n', octets)
 
 
-def programs(found: Files) -> Files:
+def programs(found: Files, machine: Machine) -> Files:
     """The stored programs and the library, stripped, and PROVED, which tells so."""
     names = [name for name in MADE if f'stored/{name}' in found]
-    made: Files = {f'stored/{each}': (stripped(found[f'stored/{each}'][0], '--remove-section=.comment'), each in PROGRAMS) for each in names}
+    made: Files = {f'stored/{each}': (stripped(machine, found[f'stored/{each}'][0], '--remove-section=.comment'), each in PROGRAMS) for each in names}
     said = ''.join(f'changed {each} {hashlib.sha256(made[f"stored/{each}"][0]).hexdigest()}\n' for each in names)
     return made | {'stored/PROVED': (found['stored/PROVED'][0] + said.encode(), False)}
 
 
-def library_files(found: Files) -> Files:
+def library_files(found: Files, machine: Machine) -> Files:
     """The libraries for C, with what pkg-config and CMake read."""
-    made: Files = {}
+    made, folder = Files(), machine[1]
     for path, (octets, _) in found.items():
         short = os.path.basename(path)
         if path.endswith('.a'):
-            made[f'{LIBRARIES}/{short}'] = stripped(octets, '--strip-debug'), False
+            made[f'{folder}/{short}'] = stripped(machine, octets, '--strip-debug'), False
         elif path.endswith('.pc'):
-            heads = f'prefix=/usr\nlibdir=/{LIBRARIES}\nincludedir=/usr/include\n'
-            made[f'{LIBRARIES}/pkgconfig/{short}'] = PACKAGE.sub(heads, octets.decode()).encode(), False
+            heads = f'prefix=/usr\nlibdir=/{folder}\nincludedir=/usr/include\n'
+            made[f'{folder}/pkgconfig/{short}'] = PACKAGE.sub(heads, octets.decode()).encode(), False
         elif path.endswith('.cmake') and path.startswith('lib/'):
-            made[f'{LIBRARIES}/{path.removeprefix("lib/")}'] = octets, False
+            made[f'{folder}/{path.removeprefix("lib/")}'] = octets, False
     return made
 
 
@@ -195,16 +198,16 @@ def ar_of(parts: dict[str, bytes]) -> bytes:
     return made
 
 
-def made(found: Files, version: str, maintainer: str) -> bytes:
+def made(found: Files, version: str, maintainer: str, machine: Machine = AMD64) -> bytes:
     """The package of a release's files."""
     elsewhere = ('SHA256SUMS', *PROGRAMS[1:], *(path for path in found if path.startswith('lib/') and path.endswith(('.a', '.pc', '.cmake'))))
-    kept = {path: each for path, each in found.items() if path not in elsewhere} | programs(found)
+    kept = {path: each for path, each in found.items() if path not in elsewhere} | programs(found, machine)
     files = {f'{ROOM}/{path}': (for_debian(octets), is_program) for path, (octets, is_program) in kept.items()}
-    files |= library_files(found) | share_files(found, version, maintainer)
+    files |= library_files(found, machine) | share_files(found, version, maintainer)
     size = sum(-(-len(octets) // 1024) for octets, _ in files.values())
     sums = ''.join(f'{hashlib.md5(octets, usedforsecurity=False).hexdigest()}  {path}\n' for path, (octets, _) in sorted(files.items()))
     control: Files = {
-        'control': (CONTROL.format(version=version, maintainer=maintainer, size=size).encode(), False),
+        'control': (CONTROL.format(architecture=machine[0], version=version, maintainer=maintainer, size=size).encode(), False),
         'md5sums': (sums.encode(), False),
         'prerm': (PRERM.encode(), True),
     }

@@ -23,9 +23,9 @@ ARCHIVES = {
     'zebludor_program': ('zebludor_program', MEMORY),
     DPI: (DPI, 'zebludor_chips', 'zebludor_program', MEMORY),
 }
-C = ['cc', '-std=c11', '-O2', '-fPIC', f'-I{TOP}/c']
+C = ['-std=c11', '-O2', '-fPIC', f'-I{TOP}/c']
 HIDDEN = '-fvisibility=hidden'  # of what is for Verilog: names of its own are nobody else's
-SHARED = ['cc', '-shared', '-nostartfiles', '-s', '-Wl,--build-id=none']
+SHARED = ['-shared', '-nostartfiles', '-s', '-Wl,--build-id=none']
 PACKAGE = """prefix=${{pcfiledir}}/../..
 libdir=${{prefix}}/lib
 includedir=${{prefix}}/c
@@ -49,10 +49,10 @@ def made_by(words: list[str], what: str) -> None:
 
 
 class Room:
-    """A folder in which the libraries are made, of the two static ones."""
+    """A folder in which the libraries are made, of the two static ones, by the system's compiler, or by tools whose names begin so."""
 
-    def __init__(self, path: str, archives: dict[str, str]) -> None:
-        self.path, self.archives = path, dict(archives)
+    def __init__(self, path: str, archives: dict[str, str], tools: str) -> None:
+        self.path, self.archives, self.cc, self.ar = path, dict(archives), f'{tools}gcc' if tools else 'cc', f'{tools}ar'
         self.archives[MEMORY] = self.archive(MEMORY, 'memory.c')
         self.archives[DPI] = self.archive(DPI, 'verilog/dpi.c', 'verilog/board.c')
 
@@ -61,13 +61,13 @@ class Room:
         made = [f'{self.path}/{os.path.basename(source)}.o' for source in sources]
         for source, to in zip(sources, made):
             hidden = [HIDDEN] if source.startswith('verilog/') else []
-            made_by([*C, *hidden, '-c', '-o', to, f'{TOP}/c/{source}'], f'object of c/{source}')
+            made_by([self.cc, *C, *hidden, '-c', '-o', to, f'{TOP}/c/{source}'], f'object of c/{source}')
         return made
 
     def archive(self, name: str, *sources: str) -> str:
         """A static library of sources below c/."""
         path = f'{self.path}/lib{name}.a'
-        made_by(['ar', 'rcD', path, *self.objects(*sources)], f'library of c/{sources[0]}')
+        made_by([self.ar, 'rcD', path, *self.objects(*sources)], f'library of c/{sources[0]}')
         return path
 
     def whole(self, *names: str) -> list[str]:
@@ -77,7 +77,7 @@ class Room:
     def shared(self, name: str, *words: str) -> bytes:
         """A shared library or module."""
         path = f'{self.path}/{name}'
-        made_by([*SHARED, f'-Wl,-soname,{name}', '-o', path, *words], f'shared library {name}')
+        made_by([self.cc, *SHARED, f'-Wl,-soname,{name}', '-o', path, *words], f'shared library {name}')
         return bytes_of(path)
 
 
@@ -100,10 +100,10 @@ def cmake(version: str) -> dict[str, bytes]:
     return {'zebludor-config.cmake': bytes_of(f'{TOP}/c/cmake/zebludor-config.cmake'), 'zebludor-config-version.cmake': text.encode()}
 
 
-def made(archives: dict[str, str], version: str) -> dict[str, bytes]:
+def made(archives: dict[str, str], version: str, tools: str = '') -> dict[str, bytes]:
     """All files of the folder lib, by their paths in it: `archives` has where the two static libraries are."""
     with tempfile.TemporaryDirectory() as path:
-        room = Room(path, archives)
+        room = Room(path, archives, tools)
         found = {f'lib{name}.a': bytes_of(archive) for name, archive in room.archives.items()}
         complete = '-Wl,--no-undefined'
         for name in LIBRARIES:
@@ -112,6 +112,8 @@ def made(archives: dict[str, str], version: str) -> dict[str, bytes]:
         others = [room.archives['zebludor_program'], room.archives[MEMORY]]
         found[f'lib{DPI}.so'] = room.shared(f'lib{DPI}.so', *room.whole(DPI, 'zebludor_chips'), *others, complete)
         # The simulator that loads it has VPI's own calls.
-        found[MODULE] = room.shared(MODULE, *room.objects('verilog/vpi.c', 'verilog/board.c'), room.archives['zebludor_chips'], *others, '-Wl,--exclude-libs,ALL')
+        found[MODULE] = room.shared(
+            MODULE, *room.objects('verilog/vpi.c', 'verilog/board.c'), room.archives['zebludor_chips'], *others, '-Wl,--exclude-libs,ALL'
+        )
     found |= {f'pkgconfig/{name}.pc': package(name, version) for name in WHAT}
     return found | {f'cmake/zebludor/{name}': text for name, text in cmake(version).items()}

@@ -1,5 +1,6 @@
 """What a release has, what has to be there for it, and its archive, wheel, Debian package, extension of VS Code and Containerfile, whose
-bytes are the same whenever they are made of the same files."""
+bytes are the same whenever they are made of the same files. For another target than x86-64 Linux with glibc it has what dev/build made
+for that, and is packed as users of that system get things."""
 from __future__ import annotations
 
 import gzip
@@ -10,9 +11,10 @@ import re
 import shutil
 import subprocess
 import tarfile
+from dataclasses import replace
 from typing import Iterator
 
-from parts import debian, libraries, vsix, wheel
+from parts import debian, libraries, targets, vsix, wheel
 from parts.book import Book, text_of
 from parts.book_page import page_of
 from parts.definitions import Definitions
@@ -24,11 +26,21 @@ from toolbox.present import LIBRARY, MADE
 from toolbox.proved import PROGRAMS, STORED, Made, Proved
 from toolbox.sources import sum_of, sum_of_sources
 
-PLATFORM = 'x86_64-linux'
+NATIVE = 'x86_64-linux'
+# For each target: its platform in the archive's name, and the wheel's tag, if there is a wheel.
+PACKED = {
+    'aarch64': ('aarch64-linux', 'py3-none-manylinux_2_17_aarch64'),
+    'musl': ('x86_64-linux-musl', ''),
+    'windows': ('x86_64-windows', 'py3-none-win_amd64'),
+    'macos-arm64': ('arm64-macos', 'py3-none-macosx_11_0_arm64'),
+    'macos-x86_64': ('x86_64-macos', 'py3-none-macosx_11_0_x86_64'),
+}
+NO_LAUNCHER = ('windows', 'macos-arm64', 'macos-x86_64')  # which come without Bash 4
 STORED_FILES = tuple(f'stored/{program}' for program in PROGRAMS)
 FILES = ('CHANGELOG.md', 'CONTRIBUTING.md', 'SECURITY.md', 'LICENSE-APACHE', 'LICENSE-MIT', 'README.md', 'VERSION', *PROGRAMS, *STORED_FILES, 'stored/PROVED')
 FOLDERS = ('c', 'docs', 'editors', 'examples', 'python', 'services', 'tools', 'web')
 MODULE = 'stored/zebludor.wasm'  # by which the desk's page runs the board
+LIBRARY_CRATE = 'zebludor_program'  # whose shared library the tools load
 LEFT_OUT = ('tools/test', 'tools/tests', 'editors/grammar', 'web/desk.html')  # which want the sources, or are made
 TIME = 315532800  # of every file: the first second of 1980, the earliest that other kinds of archives have too
 CONTAINER = """# Zebludor {version} for machines without Linux, as docs/install.md tells. In the folder that has it and {package}:
@@ -54,9 +66,9 @@ def version() -> str:
         return file.read().strip()
 
 
-def name() -> str:
+def name(platform: str = NATIVE) -> str:
     """The name of the archive's folder."""
-    return f'zebludor-{version()}-{PLATFORM}'
+    return f'zebludor-{version()}-{platform}'
 
 
 def archive_of(crates: Crates, crate: str) -> str:
@@ -70,9 +82,14 @@ def stored_library() -> list[str]:
     return [f'stored/{LIBRARY}'] if record and LIBRARY in record.made else []
 
 
-def lacking() -> list[str]:
+def lacking(target: str | None = None) -> list[str]:
     """A sentence for each thing that a release wants and that isn't here, or isn't of the present sources, with what makes it so."""
     crates = Crates()
+    if target:
+        found = [f"{path} isn't there" for path in (*FILES, *FOLDERS) if not path.startswith('stored/') and not os.path.exists(f'{TOP}/{path}')]
+        made = ((crate, f'{folder_of(crate, target)}/{file}') for crate, file in built(crates, target))
+        found += filter(None, (of_built(crates, crate, path, f'dev/build {crate} --target {target} makes it') for crate, path in made))
+        return found + [f"{path} isn't as it was committed; a release has what a commit has" for path in uncommitted()]
     found = [f"{path} isn't there" for path in (*FILES, *stored_library(), *FOLDERS) if not os.path.exists(f'{TOP}/{path}')]
     stored = [*PROGRAMS, *map(os.path.basename, stored_library())]
     found += filter(None, (*(of_program(crates, name) for name in stored), *(of_library(crates, library) for library in LIBRARIES)))
@@ -102,8 +119,12 @@ def of_program(crates: Crates, program: str) -> str | None:
 
 def of_library(crates: Crates, crate: str) -> str | None:
     """What is amiss with a static library."""
-    path = archive_of(crates, crate)
-    short, build = os.path.relpath(path, TOP), f'dev/build {crate} proves and builds it, and so does tools/test'
+    return of_built(crates, crate, archive_of(crates, crate), f'dev/build {crate} proves and builds it, and so does tools/test')
+
+
+def of_built(crates: Crates, crate: str, path: str, build: str) -> str | None:
+    """What is amiss with a file that was built of a crate, as `build` tells."""
+    short = os.path.relpath(path, TOP)
     if not os.path.isfile(path):
         return f"{short} isn't there; {build}"
     record, stored = proved.read(os.path.dirname(path)), proved.read(STORED)
@@ -114,6 +135,21 @@ def of_library(crates: Crates, crate: str) -> str | None:
     if not why and stored and (record.kit, record.logic) != (stored.kit, stored.logic):
         why = f'{record.kit} made it, and {stored.kit} the stored programs'
     return why and f"{short} isn't taken: {why}; {build}"
+
+
+def built(crates: Crates, target: str) -> list[tuple[str, str]]:
+    """The programs and libraries for a target: of which crate each is, and its file."""
+    return [(crate, file) for crate in (*PROGRAMS, *LIBRARIES) for file in targets.files_of(crates, crate, target)]
+
+
+def folder_of(crate: str, target: str) -> str:
+    """Where dev/build puts what it makes of a crate for a target."""
+    return f'{TOP}/crates/{crate}/out/{target}'
+
+
+def place_of(crate: str, file: str) -> str:
+    """Where a file for a target stands in a release: with the programs, if the tools load it, else with the libraries for C."""
+    return f'stored/{file}' if crate in PROGRAMS or crate == LIBRARY_CRATE and not file.endswith('.a') else f'lib/{file}'
 
 
 def uncommitted() -> list[str]:
@@ -138,11 +174,13 @@ def is_left_out(path: str) -> bool:
     )
 
 
-def paths() -> list[str]:
+def paths(target: str | None = None) -> list[str]:
     """The files that a release has of the repository."""
     inside = (os.path.relpath(f'{folder}/{file}', TOP) for top in FOLDERS for folder, _, files in os.walk(f'{TOP}/{top}') for file in files)
     module = filter(lambda path: os.path.isfile(f'{TOP}/{path}'), (MODULE,))
-    return [*FILES, *stored_library(), *module, *(path for path in inside if not is_left_out(path))]
+    stored = () if target else (*STORED_FILES, 'stored/PROVED', *stored_library())
+    whole = (path for path in FILES if not path.startswith('stored/') and not (target in NO_LAUNCHER and path in PROGRAMS))
+    return [*whole, *stored, *module, *(path for path in inside if not is_left_out(path))]
 
 
 def verdicts_of(crates: Crates) -> str:
@@ -156,22 +194,54 @@ def verdicts_of(crates: Crates) -> str:
         whole.made.update((f'lib/{name}', made) for name, made in library.made.items())
         whole.verdicts.update(library.verdicts)
     whole.verdicts.update(stored.verdicts)
-    return f'zebludor {version()} {PLATFORM}\n{whole.text()}'
+    return f'zebludor {version()} {NATIVE}\n{whole.text()}'
 
 
-def contents() -> dict[str, tuple[bytes, bool]]:
+def record_of(crates: Crates, target: str) -> Proved:
+    """A text as PROVED of all that was built for a target, by its path in the release."""
+    found = {crate: proved.read(folder_of(crate, target)) for crate in (*PROGRAMS, *LIBRARIES)}
+    records = {crate: record for crate, record in found.items() if record}
+    first, verdicts = records[PROGRAMS[0]], {name: line for record in records.values() for name, line in record.verdicts.items()}
+    made = {place_of(crate, file): records[crate].made[file] for crate, file in built(crates, target)}
+    of_targets = dict.fromkeys(record.target for record in records.values())
+    stored, page = proved.read(STORED), os.path.basename(MODULE)
+    if stored and page in stored.made:
+        made[MODULE] = stored.made[page]
+        of_targets |= dict.fromkeys(re.findall(r'target wasm .*\n(?:trusted .*\n)*', stored.target))
+    return Proved(first.kit, first.logic, made, verdicts, ''.join(of_targets))
+
+
+def of_the_target(crates: Crates, target: str) -> dict[str, tuple[bytes, bool]]:
+    """What dev/build made for a target, with PROVED beside the programs, and RELEASE."""
+    found = {place_of(crate, file): (read(f'{folder_of(crate, target)}/{file}'), crate in PROGRAMS) for crate, file in built(crates, target)}
+    whole = record_of(crates, target)
+    stored = {path.removeprefix('stored/'): made for path, made in whole.made.items() if path.startswith('stored/')}
+    found['stored/PROVED'] = replace(whole, made=stored).text().encode(), False
+    found['RELEASE'] = f'zebludor {version()} {PACKED[target][0]}\n{whole.text()}'.encode(), False
+    return found
+
+
+def read(path: str) -> bytes:
+    """What a file holds."""
+    with open(path, 'rb') as file:
+        return file.read()
+
+
+def contents(target: str | None = None) -> dict[str, tuple[bytes, bool]]:
     """All files of a release by their paths: what each holds, and whether it may be started."""
     crates = Crates()
-    found: dict[str, tuple[bytes, bool]] = {}
-    for path in paths():
-        with open(f'{TOP}/{path}', 'rb') as file:
-            found[path] = file.read(), os.access(f'{TOP}/{path}', os.X_OK)
-    made = libraries.made({crate: archive_of(crates, crate) for crate in LIBRARIES}, version())
-    found |= {f'lib/{path}': (octets, False) for path, octets in made.items()}
+    found = {path: (read(f'{TOP}/{path}'), os.access(f'{TOP}/{path}', os.X_OK)) for path in paths(target)}
+    if target in (None, 'aarch64'):
+        archives = {crate: f'{folder_of(crate, target)}/lib{crate}.a' if target else archive_of(crates, crate) for crate in LIBRARIES}
+        made = libraries.made(archives, version(), 'aarch64-linux-gnu-' if target else '')
+        found |= {f'lib/{path}': (octets, False) for path, octets in made.items()}
+    if target:
+        found |= of_the_target(crates, target)
     for path, (octets, _) in found.items():
         if path.endswith('.md'):
             found[path] = linked(path, octets.decode(), found).encode(), False
-    found['RELEASE'] = verdicts_of(crates).encode(), False
+    if not target:
+        found['RELEASE'] = verdicts_of(crates).encode(), False
     book = Book(Definitions(), ['program'])
     found['docs/book.html'], found['docs/book.txt'] = (page_of(book).encode(), False), (text_of(book).encode(), False)
     sums = (f'{hashlib.sha256(octets).hexdigest()}  {path}\n' for path, (octets, _) in sorted(found.items()))
@@ -200,10 +270,10 @@ def folders_of(path: str) -> Iterator[str]:
         yield path
 
 
-def members(found: dict[str, tuple[bytes, bool]]) -> Iterator[tuple[tarfile.TarInfo, bytes]]:
+def members(found: dict[str, tuple[bytes, bool]], top: str) -> Iterator[tuple[tarfile.TarInfo, bytes]]:
     """The archive's entries, folders too, by their names, without owner or time of their own."""
     for path in sorted({*found, *(folder for file in found for folder in folders_of(file))}):
-        entry = tarfile.TarInfo(f'{name()}/{path}'.rstrip('/'))
+        entry = tarfile.TarInfo(f'{top}/{path}'.rstrip('/'))
         entry.mtime = TIME
         octets, is_program = found.get(path, (b'', True))
         entry.type, entry.size = (tarfile.REGTYPE if path in found else tarfile.DIRTYPE), len(octets)
@@ -211,26 +281,38 @@ def members(found: dict[str, tuple[bytes, bool]]) -> Iterator[tuple[tarfile.TarI
         yield entry, octets
 
 
-def archive(found: dict[str, tuple[bytes, bool]]) -> bytes:
+def archive(found: dict[str, tuple[bytes, bool]], top: str) -> bytes:
     """The archive."""
     written = io.BytesIO()
     with gzip.GzipFile('', 'wb', 9, written, mtime=0) as packed, tarfile.open(fileobj=packed, mode='w', format=tarfile.USTAR_FORMAT) as whole:
-        for entry, octets in members(found):
+        for entry, octets in members(found, top):
             whole.addfile(entry, io.BytesIO(octets))
     return written.getvalue()
 
 
-def make(folder: str, maintainer: str) -> list[tuple[str, str]]:
-    """Writes all of them into a folder, or none of them; returns their paths and their SHA-256."""
-    found, now = contents(), version()
+def packed(target: str | None, maintainer: str) -> dict[str, bytes]:
+    """All that a release is got as, by the names of the files."""
+    found, now = contents(target), version()
+    if target:
+        platform, tag = PACKED[target]
+        top = name(platform)
+        made = {f'{top}.zip': wheel.zipped({f'{top}/{path}': each for path, each in sorted(found.items())})} if target == 'windows' else {}
+        made |= {} if made else {f'{top}.tar.gz': archive(found, top)}
+        made |= {wheel.name(now, tag): wheel.made(found, now, tag)} if tag else {}
+        return made | ({debian.name(now, debian.ARM64): debian.made(found, now, maintainer, debian.ARM64)} if target == 'aarch64' else {})
     package = debian.name(now)
-    made = {
-        f'{name()}.tar.gz': archive(found),
+    return {
+        f'{name()}.tar.gz': archive(found, name()),
         wheel.name(now): wheel.made(found, now),
         package: debian.made(found, now, maintainer),
         vsix.name(now): vsix.made(found, now),
         'Containerfile': CONTAINER.format(version=now, package=package).encode(),
     }
+
+
+def make(folder: str, maintainer: str, target: str | None = None) -> list[tuple[str, str]]:
+    """Writes all of them into a folder, or none of them; returns their paths and their SHA-256."""
+    made = packed(target, maintainer)
     for short, octets in made.items():
         with open(f'{folder}/{short}.new', 'wb') as file:
             file.write(octets)

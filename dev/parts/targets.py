@@ -1,5 +1,6 @@
 """Programs and static libraries for other targets than x86-64 Linux with glibc. Rattle proves a crate for any x86-64 and hands its
 compiler one module; the kit's clang makes an object of it for each target, and the target's own linker a file."""
+import contextlib
 import os
 import re
 import shlex
@@ -31,6 +32,8 @@ FEATURES = ('memory64', 'bulk-memory', 'sign-ext', 'mutable-globals', 'nontrappi
 
 
 OF_THE_HEAP = ('zebludor_take', 'zebludor_give', 'zebludor_limit')  # what c/targets/wasm.c has for callers
+# How the kit's clang compiles sources of C without any system's headers.
+PLAIN = ['-nostdinc', '-isystem', f'{C}/targets/plain', '-std=c11', '-O2', '-fPIC']
 # The calls that a shared library has for others.
 VISIBLE = '{ global: zebludor_*; local: *; };\n'
 
@@ -42,13 +45,26 @@ class Failed(Exception):
 @dataclass(frozen=True)
 class Target:
     """A target: its words for clang, none where Rattle's own object serves; its tools with their Debian packages; the words with
-    which the first of them links a program; and who runs what is made."""
+    which the first of them links a program; who runs what is made; what a program's name ends in; and the name that a shared library
+    has there, of one that can be loaded."""
 
     clang: list[str]
     tools: dict[str, str]
     links: list[str]
     runs_on: str
     ending: str = ''
+    shared: str = ''
+
+
+def of_macos(processor):
+    """A target of macOS, of whose own library the linker is told the calls by c/targets/libSystem.tbd."""
+    return Target(
+        [f'--target={processor}-apple-macos11', '-fPIC'],
+        {'ld64.lld-19': 'lld-19'},
+        ['-arch', processor, '-platform_version', 'macos', '11.0', '11.0', f'{C}/targets/libSystem.tbd'],
+        'macOS, on which nobody has run it',
+        shared='lib{}.dylib',
+    )
 
 
 TARGETS = {
@@ -57,6 +73,7 @@ TARGETS = {
         {'aarch64-linux-gnu-gcc': 'gcc-aarch64-linux-gnu libc6-dev-arm64-cross'},
         ['-Wl,--wrap=main'],
         "its glibc, which is in the program, and Linux",
+        shared='lib{}.so',
     ),
     'musl': Target([], {'musl-gcc': 'musl-tools'}, ['-Wl,--wrap=main'], 'musl, which is in the program, and Linux'),
     'windows': Target(
@@ -65,8 +82,11 @@ TARGETS = {
         [*(f'-Wl,--wrap={name}' for name in ('main', 'open', 'read', 'write')), '-Wl,--no-insert-timestamp,--stack,8388608', '-lshell32'],
         'mingw-w64, which is in the program, msvcrt and Windows',
         '.exe',
+        '{}.dll',
     ),
-    'shared': Target([], {}, [], 'glibc'),
+    'macos-arm64': of_macos('arm64'),
+    'macos-x86_64': of_macos('x86_64'),
+    'shared': Target([], {}, [], 'glibc', shared='lib{}.so'),
     'wasm': Target(WASM, {'wasm-ld-19': 'lld-19', 'wasm-opt': 'binaryen'}, [], 'an engine'),
 }
 
@@ -115,10 +135,18 @@ def verdict_of(crates, name):
 
 
 def portable(text, target):
-    """The module's text without what names x86-64; on Windows an answer of the heap, two words, stays in registers, as it has it."""
+    """The module's text without what names x86-64; on Windows an answer of the heap, two words, stays in registers, as it has it; on
+    macOS, whose linker wraps no calls, `main` and `open` have the names by which c/targets/system.c wraps them."""
     text = re.sub(r'^target (datalayout|triple) = .*\n', '', text, flags=re.M)
     text = re.sub(r' "(probe-stack|stack-probe-size|target-cpu)"="[^"]*"', '', text)
+    if is_macos(target):
+        return re.sub(r'@(main|open)\(', lambda found: {'main': '@__real_main(', 'open': '@__wrap_open('}[found[1]], text)
     return re.sub(r'(declare|call) (\{ i64, i64 \} @rattle_)', r'\1 x86_64_sysvcc \2', text) if target == 'windows' else text
+
+
+def is_macos(target):
+    """Whether a target is one of macOS."""
+    return target.startswith('macos-')
 
 
 def flags(room):
@@ -128,22 +156,35 @@ def flags(room):
 
 
 def compiled(room, target, run):
-    """The object of a kept module for a target."""
+    """The object of a kept module for a target, which is made once."""
     if not TARGETS[target].clang:
         return f'{room}/own'
+    to = f'{room}/{target}.o'
+    if os.path.exists(to):
+        return to
     run(CLANG, '-x', 'ir', f'{room}/module.bc', '-S', '-emit-llvm', '-O0', '-Xclang', '-disable-llvm-passes', '-o', f'{room}/module.ll')
     with open(f'{room}/module.ll', encoding='utf-8') as file:
         write_text(f'{room}/{target}.ll', portable(file.read(), target))
-    to = f'{room}/{target}.o'
     run(CLANG, *TARGETS[target].clang, *flags(room), '-Wno-override-module', '-x', 'ir', f'{room}/{target}.ll', '-o', to)
     return to
+
+
+def plain(room, words, run, *sources):
+    """Objects of sources below c/, which the kit's clang makes by these words."""
+    made = [f'{room}/{os.path.basename(source).removesuffix(".c")}.o' for source in sources]
+    for source, to in zip(sources, made):
+        run(CLANG, *words, *PLAIN, '-c', f'{C}/{source}', '-o', to)
+    return made
 
 
 def link(room, target, to, run):
     """Links a program's object for a target."""
     linker, *_ = TARGETS[target].tools
-    system = [f'{C}/memory.c', f'{C}/targets/system.c']
-    run(linker, '-O2', '-static', '-s', '-o', to, compiled(room, target, run), *system, *TARGETS[target].links)
+    made, system = compiled(room, target, run), ('memory.c', 'targets/system.c')
+    if is_macos(target):
+        run(linker, *TARGETS[target].links, '-o', to, made, *plain(room, TARGETS[target].clang, run, *system))
+    else:
+        run(linker, '-O2', '-static', '-s', '-o', to, made, *(f'{C}/{source}' for source in system), *TARGETS[target].links)
 
 
 def archive(room, target, to, run):
@@ -155,15 +196,25 @@ def archive(room, target, to, run):
         run(f'{TOOLCHAIN}/bin/llvm-ar', 'rcsD', to, made)
 
 
-def link_shared(room, to, run):
-    """Makes of Rattle's own object a shared library for x86-64 Linux with glibc, by the kit's compiler and linker alone."""
-    memory = ['-nostdinc', '-isystem', f'{C}/targets/plain', '-std=c11', '-O2', '-fPIC']
-    run(CLANG, '--target=x86_64-unknown-linux-gnu', *memory, '-c', f'{C}/memory.c', '-o', f'{room}/memory.o')
+def link_shared(room, target, to, run):
+    """Makes a shared library for a target; for x86-64 Linux with glibc of Rattle's own object, by the kit's compiler and linker alone."""
+    made, name = compiled(room, target, run), os.path.basename(to)
     write_text(f'{room}/visible', VISIBLE)
-    words = ['-shared', '-soname', os.path.basename(to), '--build-id=none', '--strip-all', '--hash-style=gnu', '-z', 'relro', '-z', 'now']
-    whole = ['--whole-archive', f'{room}/own', '--no-whole-archive', f'{room}/memory.o']
-    system = [f'{TOOLCHAIN}/lib/libc.so.6', '--as-needed', f'{TOOLCHAIN}/lib/ld-linux-x86-64.so.2']
-    run(f'{TOOLCHAIN}/bin/ld.lld', *words, '--no-undefined', '--gc-sections', f'--version-script={room}/visible', *whole, *system, '-o', to)
+    if target == 'shared':
+        words = ['-shared', '-soname', name, '--build-id=none', '--strip-all', '--hash-style=gnu', '-z', 'relro', '-z', 'now']
+        whole = ['--whole-archive', made, '--no-whole-archive', *plain(room, ['--target=x86_64-unknown-linux-gnu'], run, 'memory.c')]
+        system = [f'{TOOLCHAIN}/lib/libc.so.6', '--as-needed', f'{TOOLCHAIN}/lib/ld-linux-x86-64.so.2']
+        run(f'{TOOLCHAIN}/bin/ld.lld', *words, '--no-undefined', '--gc-sections', f'--version-script={room}/visible', *whole, *system, '-o', to)
+        return
+    linker, *_ = TARGETS[target].tools
+    if is_macos(target):
+        words = [*TARGETS[target].links, '-dylib', '-install_name', f'@rpath/{name}', '-exported_symbol', '_zebludor_*', '-dead_strip']
+        run(linker, *words, '-o', to, made, *plain(room, TARGETS[target].clang, run, 'memory.c'))
+        return
+    words = ['-static', '-Wl,--no-insert-timestamp']
+    if target != 'windows':
+        words = [f'-Wl,-soname,{name},--build-id=none,-z,now,--gc-sections,--version-script={room}/visible']
+    run(linker, '-O2', '-fPIC', '-shared', '-s', *words, '-Wl,--no-undefined', '-o', to, made, f'{C}/memory.c')
 
 
 def link_wasm(room, to, run):
@@ -182,12 +233,13 @@ def calls_in(path):
         return [*sorted(re.findall(r'^define (?!internal)[^@\n]*@(zebludor_\w+)\(', file.read(), re.M)), *OF_THE_HEAP]
 
 
-def file_of(crates, name, target):
-    """The name of the file that is made of a crate for a target. A library that is ready to be called has no `_program` in it."""
+def files_of(crates, name, target):
+    """The names of the files that are made of a crate for a target. A library that is ready to be called has no `_program` in it."""
     if crates.is_program(name):
-        return f'{name}{TARGETS[target].ending}'
-    short = name.removesuffix('_program')
-    return {'wasm': f'{short}.wasm', 'shared': f'lib{short}.so'}.get(target, f'lib{name}.a')
+        return [f'{name}{TARGETS[target].ending}']
+    short, shared = name.removesuffix('_program'), TARGETS[target].shared
+    ready = [f'{short}.wasm'] if target == 'wasm' else [shared.format(short)] if shared else []
+    return ready if target in ('wasm', 'shared') else [f'lib{name}.a', *ready]
 
 
 def linked(room, is_program, target, file, run):
@@ -196,36 +248,40 @@ def linked(room, is_program, target, file, run):
     made = f'{room}/files/{file}'
     if target == 'wasm':
         link_wasm(room, made, run)
-    elif target == 'shared':
-        link_shared(room, made, run)
     elif is_program:
         link(room, target, made, run)
-    else:
+    elif file.endswith('.a'):
         archive(room, target, made, run)
+    else:
+        link_shared(room, target, made, run)
     return made
 
 
 def make(crates, name, target, work):
-    """Builds a program or a static library for a target, and puts it with PROVED into crates/NAME/out/TARGET."""
-    file = file_of(crates, name, target)
+    """Builds a program or a library for a target, and puts its files with PROVED into crates/NAME/out/TARGET."""
+    to, files = f'{TOP}/crates/{name}/out/{target}', files_of(crates, name, target)
     with waiting(f'{name}: building it for {target}') as say:
         say('Rattle proves it for any x86-64')
         room = keep_module(crates, name, work)
         say('clang compiles its module')
-        made = linked(room, crates.is_program(name), target, file, partial(do, work, room))
-    to = f'{TOP}/crates/{name}/out/{target}/{file}'
-    os.makedirs(os.path.dirname(to), exist_ok=True)
-    os.replace(shutil.copy(made, f'{to}.new'), to)
-    note(to, crates, name, target, room)
+        with contextlib.suppress(FileNotFoundError):
+            os.remove(f'{room}/{target}.o')
+        made = [linked(room, crates.is_program(name), target, file, partial(do, work, room)) for file in files]
+    os.makedirs(to, exist_ok=True)
+    for path, file in zip(made, files):
+        os.replace(shutil.copy(path, f'{to}/{file}.new'), f'{to}/{file}')
+    note([f'{to}/{file}' for file in files], crates, name, target, room)
 
 
-def note(path, crates, name, target, room):
-    """Writes PROVED beside a file for a target: with the verdict on its crate for any x86-64, the module, and what more is trusted."""
-    known = proved.told_of(path, crates, crates.below(name))
+def note(paths, crates, name, target, room):
+    """Writes PROVED beside files for a target: with the verdict on their crate for any x86-64, the module, and what more is trusted."""
+    known = [proved.told_of(path, crates, crates.below(name)) for path in paths]
     sources = 'c/targets/wasm.c' if target == 'wasm' else 'c/memory.c and, in a program, c/targets/system.c'
     trusted = *(version(tool) for tool in (CLANG, *TARGETS[target].tools)), sources, TARGETS[target].runs_on
     of = f'target {target} module {sum_of(f"{room}/module.bc")}\n' + ''.join(f'trusted {each}\n' for each in trusted)
-    write_text(f'{os.path.dirname(path)}/PROVED', replace(known, verdicts={**known.verdicts, name: verdict_of(crates, name)}, target=of).text())
+    made = {file: of_it for each in known for file, of_it in each.made.items()}
+    whole = replace(known[0], made=made, verdicts={**known[0].verdicts, name: verdict_of(crates, name)}, target=of)
+    write_text(f'{os.path.dirname(paths[0])}/PROVED', whole.text())
 
 
 def version(tool):

@@ -9,8 +9,9 @@ from parts.definitions import COMMENT, Definition, Definitions, Node, named
 LINES = ('Command', 'Inquiry', 'Request', 'Wish')  # the types of a session's lines, whose cases are the commands
 CASE = re.compile(r'\S+ \(?(?:\w+\.)?([A-Z]\w*)\b')
 REFUSED = re.compile(r'\(?Memory (None|\(Some \w+\))\)?$')
-# Cases whose words aren't their names: of the stops only that of changes has a copy that may lack memory.
-WORDS = {'Add': ['changes'], 'Try': ['moments'], 'Listing': ['list', 'forms']}
+# Cases whose words aren't their names, or that hand on to others: of the stops only that of changes has a copy that may lack
+# memory.
+WORDS = {'Add': ['changes'], 'Try': ['moments'], 'Listing': ['list', 'forms'], 'Inquire': [], 'Do': []}
 ALL_SAID = 'StoppedEarly'  # a run that stops short says by this that the speaker would change, and that no room is left
 
 
@@ -27,7 +28,7 @@ def refused_words(found: Definitions, definition: Definition) -> Iterator[str]:
     for left, right in equations(definition):
         case = CASE.match(left)
         if case and stands_for_line(found, definition, case[0]) and lacks(found, definition, left, right):
-            yield from WORDS.get(case[1]) or [re.sub(r'(?<=[a-z])(?=[A-Z])', ' ', case[1]).lower()]
+            yield from WORDS.get(case[1], [re.sub(r'(?<=[a-z])(?=[A-Z])', ' ', case[1]).lower()])
 
 
 def stands_for_line(found: Definitions, definition: Definition, left: str) -> bool:

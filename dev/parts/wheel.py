@@ -8,10 +8,12 @@ import io
 import zipfile
 
 TAG = 'py3-none-manylinux_2_34_x86_64'  # the programs need glibc 2.34
+SYSTEMS = {'linux': 'POSIX :: Linux', 'win': 'Microsoft :: Windows', 'macosx': 'MacOS'}  # by a word of the tag
 TIME = (1980, 1, 1, 0, 0, 0)
 FILES = 'zebludor_files'
 START = '''"""The commands pcboard, pcprobe, pcmasm and zebludor."""
 import os
+import subprocess
 import sys
 
 TOP = os.path.join(os.path.dirname(os.path.realpath(__file__)), 'zebludor_files')
@@ -25,28 +27,36 @@ def _begin():
     os.environ['ZEBLUDOR_STARTED'] = 'zebludor' if is_found else os.path.join(folder, 'zebludor')
 
 
-def pcboard():
-    """The launcher of pcboard."""
+def _become(*words):
+    """Starts a command in the place of this one; on Windows, which has no such call, beside it."""
     _begin()
-    os.execv(f'{TOP}/pcboard', [f'{TOP}/pcboard', *sys.argv[1:]])
+    if os.name == 'nt':
+        sys.exit(subprocess.call(words))
+    os.execv(words[0], words)
+
+
+def _program(name):
+    """The launcher of a program, or, where there is none, the program itself."""
+    launcher = f'{TOP}/{name}'
+    stored = f'{TOP}/stored/{name}' + '.exe' * (os.name == 'nt')
+    _become(launcher if os.path.exists(launcher) else stored, *sys.argv[1:])
+
+
+def pcboard():
+    _program('pcboard')
 
 
 def pcprobe():
-    """The launcher of pcprobe."""
-    _begin()
-    os.execv(f'{TOP}/pcprobe', [f'{TOP}/pcprobe', *sys.argv[1:]])
+    _program('pcprobe')
 
 
 def pcmasm():
-    """The launcher of pcmasm."""
-    _begin()
-    os.execv(f'{TOP}/pcmasm', [f'{TOP}/pcmasm', *sys.argv[1:]])
+    _program('pcmasm')
 
 
 def zebludor():
     """The command over the tools."""
-    _begin()
-    os.execv(sys.executable, [sys.executable, f'{TOP}/tools/zebludor', *sys.argv[1:]])
+    _become(sys.executable, f'{TOP}/tools/zebludor', *sys.argv[1:])
 '''
 COMMANDS = '[console_scripts]\n' + ''.join(f'{each} = zebludor_start:{each}\n' for each in ('pcboard', 'pcprobe', 'pcmasm', 'zebludor'))
 METADATA = """Metadata-Version: 2.1
@@ -58,14 +68,14 @@ Requires-Python: >=3.10
 Classifier: Environment :: Console
 Classifier: License :: OSI Approved :: Apache Software License
 Classifier: License :: OSI Approved :: MIT License
-Classifier: Operating System :: POSIX :: Linux
+Classifier: Operating System :: {system}
 Classifier: Topic :: System :: Emulators
 """
 
 
-def name(version: str) -> str:
+def name(version: str, tag: str = TAG) -> str:
     """The wheel's file name."""
-    return f'zebludor-{version}-{TAG}.whl'
+    return f'zebludor-{version}-{tag}.whl'
 
 
 def digest(octets: bytes) -> str:
@@ -73,18 +83,8 @@ def digest(octets: bytes) -> str:
     return 'sha256=' + base64.urlsafe_b64encode(hashlib.sha256(octets).digest()).rstrip(b'=').decode()
 
 
-def made(found: dict[str, tuple[bytes, bool]], version: str) -> bytes:
-    """The wheel of a release's files."""
-    info = f'zebludor-{version}.dist-info'
-    files = {f'{FILES}/{path}': each for path, each in sorted(found.items())}
-    files['zebludor.py'] = found['python/zebludor.py'][0], False
-    files['zebludor_start.py'] = START.encode(), False
-    files |= {f'{info}/{each}': (found[each][0], False) for each in ('LICENSE-APACHE', 'LICENSE-MIT')}
-    files[f'{info}/METADATA'] = METADATA.format(version=version).encode(), False
-    files[f'{info}/WHEEL'] = f'Wheel-Version: 1.0\nGenerator: dev/release\nRoot-Is-Purelib: false\nTag: {TAG}\n'.encode(), False
-    files[f'{info}/entry_points.txt'] = COMMANDS.encode(), False
-    record = ''.join(f'{path},{digest(octets)},{len(octets)}\n' for path, (octets, _) in files.items())
-    files[f'{info}/RECORD'] = f'{record}{info}/RECORD,,\n'.encode(), False
+def zipped(files: dict[str, tuple[bytes, bool]]) -> bytes:
+    """Files as zip packs them, without times of their own."""
     written = io.BytesIO()
     with zipfile.ZipFile(written, 'w') as whole:
         for path, (octets, is_program) in files.items():
@@ -92,3 +92,18 @@ def made(found: dict[str, tuple[bytes, bool]], version: str) -> bytes:
             entry.create_system, entry.external_attr = 3, (0o100755 if is_program else 0o100644) << 16
             whole.writestr(entry, octets, zipfile.ZIP_DEFLATED, 9)
     return written.getvalue()
+
+
+def made(found: dict[str, tuple[bytes, bool]], version: str, tag: str = TAG) -> bytes:
+    """The wheel of a release's files."""
+    info, system = f'zebludor-{version}.dist-info', next(each for word, each in SYSTEMS.items() if word in tag)
+    files = {f'{FILES}/{path}': each for path, each in sorted(found.items())}
+    files['zebludor.py'] = found['python/zebludor.py'][0], False
+    files['zebludor_start.py'] = START.encode(), False
+    files |= {f'{info}/{each}': (found[each][0], False) for each in ('LICENSE-APACHE', 'LICENSE-MIT')}
+    files[f'{info}/METADATA'] = METADATA.format(version=version, system=system).encode(), False
+    files[f'{info}/WHEEL'] = f'Wheel-Version: 1.0\nGenerator: dev/release\nRoot-Is-Purelib: false\nTag: {tag}\n'.encode(), False
+    files[f'{info}/entry_points.txt'] = COMMANDS.encode(), False
+    record = ''.join(f'{path},{digest(octets)},{len(octets)}\n' for path, (octets, _) in files.items())
+    files[f'{info}/RECORD'] = f'{record}{info}/RECORD,,\n'.encode(), False
+    return zipped(files)

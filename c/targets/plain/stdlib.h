@@ -1,3 +1,5 @@
+#include <stddef.h>
+
 void *malloc(size_t size);
 void *realloc(void *block, size_t size);
 void free(void *block);

@@ -1,0 +1,2 @@
+int *__error(void);
+#define errno (*__error())
