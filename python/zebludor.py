@@ -43,10 +43,13 @@ MEMORY = 1 << 20
 # A run by a library is made in parts of so many clocks, or of twice as many as long as a part takes less than a tenth of a second.
 PART, LONG_RUN = 10_000_000, re.compile(rb'go \d{8,13}')
 ROOM = 1 << 18  # bytes of an answer; of a longer one the library is asked again
+# What a program's name ends in on this system, how a library that is loaded is called, and whether a pipe can be waited for.
+ENDING, SHARED = '.exe' if sys.platform == 'win32' else '', {'win32': '{}.dll', 'darwin': 'lib{}.dylib'}.get(sys.platform, 'lib{}.so')
+HAS_PIPES = sys.platform != 'win32'
 # The chips' library of a release, else the one that dev/build leaves.
-CHIPS = f'{TOP}/lib/libzebludor_chips.so', f'{TOP}/crates/zebludor_chips/out/libzebludor_chips.a'
+CHIPS = f'{TOP}/lib/{SHARED.format("zebludor_chips")}', f'{TOP}/crates/zebludor_chips/out/libzebludor_chips.a'
 # What is stored beside the programs, and answers in this process.
-LIBRARY = 'libzebludor.so'
+LIBRARY = SHARED.format('zebludor')
 # A run of more clocks, or of an unknown number, is a process's, which an interrupt ends at once; and so is a text of more bytes.
 LONG, LARGE = 20_000_000, 1 << 20
 BUDGET = re.compile(rb'"budget"\s*:\s*(\d{1,13})')
@@ -276,7 +279,8 @@ def program(name: str = 'pcboard') -> str:
 def taken(name: str) -> str:
     """The program that the launcher of this name takes for a run. That the stored one is made of the present sources is known without a
     shell."""
-    return f'{TOP}/stored/{name}' if not os.path.exists(f'{TOP}/crates/{name}/out/{name}') and _stored(name) else _launched(name)
+    stored = f'{name}{ENDING}'
+    return f'{TOP}/stored/{stored}' if not os.path.exists(f'{TOP}/crates/{name}/out/{name}') and _stored(stored) else _launched(name)
 
 
 @functools.cache
@@ -318,15 +322,14 @@ def _present() -> Any:
 
 @functools.cache
 def _is_told(mark: str) -> bool:
-    """Whether it was said, of stored programs, that they were proved elsewhere: else the launcher says it now."""
+    """Whether it was said, of stored programs, that they were proved elsewhere: else the launcher says it now, if there is one."""
     from toolbox import present  # pylint: disable=import-error
 
     folder = present.cache()
     if folder and os.path.exists(f'{folder}/{mark}'):
         return True
     with contextlib.suppress(Unfit):
-        _launched('pcboard')
-        return True
+        return not os.path.exists(f'{TOP}/pcboard') or bool(_launched('pcboard'))
     return False
 
 
@@ -659,10 +662,10 @@ class Piped:
         return self.process.wait(), err
 
     def is_answered(self, seconds: float | None) -> bool:
-        """Whether something comes within so many seconds, or without a limit."""
+        """Whether something comes within so many seconds, or without a limit. Where no pipe can be waited for, it is read at once."""
         import select
 
-        return bool(select.select([self.out], [], [], seconds)[0])
+        return not HAS_PIPES or bool(select.select([self.out], [], [], seconds)[0])
 
     def close(self) -> None:
         """Ends it, also in the midst of a run: it has nothing to keep."""
@@ -905,8 +908,8 @@ _apart: list[bool] = []
 @contextlib.contextmanager
 def apart() -> Iterator[None]:
     """Within it all that is asked of a program is asked of a process: what outlives each answer does so, which a crash of the program mustn't
-    end, or an interrupt keep waiting."""
-    _apart.append(True)
+    end, or an interrupt keep waiting. Where no pipe can be waited for, the library answers too."""
+    _apart.append(HAS_PIPES)
     try:
         yield
     finally:
@@ -921,7 +924,7 @@ def library() -> Library | None:
         raise Unfit(f"the library {named}, which ZEBLUDOR_SESSION names, isn't there")
     if named:
         return _loaded(named)
-    return None if _apart or any(os.environ.get(it) for it in ('PCBOARD', 'PCPROBE')) else _own()
+    return None if any(_apart) or any(os.environ.get(it) for it in ('PCBOARD', 'PCPROBE')) else _own()
 
 
 def _octets_of(path: str) -> bytes | None:

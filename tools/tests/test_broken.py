@@ -112,7 +112,9 @@ start:  MOV AX,50h
 
 
 # With services: it waits for a key, prints, and ends.
-SERVED = "SEGMENT MAIN AT 100h\n        ORG 100h\nstart:  MOV AH,0\n        INT 16h\n        MOV DL,'A'\n        MOV AH,2\n        INT 21h\n        INT 20h\nENDS\n"
+SERVED = (
+    "SEGMENT MAIN AT 100h\n        ORG 100h\nstart:  MOV AH,0\n        INT 16h\n        MOV DL,'A'\n        MOV AH,2\n        INT 21h\n        INT 20h\nENDS\n"
+)
 CHANGES = 'go 300\nAX = 5\n[B0000] = 41h\nundo\nregs\nundo\nback\nif AX > 2\n'
 # What Python asks of a session.
 ASKED: tuple[Callable[[zebludor.Session], Any], ...] = (

@@ -105,7 +105,8 @@ class ForTargets(Repository):
         ran = self.build('other', '--target', 'aarch64')
         self.assertEqual((ran.returncode, ran.stdout), (0, ''), ran.stderr)
         self.assertRegex(self.text('top/crates/other/out/aarch64/libother.a'), r'\ArcsD \S+/aarch64\.o\n\Z')
-        self.assertIn('\nmade libother.a ', self.text('top/crates/other/out/aarch64/PROVED'))
+        self.assertRegex(self.text('top/crates/other/out/aarch64/libother.so'), r'-shared .*-soname,libother\.so,.*/aarch64\.o \S+/c/memory\.c\n\Z')
+        self.assertRegex(self.text('top/crates/other/out/aarch64/PROVED'), r'\nmade libother\.a .*\nmade libother\.so .*\ntarget aarch64 ')
 
     def test_a_shared_library(self) -> None:
         """The kit's own linker makes it, so that it is the same wherever it is made."""
@@ -148,6 +149,8 @@ class ForTargets(Repository):
         text = 'target triple = "x86_64-unknown-linux-gnu"\ndeclare { i64, i64 } @rattle_alloc(i64)\nattributes #0 = { nounwind "target-cpu"="x86-64" }\n'
         self.assertEqual(targets.portable(text, 'aarch64'), 'declare { i64, i64 } @rattle_alloc(i64)\nattributes #0 = { nounwind }\n')
         self.assertIn('declare x86_64_sysvcc { i64, i64 } @rattle_alloc', targets.portable(text, 'windows'))
+        for name, wrapped in (('main', '@__real_main('), ('open', '@__wrap_open('), ('opened', '@opened(')):
+            self.assertEqual(targets.portable(f'call i32 @{name}(ptr %0)', 'macos-arm64'), f'call i32 {wrapped}ptr %0)')
         self.file(
             'words',
             '\n'.join('--target=x --sysroot=/a -march=x86-64 -mllvm -no-x86-call-frame-opt -mllvm -trap -c -x ir m.bc -o m.o -fPIE -O3'.split(' ')) + '\n',

@@ -1282,7 +1282,12 @@ class Whole(Begun):
         self.assertIn('tools/desk --dialect takes it otherwise', opened['services'])
         self.assertEqual(ask('go to', board=opened['board'], clock=3_000_000)['state'], 'ended with exit code 5')
         os.symlink(f'{self.room}/there/own.inc', f'{self.room}/there/linked.inc')
-        for name, why in (('linked.inc', "can't be read"), ('none.inc', "isn't beside it"), ('..\\it.inc', 'named without folders'), ('it.asm', 'includes itself')):
+        for name, why in (
+            ('linked.inc', "can't be read"),
+            ('none.inc', "isn't beside it"),
+            ('..\\it.inc', 'named without folders'),
+            ('it.asm', 'includes itself'),
+        ):
             refused = ask('open', source=source.replace('own.inc', name), run=given['run'], hex=False)['refused']
             self.assertIn(why, refused[0]['text'])
         ask = self.page(self.file('it.asm', NESTED.replace('HLT', 'INT 21h')), '--bare')

@@ -1,5 +1,5 @@
-"""Tools on systems that lack what Linux has: the modules fcntl, resource and curses, and /bin/sh. They do without, or refuse in a
-sentence."""
+"""Tools on systems that lack what Linux has: the modules fcntl, resource and curses, /bin/sh, and of Python's other modules what Windows
+hasn't. They do without, or refuse in a sentence."""
 from __future__ import annotations
 
 import os
@@ -15,11 +15,22 @@ from toolbox.locks import HAS_LOCKS, lock_free
 import zebludor
 
 LACKING = """import os
+import signal
+import socket
 import subprocess
 import sys
 
 for name in ('fcntl', 'resource', 'curses', '_curses'):
     sys.modules[name] = None
+os.supports_dir_fd.discard(os.open)
+os.supports_fd.discard(os.chmod)
+for module, names in (
+    (os, 'O_CLOEXEC O_DIRECTORY O_NOCTTY O_NOFOLLOW O_NONBLOCK O_PATH O_TMPFILE chown fork geteuid getxattr killpg listxattr setsid set_blocking sched_getaffinity'),
+    (signal, 'ITIMER_REAL ITIMER_PROF SIGALRM SIGHUP SIGKILL setitimer'),
+    (socket, 'AF_UNIX'),
+):
+    for name in names.split():
+        delattr(module, name)
 is_there, begin = os.path.exists, subprocess.Popen.__init__
 
 

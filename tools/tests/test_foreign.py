@@ -185,6 +185,7 @@ BOOKS: dict[str, tuple[list[str], list[str], str]] = {
     'norton_dispsec': ([], ['3F'], 'ended with exit code 0'),
     'norton_ticks': ([], ['three ticks'], 'ended by INT 20h'),
     'tasm_daytime': (['--keys', 'y'], ['Is it after 12 noon (Y/N)?y', 'Good afternoon, world!'], 'ended with exit code 3'),
+    'tasm_list': ([], ['The sum of five primes:', '28'], 'ended with exit code 120'),
     'tasm_locals': ([], ['45'], 'ended with exit code 53'),
     'tasm_reverse': (['--keys', 'abc{enter}'], ['abc', 'cba'], 'ended with exit code 5'),
 }

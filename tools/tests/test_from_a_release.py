@@ -72,7 +72,9 @@ class FromARelease(Unpacked):
             page, commands = self.typed('By CMake')
             for top in (self.unpacked('plain'), self.unpacked()):
                 self.prints(self.in_a_folder(top, commands.replace('$R', '"$R"'), bench_dot_c=BENCH, CMakeLists_dot_txt=page), '5 3 4')
-            ran = self.in_a_folder(top, 'cmake -B build -DCMAKE_PREFIX_PATH="$R"', CMakeLists_dot_txt=page.replace('zebludor REQUIRED', 'zebludor 99.1 REQUIRED'))
+            ran = self.in_a_folder(
+                top, 'cmake -B build -DCMAKE_PREFIX_PATH="$R"', CMakeLists_dot_txt=page.replace('zebludor REQUIRED', 'zebludor 99.1 REQUIRED')
+            )
             self.assertIn(f'version: {release.version()}', ran.stderr)
 
     def test_rust(self) -> None:

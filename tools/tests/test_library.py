@@ -1,6 +1,7 @@
 """The stored library: the tools that ask it in place of processes print the same, end alike, and are interrupted as soon."""
 from __future__ import annotations
 
+import contextlib
 import glob
 import json
 import os
@@ -51,6 +52,10 @@ ONCE = (
     ('table', 'report'),
     ('moments', f'{EXAMPLES}/class/echo.page', f'{EXAMPLES}/keys.asm', '--key', '1E', '--at', '5000..5003', '--jobs', '1'),
 )
+# A new session with 640 KB of RAM, and each copy of it, may hold so many bytes; they are told to the next STEP.
+MOST, STEP = 1_500_000, 4096
+# What is run in parts, of which each may want tables, and what it is asked then.
+PARTS, INQUIRIES = (1, 99, 900, 5000, 20_000, 20_000), (b'regs', b'trail', b'screen', b'dump 0 2048')
 # Never ends.
 BUSY, SECONDS = '        MOV CX,1\nagain:  INC AX\n        JMP again', 0.5
 
@@ -292,6 +297,78 @@ class TheLibrary(ToolCase):
             begun = time.process_time()
             zebludor.ran(['run', '--', f'{loop}.asm', path])
             self.assert_within(time.process_time() - begun, SECONDS)
+
+
+class Memory(ToolCase):
+    """What a session of the library holds, and what it answers if it may hold no more, both by the library's own limit."""
+
+    def setUp(self) -> None:
+        super().setUp()
+        self.most = 0
+        limit = mock.patch.object(zebludor.Library, 'limit', lambda library: library.calls['zebludor_limit'](self.most))
+        limit.start()
+        self.addCleanup(limit.stop)
+
+    @contextlib.contextmanager
+    def session(self, source: str, run: str) -> Iterator[zebludor.Called]:
+        """A session of pcprobe, at clock 0. Once it is ended, its thread has no limit."""
+        with by_the_library():
+            called = zebludor.called_of([source, run], True)
+        assert called and called.is_there
+        try:
+            yield called
+        finally:
+            self.asked(called, b'regs')
+            called.close()
+
+    def asked(self, session: zebludor.Called, line: bytes, most: int = 0) -> bytes:
+        """The answer to a line, while no more than so many bytes may be held; 0 is no limit."""
+        self.most = most
+        return session.answer(line)
+
+    def held(self, session: zebludor.Called) -> int:
+        """How many bytes are held: if no more may be, no command is answered."""
+        for most in range(STEP, 1 << 24, STEP):
+            with contextlib.suppress(MemoryError):
+                if not self.asked(session, b'regs', most).startswith(b'fault'):
+                    return most
+        raise AssertionError('16 MB are held')
+
+    def test_a_new_session_and_its_copies(self) -> None:
+        """Each `set` at another clock keeps a copy of the session that was there."""
+        if not is_there():
+            return
+        source, run = self.program(BUSY)
+        with open(run, encoding='utf-8') as file:
+            run = self.file('ram.json', file.read().replace('"ram":64', '"ram":640'))
+        with self.session(source, run) as session:
+            taken = [self.held(session)]
+            for clock in range(1, 4):
+                self.assertEqual(self.asked(session, b'go 1'), b'clock %d\n' % clock)
+                before = self.held(session)
+                self.assertEqual(self.asked(session, b'set AX 1'), b'clock %d\n' % clock)
+                taken.append(self.held(session) - before)
+        self.assertLess(max(taken), MOST, taken)
+
+    def test_tables_that_are_refused(self) -> None:
+        """A run answers the same without them, all or some, throughout or at first."""
+        if not is_there():
+            return
+        for name in (f'{EXAMPLES}/nested', f'{EXAMPLES}/strings', f'{EXAMPLES}/monitor', f'{TOP}/bench/loops/d'):
+            files = f'{name}.asm', f'{name}.json'
+            wanted = self.answers(files, [0] * 6)
+            with self.session(*files) as session:
+                held = self.held(session)
+            for most in range(held + STEP, held + 400_000, 3 * STEP):
+                for limits in ([most] * 6, [most] * 3 + [0] * 3):
+                    with self.subTest(name=name, limits=limits):
+                        self.assertEqual(self.answers(files, limits), wanted)
+
+    def answers(self, files: tuple[str, str], limits: list[int]) -> list[bytes]:
+        """What is answered to the parts of a run, each of which has a limit, and to inquiries after it, which have none."""
+        with self.session(*files) as session:
+            ran = [self.asked(session, b'go %d' % clocks, most) for clocks, most in zip(PARTS, limits)]
+            return ran + [self.asked(session, line) for line in INQUIRIES]
 
 
 class Notes(ToolCase):

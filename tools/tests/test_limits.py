@@ -64,7 +64,23 @@ INNER = {
 }
 # What reads files of the repository, of the kernel or of the tools' own, or looks at a file that it is about to write: pages, sums,
 # drafts, marks, tables.
-OWN = {'asking', 'batches', 'command', 'crates', 'desk.drafts', 'desk.files', 'desk.pages', 'desk.parts', 'gdb.door', 'manual', 'present', 'proved', 'rooms', 'sources', 'tables'}
+OWN = {
+    'asking',
+    'batches',
+    'command',
+    'crates',
+    'desk.drafts',
+    'desk.files',
+    'desk.pages',
+    'desk.parts',
+    'gdb.door',
+    'manual',
+    'present',
+    'proved',
+    'rooms',
+    'sources',
+    'tables',
+}
 OWN |= {'tools/desk', 'tools/test', 'writing'}
 UNITS = {'MB': 1 << 20, 'KB': 1 << 10}
 

@@ -143,15 +143,15 @@ class Unpacked(Repository):
                 archive.write(self.kept['stand-in'])
         return False
 
-    def stand_in_library(self) -> bytes:
-        """A static library that has all calls of the header, whose answers are 0."""
+    def stand_in_library(self, tools: str = '') -> bytes:
+        """A static library that has all calls of the header, whose answers are 0, by tools whose names begin so."""
         with open(f'{TOP}/c/zebludor.h', encoding='utf-8') as file:
             text = re.sub(r'/\*.*?\*/', '', file.read(), flags=re.S)
         calls = re.findall(r'^(\w+ zebludor_\w+\([^)]*\));', text, re.M)
         code = ''.join(f'{it} {{ {"" if it.startswith("void") else "return (typeof(" + it.split()[0] + ")){0};"} }}\n' for it in calls)
         source = self.file('calls.c', f'#include "zebludor.h"\n{code}')
-        subprocess.run(['cc', '-w', '-fPIC', '-c', f'-I{TOP}/c', '-o', f'{self.room}/calls.o', source], check=True)
-        subprocess.run(['ar', 'rcD', f'{self.room}/calls.a', f'{self.room}/calls.o'], check=True)
+        subprocess.run([f'{tools}gcc' if tools else 'cc', '-w', '-fPIC', '-c', f'-I{TOP}/c', '-o', f'{self.room}/calls.o', source], check=True)
+        subprocess.run([f'{tools}ar', 'rcD', f'{self.room}/calls.a', f'{self.room}/calls.o'], check=True)
         with open(f'{self.room}/calls.a', 'rb') as archive:
             return archive.read()
 
@@ -291,7 +291,9 @@ class Release(Unpacked):
             lines = file.read().splitlines()
         heads = [f'zebludor {release.version()} x86_64-linux', f'kit {KIT}', f'logic {LOGIC}']
         self.assertEqual(lines[:3], heads)
-        made = [(f'{top}/{path}', crate) for path, crate in (*((f'stored/{it}', it) for it in (*PROGRAMS, LIBRARY)), *((f'lib/lib{it}.a', it) for it in LIBRARIES))]
+        made = [
+            (f'{top}/{path}', crate) for path, crate in (*((f'stored/{it}', it) for it in (*PROGRAMS, LIBRARY)), *((f'lib/lib{it}.a', it) for it in LIBRARIES))
+        ]
         self.assertEqual(
             lines[3:9], [f'made {os.path.relpath(path, top)} {sum_of(path)} sources {sum_of_sources(CRATES[crate], self.top)}' for path, crate in made]
         )
@@ -449,7 +451,7 @@ class Lacking(Unpacked):
         other = 'it was made of other sources than are here'
         self.refused(
             *(f"stored/{it} isn't taken: {other}; tools/test" for it in (*PROGRAMS, LIBRARY)),
-            *(f"{it}.a isn't taken: {other}; dev/build {it}" for it in LIBRARIES)
+            *(f"{it}.a isn't taken: {other}; dev/build {it}" for it in LIBRARIES),
         )
         put_back()
         self.archive()

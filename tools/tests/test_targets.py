@@ -81,6 +81,97 @@ def archive(target: str) -> str | None:
     return proved.library_file('libzebludor.so') if target == 'shared' else built(target, proved.LIBRARY, f'lib{proved.LIBRARY}.a')
 
 
+# A library and a program in C, whose modules stand for those that Rattle hands its compiler: the first takes memory and gives it back,
+# the second asks the system for its words and a file. PRINTED is what the program prints for the word `given`, or the library for 1.
+SMALL = {
+    'library': """typedef struct { unsigned char is_there; void *block; } tried;
+tried rattle_alloc(unsigned long size, unsigned long alignment);
+void rattle_dealloc(void *block);
+int zebludor_small(int n) {
+    tried got = rattle_alloc(64, 8);
+    if (!got.is_there) return -1;
+    ((volatile char *)got.block)[63] = 41;
+    n += ((volatile char *)got.block)[63];
+    rattle_dealloc(got.block);
+    return n;
+}
+""",
+    'program': """typedef __INTPTR_TYPE__ word;
+word rattle_arg(unsigned long n, char *into, unsigned long room);
+int open(const char *path, int flags, ...);
+word read(int file, void *into, unsigned long room);
+word write(int file, const void *text, unsigned long length);
+int main(void) {
+    char path[200] = "", text[20];
+    if (rattle_arg(1, path, 199) < 0) return 2;
+    int file = open(path, 0);
+    word length = file < 0 ? -1 : read(file, text, 20);
+    return length < 0 ? 3 : (int)(write(1, text, length) - length);
+}
+""",
+}
+CALLER = '#include <stdio.h>\nint zebludor_small(int);\nint main(void) { printf("%d", zebludor_small(1)); return 0; }\n'
+PRINTED = '42'
+OF_MACOS = b'\xcf\xfa\xed\xfe'  # how a file begins there
+
+
+class Small(ToolCase):
+    """A small library and a small program for each target whose tools are here, run by what runs them here."""
+
+    def setUp(self) -> None:
+        super().setUp()
+        os.chmod(self.room, 0o755)
+        self.given = self.file('given', PRINTED)
+
+    def done(self, *words: str) -> str:
+        ran = subprocess.run(words, cwd=self.room, capture_output=True, text=True, check=False, env=os.environ | {'WINEDEBUG': '-all'})
+        self.assertEqual(ran.returncode, 0, (words, ran.stderr))
+        return ran.stdout
+
+    def linked(self, kind: str, target: str, file: str) -> str:
+        """A file for a target, made of a module that the kit's clang makes of the text in C."""
+        room = f'{self.room}/{kind}-{target}'
+        os.makedirs(room, exist_ok=True)
+        source, words = self.file(f'{kind}.c', SMALL[kind]), ['--target=x86_64-unknown-linux-gnu', '-O1', '-fPIC']
+        self.done(targets.CLANG, *words, '-emit-llvm', '-c', source, '-o', f'{room}/module.bc')
+        self.done(targets.CLANG, *words, '-c', source, '-o', f'{room}/own')
+        self.file(f'{kind}-{target}/words', '-O2\n-c\n')
+        made = targets.linked(room, kind == 'program', target, file, self.done)
+        first = sum_of(made)
+        self.assertEqual(sum_of(targets.linked(room, kind == 'program', target, file, self.done)), first, 'made again')
+        return made
+
+    def test_each_target(self) -> None:
+        if not (shutil.which('rt') and is_there('gcc', 'small programs for other targets', 'gcc libc6-dev')):
+            not_run("small programs for other targets; Rattle's clang compiles them")
+            return
+        for target, of in targets.TARGETS.items():
+            tools = [is_there(tool, f'a small program for {target}', package) for tool, package in of.tools.items()]
+            if all(tools) and target not in ('wasm', 'shared'):
+                self.is_run(target, self.linked('program', target, f'small{of.ending}'), f'{self.room}/given')
+                self.is_loaded(target, self.linked('library', target, of.shared.format('small'))) if of.shared else None
+
+    def is_run(self, target: str, program: str, *words: str) -> None:
+        """A program prints what it has to, if it can be run here."""
+        if targets.is_macos(target):
+            self.assertEqual(Path(program).read_bytes()[:4], OF_MACOS)
+            return
+        runner, package = RUNNERS[target]
+        if not runner or is_there(runner, f'a small program for {target}', package):
+            sysroot = ['-L', '/usr/aarch64-linux-gnu'] if target == 'aarch64' else []
+            self.assertEqual(self.done(*([runner, *sysroot] if runner else []), program, *words), PRINTED, target)
+
+    def is_loaded(self, target: str, library: str) -> None:
+        """A shared library answers a program that is linked with it."""
+        if targets.is_macos(target):
+            self.assertEqual(Path(library).read_bytes()[:4], OF_MACOS)
+            self.assertIn(b'_zebludor_small\0', Path(library).read_bytes())
+            return
+        compiler, to = next(iter(targets.TARGETS[target].tools)), f'{os.path.dirname(library)}/caller{ENDINGS.get(target, "")}'
+        self.done(compiler, '-o', to, self.file('caller.c', CALLER), library, f'-Wl,-rpath,{os.path.dirname(library)}')
+        self.is_run(target, to)
+
+
 class InOneProcess(ToolCase):
     """The library of each target, in one process for all that it is asked."""
 

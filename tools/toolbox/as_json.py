@@ -10,8 +10,6 @@ if TYPE_CHECKING:
     from toolbox.faults import Fault
     from toolbox.report import Report
 
-__all__ = ['FORMAT', 'SCHEMA', 'at', 'fault_fields', 'option', 'outcome_fields', 'print_answer', 'report_fields', 'row_fields']
-
 FORMAT = 1  # another number if a field goes, or means something else
 SCHEMA = os.path.join(os.path.dirname(__file__), 'schema.json')
 Fields = dict[str, Any]

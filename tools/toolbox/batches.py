@@ -24,13 +24,11 @@ except ImportError:  # as on Windows
     resource = None  # type: ignore[assignment]
 
 from toolbox.as_json import report_fields
-from toolbox.command import Sorry, read_bytes
+from toolbox.command import Sorry, read_bytes, want_call
 from toolbox.program import answer_of, path, refusal
 from toolbox.report import report_of
 from toolbox.starting import bind
 from toolbox.threads import want
-
-__all__ = ['Batch', 'Fields', 'answers', 'batch_of', 'ids_in']
 
 Fields = dict[str, Any]
 LONGEST_ANSWER = 1 << 26  # bytes
@@ -202,6 +200,7 @@ def limit(process: subprocess.Popen[bytes], seconds: int, megabytes: int) -> Non
 
 def batch_of(file: str, is_hex: bool, room: str, seconds: int, megabytes: int) -> Batch:
     """A batch of a source or Intel HEX, whose image stands in a folder."""
+    want_call(os, 'fork', 'runs are made apart, each within its limits')
     octets = read_bytes(file) if is_hex else answer_of(['asm', '--', file]).encode('ascii')
     image = f'{room}/image.hex'
     with open(image, 'wb') as to:

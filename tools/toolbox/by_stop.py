@@ -10,7 +10,6 @@ from toolbox.places import far_of
 from toolbox.program import Files
 from toolbox.session_board import Moments, SessionBoard, break_at
 
-__all__ = ['ANY', 'Led', 'codes_text', 'led']
 ANY = [*range(0x01, 0x54), *range(0x81, 0xD4)]  # the codes that keys send
 
 

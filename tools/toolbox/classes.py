@@ -18,7 +18,7 @@ from typing import IO, Any, Iterator, NoReturn
 
 from toolbox import feedback, guests, limits, submissions
 from toolbox.as_json import print_answer, row_fields
-from toolbox.command import Sorry, read_bytes, start, waiting, write_bytes, write_text
+from toolbox.command import Sorry, read_bytes, start, waiting, want_call, write_bytes, write_text
 from toolbox.expectations import Outcome, Planned
 from toolbox.judging import judge_file, sum_of
 from toolbox.marks import Row, as_csv, as_junit, cell, line_of, tell_copies
@@ -73,8 +73,7 @@ class Class:
         except OSError as error:
             self.finish(work, {'why': f"{file} can't be read: {error.strerror}"})
             return work
-        for name, text in self.included.items():
-            write_bytes(os.path.join(work.room.name, name), text)
+        self.hand_out(work.room.name)
         write_bytes(work.copy, octets)
         work.out, theirs = os.pipe()
         work.err, work.until, parent = tempfile.TemporaryFile(), time.monotonic() + self.given.seconds, os.getpid()
@@ -142,7 +141,10 @@ class Class:
         assert work.err
         with work.err as err:
             err.seek(0)
-            return why_not(status, err.read().decode('utf-8', 'replace')) if status else ''
+            lines = err.read().decode('utf-8', 'replace').strip().splitlines()
+        if status < 0:
+            return f'ended by signal {-status} ({signal.strsignal(-status)})'
+        return (lines or [f'status {status}'])[-1] if status else ''
 
     def finish(self, work: Work, answer: dict[str, Any]) -> None:
         """Makes a file's row of what was answered, and hands back what the file's student is told."""
@@ -153,7 +155,7 @@ class Class:
         work.room.cleanup()
 
     def hand_out(self, folder: str) -> None:
-        """What a submission may include goes into its folder too, so that its commands find it."""
+        """What a submission may include goes into the folder in which it is judged, and into its student's, so that its commands find it."""
         for name, text in self.included.items():
             if not os.path.lexists(os.path.join(folder, name)):
                 write_bytes(os.path.join(folder, name), text)
@@ -183,13 +185,6 @@ def end(process: int) -> None:
         os.killpg(process, signal.SIGTERM)
         os.waitid(os.P_PID, process, os.WEXITED | os.WNOWAIT)  # its number stays its own
         os.killpg(process, signal.SIGKILL)
-
-
-def why_not(status: int, err: str) -> str:
-    """Why a file's judge gave no row."""
-    if status < 0:
-        return f'ended by signal {-status} ({signal.strsignal(-status)})'
-    return (err.strip().splitlines() or [f'status {status}'])[-1]
 
 
 def words_of(given: argparse.Namespace) -> list[str]:
@@ -228,6 +223,7 @@ def rows_of(them: Class, files: list[str], folders: list[str]) -> Iterator[Row]:
 
 def table(page: str, planned: list[Planned], files: list[str], given: argparse.Namespace) -> int:
     """Prints a row for each file, writes what else is asked for, and returns the exit status."""
+    want_call(os, 'fork', 'each file is judged apart, within its limits')
     want()
     for name in USED:
         importlib.import_module(f'toolbox.{name}')

@@ -119,6 +119,12 @@ def want(module: str, why: str) -> None:
         start(refused)
 
 
+def want_call(module: object, name: str, why: str) -> None:
+    """Refuses on a system that lacks a call; `why` is what it is wanted for."""
+    if not hasattr(module, name):
+        raise Sorry(f'this system has no {name}, by which {why}')
+
+
 def start(main: Callable[[list[str]], int]) -> None:
     """Runs a tool to its exit status; a reader that goes away, as `head` does, is no mistake."""
     gc.set_threshold(COLLECTED)

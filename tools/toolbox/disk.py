@@ -64,18 +64,14 @@ def laid_out(files: dict[str, bytes]) -> bytes:
 
 def beside(found: Loaded, name: str, paths: tuple[str, ...] | None, ram: int) -> Loaded:
     """A program with these files on a disk. By None it gets an empty one if it may use it, and if there is room."""
-    if paths is None and not any(map(CALLS.search, parts_of(found.image).values())):
+    has_dos, base = 'dos' in found.services, 64 * ram - SERVICES_OWN - 64 * KB
+    end = max(max((address for address in found.image if address < ROM), default=0) // 16 + 1, found.end)
+    if paths is None and not (has_dos and end <= base and any(map(CALLS.search, parts_of(found.image).values()))):
         return found
-    if 'dos' not in found.services:
-        if paths is None:
-            return found
+    if not has_dos:
         raise Sorry(f"{name} is a first sector, which has no DOS: --file and --files-out go with programs of DOS")
-    base = 64 * ram - SERVICES_OWN - 64 * KB
-    last = max((address for address in found.image if address < ROM), default=0) // 16
-    if max(last + 1, found.end) > base:
-        if paths is None:
-            return found
-        least = (max(last + 1, found.end) + 63) // 64 + KB + SERVICES_OWN // 64
+    if end > base:
+        least = (end + 63) // 64 + KB + SERVICES_OWN // 64
         raise Sorry(f'{name} leaves no room for the disk of files with {ram} KB of RAM: it wants {least}')
     segment, offset = address_of('dos_beside')
     octets = bytes(found.image[BLOCK + at] for at in range(12))

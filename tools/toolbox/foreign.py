@@ -86,15 +86,14 @@ def included(source: str, name: str, home: str) -> tuple[str, bytes]:
 
 def read_within(source: str, folder: str, name: str) -> tuple[str, bytes]:
     """A file of a folder, which isn't the source itself."""
-    path, handle = os.path.join(folder, name), os.open(folder, os.O_RDONLY | os.O_DIRECTORY)
+    path = os.path.join(folder, name)
     try:
         if os.path.exists(source) and os.path.samefile(path, source):
             raise Sorry(f'{source} includes itself')
-        return path, reading.read_whole(name, within=handle)
+        with reading.inside(folder) as handle:
+            return path, reading.read_whole(path if handle is None else name, within=handle)
     except OSError as error:
         raise Unreadable(f"{source} includes {name}, which can't be read: {error.strerror}") from None
-    finally:
-        os.close(handle)
 
 
 def translation_of(path: str, octets: bytes | None = None, home: str = '') -> Translation:
@@ -165,11 +164,9 @@ def refused(path: str, octets: bytes) -> Iterator[Remark]:
     """The refused lines of a source of MASM: those that pcmasm refuses, else those that pcboard refuses of the
     translation."""
     try:
-        translation = translation_of(path, octets)
+        yield from translation_of(path, octets).refused()
     except Refused as refusal:
         yield from refusal.remarks
-    else:
-        yield from translation.refused()
 
 
 def complaints(path: str, octets: bytes) -> Iterator[tuple[int | None, str]]:

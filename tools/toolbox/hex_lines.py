@@ -80,8 +80,9 @@ def with_modules(found: Listing, path: str, rows: list[str]) -> Listing:
             modules.setdefault(name, {})[label] = found.labels[label][1]
     folder = os.path.dirname(os.path.abspath(path))
     segment = next((found.labels[label][0] for them in modules.values() for label in them), 0)
-    listings = {path: read_rows(path) for name in modules if os.path.isfile(path := os.path.join(folder, f'{name}.lst'))}
-    pairs = ((os.path.join(folder, f'{name}.lst'), labels) for name, labels in modules.items())
+    pairs = [(os.path.join(folder, f'{name}.lst'), labels) for name, labels in modules.items()]
+    texts = {listing: read_text(listing) for listing, _ in pairs if os.path.isfile(listing)}
+    listings = {listing: [one.groups() for one in map(ROW.match, text.split('\n')) if one] for listing, text in texts.items()}
     lines = [line for listing, labels in pairs if listing in listings for line in of_module(listing, listings[listing], labels, segment)]
     own = {source: them for source, them in by_files(lines).items() if any(one.address for one in them)}
     places = dict[str, set[str]]()
@@ -98,11 +99,6 @@ def variables_of(listings: dict[str, list[Row]], places: dict[str, tuple[int, in
     for one in found:
         ways.setdefault(one.name, set()).add(replace(one, line=0, source=''))
     return list({one.name: one for one in found if len(ways[one.name]) == 1}.values())
-
-
-def read_rows(path: str) -> list[Row]:
-    """The rows of as86's listing: offset, bytes and text."""
-    return [one.groups() for one in map(ROW.match, read_text(path).split('\n')) if one]
 
 
 def of_module(path: str, rows: list[Row], labels: dict[str, int], segment: int) -> list[Line]:

@@ -3,7 +3,7 @@ from __future__ import annotations
 
 import contextlib
 import hashlib
-from typing import Iterator
+from typing import ContextManager, Iterator
 
 from toolbox import guests
 from toolbox.command import Unreadable, read_bytes
@@ -23,16 +23,13 @@ def fields_of(planned: Planned, guest: Guest, run_file: str | None, usual: Field
     return guests.fields_for(guest, run_file, more | guests.typed(guest, more.get('keys')), usual)
 
 
-@contextlib.contextmanager
-def files_of(planned: Planned, guest: Guest, run_file: str | None, is_hex: bool, symbols: str | None = None) -> Iterator[Files]:
+def files_of(planned: Planned, guest: Guest, run_file: str | None, is_hex: bool, symbols: str | None = None) -> ContextManager[Files]:
     """The files of a planned run: RUN itself, or a copy with the page's fields; or a program with services."""
     given = Files(guest.file, run_file or '', is_hex and not guest.is_one, symbols)
     if run_file and not planned.fields and not guest.is_one:
-        yield given
-        return
+        return contextlib.nullcontext(given)
     fields = fields_of(planned, guest, run_file)
-    with prepared(guest, given, fields) if guest.is_one else with_fields(given, fields) as files:
-        yield files
+    return prepared(guest, given, fields) if guest.is_one else with_fields(given, fields)
 
 
 def subject_of(files: Files) -> Subject | str:

@@ -227,8 +227,3 @@ def constants_of_source(listing: Listing) -> dict[str, int]:
     from toolbox.nasm_data import constants_among  # which stands on this module
 
     return constants_among(line.text for line in listing.lines)
-
-
-def labels_alone(listing: Listing) -> Listing:
-    """A listing of Intel HEX without the lines of its symbols' files."""
-    return listing._replace(lines=[], at={}, files={}, modules={})

@@ -108,9 +108,8 @@ def bare_sector(name: str, octets: bytes) -> tuple[dict[int, int], list[str]]:
     if len(octets) != 512:
         raise Sorry(f'{name} has {len(octets):,} bytes, and a first sector has 512' + (f': head -c 512 {name} > first.bin' if len(octets) > 512 else ''))
     ends = octets[-2:].hex(' ').upper()
-    return placed(SECTOR, octets) | archive('sector'), [] if ends == '55 AA' else [
-        f'{name} ends in {ends}; a BIOS starts no sector that ends in anything but 55 AA'
-    ]
+    doubt = f'{name} ends in {ends}; a BIOS starts no sector that ends in anything but 55 AA'
+    return placed(SECTOR, octets) | archive('sector'), [] if ends == '55 AA' else [doubt]
 
 
 def bare_rom(name: str, octets: bytes) -> tuple[dict[int, int], list[str]]:
@@ -194,26 +193,22 @@ def source(name: str, args: str, ram: int) -> Loaded:
     PSP stands behind the source's last byte in RAM."""
     image = image_of(answer_of(['asm', '--', handed_on(name)]))
     rows = answer_of(['asm', '--list', '--', handed_on(name)]).split('\n')[:-1]
+    places = [line_of(0, row).address for row in rows]
     reset = {address: image.pop(address) for address in range(RESET, RESET + 16) if address in image}
     if reset and (list(reset) != list(range(RESET, RESET + 5)) or reset[RESET] != 0xEA):
         raise Sorry(f'{name}: at FFFF:0000 stands nothing but JMP FAR start, or nothing')
     if reset:
         start = reset[RESET + 3] + 256 * reset[RESET + 4], reset[RESET + 1] + 256 * reset[RESET + 2]
     else:
-        start = next((line.address for line in map(line_of, range(len(rows)), rows) if line.address), None) or (0, 0)
+        start = next(filter(None, places), (0, 0))
     if not image:
         raise Sorry(f'{name} has no bytes but at FFFF:0000')
     psp = place_of(name, image, start, ram)
     environment = psp - ROOM_BEFORE + 1
     found = served(image | prefix_of(psp, environment, name, args) | begins(psp, start, (psp, 0xFFFE), environment), start, psp + 0x1000)
-    own = [' ' * 28 + row[28:] if is_reset(row) else row for row in rows]
-    return Loaded(found.image, found.services, own + found.rows[1:], found.end)
-
-
-def is_reset(row: str) -> bool:
-    """Whether a row of the listing is the far jump that gives way."""
-    address = line_of(0, row).address
-    return address is not None and physical(*address) >= RESET
+    # The far jump that gives way is none of the program's lines any more.
+    own = [' ' * 28 + row[28:] if place and physical(*place) >= RESET else row for place, row in zip(places, rows)]
+    return found._replace(rows=own + found.rows[1:])
 
 
 def place_of(name: str, image: dict[int, int], start: tuple[int, int], ram: int) -> int:

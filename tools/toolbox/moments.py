@@ -84,11 +84,9 @@ class Plan:
         if not 0 <= sample <= total:
             raise Sorry(f'--sample {sample}: there are {total} moments')
         self.moments: Sequence[int] = sorted(random.Random(seed).sample(range(total), sample)) if sample else range(total)
-        self._run = {id(planned): self._fields_of(planned) for planned in self.runs}
-
-    def _fields_of(self, planned: Planned) -> dict[str, Any]:
-        """A run's run file: RUN's, or what is short, and before it the page's."""
-        return fields_of(planned, self.guest, self.given.run_file or None, SERVED if self.guest.is_one else SHORT)
+        # Each run's run file: RUN's, or what is short, and before it the page's.
+        usual = SERVED if guest.is_one else SHORT
+        self._run = {id(planned): fields_of(planned, guest, given.run_file or None, usual) for planned in self.runs}
 
     def values(self, moment: int) -> tuple[int, ...]:
         """The count, if there is one to try, and the clocks of the moment of this number."""
@@ -296,12 +294,6 @@ def last_line(listing: Listing, last: bytes) -> str:
     if line:
         return f'line {line.number} ({code_of(line.text.partition(":")[2] if label_in(line.text) else line.text).strip()})'
     return f'{label or "%04X:%04X" % (event.segment, event.offset)} ({event.text})'
-
-
-def without_keys(plan: Plan) -> Failure | None:
-    """What isn't met without the keys already."""
-    with tempfile.TemporaryDirectory() as room:
-        return failure_of(plan, plan.files._replace(run_file=f'{room}/run.json'), None) if plan.asked.page else None
 
 
 def work(plan: Plan, room: str) -> int:

@@ -420,7 +420,9 @@ def of_a_loop(run: Run) -> list[Told]:
         return run.tell('no way out', row=text_of(run.trail[-1]), steps=steps, registers=registers, **clocks, **values)
     on = ', or an interrupt' if run.report.registers['FL'] & IF else ''
     rest = f'\nnothing leads out but what port {next(iter(ports)):02X}h reads{on}' if is_still and len(ports) == 1 else ''
-    return run.tell('waits', rest=rest, **values) + of_a_port(run, ports)
+    odd, first = next(iter(ports - PORTS), None), max(0, run.report.clock - 2000)  # where nothing answers
+    waits = run.tell('waits', rest=rest, **values)
+    return waits if odd is None else waits + run.tell('no port', port=odd, first=first, span=run.report.clock - first)
 
 
 def is_left(run: Run, turn: list[Event], is_of_ports: bool) -> bool:
@@ -462,12 +464,6 @@ def of_a_round(run: Run, period: int) -> str | None:
     for _ in range(period):
         session.unrefused(session.one('step'))
     return first[0] if session.answers(['regs']) == first else None
-
-
-def of_a_port(run: Run, ports: set[int]) -> list[Told]:
-    """A port that a loop reads, where nothing answers."""
-    port, first = next(iter(ports - PORTS), None), max(0, run.report.clock - 2000)
-    return [] if port is None else run.tell('no port', port=port, first=first, span=run.report.clock - first)
 
 
 def of_the_source(run: Run) -> list[Told]:

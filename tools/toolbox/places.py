@@ -11,30 +11,7 @@ from zebludor import LAST_CLOCK, REGISTERS, Event, event_of
 from toolbox.command import Sorry
 from toolbox.listing import Line, Listing, physical
 
-__all__ = [
-    'Event',
-    'address_of',
-    'check_bracketed',
-    'check_segment',
-    'count_of',
-    'dialect',
-    'event_of',
-    'event_text',
-    'far_of',
-    'far_of_address',
-    'hexadecimal',
-    'is_address',
-    'is_repeated',
-    'line_at',
-    'number_of',
-    'of_line',
-    'operation_of',
-    'option_of',
-    'pointed_out',
-    'said',
-    'told_of',
-    'value_number',
-]
+__all__ = ['event_of']  # what is handed on of zebludor.py
 PREFIXES = ('ES:', 'CS:', 'SS:', 'DS:', 'LOCK', 'REP', 'REPNE')
 
 

@@ -6,14 +6,16 @@ import contextlib
 import functools
 import marshal
 import os
+import sys
 from typing import Iterator, NamedTuple
+
+from zebludor import ENDING, LIBRARY
 
 TOP = os.path.dirname(os.path.dirname(os.path.dirname(os.path.realpath(__file__))))
 STORED = f'{TOP}/stored'
 KINDS = ('.rt', '.antt')
 # The stored programs, by whose start it is seen that this machine has what they need, and the library: the crate that each is made of.
-PROGRAMS = {name: name for name in ('pcboard', 'pcprobe', 'pcmasm')}
-LIBRARY = 'libzebludor.so'
+PROGRAMS = {f'{name}{ENDING}': name for name in ('pcboard', 'pcprobe', 'pcmasm')}
 MADE = PROGRAMS | {LIBRARY: 'zebludor_program'}
 USAGE = 2  # the status of a program that is asked for its help
 
@@ -39,6 +41,8 @@ def is_release() -> bool:
 
 def machine() -> str:
     """What tells whether programs start here that did so where a note was written."""
+    if sys.platform != 'linux':
+        return sys.platform
     system = os.uname()
     return f'{system.sysname} {system.nodename} {system.machine} {os.confstr("CS_GNU_LIBC_VERSION")}'
 

@@ -14,29 +14,7 @@ from toolbox.threads import is_alone
 if TYPE_CHECKING:
     import subprocess
 
-__all__ = [
-    'BEFORE_START',
-    'LAST_CLOCK',
-    'TOP',
-    'Files',
-    'ProbeSession',
-    'Ran',
-    'Refusal',
-    'Session',
-    'answer_of',
-    'apart',
-    'copied',
-    'given_text',
-    'is_hex_name',
-    'limit_memory',
-    'limited',
-    'path',
-    'refusal',
-    'refused',
-    'run',
-    'uninterrupted',
-    'want',
-]
+__all__ = ['TOP', 'apart', 'is_hex_name', 'limit_memory']  # what is handed on of zebludor.py
 MOST_READ = 1 << 26  # bytes of an answer
 ASKED = 200  # questions that are asked at once: their answers fit in the pipe
 BEFORE_START = 'fault 54 BeforeStart'

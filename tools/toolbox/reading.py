@@ -2,9 +2,11 @@
 one than a tool has room for."""
 from __future__ import annotations
 
+import contextlib
 import errno
 import os
 import stat
+from typing import Iterator
 
 LONGEST = 1 << 24  # bytes of a source, Intel HEX, run file, page or symbols
 LONGEST_REPORT = 1 << 26  # bytes of a report or a sealed report
@@ -44,6 +46,19 @@ def text_of(octets: bytes) -> str:
         return octets.decode('utf-8')
     except UnicodeDecodeError:
         return octets.decode('latin-1')
+
+
+@contextlib.contextmanager
+def inside(folder: str) -> Iterator[int | None]:
+    """The handle of a folder; None on a system that opens nothing by one, as Windows."""
+    if os.open not in os.supports_dir_fd:
+        yield None
+        return
+    handle = os.open(folder, os.O_RDONLY | os.O_DIRECTORY)
+    try:
+        yield handle
+    finally:
+        os.close(handle)
 
 
 def read_whole(path: str, most: int = LONGEST, within: int | None = None) -> bytes:

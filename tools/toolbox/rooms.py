@@ -11,7 +11,7 @@ import tempfile
 from typing import Iterator
 
 from toolbox.command import state_folder
-from toolbox.locks import lock, lock_free
+from toolbox.locks import HAS_LOCKS, lock, lock_free, turn
 
 MARK, NEW = 'mark', 'new'
 BEGUN = re.compile('[a-z]+-[a-z0-9_]{8}')  # a room's name
@@ -31,26 +31,13 @@ def room(name: str) -> Iterator[str]:
             lock(mark)
             mark.write(text_of_mark(path))
             mark.flush()
-            os.rename(mark.name, f'{path}/{MARK}')  # it has this name once it is held
+            if HAS_LOCKS:
+                os.rename(mark.name, f'{path}/{MARK}')  # it has this name once it is held
         tempfile.tempdir = path
         try:
             yield path
         finally:
             tempfile.tempdir = before
-
-
-@contextlib.contextmanager
-def turn(folder: str | None) -> Iterator[None]:
-    """While no other tool sweeps or begins a room in a folder."""
-    if not folder:
-        yield
-        return
-    handle = os.open(folder, os.O_RDONLY | os.O_DIRECTORY | os.O_NOFOLLOW | os.O_CLOEXEC)
-    try:
-        lock(handle)
-        yield
-    finally:
-        os.close(handle)
 
 
 def sweep(folder: str) -> None:

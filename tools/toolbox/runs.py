@@ -27,14 +27,9 @@ def with_run_file(files: Files) -> ContextManager[Files]:
     return contextlib.nullcontext(files) if files.run_file else with_fields(files, DEFAULTS)
 
 
-def with_budget(files: Files, budget: int) -> ContextManager[Files]:
-    """The same files, with another budget."""
-    return with_fields(files, read_run_file(files.run_file) | {'budget': budget})
-
-
 def report_at(files: Files, clock: int) -> Report:
     """The report of the same files with this clock as their budget."""
-    with with_budget(files, clock) as them:
+    with with_fields(files, read_run_file(files.run_file) | {'budget': clock}) as them:
         return report_of(answer_of(them.words('run')), 'the answer')
 
 

@@ -45,8 +45,7 @@ class ServedBoard(SessionBoard):
     @property
     def is_before(self) -> bool:
         """Whether the services haven't begun the program yet."""
-        left = self.left() if self.is_served_here else None
-        return self.is_served_here and not (left and left.phase)
+        return self.is_served_here and not ((left := self.left()) and left.phase)
 
     def first_stop(self) -> str:
         """The stop at which the program begins."""
@@ -64,11 +63,8 @@ class ServedBoard(SessionBoard):
                 break
             self.go_to(max(self.changes.first, here - span))
             events = Part.of(self.lines(here - self.clock, 'starts')).events
-            own = self._as_trails_tell([event.clock for event in events if event.address < SERVICES][-TRAIL:], here)
+            clocks = [event.clock for event in events if event.address < SERVICES][-TRAIL:]
+            self.go_to(clocks[0] + 1 if clocks else here)
+            rest = self._talk(lambda began=clocks: self._session.latest_at([clock + 1 for clock in began], here))  # type: ignore[misc]
+            own = [event_of(b'%d %s' % pair) for pair in zip(clocks, rest)]
         return own
-
-    def _as_trails_tell(self, clocks: list[int], end: int) -> list[Event]:
-        """What began at these clocks. The board goes to an end."""
-        self.go_to(clocks[0] + 1 if clocks else end)
-        rest = self._talk(lambda: self._session.latest_at([clock + 1 for clock in clocks], end))
-        return [event_of(b'%d %s' % pair) for pair in zip(clocks, rest)]

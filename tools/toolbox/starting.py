@@ -7,18 +7,20 @@ import os
 import queue
 import signal
 import subprocess
+import sys
 import threading
 from typing import Any
 
 from toolbox.threads import begin
 
 PR_SET_PDEATHSIG = 1
-_LIBRARY = ctypes.CDLL(None)
+_LIBRARY: Any = ctypes.CDLL(None) if sys.platform == 'linux' else None
 
 
 def bind(parent: int) -> None:
     """In a new process: its end is bound to its parent's, which may have ended already."""
-    _LIBRARY.prctl(PR_SET_PDEATHSIG, signal.SIGKILL)
+    if _LIBRARY:
+        _LIBRARY.prctl(PR_SET_PDEATHSIG, signal.SIGKILL)
     if os.getppid() != parent:
         os._exit(1)
 
@@ -44,7 +46,7 @@ class Starter:
         while True:
             words, how, answers = self._asked.get()
             try:
-                answers.put(subprocess.Popen(words, preexec_fn=self._bind, **how))
+                answers.put(subprocess.Popen(words, preexec_fn=self._bind if _LIBRARY else None, **how))
             except BaseException as error:  # pylint: disable=broad-exception-caught
                 answers.put(error)
 

@@ -4,7 +4,7 @@ from __future__ import annotations
 import os
 
 from toolbox.command import state_folder
-from toolbox.locks import lock
+from toolbox.locks import turn
 from toolbox.reading import read_whole
 from toolbox.writing import own_folder, write_whole
 
@@ -29,10 +29,6 @@ def keep_typed(name: str, line: str) -> None:
     """Adds a line, after those that other sessions add meanwhile; the oldest one goes. OSError tells why it isn't kept."""
     folder = os.path.dirname(place_of(name))
     own_folder(folder)
-    handle = os.open(folder, os.O_RDONLY | os.O_DIRECTORY | os.O_CLOEXEC)
-    try:
-        lock(handle)
+    with turn(folder):
         lines = [*typed_before(name), line][-MOST:]
         write_whole(place_of(name), ''.join(f'{each}\n' for each in lines).encode('utf-8', 'surrogateescape'), mode=0o600)
-    finally:
-        os.close(handle)

@@ -10,7 +10,7 @@ import os
 import stat
 from typing import Callable
 
-from toolbox.locks import lock_free
+from toolbox.locks import HAS_LOCKS, lock_free
 
 STREAMS = ('/dev/', '/proc/')
 OPEN_FILES = '/proc/self/fd'
@@ -96,6 +96,8 @@ def own_folder(path: str) -> None:
 def _replace(target: str, octets: Octets, old: os.stat_result | None, look: Look, mode: int, taken: Taken | None) -> None:
     """Writes a new file down to the disk, and renames it over the old one."""
     handle, beside = _new(target, 0o600 if old else mode)
+    opened = contextlib.ExitStack()
+    opened.callback(os.close, handle)
     try:
         with contextlib.suppress(OSError):  # while this is held, no other writer takes the file for a left one
             lock_free(handle)
@@ -107,13 +109,15 @@ def _replace(target: str, octets: Octets, old: os.stat_result | None, look: Look
             beside = _place_beside(target)
             os.link(f'{OPEN_FILES}/{handle}', beside, src_dir_fd=handle, follow_symlinks=True)  # with a folder it follows, as Linux wants
         look()
+        if not HAS_LOCKS:  # and nothing that is open gets another name, as on Windows
+            opened.close()
         _rename(beside, target, taken)
     except BaseException:
         with contextlib.suppress(OSError):
             os.remove(beside)
         raise
     finally:
-        os.close(handle)
+        opened.close()
     _flush_folder(os.path.dirname(target))
 
 
@@ -198,7 +202,9 @@ def _attributes(file: str | int) -> dict[str, bytes]:
 
 
 def _carry_over(target: str, handle: int, old: os.stat_result) -> None:
-    """Gives a new file the old one's owner, attributes and mode."""
+    """Gives a new file the old one's owner, attributes and mode, as far as the system has them."""
+    if os.chmod not in os.supports_fd:
+        return
     try:
         new = os.fstat(handle)
         if (new.st_uid, new.st_gid) != (old.st_uid, old.st_gid):
@@ -235,6 +241,8 @@ def exchange(one: str, other: str) -> bool:
     """Puts each of two files into the other's place, at once; False where the system has no such call."""
     import ctypes  # which most that is written doesn't need
 
+    if not HAS_LOCKS:
+        return False
     call = getattr(ctypes.CDLL(None, use_errno=True), 'renameat2', None)
     if not call:
         return False

@@ -54,17 +54,7 @@ CAPABILITIES = {
     'supportsDataBreakpoints': True,
     'exceptionBreakpointFilters': [{'filter': name, 'label': label, 'default': False} for name, label in FILTERS.items()],
 }
-BESIDE_A_RUN = (
-    'pause',
-    'disconnect',
-    'terminate',
-    'threads',
-    'setBreakpoints',
-    'setFunctionBreakpoints',
-    'setInstructionBreakpoints',
-    'setDataBreakpoints',
-    'setExceptionBreakpoints',
-)
+BESIDE_A_RUN = re.compile(r'pause|disconnect|terminate|threads|set\w*Breakpoints')
 
 
 def field(fields: Fields, name: str, kind: type, default: Any = None) -> Any:
@@ -150,7 +140,7 @@ class Adapter:
             method = getattr(self, f'on_{command}', None) if isinstance(command, str) and command.isalpha() else None
             if method is None:
                 raise Sorry(f'{command} is no request that is known here')
-            if self.is_running and command not in BESIDE_A_RUN:
+            if self.is_running and not BESIDE_A_RUN.fullmatch(f'{command}'):
                 raise Sorry('the board runs; pause first')
             found = method(field(request, 'arguments', dict, {}))
             body, then = found if isinstance(found, tuple) else (found, None)

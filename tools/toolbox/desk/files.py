@@ -75,7 +75,7 @@ def put_over(path: str, octets: bytes, old: bytes | None) -> None:
         def hold(taken: str) -> None:
             held.append(stack.enter_context(open(taken, 'rb', opener=lambda name, how: os.open(name, how | os.O_NONBLOCK))))
 
-        if old is not None:
+        if old is not None and HAS_LOCKS:  # else nobody can take an open one's place
             hold(path)
         write_whole(path, octets, still(path, old), taken=hold)
         if held and not os.path.samestat(os.fstat(held[-1].fileno()), os.stat(path)) and (theirs := held[-1].read()) != old:
@@ -216,7 +216,8 @@ class Kept:
             changed = self._changed(source, sums, paths, there)
             if changed and not is_over:
                 return changed
-            texts = [self._spelled(source, there[0]), *([text_of(fields)] if len(paths) > 1 else [])]
+            spelled = with_ends(source, there[0].decode('utf-8', 'replace')) if there[0] else source  # with the file's own ends of lines
+            texts = [spelled, *([text_of(fields)] if len(paths) > 1 else [])]
             found: Fields = {'kept': [], 'sums': [sum_of(there[0]), sum_of(there[1]) if len(there) > 1 else None]}
             for at, (path, text, octets) in enumerate(zip(paths, texts, there)):
                 wrong = wrong_field(fields) if at else None
@@ -231,10 +232,6 @@ class Kept:
                     return changed or found | {'sorry': f"{path} isn't written: another hand wrote to it at that moment; save again"}
                 found['kept'].append(path)
             return found
-
-    def _spelled(self, source: str, old: bytes | None) -> str:
-        """A page's text with the file's own ends of lines."""
-        return with_ends(source, old.decode('utf-8', 'replace')) if old else source
 
     def _put(self, path: str, text: str, old: bytes | None, fields: Fields | None) -> str | None:
         """Writes one file, unless it says that already, and gives its sum."""

@@ -30,17 +30,11 @@ def of_a_fault(document: Document, fault: Fault, is_after: bool) -> Fields:
     return {'range': code_range(document, line), 'severity': ERROR, 'code': fault.number, 'source': 'pcboard', 'message': message}
 
 
-def of_masm(document: Document) -> list[Fields]:
-    """The refused lines of a source of MASM; what is refused of a file that it includes stands at the first line."""
-    found = foreign.complaints(*document.as_file)
-    places = ((code_range(document, document.text.line_of(line or 1)), text) for line, text in found)
-    return [{'range': place, 'severity': ERROR, 'source': 'pcmasm', 'message': text} for place, text in places]
-
-
 def diagnostics(document: Document) -> list[Fields]:
     """All that is known by now."""
-    if document.is_masm:
-        return of_masm(document)
+    if document.is_masm:  # what is refused of a file that it includes stands at the first line
+        places = ((code_range(document, document.text.line_of(line or 1)), text) for line, text in foreign.complaints(*document.as_file))
+        return [{'range': place, 'severity': ERROR, 'source': 'pcmasm', 'message': text} for place, text in places]
     if document.note:
         note = document.note
         return [{'range': code_range(document, note.line), 'severity': INFORMATION, 'source': 'zebludor', 'message': note.text}]

@@ -19,24 +19,17 @@ MOST_USES = 20
 
 
 def hover(document: Document, asked: Fields) -> Fields | None:
-    """The text for the asked place."""
+    """The text for the asked place; of a line of MASM what becomes of it: rows of the dialect's listing."""
     line, column = document.text.place(want(asked, 'position', dict))
+    token, span = document.source.lines[line].at(column), (0, len(document.text.lines[line]))
     if document.is_masm:
-        return of_masm(document, line)
-    token = document.source.lines[line].at(column)
-    paragraphs = told_of(document, line, token) if token and not document.note else []
-    if token is None or not paragraphs:
-        return None
-    return {'contents': {'kind': 'markdown', 'value': '\n\n'.join(paragraphs)}, 'range': document.text.range(line, token.start, token.end)}
-
-
-def of_masm(document: Document, line: int) -> Fields | None:
-    """What becomes of a line of MASM: rows of the dialect's listing."""
-    rows = foreign.rows_of_line(line + 1, *document.as_file)
-    if not rows:
-        return None
-    whole = document.text.range(line, 0, len(document.text.lines[line]))
-    return {'contents': {'kind': 'markdown', 'value': '\n'.join(['```', *rows, '```'])}, 'range': whole}
+        rows = foreign.rows_of_line(line + 1, *document.as_file)
+        paragraphs = ['\n'.join(['```', *rows, '```'])] if rows else []
+    elif token and not document.note:
+        paragraphs, span = told_of(document, line, token), (token.start, token.end)
+    else:
+        paragraphs = []
+    return {'contents': {'kind': 'markdown', 'value': '\n\n'.join(paragraphs)}, 'range': document.text.range(line, *span)} if paragraphs else None
 
 
 def told_of(document: Document, line: int, token: Token) -> list[str]:
