@@ -55,7 +55,8 @@ static zebludor_ended run_it(int is_probe, size_t room) {
     return ended;
 }
 
-/* Whether a session has told of a refusal in a reply, or was refused a copy to go back from alone, without which it replies as before. */
+/* Whether a session has told of a refusal in a reply, or all is printed as before: without a copy to go back from or room for decoded
+ * instructions a board makes the same steps. */
 static int replies_truthfully(zebludor_ended ended) {
     out.bytes[ended.out] = 0;
     return strstr((char *)out.bytes, "fault 53 Memory") || (ended.out == whole.length && memcmp(out.bytes, whole.bytes, whole.length) == 0);
@@ -69,7 +70,7 @@ static int refuses_truthfully(int is_probe, long allocations) {
         zebludor_ended ended = run_it(is_probe, sizeof out.bytes - 1);
         refuse_at = -1;
         int is_told = ended.status == 1 && ended.err < sizeof err.bytes && (err.bytes[ended.err] = 0, strstr((char *)err.bytes, " Memory"));
-        int is_replied = is_probe && ended.status == 0 && replies_truthfully(ended);
+        int is_replied = ended.status == 0 && replies_truthfully(ended);
         if ((ended.status != 3 && !is_told && !is_replied) || held != before) {
             fprintf(stderr, "allocation %ld refused: status %d, %ld blocks kept\n", at, ended.status, held - before);
             return 0;

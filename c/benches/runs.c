@@ -1,6 +1,7 @@
 /* Whole runs from C: `runs FILE RUN` prints the report, as `pcboard run FILE RUN` does; with a third word FILE is Intel
  * HEX. Exits with 0, or with 1 and a line on standard error as pcboard's, but for the fault's name. Beside that each
- * allocation is refused in turn: the run is then refused as a want of memory, and all memory is given back. */
+ * allocation is refused in turn: the run is then refused as a want of memory, or, if that was room for decoded
+ * instructions, reported as ever, and all memory is given back. */
 #include "zebludor.h"
 
 #include <stdio.h>
@@ -37,7 +38,7 @@ typedef struct text {
     size_t length;
 } text;
 
-static text program, run, report;
+static text program, run, report, whole;
 
 static int read_text(text *to, const char *path) {
     FILE *file = fopen(path, "rb");
@@ -55,7 +56,7 @@ static zebludor_outcome run_it(int is_hex, size_t room) {
 }
 
 /* Each allocation refused in turn: a run is then refused for want of memory. As the refused allocation comes later, the program's
- * fault is told, then the run file's, then the board's. */
+ * fault is told, then the run file's, then the board's. A board that runs does without the room that it is refused. */
 static int refuses_truthfully(int is_hex, long allocations) {
     const int wants[] = {is_hex ? 27 : 13, 37, 41};
     int part = 0;
@@ -65,7 +66,10 @@ static int refuses_truthfully(int is_hex, long allocations) {
         zebludor_outcome outcome = run_it(is_hex, sizeof report.bytes);
         refuse_at = -1;
         if (part < 2 && outcome.fault == wants[part + 1]) part++;
-        if (outcome.status != 1 || outcome.fault != wants[part] || held != before) {
+        int is_refused = outcome.status == 1 && outcome.fault == wants[part];
+        int is_whole = part == 2 && outcome.status == 0 && outcome.length == whole.length
+                       && memcmp(report.bytes, whole.bytes, whole.length) == 0;
+        if ((!is_refused && !is_whole) || held != before) {
             fprintf(stderr, "allocation %ld refused: status %d, fault %d, %ld blocks kept\n", at, outcome.status,
                     outcome.fault, held - before);
             return 0;
@@ -87,6 +91,7 @@ int main(int count, char **words) {
         return 1;
     }
     fwrite(report.bytes, 1, outcome.length, stdout);
+    memcpy(whole.bytes, report.bytes, whole.length = outcome.length);
 
     /* too little room: nothing is written, and the length is told */
     memset(report.bytes, 0xA5, sizeof report.bytes);
