@@ -969,16 +969,11 @@ def ran_within(words: list[str], given: bytes, most: int, name: str) -> Ran | No
 def _asked(them: Library, texts: tuple[bytes, ...], most: int, _: tuple[int, ...]) -> Ran:
     """What pcboard answers to its words, as a text, and the texts of its files."""
     handed = [part for text in (*texts, *[b''] * (4 - len(texts))) for part in (text, len(text))]
-    return _answered(them, 'zebludor_pcboard', handed, most)
-
-
-def _answered(them: Library, call: str, handed: list[Any], most: int) -> Ran:
-    """What a program's call answers to what it is handed, in as much room as it wants."""
     ended, rooms = them.structs['zebludor_ended'](), (ROOM, ROOM >> 4)
     while True:
         out, err = map(them.room, rooms)
         them.limit()
-        them.calls[call](*handed, out, len(out), err, len(err), them.at(ended))
+        them.calls['zebludor_pcboard'](*handed, out, len(out), err, len(err), them.at(ended))
         if ended.out > most:
             raise TooLong(f'the answer has more than {most:,} bytes')
         if ended.out <= len(out) and ended.err <= len(err):
@@ -986,20 +981,6 @@ def _answered(them: Library, call: str, handed: list[Any], most: int) -> Ran:
         rooms = max(len(out), ended.out), max(len(err), ended.err)
     printed = (bytes(memoryview(room)[:size]).decode('utf-8', 'replace') for room, size in ((out, ended.out), (err, ended.err)))
     return Ran(ended.status, *printed, by=them.path)
-
-
-def translated_within(texts: list[tuple[str, bytes]]) -> Ran | None:
-    """What `pcmasm --map --masm` answers of a source of MASM, the first of these texts, which may include the others by their names: by the
-    library, in this process. None if that is a process's, as what says that memory is wanting."""
-    them = None if os.environ.get('PCMASM') or any('\n' in name for name, _ in texts) else library()
-    if not them:
-        return None
-    import ctypes
-
-    names, whole = b''.join(os.fsencode(name) + b'\n' for name, _ in texts), b''.join(text for _, text in texts)
-    lengths = (ctypes.c_uint64 * len(texts))(*(len(text) for _, text in texts))
-    ran = _answered(them, 'zebludor_masm', [names, len(names), lengths, len(texts), whole, len(whole), True, True], sys.maxsize)
-    return ran if ran.status < 2 else None
 
 
 def ran_of(them: Library, image: bytes, run: bytes, most: int) -> Ran:

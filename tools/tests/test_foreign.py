@@ -9,14 +9,11 @@ import shlex
 import shutil
 import subprocess
 import sys
-import time
 import unittest
-from unittest import mock
 
 from tests.desk_engine import Engine, has_node
 from tests.support import TOOLS, TOP, ToolCase, example, is_there, not_run, only_if
 from tests.test_dap import Client
-from tests.test_library import by_the_library, is_there as has_library
 from toolbox import foreign, program
 from toolbox.command import Sorry
 from toolbox.guests import Guest, origin_of, prepared
@@ -312,69 +309,6 @@ class Foreign(ToolCase):
         rounds = [(seconds(f'{self.room}/kept.asm', '--services'), seconds(loop)) for _ in range(5)]
         least, own = map(min, zip(*rounds))
         self.assertLess(own / least, 1.5)
-
-
-@unittest.skipUnless(has_pcmasm(), 'no pcmasm')
-class WithinTheProcess(ToolCase):
-    """The library's translation, of what isn't long."""
-
-    def setUp(self) -> None:
-        super().setUp()
-        self.enterContext(by_the_library())
-        os.environ.pop('PCMASM', None)
-        self.addCleanup(foreign.made_of.cache_clear)
-
-    def translated(self, path: str) -> foreign.Translation | str:
-        """A translation that is made now, or why there is none."""
-        foreign.made_of.cache_clear()
-        try:
-            return foreign.translation_of(path)
-        except Sorry as sorry:
-            return str(sorry)
-
-    def sources(self) -> list[str]:
-        """What is translated: textbooks' programs, and what is refused."""
-        texts = {'loop': LOOP, 'wrong': WRONG, 'wide': WIDE, 'none': '', 'alone': ' INCLUDE none.inc\nEND\n', 'noted': FORMS['a model'][0]}
-        own = [self.file(f'{name}.asm', text) for name, text in texts.items()]
-        return own + [f'{TEXTBOOKS}/{name}.asm' for name in BOOKS]
-
-    def test_it_is_as_the_program_s(self) -> None:
-        if not has_library():
-            return
-        for path in self.sources():
-            found = self.translated(path)
-            with mock.patch.object(foreign, 'translated_within', lambda _: None):
-                self.assertEqual(self.translated(path), found, path)
-
-    def test_no_process_is_begun(self) -> None:
-        if not has_library():
-            return
-        with mock.patch.object(foreign, 'run', side_effect=AssertionError('a process is asked for')):
-            for name in ('emu_hello', 'emu_fact', 'irvine_sum', 'tasm_reverse'):  # some of which include our own
-                self.assertIsInstance(self.translated(f'{TEXTBOOKS}/{name}.asm'), foreign.Translation)
-
-    def test_what_stays_a_process(self) -> None:
-        """What repeats lines, or is long; and if a program is named."""
-        text = LOOP.encode()
-        for more in (b'REPT 3\nENDM\n', b'it Macro\nENDM\n', b'x DB 1\n.while 1\n', b';' * foreign.SHORT):
-            self.assertFalse(foreign.is_short(text + more, ()), more[:9])
-            self.assertFalse(foreign.is_short(text, (('it.inc', more),)), more[:9])
-        self.assertTrue(foreign.is_short(text + b'; for a while\n', ((f'{foreign.OWN}/it.inc', b'it MACRO\nENDM\n'),)))
-        for name in ('PCBOARD', 'PCMASM'):
-            with mock.patch.dict(os.environ, {name: program.path(name.lower())}):
-                self.assertIsNone(zebludor.translated_within([('it', text)]))
-        self.assertIsNone(zebludor.translated_within([('it\n', text)]))
-
-    def test_an_interrupt_waits_half_a_second_at_most(self) -> None:
-        """For the longest text of which a call is made."""
-        if not has_library():
-            return
-        line = b' mov ax,[bx+si+1]\n'
-        text = b'.model small\n.code\n' + line * (foreign.SHORT // len(line) - 3) + b'end\n'
-        self.assertTrue(foreign.is_short(text, ()))
-        begun = time.process_time()
-        self.assertIsNotNone(zebludor.translated_within([('it', text)]))
-        self.assert_within(time.process_time() - begun, 0.5)
 
 
 @unittest.skipUnless(has_pcmasm(), 'no pcmasm')

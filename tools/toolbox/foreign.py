@@ -10,20 +10,16 @@ import tempfile
 from typing import Iterator, NamedTuple
 
 from toolbox import reading
-from toolbox.command import Sorry, Unreadable, read_bytes
+from toolbox.command import Sorry, Unreadable, read_bytes, write_bytes
 from toolbox.guests import Refused, Remark
 from toolbox.listing import Listing, label_row, line_of, own_name, placed_labels
 from toolbox.program import TOP, Ran, given_text, run
-from zebludor import translated_within
 
 MADE = re.compile(r'[.?]+\d+')  # a label that pcmasm makes, of @@, of LOCAL, or of $
 OWN = f'{TOP}/services/masm'  # what programs may include that their own folder hasn't
 MOST_INCLUDED = 64
 PLACE = re.compile(r'([^\n]*):(\d+):[ \t](.*)')
 WANTED = re.compile(r'includes (.*), which isn\'t given')
-# What makes many lines of a few, if it stands before a comment.
-REPEATING, COMMENT = re.compile(rb'\b(?:macro|rept|repeat|irpc?|forc?|while)\b', re.I), re.compile(rb';.*')
-SHORT = 1 << 18
 
 
 class Translation(NamedTuple):
@@ -128,25 +124,12 @@ def made_of(path: str, octets: bytes, texts: tuple[tuple[str, bytes], ...]) -> T
 
 def with_texts(octets: bytes, texts: tuple[tuple[str, bytes], ...]) -> Ran:
     """What pcmasm answers of a text, to which these are given by their names."""
-    if is_short(octets, texts):
-        found = translated_within([('stdin', octets), *((os.path.basename(there), text) for there, text in texts)])
-        if found:
-            return found
     words = ['--map', '--masm', '/dev/stdin']
     with tempfile.TemporaryDirectory(prefix='zebludor-') as room:
         for there, text in texts:
             words.append(os.path.join(room, os.path.basename(there)))
-            with open(words[-1], 'wb') as file:
-                file.write(text)
+            write_bytes(words[-1], text)
         return run(words, octets, 'pcmasm')
-
-
-def is_short(octets: bytes, texts: tuple[tuple[str, bytes], ...]) -> bool:
-    """Whether a text that includes these isn't long, and makes no more of itself: an interrupt waits for a call of the library. Our own
-    have macros that make a few lines each."""
-    own = [text for there, text in texts if os.path.dirname(there) != OWN]
-    is_plain = not any(REPEATING.search(COMMENT.sub(b'', text)) for text in (octets, *own))
-    return is_plain and len(octets) + sum(len(text) for _, text in texts) <= SHORT
 
 
 def places_in(answer: str, names: dict[str, str]) -> Iterator[tuple[str, int, str]]:
