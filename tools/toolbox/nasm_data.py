@@ -12,7 +12,8 @@ from toolbox.data_labels import SIZES, Datum
 
 # A row: its number, offset, bytes, and how many times, or how many bytes besides.
 ROW = re.compile(r' *(\d+) (?:([0-9A-F]{8}) ([0-9A-F\[\]()]*)(\?*)(?:<(rep|res|bin|incbin) ([0-9A-F]+)h>)?-?)?')
-SECTION = re.compile(r'\s*\[?\s*(?:section|segment|absolute|org|struc|endstruc)\b', re.I)
+INNER = re.compile(r'<\d+> ')  # before the text of what a macro makes
+SECTION = re.compile(r'\s*\[?\s*(section|segment|absolute|struc|endstruc)\b', re.I)
 LABEL = re.compile(r'\s*([A-Za-z_.?@][\w.$#@~?]*)(?:\s*:\s*|\s+(?=(?:times\b|d[bwdqt]\b|res[bwdqt]\b|incbin\b)))', re.I)
 STATEMENT = re.compile(r"(?:times\s+[^'\"]*?\s)?\s*(?:d|res)([bwd])(?!\w)", re.I)
 CONSTANT = re.compile(r"""\s*([A-Za-z_?@][\w.$#@~?]*)\s*:?\s+equ\s+((?:'[^']*'|"[^"]*"|[^;'"])*)""", re.I)
@@ -40,118 +41,100 @@ OPERATORS: dict[type, Callable[[int, int], int]] = {
 
 @dataclass
 class Statement:
-    """What a line of the listing places: labels before it, its kind, where it begins, and how many bytes it has."""
+    """A line of the listing: its number there and in the source, its text, also without label and comment, and the labels before it; its
+    section, or structure; where it begins, and how many bytes it has; of each of its rows the offset, and the bytes as far as they are known."""
 
-    number: int
-    labels: list[str]
-    kind: str = ''
+    row: int = 0
+    number: int = 0
+    code: str = ''
+    text: str = ''
+    labels: list[str] = field(default_factory=list)
+    section: int = 0
+    is_structure: bool = False
     begin: int | None = None
     size: int = 0
-    section: int = 0
-    text: str = ''
+    is_reserved: bool = False
+    rows: list[tuple[int, bytes]] = field(default_factory=list)
+
+    @property
+    def kind(self) -> str:
+        """DB, DW or DD of data, which it places or reserves."""
+        found = STATEMENT.match(self.text)
+        return f'D{found[1].upper()}' if found else ''
 
     def take(self, row: re.Match[str]) -> None:
         """A row of it."""
-        if self.begin is None:
-            self.begin = int(row[2], 16)
-        self.size += len(re.sub(r'\W', '', row[3])) // 2 + len(row[4]) // 2
-        if row[5] == 'rep':
-            self.size *= int(row[6], 16)
-        elif row[5]:
-            self.size += int(row[6], 16)
+        offset, more = int(row[2], 16), int(row[6] or '0', 16)
+        digits, times = re.split(r'[\[(]', row[3])[0], more if row[5] == 'rep' else 1
+        self.begin = offset if self.begin is None else self.begin
+        self.size = times * (self.size + len(re.sub(r'\W', '', row[3])) // 2 + len(row[4]) // 2) + (more if row[5] != 'rep' else 0)
+        self.is_reserved = self.is_reserved or bool(row[4]) or row[5] == 'res'
+        self.rows.append((offset, bytes.fromhex(digits[: len(digits) // 2 * 2]) * min(times, 8)))
 
 
 def statements(rows: list[str]) -> Iterator[Statement]:
-    """The listing's statements in their order. What a macro makes is told by rows of its own."""
-    now, section, above, is_structure = Statement(0, []), 0, '', False
+    """The listing's statements in their order. What a macro makes, or a file that is included, is told by rows of its own, and belongs to
+    the line that calls it."""
+    now, section, above, is_structure = Statement(), 0, '', False
     for text in rows:
-        row = ROW.match(text)
+        row, code = ROW.match(text), text[TEXT:].rstrip()
         if not row:
             continue
-        code = text[TEXT:].rstrip()
-        if now.number == int(row[1]) and row[2] and not code.strip():
+        if now.row == int(row[1]) and row[2] and not code:
             now.take(row)
             continue
         yield now
-        section += bool(SECTION.match(code))
-        is_structure = bool(re.match(r'\s*struc\b', code, re.I)) or is_structure and not re.match(r'\s*endstruc\b', code, re.I)
+        begins = SECTION.match(code)
+        section, is_structure = section + bool(begins), begins[1].lower() == 'struc' if begins else is_structure
         label = LABEL.match(code)
         name = label[1] if label and not label[1].startswith('..') else ''
         above = name if name and not name.startswith('.') else above
-        code = code[label.end() :] if label else code
-        kind = STATEMENT.match(code.strip())
-        names = [above + name if name.startswith('.') else name] if name and not is_structure else []
-        now = Statement(int(row[1]), names, f'D{kind[1].upper()}' if kind else '', section=section, text=code.partition(';')[0].strip())
+        number = now.number if now.number and INNER.search(text[:TEXT]) else int(row[1])
+        now = Statement(int(row[1]), number, code, code[label.end() if label else 0 :].partition(';')[0].strip(), section=section, is_structure=is_structure)
+        now.labels += [above + name if name.startswith('.') else name] if name else []
         if row[2]:
             now.take(row)
     yield now
 
 
-@dataclass
-class Reader:
-    """The data as they are read: those under way, which the statements of their kind behind them belong to, and labels that wait for a
-    statement."""
-
-    places: dict[str, tuple[int, int]]
-    found: list[Datum] = field(default_factory=list)
-    _open: list[Statement] = field(default_factory=list)
-    _waiting: list[str] = field(default_factory=list)
-
-    def take(self, one: Statement) -> None:
-        """The next statement."""
-        if one.begin is None and not one.labels and not one.text:
-            return
-        last = self._open[-1] if self._open else None
-        is_next = last and last.begin is not None and one.begin == last.begin + last.size and one.section == last.section
-        if last and not (is_next and one.kind == last.kind and not one.labels):
-            self.close(one if one.section == last.section else None)
-        self._waiting += one.labels
-        if one.kind and one.begin is not None and (self._open or self._waiting):
-            self._open.append(one)
-            if len(self._open) == 1:
-                one.labels, self._waiting = self._waiting, []
-        elif one.text or one.begin is not None:
-            self._waiting = []
-
-    def close(self, after: Statement | None = None) -> None:
-        """The data under way end, before a statement of the same section if there is one. Where that stands elsewhere than behind them, their
-        size isn't known."""
-        them, self._open = self._open, []
-        if not them or them[0].begin is None:
-            return
-        first, size = them[0], sum(one.size for one in them)
-        is_sure = after is None or after.begin is None or after.begin == them[0].begin + size
-        for name in first.labels if is_sure and size and not size % SIZES[first.kind] else []:
-            if name in self.places:
-                self.found.append(Datum(name, first.number, first.kind, self.places[name], size))
-
-
 def data_in(rows: list[str], places: dict[str, tuple[int, int]]) -> list[Datum]:
-    """The labels of data, of those with a place. One that is there twice, as in two structures, has no size."""
-    reader = Reader(places)
-    for one in statements(rows):
-        reader.take(one)
-    reader.close()
-    names = [one.name for one in reader.found]
-    return [one for one in reader.found if names.count(one.name) == 1]
+    """The labels of data, of those with a place, with the statements of their kind behind them. Where the next one of the section stands
+    elsewhere than behind these, their size isn't known; one that is there twice, as in two structures, has none."""
+    them = [one for one in statements(rows) if one.begin is not None or one.labels or one.text]
+    found, names = list[Datum](), list[str]()
+    for at, one in enumerate(them):
+        names += [] if one.is_structure else one.labels
+        if one.kind and one.begin is not None and names:
+            size, after = span_of(them, at)
+            is_sure = after is None or after.section != one.section or after.begin in (None, one.begin + size)
+            is_whole = is_sure and size and not size % SIZES[one.kind]
+            found += [Datum(name, one.number, one.kind, places[name], size) for name in names if is_whole and name in places]
+        if one.text or one.begin is not None:
+            names.clear()
+    known = [one.name for one in found]
+    return [one for one in found if known.count(one.name) == 1]
+
+
+def span_of(them: list[Statement], at: int) -> tuple[int, Statement | None]:
+    """How many bytes a statement has with those of its kind behind it, and the next one."""
+    one = them[at]
+    size, begin = one.size, one.begin or 0
+    for after in them[at + 1 :]:
+        if after.begin != begin + size or (after.kind, after.section) != (one.kind, one.section) or after.labels:
+            return size, after
+        size += after.size
+    return size, None
 
 
 def constants_in(rows: list[str]) -> dict[str, int]:
     """EQU's names with their values."""
     found, offsets, here = dict[str, int](), dict[str, tuple[int, int]](), (0, 0)
-    for text in rows:
-        row, code = ROW.match(text), text[TEXT:]
-        if SECTION.match(code):
-            here = (here[0] + 1, 0)
-        if row and row[2]:
-            begin = int(row[2], 16)
-            statement = Statement(0, [])
-            statement.take(row)
-            here = (here[0], begin + statement.size)
-            label = LABEL.match(code)
-            if label:
-                offsets[label[1]] = (here[0], begin)
-        if constant := CONSTANT.match(code):
+    for one in statements(rows):
+        here = here if one.section == here[0] else (one.section, 0)
+        if one.begin is not None:
+            here = one.section, one.begin + one.size
+            offsets |= {label[1]: (one.section, one.begin) for label in [LABEL.match(one.code)] if label}
+        if constant := CONSTANT.match(one.code):
             value = value_of(constant[2], found, offsets, here)
             found.pop(constant[1], None)
             if value is not None and LEAST <= value <= GREATEST:

@@ -13,17 +13,13 @@ from toolbox.data_labels import data_of
 from toolbox.hex_lines import PLACED, of_places, with_modules, with_source
 from toolbox.intel_hex import MEMORY
 from toolbox.listing import Line, Listing, at_places, line_of, physical, placed_labels
+from toolbox.nasm_data import Statement
 
 RAM = r'(?:,ram=([0-9A-Fa-f]{1,4}))?'
 PLACE = rf'(?:@([0-9A-Fa-f]{{1,4}})(?::([0-9A-Fa-f]{{1,4}}))?)?{RAM}$'
 WHERE = 'FILE@SEGMENT or FILE@SEGMENT:OFFSET tells where its first byte stands; it is F000:0000 where nothing is said'
 OURS = r'(?:[0-9A-F]{4}:[0-9A-F]{4} [0-9A-F]*\+? +| {20,}|$)'
-NASM_ROW = re.compile(r' *(\d+) ([0-9A-F]{8}) ([0-9A-F\[\]()]*)(?:<rep ([0-9A-F]+)h>)?(-?) *(<\d+>)?')
-NASM_RESERVED = re.compile(r' *\d+ ([0-9A-F]{8}) (?:(\?+)|<res ([0-9A-F]+)h>)')
-NASM_SECTION = re.compile(r'\s*\[?\s*(section|segment|absolute|struc|endstruc)\b', re.I)
-NASM_TEXT = 40  # the column of a line's text
 NASM_SYMBOL = re.compile(r' *([0-9A-F]+) +([0-9A-F]+)  (\S+)$')
-NASM_LABEL = re.compile(r'([A-Za-z_.?@][\w.$#@~?]*)(?:\s*:|\s+(?:d[bwdq]|res[bwdq]|times)\b)', re.I)
 FAR_LABEL = re.compile(r'([0-9A-Fa-f]{1,4}):([0-9A-Fa-f]{1,4}) +(\S+)')
 FLAT_LABEL = re.compile(
     r'(?P<nm>[0-9A-Fa-f]+) (?P<type>[A-Za-z]) (?P<of_nm>\S+)|' r'\S+ +(?P<of_ld86>\S+) +(?P<part>[0-9A-Fa-f]) +(?P<ld86>[0-9A-Fa-f]{8})(?![^\n]* a\b)( .*)?'
@@ -75,81 +71,42 @@ def of_ours(rows: list[str]) -> Listing:
     return found
 
 
-class Waiting:
-    """Labels of a NASM listing that wait for their place: the next row's, or, where a section ends, the end of the last one. A
-    structure's are no places."""
-
-    def __init__(self, found: Listing, ram: int | None) -> None:
-        self._found, self._ram, self._names, self._is_structure = found, ram, list[str](), False
-        self._end: tuple[int, int] | None = None  # the last row's; None behind what has no bytes and no place
-
-    def add(self, name: str) -> None:
-        """A label."""
-        self._names.append(name)
-
-    def stand(self, at: tuple[int, int] | None) -> None:
-        """They stand here, or, without a place, nowhere in the image."""
-        if at:
-            self._found.labels.update(dict.fromkeys(self._names, at))
-        elif not self._is_structure:
-            self._found.absent.update(self._names)
-        self._names = []
-
-    def begins(self, word: str) -> None:
-        """A section or a structure begins or ends."""
-        self.stand(None if self._is_structure else self._end)
-        self._is_structure = word == 'struc'
-
-    def row(self, far: tuple[int, int], octets: bytes) -> None:
-        """A row with bytes."""
-        self.stand(far)
-        self._end = far[0], far[1] + len(octets)
-
-    def reserved(self, offset: int, count: int) -> None:
-        """A row without them."""
-        self._found.reserved.update(self._names)
-        self.stand(None if self._ram is None or self._is_structure else (self._ram, offset))
-        self._end = None if self._ram is None else (self._ram, offset + count)
-
-
 def of_nasm(rows: list[str], far: tuple[int, int], ram: int | None) -> Listing:
-    """A listing of NASM's. What a macro makes, or a file that is included, belongs to the line that calls it."""
-    found, above = Listing(), ''
-    waiting = Waiting(found, ram)
-    for row in rows:
-        placed, text, number = NASM_ROW.match(row), row[NASM_TEXT:].rstrip(), int(row.split()[0])
-        reserved, section = NASM_RESERVED.match(row), NASM_SECTION.match(text)
-        placed = None if reserved else placed
-        if section:
-            waiting.begins(section[1].lower())
-        at = (far[0], (far[1] + int(placed[2], 16)) % 0x10000) if placed else None
-        is_inner = bool(re.match(r'[^<]*<\d+> ', row[:NASM_TEXT]))
-        if found.lines and (is_inner or found.lines[-1].number == number):
-            number, inner = found.lines[-1].number, text if is_inner else ''
-        else:
-            found.lines.append(Line(number, text, None, b''))
-            inner = text
-        if placed and at:
-            line = Line(number, found.lines[-1].text, at, octets_of(placed[3], placed[4]))
-            found.at.setdefault(physical(*at), line)
-            found.lines[-1] = found.lines[-1] if found.lines[-1].address else line
-        label = NASM_LABEL.match(inner.strip())
-        if label and not label[1].startswith('..'):
-            above = above if label[1].startswith('.') else label[1]
-            waiting.add(above + label[1] if label[1].startswith('.') else label[1])
-        if placed and at:
-            waiting.row(at, octets_of(placed[3], placed[4]))
-        elif reserved:
-            waiting.reserved(int(reserved[1], 16), len(reserved[2]) // 2 if reserved[2] else int(reserved[3], 16))
-    waiting.begins('')
+    """A listing of NASM's. Labels wait for their place: the next row's, or, where a section ends, the end of the last one."""
+    found, waiting, before, end = Listing(), list[str](), Statement(), None
+    for one in (*nasm_data.statements(rows), Statement(section=-1)):
+        if one.section != before.section:
+            stand(found, waiting, None if before.is_structure else end, before.is_structure)
+        if one.number and (not found.lines or found.lines[-1].number != one.number):
+            found.lines.append(Line(one.number, one.code, None, b''))
+        waiting += one.labels
+        if one.begin is not None:
+            found.reserved.update(waiting if one.is_reserved else ())
+            in_ram = None if ram is None or one.is_structure else (ram, one.begin)
+            at = in_ram if one.is_reserved else (far[0], (far[1] + one.begin) % 0x10000)
+            stand(found, waiting, at, one.is_structure)
+            end = (at[0], at[1] + one.size) if at else None
+            give_rows(found, [] if one.is_reserved else one.rows, far)
+        before = one
     return found
 
 
-def octets_of(text: str, times: str | None) -> bytes:
-    """The bytes of a row, up to the first that is still to be placed, which stands in brackets."""
-    digits = re.split(r'[\[(]', text)[0].strip()
-    octets = bytes.fromhex(digits[: len(digits) // 2 * 2])
-    return octets * min(int(times, 16), 8) if times else octets
+def stand(found: Listing, names: list[str], at: tuple[int, int] | None, is_structure: bool) -> None:
+    """Labels stand here, or, without a place, nowhere in the image. A structure's are no places."""
+    if at:
+        found.labels.update(dict.fromkeys(names, at))
+    elif not is_structure:
+        found.absent.update(names)
+    names.clear()
+
+
+def give_rows(found: Listing, rows: list[tuple[int, bytes]], far: tuple[int, int]) -> None:
+    """The last line has these rows, and stands where the first of them does."""
+    for offset, octets in rows:
+        at = far[0], (far[1] + offset) % 0x10000
+        line = found.lines[-1]._replace(address=at, shown=octets)
+        found.at.setdefault(physical(*at), line)
+        found.lines[-1] = found.lines[-1] if found.lines[-1].address else line
 
 
 def of_a_map(rows: list[str], far: tuple[int, int], ram: int | None) -> Listing:
