@@ -53,6 +53,11 @@ def kind_in(text: str) -> str | None:
     return found[1].upper() if found else None
 
 
+def is_code(line: Line) -> bool:
+    """Whether a line places an instruction, and no data."""
+    return line.address is not None and kind_in(line.said) is None
+
+
 def is_empty(text: str) -> bool:
     """Whether a line places nothing but may have a label."""
     return re.fullmatch(r'\s*(?:[A-Za-z_]\w*\s*:)?\s*', code_of(text)) is not None

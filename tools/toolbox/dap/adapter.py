@@ -16,8 +16,9 @@ from toolbox.conditions import Asked, count_of
 from toolbox.dap import console
 from toolbox.dap.board import ENDS, MOST_BREAKPOINTS, Machine
 from toolbox.dap.sources import Sources, path_in
-from toolbox.dap.values import Disassembly, Expression, is_code
+from toolbox.dap.values import Disassembly, Expression
 from toolbox.dap.variables import Variables
+from toolbox.data_labels import is_code
 from toolbox.edits import Target, as_said, set_target, target_of, values_of
 from toolbox.forms import Far
 from toolbox.framing import Broken, Read

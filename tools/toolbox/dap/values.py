@@ -8,13 +8,13 @@ from dataclasses import dataclass
 from toolbox.command import Sorry
 from toolbox.conditions import COMPARISONS
 from toolbox.dap.board import Machine
+from toolbox.data_labels import is_code
 from toolbox.listing import Line, Listing, code_of, label_in, physical
 from toolbox.places import address_of, check_bracketed, check_segment, far_of, is_address, said, value_number
 from toolbox.report import FLAGS, HALVES, value_in
 from toolbox.session_board import NONE, SessionBoard
 
 TOKEN = re.compile(r"\s*(\w+|'[^']'|&&|\|\||[=!<>]=|<>|[-+*:\[\]()=<>!&])", re.A)
-DATA = re.compile(r'(\w+\s*:)?\s*D[BWD]\b', re.I)
 LONGEST_INSTRUCTION, LONGEST, LISTED_AT_ONCE = 8, 16, 64  # an instruction has at most seven prefixes and six bytes more
 
 
@@ -178,11 +178,6 @@ class Expression:
         if label is None:
             raise Sorry(f'{word or self.text} is no register, flag, label or number')
         return Value(label[1], 2, physical(*label))
-
-
-def is_code(line: Line) -> bool:
-    """Whether a line places an instruction, and not data."""
-    return line.address is not None and not DATA.match(code_of(line.said).strip())
 
 
 @dataclass(frozen=True)
