@@ -1,16 +1,21 @@
-"""An open document, and the client's settings."""
+"""An open document, which assembler's it seems to be, and the client's settings."""
 from __future__ import annotations
 
+import contextlib
+import re
 import urllib.parse
 from dataclasses import dataclass
 from typing import Any, Callable
 
+from toolbox.command import Sorry
+from toolbox.guests import origin_of
 from toolbox.lsp.answers import Answers
-from toolbox.lsp.foreign import AS_BYTES, MASM, Note, seems
 from toolbox.lsp.source import Source
 from toolbox.lsp.text import Text
 
 OWN = 'zebludor'
+MASM, AS_BYTES = 'MASM', ('utf-8', 'surrogatepass')
+GAS = re.compile(r'\s*\.(text|globl|global|section|intel_syntax|att_syntax|code16|align|ascii|asciz|byte|word)\b', re.I)
 
 
 @dataclass(frozen=True)
@@ -35,6 +40,38 @@ def path_of(uri: str) -> str | None:
     """The path of a file's name in the protocol."""
     parts = urllib.parse.urlsplit(uri)
     return urllib.parse.unquote(parts.path) if parts.scheme == 'file' else None
+
+
+@dataclass(frozen=True)
+class Note:
+    """Which assembler's a file seems to be, and the line that shows it."""
+
+    name: str
+    line: int
+
+    @property
+    def text(self) -> str:
+        """A sentence for the user."""
+        if self.name == MASM:
+            shows = 'what is refused of it is underlined, and a line shows what it becomes'
+            return f'this is a source of MASM, TASM or emu8086 (docs/masm.md): {shows}'
+        return (
+            f"this file seems to be {self.name}'s; the language server knows Zebludor's dialect alone (docs/dialect.md). "
+            'The setting "dialect": "zebludor" says that it is of that'
+        )
+
+
+def seems(uri: str, source: Source) -> Note | None:
+    """What a file seems to be, if it is another assembler's."""
+    if uri.lower().endswith('.nasm'):
+        return Note('NASM', 0)
+    with contextlib.suppress(Sorry):
+        name, line = origin_of(source.text.whole.encode(*AS_BYTES))
+        if name == 'masm':
+            return Note(MASM, 0)
+        if name == 'nasm' and line:
+            return Note('gas' if GAS.match(source.text.lines[line - 1]) else 'NASM', line - 1)
+    return None
 
 
 class Document:
