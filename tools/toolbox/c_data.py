@@ -3,7 +3,7 @@ as the listing gives them. Of structures, of numbers with a fraction and of what
 from __future__ import annotations
 
 import re
-from dataclasses import dataclass, replace
+from dataclasses import replace
 from math import prod
 from typing import Any, Callable, Iterator, NamedTuple
 
@@ -48,51 +48,34 @@ class Type(NamedTuple):
     sizes: tuple[int | None, ...] = ()
 
 
-@dataclass
-class Rooms:
-    """The rooms of names as a module's rows give them: of data up to the next label, or to where the section is left and gone on with."""
-
-    found: dict[str, Room]
-    _names: list[str]
-    _begin: int = 0
-    _filled: int | None = None  # where what fills up begins, if nothing else stands behind it
-
-    def ends(self, end: int) -> None:
-        """The names under way end."""
-        own = end if self._filled is None else self._filled
-        self.found |= dict.fromkeys(self._names, Room(end - self._begin, own - self._begin))
-        self._names, self._filled = [], None
-
-    def label(self, name: str, offset: int) -> None:
-        """A label."""
-        if offset > self._begin:
-            self.ends(offset)
-        self._begin = offset
-        self._names.append(name)
-
-    def row(self, offset: int, text: str) -> None:
-        """A row that places bytes."""
-        is_padding = PADDING.match(text)
-        self._filled = None if not is_padding else offset if self._filled is None else self._filled
+def in_sections(rows: list[Row]) -> Iterator[tuple[str, str, str, str]]:
+    """Each row of a module behind the section that it is in, or begins: text, data or bss."""
+    section = 'text'
+    for offset, value, text in rows:
+        begins = SECTION.match(text.strip())
+        section = begins[1].lower() if begins else section
+        yield section, offset, value, text
 
 
 def rooms_in(rows: list[Row]) -> dict[str, Room]:
-    """The rooms of a module's names."""
-    reader, section = Rooms({}, []), 'text'
-    for offset, value, text in rows:
-        code = text.strip()
-        if begins := SECTION.match(code):
-            section = begins[1].lower()
-            if section == 'data' and offset.strip():
-                reader.ends(int(offset, 16))
-        elif common := COMMON.match(code):
-            size = int(common[4], 16 if common[3] else 10)
-            reader.found[common[1] or common[2]] = Room(size, size)
-        elif section == 'data' and (label := LABEL.match(code)) and (place := re.search('[0-9A-F]{8}', value)):
-            reader.label(label[1], int(place[0], 16))
-        elif section == 'data' and offset.strip():
-            reader.row(int(offset, 16), code)
-    return reader.found
+    """The rooms of a module's names: of data up to the next label, or to where the section is left and gone on with."""
+    found, names, begin = dict[str, Room](), list[str](), 0
+    filled: int | None = None  # where what fills up begins, if nothing else stands behind it
+    for section, offset, value, text in in_sections(rows):
+        code, place = text.strip(), re.search('[0-9A-F]{8}', value)
+        label = LABEL.match(code) if place else None
+        if common := COMMON.match(code):
+            found[common[1] or common[2]] = Room(*2 * [int(common[4], 16 if common[3] else 10)])
+        if common or section != 'data' or not (label or offset.strip()):
+            continue
+        at = int(place[0] if place and label else offset, 16)
+        if SECTION.match(code) or label and at > begin:
+            found |= dict.fromkeys(names, Room(at - begin, (at if filled is None else filled) - begin))
+            names, filled = [], None
+        begin = at if label else begin
+        names += [label[1]] if label else []
+        filled = filled if label else None if not PADDING.match(code) else at if filled is None else filled
+    return found
 
 
 def statements(rows: list[Row]) -> Iterator[tuple[str, int, str]]:

@@ -8,7 +8,7 @@ from dataclasses import replace
 from functools import partial
 
 from toolbox.command import Sorry, read_text
-from toolbox.c_data import FILE, LINE, SECTION, Row, data_in
+from toolbox.c_data import FILE, LINE, Row, data_in, in_sections
 from toolbox.data_labels import Datum
 from toolbox.listing import ADDRESS_COLUMNS, Line, Listing, at_places, line_of
 
@@ -105,11 +105,10 @@ def of_module(path: str, rows: list[Row], labels: dict[str, int], segment: int) 
     """The lines of a module by as86's listing: of C, whose lines stand in it as comments, those of C; else the assembler's. A row of
     code belongs to the line of C above it. Offsets are counted from the module's first byte, which its labels tell."""
     base = base_of(rows, labels)
-    is_code, is_c = True, any((match := LINE.match(text)) and FILE.match(match[2]) for _, _, text in rows)
+    is_c = any((match := LINE.match(text)) and FILE.match(match[2]) for _, _, text in rows)
     found, now = list[Line](), Line(0, '', None, b'', named(path, os.path.basename(os.path.splitext(path)[0]) + '.s'))
-    for number, (offset, octets, text) in enumerate(rows, 1):
-        match, section = LINE.match(text), SECTION.match(text.strip())
-        is_code = section[1].lower() == 'text' if section else is_code
+    for number, (section, offset, octets, text) in enumerate(in_sections(rows), 1):
+        match = LINE.match(text)
         begins = FILE.match(match[2]) if match else None
         if begins:
             now = Line(int(begins[1]), '', None, b'', named(path, begins[2]))
@@ -117,19 +116,16 @@ def of_module(path: str, rows: list[Row], labels: dict[str, int], segment: int) 
             now = Line(int(match[1]) if match else number, (match[2] if match else text).rstrip(), None, b'', now.source)
             found.append(now)
         first = octets.split()[:1]
-        if base is not None and is_code and offset.strip() and first and re.fullmatch('([0-9A-F]{2})+', first[0]):
+        if base is not None and section == 'text' and offset.strip() and first and re.fullmatch('([0-9A-F]{2})+', first[0]):
             found.append(now._replace(address=(segment, (base + int(offset, 16)) % 0x10000), shown=bytes.fromhex(first[0])))
     return found
 
 
 def base_of(rows: list[Row], labels: dict[str, int]) -> int | None:
     """Where a module's code begins, by a label that both the listing and the map have."""
-    is_code = True
-    for offset, value, text in rows:
-        section = SECTION.match(text.strip())
-        is_code = section[1].lower() == 'text' if section else is_code
+    for section, offset, value, text in in_sections(rows):
         label, match = text.partition(':')[0], re.fullmatch(' *([0-9A-F]{8})>? *', value)
-        if is_code and label in labels and (match or offset.strip()):
+        if section == 'text' and label in labels and (match or offset.strip()):
             return (labels[label] - int(match[1] if match else offset, 16)) % 0x10000
     return None
 
