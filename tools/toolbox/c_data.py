@@ -65,7 +65,7 @@ def rooms_in(rows: list[Row]) -> dict[str, Room]:
         code, place = text.strip(), re.search('[0-9A-F]{8}', value)
         label = LABEL.match(code) if place else None
         if common := COMMON.match(code):
-            found[common[1] or common[2]] = Room(*2 * [int(common[4], 16 if common[3] else 10)])
+            found[common[1] or common[2]] = Room(size := int(common[4], 16 if common[3] else 10), size)
         if common or section != 'data' or not (label or offset.strip()):
             continue
         at = int(place[0] if place and label else offset, 16)

@@ -3,8 +3,8 @@ of theirs, `nasm_data` and `c_data` read."""
 from __future__ import annotations
 
 import re
-from bisect import bisect_right
 from dataclasses import dataclass
+from itertools import islice, takewhile
 from typing import Any, Callable
 
 from toolbox.listing import Line, Listing, code_of, label_in, own_name, physical
@@ -13,8 +13,7 @@ SIZES = {'DB': 1, 'DW': 2, 'DD': 4}
 SIGNED = ('int', 'short', 'long', 'signed char')  # types of C
 # So many bytes of a label are shown; of how many more there are the page tells.
 MOST_BYTES = 1024
-MEMORY, SHOWN = 1 << 20, 8  # the latter: bytes of a line that a listing has
-MOVES = re.compile(r'\b(?:ORG|SEGMENT|ENDS)\b', re.I)  # what is behind it doesn't stand behind what is before it
+MEMORY = 1 << 20
 
 
 @dataclass(frozen=True)
@@ -68,61 +67,31 @@ def goes_on(text: str, kind: str) -> bool:
     return not label_in(text) and (kind_in(text) == kind or is_empty(text))
 
 
-def data_of(listing: Listing, image: Callable[[], dict[int, int]], is_loaded: bool = True) -> list[Datum]:
-    """The labels of data in the order of the source. A label's data are its statement and those of its kind behind it, up to the
-    next label or another statement. The image is asked for where the listing doesn't tell an end, which has a line's first bytes, or if it
-    is loaded those that stand there."""
-    found, labelled = list[Datum](), list[str]()
-    ends = Ends(listing.rows or listing.lines, image, is_loaded)
-    for at, line in enumerate(ends.lines):
+def data_of(listing: Listing, image: dict[int, int]) -> list[Datum]:
+    """The labels of data in the order of the source. A label's data are its statement and those of its kind behind it, up to the next label or
+    another statement."""
+    found, labelled, lines = list[Datum](), list[str](), listing.rows or listing.lines
+    starts = {physical(*line.address) for line in lines if line.address}
+    for at, line in enumerate(lines):
         name = label_in(line.said)
         if name:
             labelled.append(own_name(name) if line.dialect else name)
         kind = kind_in(line.said)
         if kind and line.address and labelled:
-            length = ends.end_of(at, kind) - physical(*line.address)
-            if length > 0 and not length % SIZES[kind]:
+            length = length_at(lines, at, kind, image, starts)
+            if length and not length % SIZES[kind]:
                 found += [Datum(label, line.number, kind, line.address, length, source=line.source) for label in labelled]
         if kind or not is_empty(line.said):
             labelled.clear()
     return found
 
 
-class Ends:
-    """Where the data of lines end."""
-
-    def __init__(self, lines: list[Line], image: Callable[[], dict[int, int]], is_loaded: bool) -> None:
-        self.lines, self._image, self._is_loaded = lines, image, is_loaded
-        self._octets: dict[int, int] | None = None
-        self._starts = sorted({physical(*line.address) for line in lines if line.address})
-
-    def end_of(self, at: int, kind: str) -> int:
-        """Where the data of a statement end that stands at a line, with those of its kind behind it."""
-        last, here = at, at + 1
-        while here < len(self.lines) and goes_on(self.lines[here].said, kind):
-            last = here if self.lines[here].address else last
-            here += 1
-        return self._end(last)
-
-    def _end(self, at: int) -> int:
-        """Where the bytes of a line end."""
-        line = self.lines[at]
-        assert line.address
-        begin = physical(*line.address)
-        if not self._is_loaded and len(line.shown) < SHOWN:
-            return begin + len(line.shown)
-        for later in self.lines[at + 1 :]:
-            if MOVES.search(code_of(later.said)):
-                break
-            if later.address:
-                return physical(*later.address)
-        if self._octets is None:
-            self._octets = self._image()
-        end, more = begin, bisect_right(self._starts, begin)
-        stop = self._starts[more] if more < len(self._starts) else MEMORY
-        while end < stop and end in self._octets:
-            end += 1
-        return end
+def length_at(lines: list[Line], at: int, kind: str, image: dict[int, int], starts: set[int]) -> int:
+    """How many bytes a statement's data have with those of its kind behind it: up to where no byte stands, or another line's begin."""
+    more = takewhile(lambda one: goes_on(one.said, kind), islice(lines, at + 1, None))
+    begin, *rest = (physical(*one.address) for one in (lines[at], *more) if one.address)
+    own, places = {begin, *rest}, ((begin + place) % MEMORY for place in range(len(image) + 1))
+    return next(length for length, place in enumerate(places) if place not in image or place in starts and place not in own)
 
 
 def values_of(data: list[Datum], dump: Callable[[int, int], bytes]) -> list[dict[str, Any]]:

@@ -219,7 +219,7 @@ def data_of_source(files: Files, listing: Listing) -> list[Datum]:
     """The labels of data of a source of the board's dialect."""
     from toolbox.data_labels import data_of  # which stands on this module
 
-    return data_of(listing, lambda: image_of(answer_of(['asm', '--', handed_on(files.file)])), is_loaded=False)
+    return data_of(listing, image_of(answer_of(['asm', '--', handed_on(files.file)])))
 
 
 def constants_of_source(listing: Listing) -> dict[str, int]:

@@ -182,4 +182,4 @@ def finished(found: Listing, image: dict[int, int]) -> Listing:
     if not has_dialect:
         return whole
     constants = (lambda: nasm_data.constants_among(line.text for line in lines)) if not whole.rows else whole.read_constants
-    return whole._replace(read_data=lambda: data_of(whole, lambda: image), read_constants=constants)
+    return whole._replace(read_data=lambda: data_of(whole, image), read_constants=constants)
