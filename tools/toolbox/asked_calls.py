@@ -4,7 +4,7 @@ from __future__ import annotations
 
 import re
 import struct
-from typing import Iterator, NamedTuple
+from typing import Any, Iterator
 
 from toolbox.listing import physical
 from toolbox.program import Files, ProbeSession, Session
@@ -18,22 +18,12 @@ LAST_TEXT_MODE, OWN_MODE = 3, 7
 FRAME, LONGEST_NAME = struct.Struct('<6xH4xH4xHH'), 64  # a call's frame: DX, DS, and IP and CS behind its INT; signs
 
 
-class Asked(NamedTuple):
-    """A call: its clock, its registers, what its DS:DX names, and where its INT stands; which bytes have no $; what is told, if anything:
-    a clause of clauses.json, and its values."""
-
-    clock: int
-    registers: dict[str, int]
-    named: int
-    place: tuple[int, int]
-    address: int
-    count: int = 2
-    says: str = ''
-    values: dict[str, object] = {}
+Values = dict[str, Any]  # of a sentence: a clause's own, registers, and which bytes show what is so
 
 
-def doubtful(files: Files, end: int) -> Iterator[Asked]:
-    """Those among the first calls before a clock that ask for what isn't there."""
+def doubtful(files: Files, end: int) -> Iterator[tuple[int, tuple[int, int], str, Values]]:
+    """Those among the first calls before a clock that ask for what isn't there: the clock, where the INT stands, a clause of clauses.json,
+    and values."""
     kinds = {address_of(label): kind for label, kind in KINDS.items()}
     with ProbeSession(files) as session:
         for place in kinds:
@@ -45,43 +35,37 @@ def doubtful(files: Files, end: int) -> Iterator[Asked]:
             frame = session.dump(physical(registers['SS'], registers['BP']), FRAME.size)
             dx, ds, ip, cs = FRAME.unpack(frame)
             place = cs, ip - 2 & 0xFFFF
-            call = Asked(session.clock, registers, physical(ds, dx), place, physical(*place))
-            found = kinds[registers['CS'], registers['IP']](session, call)
-            if found.says:
-                yield found
+            says, look = kinds[registers['CS'], registers['IP']]
+            if values := look(session, registers, physical(*place), physical(ds, dx)):
+                yield session.clock, place, says, {'address': physical(*place), 'count': 2} | registers | values
 
 
-def text(session: Session, call: Asked) -> Asked:
+def text(session: Session, registers: dict[str, int], *_: int) -> Values | None:
     """A text that no $ ends soon. One that goes past its segment's end isn't looked at."""
-    segment, offset = call.registers['DS'], call.registers['DX']
+    segment, offset = registers['DS'], registers['DX']
     address = physical(segment, offset)
-    if offset + LONGEST_TEXT > 0x10000 or b'$' in session.dump(address, LONGEST_TEXT):
-        return call
-    values: dict[str, object] = {'text': f'{segment:04X}:{offset:04X}', 'most': LONGEST_TEXT}
-    return call._replace(says='text', values=values, address=address, count=LONGEST_TEXT)
+    is_fit = offset + LONGEST_TEXT > 0x10000 or b'$' in session.dump(address, LONGEST_TEXT)
+    return None if is_fit else {'text': f'{segment:04X}:{offset:04X}', 'most': LONGEST_TEXT, 'address': address, 'count': LONGEST_TEXT}
 
 
-def character(session: Session, call: Asked) -> Asked:
+def character(session: Session, registers: dict[str, int], address: int, _: int) -> Values | None:
     """A character that stands in AL, with 0 in DL, or is loaded just before the call, behind no load of DL."""
-    sign, before = call.registers['AX'] & 0xFF, session.dump(call.address - 6, 6)
+    sign, before = registers['AX'] & 0xFF, session.dump(address - 6, 6)
     is_loaded = before[0] != MOV_DL and LOADED.fullmatch(before[2:])
-    if not (0x20 if is_loaded else 0x21) <= sign < 0x7F or call.registers['DX'] & 0xFF and not is_loaded:
-        return call
-    return call._replace(says='character', values={'sign': repr(chr(sign))})
+    is_sign = (0x20 if is_loaded else 0x21) <= sign < 0x7F
+    return {'sign': repr(chr(sign))} if is_sign and (is_loaded or not registers['DX'] & 0xFF) else None
 
 
-def mode(_: Session, call: Asked) -> Asked:
+def mode(_: Session, registers: dict[str, int], *__: int) -> Values | None:
     """A mode of graphics, which another adapter has."""
-    number = call.registers['AX'] & 0x7F
-    is_text = number <= LAST_TEXT_MODE or number == OWN_MODE
-    return call if is_text else call._replace(says='mode', values={'mode': number})
+    number = registers['AX'] & 0x7F
+    return None if number <= LAST_TEXT_MODE or number == OWN_MODE else {'mode': number}
 
 
-def missing(session: Session, call: Asked) -> Asked:
-    """A file that isn't on the disk, and is opened."""
-    name = session.dump(call.named, LONGEST_NAME).partition(b'\0')[0].decode('ascii', 'replace')
-    is_name = name.isprintable() and name.isascii()
-    return call._replace(says='file', values={'file': name}) if is_name else call
+def missing(session: Session, _: dict[str, int], __: int, named: int) -> Values | None:
+    """A file that isn't on the disk, and is opened, by the name that DS:DX leads to."""
+    name = session.dump(named, LONGEST_NAME).partition(b'\0')[0].decode('ascii', 'replace')
+    return {'file': name} if name.isprintable() and name.isascii() else None
 
 
-KINDS = {'dos_write_text': text, 'dos_write_char': character, 'bios_mode': mode, 'dos_no_file': missing}
+KINDS = {'dos_write_text': ('text', text), 'dos_write_char': ('character', character), 'bios_mode': ('mode', mode), 'dos_no_file': ('file', missing)}

@@ -74,10 +74,10 @@ def of_calls(run: Run) -> list[Told]:
     from toolbox.asked_calls import doubtful  # and below following, which few runs need
 
     found = dict[str, list[Told]]()
-    for call in doubtful(run.files, run.end):
-        remark = CLAUSES['asked'][call.says].format(place=by_line(run, call.place), **call.values)
-        if remark not in found and not (call.says == 'file' and is_on_disk(run, str(call.values['file']))):
-            found[remark] = run.tell('asked for', at=call.clock, remark=remark, address=call.address, count=call.count, **call.registers)
+    for at, place, says, values in doubtful(run.files, run.end):
+        remark = CLAUSES['asked'][says].format(place=by_line(run, place), **values)
+        if remark not in found and not (says == 'file' and is_on_disk(run, values['file'])):
+            found[remark] = run.tell('asked for', at=at, remark=remark, **values)
     return [one for them in found.values() for one in them]
 
 
