@@ -12,6 +12,7 @@ SYSTEMS = {'linux': 'POSIX :: Linux', 'win': 'Microsoft :: Windows', 'macosx': '
 TIME = (1980, 1, 1, 0, 0, 0)
 FILES = 'zebludor_files'
 START = '''"""The commands pcboard, pcprobe, pcmasm and zebludor."""
+import functools
 import os
 import subprocess
 import sys
@@ -42,16 +43,7 @@ def _program(name):
     _become(launcher if os.path.exists(launcher) else stored, *sys.argv[1:])
 
 
-def pcboard():
-    _program('pcboard')
-
-
-def pcprobe():
-    _program('pcprobe')
-
-
-def pcmasm():
-    _program('pcmasm')
+pcboard, pcprobe, pcmasm = (functools.partial(_program, name) for name in ('pcboard', 'pcprobe', 'pcmasm'))
 
 
 def zebludor():
