@@ -92,15 +92,15 @@ def read_within(source: str, folder: str, name: str) -> tuple[str, bytes]:
         raise Unreadable(f"{source} includes {name}, which can't be read: {error.strerror}") from None
 
 
-def translation_of(path: str, octets: bytes | None = None, home: str = '') -> Translation:
+def translation_of(path: str, octets: bytes | None = None) -> Translation:
     """The translation of a file, or of a text that would stand at its path. Refused tells why there is none. It
-    includes what stands beside it, or in another folder, and what is ours."""
+    includes what stands beside it, and what is ours."""
     octets = read_bytes(path) if octets is None else octets
     texts = dict[str, bytes]()
     while isinstance(found := made_of(path, octets, tuple(texts.items())), str):
         if len(texts) == MOST_INCLUDED:
             raise Sorry(f'{path} includes more than {MOST_INCLUDED} files')
-        there, text = included(path, found, home or os.path.dirname(path) or '.')
+        there, text = included(path, found, os.path.dirname(path) or '.')
         texts[there] = text
     return found
 

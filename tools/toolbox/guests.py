@@ -15,7 +15,6 @@ from toolbox.command import SYMBOLS, Sorry, handed_on, read_bytes, write_bytes
 from toolbox.listing import DIALECT
 from toolbox.program import LAST_CLOCK, Files, Refusal, answer_of, is_hex_name, limited, run
 from toolbox.runfile import DEFAULTS, read_run_file, text_of
-from toolbox.runs import with_run_file
 from toolbox.services import MOST_RAM, TYPING, is_served
 from toolbox.shown import LONGEST_LINE, bounded, clipped
 
@@ -66,8 +65,7 @@ class Refused(Sorry):
 class Guest(NamedTuple):
     """A file as it was given, and how it is taken: the command's tail, as a source with services or by `--com`, the
     language that is said or seen, or without services; whether the look of a source has told that, and whether the
-    program refuses it; the folder of what it includes, if that isn't its own; and the files on its disk: by None it
-    gets one if it may use it."""
+    program refuses it; and the files on its disk: by None it gets one if it may use it."""
 
     file: str
     args: str | None = None
@@ -77,7 +75,6 @@ class Guest(NamedTuple):
     is_bare: bool = False
     is_seen: bool = False
     is_refused: bool = False
-    home: str = ''
     files: tuple[str, ...] | None = None
 
     @property
@@ -222,7 +219,7 @@ def translated(guest: Guest, ram: int, room: str) -> Loaded:
     """A source of MASM, with the rows of its own lines and names."""
     from toolbox import foreign, loading
 
-    translation = foreign.translation_of(guest.file, home=guest.home)
+    translation = foreign.translation_of(guest.file)
     path = os.path.join(tempfile.mkdtemp(dir=room), os.path.basename(guest.file))
     write_bytes(path, translation.text.encode('ascii', 'replace'))
     try:
@@ -369,7 +366,7 @@ def tell_of(guest: Guest) -> None:
     if guest.language == 'masm':
         from toolbox import foreign
 
-        notes = foreign.translation_of(guest.file, home=guest.home).notes
+        notes = foreign.translation_of(guest.file).notes
         for line in bounded([f'{one.path}, line {one.number}{one.words.removeprefix("note")}' for one in notes]):
             say_once(line)
     if guest.is_seen:
@@ -378,16 +375,17 @@ def tell_of(guest: Guest) -> None:
 
 @contextlib.contextmanager
 def prepared(guest: Guest, files: Files, more: Fields | None = None) -> Iterator[Files]:
-    """The files that a tool runs: `files` themselves, or what is made of them where they need the services; then `more` has fields
-    that stand before RUN's. RUN may be missing (empty). A source that the program refuses stays what it is."""
+    """The files that a tool runs: `files` themselves, or what is made of them where they need the services; `more` has all fields of
+    another run file, or stands before RUN's for the services. RUN may be missing (empty). A source that the program refuses stays what it is."""
     with tempfile.TemporaryDirectory(prefix='zebludor-') as room:
         made = made_with(guest, room, files.run_file, more) if guest.is_one else None
         if made:
             tell_of(guest)
-            yield made._replace(symbols=files.symbols, source=None) if files.symbols else made
-            return
-        with with_run_file(files) as found:
-            yield found
+            files = made._replace(symbols=files.symbols, source=None) if files.symbols else made
+        elif more or not files.run_file:
+            files = files._replace(run_file=os.path.join(room, 'run.json'))
+            write_bytes(files.run_file, text_of(more or DEFAULTS).encode())
+        yield files
 
 
 def made_with(guest: Guest, room: str, run_file: str | None = None, more: Fields | None = None) -> Files | None:

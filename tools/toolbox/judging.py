@@ -1,7 +1,6 @@
 """Holding runs of a file against a page of expectations."""
 from __future__ import annotations
 
-import contextlib
 import hashlib
 from typing import ContextManager, Iterator
 
@@ -14,7 +13,6 @@ from toolbox.guests import LONGEST, Fields, Guest, prepared
 from toolbox.intel_hex import image_of, parts_of
 from toolbox.program import Files, given_text, refused, run
 from toolbox.report import report_of
-from toolbox.runs import with_fields
 
 
 def fields_of(planned: Planned, guest: Guest, run_file: str | None, usual: Fields | None = None) -> Fields:
@@ -26,10 +24,8 @@ def fields_of(planned: Planned, guest: Guest, run_file: str | None, usual: Field
 def files_of(planned: Planned, guest: Guest, run_file: str | None, is_hex: bool, symbols: str | None = None) -> ContextManager[Files]:
     """The files of a planned run: RUN itself, or a copy with the page's fields; or a program with services."""
     given = Files(guest.file, run_file or '', is_hex and not guest.is_one, symbols)
-    if run_file and not planned.fields and not guest.is_one:
-        return contextlib.nullcontext(given)
-    fields = fields_of(planned, guest, run_file)
-    return prepared(guest, given, fields) if guest.is_one else with_fields(given, fields)
+    is_own = run_file and not planned.fields and not guest.is_one
+    return prepared(guest, given, None if is_own else fields_of(planned, guest, run_file))
 
 
 def subject_of(files: Files) -> Subject | str:

@@ -4,12 +4,12 @@ from __future__ import annotations
 import contextlib
 import os
 import tempfile
-from typing import Any, ContextManager, Iterator
+from typing import Any, Iterator
 
 from toolbox.command import Sorry, tool
 from toolbox.program import Files, answer_of
 from toolbox.report import Report, report_of
-from toolbox.runfile import DEFAULTS, read_run_file, text_of
+from toolbox.runfile import read_run_file, text_of
 
 
 @contextlib.contextmanager
@@ -20,11 +20,6 @@ def with_fields(files: Files, fields: dict[str, Any]) -> Iterator[Files]:
         with open(path, 'w', encoding='utf-8') as file:
             file.write(text_of(fields))
         yield files._replace(run_file=path)
-
-
-def with_run_file(files: Files) -> ContextManager[Files]:
-    """The same files; if no run file is named, with that of tools/runfile."""
-    return contextlib.nullcontext(files) if files.run_file else with_fields(files, DEFAULTS)
 
 
 def report_at(files: Files, clock: int) -> Report:

@@ -101,7 +101,9 @@ class Desk:
 
     def on_include(self, fields: Fields) -> Fields:
         """A text that a source of MASM includes: one beside FILE, or ours."""
-        there, octets = foreign.included(self.given.file or 'the source', want(fields, 'name', str), self.given.guest.home or foreign.OWN)
+        file = self.given.file
+        home = os.path.dirname(os.path.abspath(file)) if file else foreign.OWN
+        there, octets = foreign.included(file or 'the source', want(fields, 'name', str), home)
         return {'name': os.path.basename(there), 'bytes': base64.b64encode(octets).decode()}
 
     def on_keep(self, fields: Fields) -> Fields:
