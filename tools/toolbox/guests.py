@@ -317,20 +317,6 @@ def fields_for(guest: Guest, run_file: str | None, more: Fields | None = None, u
     return fields
 
 
-def written(guest: Guest, fields: Fields, room: str) -> Files:
-    """The program as Intel HEX, its run file and its symbols, in a folder."""
-    from toolbox import disk
-
-    found = disk.beside(loaded(guest, fields['ram'], room), guest.file, guest.files, fields['ram'])
-    stem = os.path.join(room, os.path.splitext(os.path.basename(guest.file))[0] or 'it')
-    texts = {'hex': found.hex, 'json': text_of(fields), 'symbols': '\n'.join(found.rows) + '\n'}
-    for end, text in texts.items():
-        with open(f'{stem}.{end}', 'w', encoding='utf-8', errors='surrogateescape') as file:
-            file.write(text)
-    source = os.path.abspath(guest.file) if guest.is_source else None
-    return Files(f'{stem}.hex', f'{stem}.json', True, f'{stem}.symbols', source)
-
-
 def kept(guest: Guest, run_file: str | None, symbols: str | None, name: str | None) -> tuple[str, str, str]:
     """The image, the run file and the symbols as files that stay, for a tool that writes to them. None is written over."""
     if not name:
@@ -389,12 +375,20 @@ def prepared(guest: Guest, files: Files, more: Fields | None = None) -> Iterator
 
 
 def made_with(guest: Guest, room: str, run_file: str | None = None, more: Fields | None = None) -> Files | None:
-    """What is made in a folder of a program with services, by RUN's fields and those that stand before them, or None of a source that the
-    program refuses, as it then does by itself."""
+    """What is made in a folder of a program with services, by RUN's fields and those that stand before them: Intel HEX, a run file and symbols;
+    or None of a source that the program refuses, as it then does by itself."""
+    from toolbox import disk
+
     fields = fields_for(guest, run_file, more)
     try:
-        return written(guest, fields, room)
+        found = disk.beside(loaded(guest, fields['ram'], room), guest.file, guest.files, fields['ram'])
     except Refusal:
         if guest.is_source:
             return None
         raise
+    stem = os.path.join(room, os.path.splitext(os.path.basename(guest.file))[0] or 'it')
+    for end, text in {'hex': found.hex, 'json': text_of(fields), 'symbols': '\n'.join(found.rows) + '\n'}.items():
+        with open(f'{stem}.{end}', 'w', encoding='utf-8', errors='surrogateescape') as file:
+            file.write(text)
+    source = os.path.abspath(guest.file) if guest.is_source else None
+    return Files(f'{stem}.hex', f'{stem}.json', True, f'{stem}.symbols', source)
