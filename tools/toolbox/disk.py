@@ -6,6 +6,7 @@ import contextlib
 import os
 import re
 import struct
+from itertools import accumulate
 from typing import Callable
 
 from toolbox.command import Sorry, read_bytes, write_bytes
@@ -87,21 +88,13 @@ def files_of(dump: Callable[[int, int], bytes], left: Served | None) -> dict[str
         if not octets[0]:
             continue
         stem, ending = (part.decode('latin-1').rstrip() for part in (octets[:8], octets[8:]))
-        name = f'{stem}.{ending}'.removesuffix('.')
-        clusters = chain_of(head, first)
-        if not NAME.fullmatch(name) or name in found or clusters is None or len(clusters) != (size + CLUSTER - 1) // CLUSTER:
+        name, count = f'{stem}.{ending}'.removesuffix('.'), (size + CLUSTER - 1) // CLUSTER
+        *clusters, end = accumulate(range(min(count, CLUSTERS)), lambda at, _: head[at], initial=first)
+        is_whole = end == END and len(clusters) == count and all(FIRST <= cluster < CLUSTERS for cluster in clusters)
+        if not NAME.fullmatch(name) or name in found or not is_whole:
             raise Sorry(f'the program has written over the disk of files, whose directory stands at {base + DIRECTORY:05X}h')
         found[name] = b''.join(dump(base + CLUSTER * cluster, CLUSTER) for cluster in clusters)[:size]
     return found
-
-
-def chain_of(head: bytes, cluster: int) -> list[int] | None:
-    """A file's clusters, or None if they lead nowhere."""
-    found = list[int]()
-    while FIRST <= cluster < CLUSTERS and cluster not in found:
-        found.append(cluster)
-        cluster = head[cluster]
-    return found if cluster == END else None
 
 
 def check_folder(path: str) -> None:

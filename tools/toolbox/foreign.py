@@ -13,7 +13,7 @@ from toolbox import reading
 from toolbox.command import Sorry, Unreadable, read_bytes, write_bytes
 from toolbox.guests import Refused, Remark
 from toolbox.listing import Listing, label_row, line_of, own_name, placed_labels
-from toolbox.program import TOP, Ran, given_text, run
+from toolbox.program import TOP, given_text, run
 
 MADE = re.compile(r'[.?]+\d+')  # a label that pcmasm makes, of @@, of LOCAL, or of $
 OWN = f'{TOP}/services/masm'  # what programs may include that their own folder hasn't
@@ -109,7 +109,12 @@ def translation_of(path: str, octets: bytes | None = None) -> Translation:
 def made_of(path: str, octets: bytes, texts: tuple[tuple[str, bytes], ...]) -> Translation | str:
     """The translation of a text that includes these by their names, or the name of one that it includes besides."""
     names = {'stdin': path} | {os.path.basename(there): there for there, _ in texts}
-    ran = with_texts(octets, texts)
+    given = ['--map', '--masm', '/dev/stdin']
+    with tempfile.TemporaryDirectory(prefix='zebludor-') as room:
+        for there, text in texts:
+            given.append(os.path.join(room, os.path.basename(there)))
+            write_bytes(given[-1], text)
+        ran = run(given, octets, 'pcmasm')
     found = Translation([], [], {there: lines_of(text) for there, text in ((path, octets), *texts)}, [])
     found.notes.extend(Remark(where, number, found.own(where, number), words) for where, number, words in places_in(ran.err, names))
     if not ran.status:
@@ -120,16 +125,6 @@ def made_of(path: str, octets: bytes, texts: tuple[tuple[str, bytes], ...]) -> T
     if wanted := WANTED.fullmatch(found.notes[0].words) if found.notes else None:
         return wanted[1]
     raise Refused(found.notes) if found.notes else Sorry(f'{path}: {ran.err.strip() or "pcmasm ends without a word"}')
-
-
-def with_texts(octets: bytes, texts: tuple[tuple[str, bytes], ...]) -> Ran:
-    """What pcmasm answers of a text, to which these are given by their names."""
-    words = ['--map', '--masm', '/dev/stdin']
-    with tempfile.TemporaryDirectory(prefix='zebludor-') as room:
-        for there, text in texts:
-            words.append(os.path.join(room, os.path.basename(there)))
-            write_bytes(words[-1], text)
-        return run(words, octets, 'pcmasm')
 
 
 def places_in(answer: str, names: dict[str, str]) -> Iterator[tuple[str, int, str]]:
@@ -153,9 +148,9 @@ def refused(path: str, octets: bytes) -> Iterator[Remark]:
 
 
 def complaints(path: str, octets: bytes) -> Iterator[tuple[int | None, str]]:
-    """The lines of a text that are refused, and why; what has no line of it is without one."""
+    """The lines of a text that are refused, and why; what has no line of it is without one, and all of it is told."""
     try:
-        yield from (one.within(path) for one in refused(path, octets))
+        yield from ((one.number, one.words) if one.path == path else (None, ' '.join(one.sentences)) for one in refused(path, octets))
     except Sorry as sorry:
         yield None, str(sorry)
 

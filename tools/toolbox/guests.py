@@ -49,10 +49,6 @@ class Remark(NamedTuple):
         shown = f'  {self.number:5} | {clipped(self.line, LONGEST_LINE)}'.rstrip()
         return [f'{self.path}, line {self.number}: {clipped(self.words)}', shown]
 
-    def within(self, path: str) -> tuple[int | None, str]:
-        """Its line and words, if it is of this text; of another one all that is told, and no line."""
-        return (self.number, self.words) if self.path == path else (None, ' '.join(self.sentences))
-
 
 class Refused(Sorry):
     """A source of MASM that isn't translated, or whose translation pcboard refuses: what is told of its lines."""

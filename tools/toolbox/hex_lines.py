@@ -16,9 +16,8 @@ MOST_LINES = 1 << 20  # of a source that a listing tells
 SOURCES = ('.asm', '.nasm', '.s', '.inc')
 # Of a source of MASM: file, line, row of the dialect's listing, the file's own line.
 PLACED = re.compile(r'([^\n]*?):(\d+):\t([^\t\n]*)\t(.*)')
-OF_MODULE = re.compile(r' *(\S+) +(\S+) +0 +([0-9A-Fa-f]{8})')  # of ld86: a name of code
+OF_LD86 = re.compile(r' *(\S+) +(\S+) +([0-9A-Fa-f]) +([0-9A-Fa-f]{8})')  # module, name, its part (0 is code), address
 ROW = re.compile(r'\d{5} ([0-9A-F]{4}|    ) (.{36}) ?(.*)')  # of as86: offset, bytes, text
-OF_ANY = re.compile(r' *\S+ +(\S+) +[0-9A-Fa-f] +([0-9A-Fa-f]{8})')  # of ld86: a name of code or of data
 
 
 def filled(lines: list[Line]) -> list[Line]:
@@ -74,10 +73,11 @@ def by_files(lines: list[Line]) -> dict[str, list[Line]]:
 
 def with_modules(found: Listing, path: str, rows: list[str]) -> Listing:
     """A map of ld86's with the lines of its modules, as far as their listings stand beside it: main.lst of main."""
-    modules = dict[str, dict[str, int]]()
-    for name, label, _ in filter(None, (one and one.groups() for one in map(OF_MODULE.match, rows))):
-        if label in found.labels:
-            modules.setdefault(name, {})[label] = found.labels[label][1]
+    modules, places = dict[str, dict[str, int]](), dict[str, set[str]]()
+    for module, label, part, address in (one.groups() for one in map(OF_LD86.match, rows) if one):
+        places.setdefault(label, set()).add(address)
+        if part == '0' and label in found.labels:
+            modules.setdefault(module, {})[label] = found.labels[label][1]
     folder = os.path.dirname(os.path.abspath(path))
     segment = next((found.labels[label][0] for them in modules.values() for label in them), 0)
     pairs = [(os.path.join(folder, f'{name}.lst'), labels) for name, labels in modules.items()]
@@ -85,9 +85,6 @@ def with_modules(found: Listing, path: str, rows: list[str]) -> Listing:
     listings = {listing: [one.groups() for one in map(ROW.match, text.split('\n')) if one] for listing, text in texts.items()}
     lines = [line for listing, labels in pairs if listing in listings for line in of_module(listing, listings[listing], labels, segment)]
     own = {source: them for source, them in by_files(lines).items() if any(one.address for one in them)}
-    places = dict[str, set[str]]()
-    for label, address in (one.groups() for one in map(OF_ANY.match, rows) if one):
-        places.setdefault(label, set()).add(address)
     sure = {label: found.labels[label] for label, them in places.items() if len(them) == 1 and label in found.labels}
     return found._replace(modules=at_places(lines), files=own, read_data=lambda: variables_of(listings, sure))
 
