@@ -57,6 +57,7 @@ class Parts(NamedTuple):
     rows: list[Line]  # of a source of MASM what becomes of it, in the order of the dialect's lines
     read_data: Callable[[], list[Datum]] = list
     read_constants: Callable[[], dict[str, int]] = dict
+    read_image: Callable[[], dict[int, int]] | None = None  # the program's bytes, if the lines are those of the dialect
 
 
 class Listing(Parts):
@@ -69,14 +70,16 @@ class Listing(Parts):
     @cached_property
     def data(self) -> list[Datum]:
         """The labels of data of which the source tells how long they are, and whose bytes stand one behind the other."""
-        from toolbox.data_labels import in_one_piece  # which stands on this module, as what reads data does
+        from toolbox.data_labels import data_of, in_one_piece  # which stands on this module, as what reads data does
 
-        return in_one_piece(self.read_data())
+        return in_one_piece(data_of(self, self.read_image()) if self.read_image else self.read_data())
 
     @cached_property
     def constants(self) -> dict[str, int]:
         """EQU's names with their values, as far as the source tells them."""
-        return self.read_constants()
+        from toolbox.nasm_data import constants_among
+
+        return constants_among(line.text for line in self.lines) if self.read_image and not self.rows else self.read_constants()
 
     def datum_at(self, address: int) -> Datum | None:
         """The label of data that begins at a physical address; of several the one that has the most bytes."""
@@ -212,18 +215,4 @@ def listing_of(files: Files) -> Listing:
     names = [name for name in map(label_in, (each.text for each in lines if ':' in each.text)) if name]
     if names:
         found.labels.update(probed(read_bytes(files.file).decode('utf-8', 'surrogateescape'), names))
-    return found._replace(read_data=lambda: data_of_source(files, found), read_constants=lambda: constants_of_source(found))
-
-
-def data_of_source(files: Files, listing: Listing) -> list[Datum]:
-    """The labels of data of a source of the board's dialect."""
-    from toolbox.data_labels import data_of  # which stands on this module
-
-    return data_of(listing, image_of(answer_of(['asm', '--', handed_on(files.file)])))
-
-
-def constants_of_source(listing: Listing) -> dict[str, int]:
-    """The constants of a source of the board's dialect."""
-    from toolbox.nasm_data import constants_among  # which stands on this module
-
-    return constants_among(line.text for line in listing.lines)
+    return found._replace(read_image=lambda: image_of(answer_of(['asm', '--', handed_on(files.file)])))

@@ -9,7 +9,6 @@ from itertools import takewhile
 
 from toolbox import nasm_data
 from toolbox.command import Sorry, read_text
-from toolbox.data_labels import data_of
 from toolbox.hex_lines import PLACED, of_places, with_modules, with_source
 from toolbox.intel_hex import MEMORY
 from toolbox.listing import Line, Listing, at_places, line_of, physical, placed_labels
@@ -178,8 +177,4 @@ def finished(found: Listing, image: dict[int, int]) -> Listing:
     at = at_places(lines) | {where: as_loaded(source_line) for where, source_line in found.at.items()}
     modules = {where: as_loaded(source_line) for where, source_line in found.modules.items()}
     whole = found._replace(lines=lines, at=at, files=files, modules=modules, rows=list(map(as_loaded, found.rows)))
-    has_dialect = whole.rows or found.read_data is list and lines
-    if not has_dialect:
-        return whole
-    constants = (lambda: nasm_data.constants_among(line.text for line in lines)) if not whole.rows else whole.read_constants
-    return whole._replace(read_data=lambda: data_of(whole, image), read_constants=constants)
+    return whole._replace(read_image=lambda: image) if whole.rows or found.read_data is list and lines else whole
