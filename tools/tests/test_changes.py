@@ -185,7 +185,7 @@ class Called(ToolCase):
         machine.step()
         machine.set_bytes(0x500, b'\1')
         self.assertEqual(machine.callers(), callers)
-        machine.out(())
+        machine.out()
         self.assertEqual((machine.why, len(machine.callers())), ('returned', 1))
         machine.set_register('SP', 0x300)
         self.assertEqual(machine.callers(), [None])

@@ -161,7 +161,7 @@ class Out(ToolCase):
             for _ in range(24):
                 clock = dice.randrange(400, BUDGET - 20_000)
                 machine.go_to(clock)
-                machine.out(set())
+                machine.out()
                 wanted = end_of(stepped, clock)
                 self.assertEqual((min(machine.clock, BUDGET), machine.why), wanted, (seed, clock))  # a step may end behind the budget
                 how[machine.why] = how.get(machine.why, 0) + 1
@@ -173,7 +173,7 @@ class Out(ToolCase):
         machine.go_to(200)
         for label in ('w1', 'delay'):
             stop = break_at(machine.listing.labels[label])
-            self.assertEqual((machine.out({stop}), machine.why), ((stop, 'stop') if label == 'w1' else (None, 'returned')), label)
+            self.assertEqual((machine.to_stops(machine.out, {stop}), machine.why), ((stop, 'stop') if label == 'w1' else (None, 'returned')), label)
 
     def test_a_long_loop(self) -> None:
         """From within a LOOP of 65,536 rounds it takes at most half a second of the processors, over such a call too; so does finish."""
@@ -190,7 +190,7 @@ class Out(ToolCase):
             machine.go_to(0)
             machine.run({break_at(machine.listing.labels['w1']) if move == machine.out else 'break F000:3'}, 1000)
             before = spent()
-            move(set())
+            move()
             self.assert_within(spent() - before, 0.5)
             self.assertEqual(machine.clock, end)
         before = spent()
@@ -213,7 +213,7 @@ class Out(ToolCase):
 
             machine.poll = poll
             with self.assertRaises(Paused):
-                getattr(machine, way)(set())
+                getattr(machine, way)()
             self.assertLess(machine.clock, 500_000, way)
 
     def test_what_ends_it_before(self) -> None:
@@ -226,7 +226,7 @@ class Out(ToolCase):
             for rounds in (3, 9000):
                 machine = self.machine(DELAY.replace('CX,0', f'CX,{rounds}').replace('        RET', f'        {deed}'), 400_000)
                 machine.go_to(60)
-                machine.out(set())
+                machine.out()
                 self.assertEqual(machine.why, why, deed)
                 label = machine.listing.label_before(*machine.place())
                 if why == 'far':

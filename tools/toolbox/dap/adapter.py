@@ -255,7 +255,7 @@ class Adapter:
             places = [os.path.realpath(path_in(source)) for source in field(given, 'sources', list, []) if isinstance(source, str)]
             self.sources = Sources(self.program, listing, places, self.has_uris)
             self.machine = Machine(files, listing, budget, self.poll)
-            self.variables = Variables(self.machine, lambda: listing.data, self.knows)
+            self.variables = Variables(self.machine, self.knows)
         except Sorry as sorry:
             raise self.explained(run_file, is_hex, sorry) from None
         self.event('initialized')
@@ -522,7 +522,7 @@ class Adapter:
 
     def on_next(self, given: Fields) -> tuple[Fields, Callable[[], tuple[str, str]]]:
         board = self.board()
-        return {}, lambda: self.told_of_a_way(self.way(lambda: self.by_lines(given, lambda: board.next(()))), 'step')
+        return {}, lambda: self.told_of_a_way(self.way(lambda: self.by_lines(given, board.next)), 'step')
 
     def on_stepIn(self, given: Fields) -> tuple[Fields, Callable[[], tuple[str, str]]]:
         board = self.board()
@@ -536,7 +536,7 @@ class Adapter:
 
     def on_stepOut(self, _: Fields) -> tuple[Fields, Callable[[], tuple[str, str]]]:
         board = self.unless_ended()
-        return {}, lambda: self.told_of_a_way(self.way(lambda: board.out(())), 'step out')
+        return {}, lambda: self.told_of_a_way(self.way(board.out), 'step out')
 
     def way(self, way: Callable[[], object]) -> str | None:
         """A way by instructions, at most to a breakpoint. An instruction that is under way, as at data that has changed, ends first."""

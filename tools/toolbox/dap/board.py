@@ -22,7 +22,6 @@ FIRST_PIECE = 1000  # clocks that are followed at first
 # What ends a way out of a routine before it returns.
 ENDS = {'jammed': 'the processor has jammed, and nothing returned', 'halted for good': 'halted with interrupts off, and nothing returned'}
 IF = 0x200
-Run = Callable[[Collection[str], int], 'str | None']
 
 
 class Machine(FollowedBoard):
@@ -67,7 +66,7 @@ class Machine(FollowedBoard):
             return None
         begun = None if self.is_served_here else self.step()
         while self.why == 'returned' and not self.is_own:
-            self._out()
+            self.out()
         return begun
 
     def back(self) -> None:
@@ -81,30 +80,19 @@ class Machine(FollowedBoard):
         elif not self.step_back():
             raise Sorry('this is the start of the run')
 
-    def next(self, wanted: Collection[str], run: Run | None = None) -> str | None:
-        """Makes one instruction with all that it calls, an interrupt that comes first, and all its repeats, at most to
-        one of these stops, which it returns."""
-        return self.to_stops(self._over, wanted, run)
-
-    def out(self, wanted: Collection[str], run: Run | None = None) -> str | None:
-        """Runs to where the routine has returned, or dropped its address; at most to one of these stops, to a jam, a
-        halt for good, or the budget."""
-        return self.to_stops(self._out, wanted, run)
-
-    def to_stops(self, way: Callable[[], object], wanted: Collection[str], run: Run | None = None) -> str | None:
-        """A way, at most to one of these stops: to find them, it is gone once more, by another way to run if there is
-        one. A place at its end is no stop before it."""
+    def to_stops(self, way: Callable[[], object], wanted: Collection[str]) -> str | None:
+        """A way, at most to one of these stops: to find them, it is gone once more. A place at its end is no stop before it."""
         here, _ = self.clock, way()
         if wanted and (there := self.clock) > here:
             self.go_to(here)
-            met = (run or self.run)(wanted, there)
+            met = self.run(wanted, there)
             if met and not (place_of(met) and self.clock == there):
                 self.why = 'stop'
                 return met
         return None
 
-    def _over(self) -> None:
-        """Over the next instruction."""
+    def next(self) -> None:
+        """Makes one instruction with all that it calls, an interrupt that comes first, and all its repeats."""
         if self.is_before:
             self.step_own()
             return
@@ -156,8 +144,8 @@ class Machine(FollowedBoard):
         follower, self._known = self.follower(), (-1, None)
         return follower
 
-    def _out(self) -> None:
-        """Out of the routine."""
+    def out(self) -> None:
+        """Runs to where the routine has returned, or dropped its address; at most to a jam, a halt for good, or the budget."""
         here, follower = self.clock, self._taken()
         self._end(Out(follower, follower.nest[-1] if follower.nest else None))
         if self.why == 'returned':

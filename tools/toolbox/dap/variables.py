@@ -2,7 +2,7 @@
 from __future__ import annotations
 
 import re
-from typing import Any, Callable
+from typing import Any
 
 from toolbox.command import Sorry
 from toolbox.dap.board import Machine
@@ -28,9 +28,8 @@ def row(name: str, value: str, **more: Any) -> Fields:
 class Variables:
     """The variables of a board, where it stands. A client may know types and memory references, or not."""
 
-    def __init__(self, board: Machine, data: Callable[[], list[Datum]], knows: Fields) -> None:
-        self._board, self._read, self._knows = board, data, knows
-        self._data: list[Datum] | None = None
+    def __init__(self, board: Machine, knows: Fields) -> None:
+        self._board, self._knows = board, knows
 
     @staticmethod
     def scopes() -> list[Fields]:
@@ -38,10 +37,8 @@ class Variables:
         return [{'name': name, 'variablesReference': number, 'expensive': False} for number, name in enumerate(SCOPES, 1)]
 
     def data(self) -> list[Datum]:
-        """The labels of data, which are read once."""
-        if self._data is None:
-            self._data = self._read()
-        return self._data
+        """The labels of data, which the listing reads once."""
+        return self._board.listing.data
 
     def of(self, number: int, first: int, count: int) -> list[Fields]:
         """The variables of a reference; of a long array a part, if the client wants one."""
