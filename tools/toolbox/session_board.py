@@ -466,9 +466,9 @@ class SessionBoard:
         else:
             self.go_on(clock)
 
-    def run(self, wanted: Collection[str], end: int, always: Collection[str] = ()) -> str | None:
-        """Goes on to one of these stops, at most to this clock, and returns it: where what it asks holds, or always. In a halt the
-        place behind the HLT is none."""
+    def run(self, wanted: Collection[str], end: int) -> str | None:
+        """Goes on to one of these stops where what it asks holds, at most to this clock, and returns it. In a halt the place behind the HLT
+        is none."""
         self.want(wanted)
         passed, since = 0, self.clock
         while self.clock < end:
@@ -480,7 +480,7 @@ class SessionBoard:
                 passed += 1
                 self._pass(passed, wanted)
             if met and met in wanted:
-                if met in always or (met := self._met_of(met, wanted, since)):
+                if met := self._met_of(met, wanted, since):
                     return met
                 self.poll()
         return None
