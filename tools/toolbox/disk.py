@@ -24,20 +24,14 @@ NAME = re.compile(r"([A-Z0-9!#$%&'()@^_`{}~-]{1,8})(?:\.([A-Z0-9!#$%&'()@^_`{}~-
 CALLS = re.compile(rb'\xB4[\x3C-\x43\x4E\x4F\x56]|\xB8.[\x3C-\x43\x4E\x4F\x56]', re.DOTALL)
 
 
-def name_of(path: str) -> str:
-    """The name that a file has on the disk: its own in capital letters, of eight and three characters."""
-    name = os.path.basename(path).upper()
-    if not NAME.fullmatch(name):
-        has = 'has at most eight characters, a dot and three more, and no blank or other sign'
-        raise Sorry(f'--file {path}: a name under DOS {has}: copy it to such a name')
-    return name
-
-
 def read_all(paths: tuple[str, ...]) -> dict[str, bytes]:
-    """The files that are put on a disk, by their names there."""
+    """The files that are put on a disk, by the names that they have there: their own in capital letters, of eight and three characters."""
     found = dict[str, bytes]()
     for path in paths:
-        name = name_of(path)
+        name = os.path.basename(path).upper()
+        if not NAME.fullmatch(name):
+            has = 'has at most eight characters, a dot and three more, and no blank or other sign'
+            raise Sorry(f'--file {path}: a name under DOS {has}: copy it to such a name')
         if name in found:
             raise Sorry(f'--file {path}: {name} is on the disk already')
         found[name] = read_bytes(path, MOST)

@@ -7,13 +7,16 @@ import functools
 import os
 import re
 import tempfile
-from typing import Iterator, NamedTuple
+from typing import TYPE_CHECKING, Iterator, NamedTuple
 
 from toolbox import reading
 from toolbox.command import Sorry, Unreadable, read_bytes, write_bytes
 from toolbox.guests import Refused, Remark
-from toolbox.listing import Listing, label_row, line_of, own_name, placed_labels
+from toolbox.listing import label_row, line_of, own_name, placed_labels
 from toolbox.program import TOP, given_text, run
+
+if TYPE_CHECKING:
+    from toolbox.loading import Loaded
 
 MADE = re.compile(r'[.?]+\d+')  # a label that pcmasm makes, of @@, of LOCAL, or of $
 OWN = f'{TOP}/services/masm'  # what programs may include that their own folder hasn't
@@ -155,15 +158,22 @@ def complaints(path: str, octets: bytes) -> Iterator[tuple[int | None, str]]:
         yield None, str(sorry)
 
 
-def rows_of(source: str, listing: Listing) -> list[str]:
-    """The rows of a file of symbols by what another assembler tells of a source. A name of C has a `_` before it
-    there."""
+def rows_of(source: str, path: str, found: Loaded) -> list[str]:
+    """The rows of a file of symbols by NASM's listing of a source, or by bcc's map, if it fits: lines and labels are counted from where the
+    program begins, but for an .EXE program, of which it doesn't tell where its parts stand. A name of C has a `_` before it there."""
+    from toolbox.symbols import symbols_of  # which takes long to load, and few programs need
+
+    place, is_c = found.rows[0].split()[0], path.endswith('.map')
+    try:
+        listing = symbols_of(f'{path}@{place[:4] if is_c else place}', found.image)
+    except Sorry:
+        return found.rows
     own = [line for line in listing.modules.values() if os.path.basename(line.source) == os.path.basename(source)]
     placed = sorted([*listing.at.values(), *own], key=lambda line: (line.number, line.address))
     rows = [f'{label_row(line.shown.hex().upper(), line.address)} ' for line in placed if line.address]
     made = Translation([], [(source, line.number) for line in placed], {source: lines_of(read_bytes(source))}, [])
     names = {name.removeprefix('_') if listing.modules else name: place for name, place in listing.labels.items()}
-    return made.rows(rows) + [label_row(name, at) for name, at in names.items()]
+    return [*made.rows(rows), *(label_row(name, at) for name, at in names.items()), *found.rows[1:]]
 
 
 def rows_of_line(number: int, path: str, octets: bytes) -> list[str]:

@@ -204,8 +204,11 @@ def loaded(guest: Guest, ram: int, room: str) -> Loaded:
     if guest.language == 'masm':
         return translated(guest, ram, room)
     if guest.language in COMPILERS:
+        from toolbox import foreign
+
         made = compiled(guest, room)
-        return with_lines(guest, of_bytes(guest, read_bytes(f'{made}.com', LONGEST), ram, ''), made)
+        found = of_bytes(guest, read_bytes(f'{made}.com', LONGEST), ram, '')
+        return found._replace(rows=foreign.rows_of(guest.file, f'{made}.map' if guest.language == 'bcc' else f'{made}.lst', found))
     if guest.is_com or ending(guest.file) in BINARIES:
         return of_bytes(guest, read_bytes(guest.file, LONGEST), ram, '.com' if guest.is_com else ending(guest.file))
     return loading.source(guest.file, guest.args or '', ram)
@@ -273,21 +276,6 @@ def compiled(guest: Guest, room: str) -> str:
     if messages:
         print(messages, file=sys.stderr)
     return made
-
-
-def with_lines(guest: Guest, found: Loaded, made: str) -> Loaded:
-    """A program with the lines and labels that its assembler tells, if they fit: they are counted from where the
-    program begins, but for an .EXE program, of which they don't tell where its parts stand."""
-    from toolbox import foreign
-    from toolbox.symbols import symbols_of
-
-    place = found.rows[0].split()[0]
-    symbols = f'{made}.map@{place[:4]}' if guest.language == 'bcc' else f'{made}.lst@{place}'
-    try:
-        lines = symbols_of(symbols, found.image)
-    except Sorry:
-        return found
-    return found._replace(rows=[*foreign.rows_of(guest.file, lines), *found.rows[1:]])
 
 
 def typed(guest: Guest, strokes: list[Stroke] | None) -> Fields:
