@@ -40,7 +40,7 @@ def doubtful(files: Files, end: int) -> Iterator[tuple[int, tuple[int, int], str
                 yield session.clock, place, says, {'address': physical(*place), 'count': 2} | registers | values
 
 
-def text(session: Session, registers: dict[str, int], *_: int) -> Values | None:
+def text(session: Session, registers: dict[str, int], _: int, __: int) -> Values | None:
     """A text that no $ ends soon. One that goes past its segment's end isn't looked at."""
     segment, offset = registers['DS'], registers['DX']
     address = physical(segment, offset)
@@ -56,7 +56,7 @@ def character(session: Session, registers: dict[str, int], address: int, _: int)
     return {'sign': repr(chr(sign))} if is_sign and (is_loaded or not registers['DX'] & 0xFF) else None
 
 
-def mode(_: Session, registers: dict[str, int], *__: int) -> Values | None:
+def mode(_: Session, registers: dict[str, int], __: int, ___: int) -> Values | None:
     """A mode of graphics, which another adapter has."""
     number = registers['AX'] & 0x7F
     return None if number <= LAST_TEXT_MODE or number == OWN_MODE else {'mode': number}
