@@ -16,8 +16,6 @@ LONGEST_TEXT = 2000  # signs, as many as the screen has
 LOADED, MOV_DL = re.compile(rb'\xB0.\xB4\x02|\xB4\x02\xB0.', re.DOTALL), 0xB2  # MOV AL and MOV AH,2
 LAST_TEXT_MODE, OWN_MODE = 3, 7
 FRAME, LONGEST_NAME = struct.Struct('<6xH4xH4xHH'), 64  # a call's frame: DX, DS, and IP and CS behind its INT; signs
-
-
 Values = dict[str, Any]  # of a sentence: a clause's own, registers, and which bytes show what is so
 
 
