@@ -10,7 +10,7 @@ import tempfile
 from typing import TYPE_CHECKING, Iterator, NamedTuple
 
 from toolbox import reading
-from toolbox.command import Sorry, Unreadable, read_bytes, write_bytes
+from toolbox.command import Sorry, Unreadable, read_bytes
 from toolbox.guests import Refused, Remark
 from toolbox.listing import label_row, line_of, own_name, placed_labels
 from toolbox.program import TOP, given_text, run
@@ -116,7 +116,8 @@ def made_of(path: str, octets: bytes, texts: tuple[tuple[str, bytes], ...]) -> T
     with tempfile.TemporaryDirectory(prefix='zebludor-') as room:
         for there, text in texts:
             given.append(os.path.join(room, os.path.basename(there)))
-            write_bytes(given[-1], text)
+            with open(given[-1], 'wb') as file:
+                file.write(text)
         ran = run(given, octets, 'pcmasm')
     found = Translation([], [], {there: lines_of(text) for there, text in ((path, octets), *texts)}, [])
     found.notes.extend(Remark(where, number, found.own(where, number), words) for where, number, words in places_in(ran.err, names))

@@ -354,7 +354,8 @@ def prepared(guest: Guest, files: Files, more: Fields | None = None) -> Iterator
             files = made._replace(symbols=files.symbols, source=None) if files.symbols else made
         elif more or not files.run_file:
             files = files._replace(run_file=os.path.join(room, 'run.json'))
-            write_bytes(files.run_file, text_of(more or DEFAULTS).encode())
+            with open(files.run_file, 'w', encoding='utf-8') as file:
+                file.write(text_of(more or DEFAULTS))
         yield files
 
 
