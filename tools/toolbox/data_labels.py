@@ -4,7 +4,7 @@ from __future__ import annotations
 
 import re
 from dataclasses import dataclass
-from itertools import islice, takewhile
+from itertools import takewhile
 from typing import Any, Callable
 
 from toolbox.listing import Line, Listing, code_of, label_in, own_name, physical
@@ -87,8 +87,8 @@ def data_of(listing: Listing, image: dict[int, int]) -> list[Datum]:
 
 
 def length_at(lines: list[Line], at: int, kind: str, image: dict[int, int], starts: set[int]) -> int:
-    """How many bytes a statement's data have with those of its kind behind it: up to where no byte stands, or another line's begin."""
-    more = takewhile(lambda one: goes_on(one.said, kind), islice(lines, at + 1, None))
+    """How many bytes a statement's data have with those of its kind behind it: up to where no byte stands, or another line begins."""
+    more = takewhile(lambda one: goes_on(one.said, kind), map(lines.__getitem__, range(at + 1, len(lines))))
     begin, *rest = (physical(*one.address) for one in (lines[at], *more) if one.address)
     own, places = {begin, *rest}, ((begin + place) % MEMORY for place in range(len(image) + 1))
     return next(length for length, place in enumerate(places) if place not in image or place in starts and place not in own)

@@ -5,6 +5,7 @@ from __future__ import annotations
 import ast
 import operator
 import re
+from collections import Counter
 from dataclasses import dataclass, field
 from typing import Callable, Iterable, Iterator
 
@@ -111,15 +112,15 @@ def data_in(rows: list[str], places: dict[str, tuple[int, int]]) -> list[Datum]:
             found += [Datum(name, one.number, one.kind, places[name], size) for name in names if is_whole and name in places]
         if one.text or one.begin is not None:
             names.clear()
-    known = [one.name for one in found]
-    return [one for one in found if known.count(one.name) == 1]
+    known = Counter(one.name for one in found)
+    return [one for one in found if known[one.name] == 1]
 
 
 def span_of(them: list[Statement], at: int) -> tuple[int, Statement | None]:
     """How many bytes a statement has with those of its kind behind it, and the next one."""
     one = them[at]
     size, begin = one.size, one.begin or 0
-    for after in them[at + 1 :]:
+    for after in map(them.__getitem__, range(at + 1, len(them))):
         if after.begin != begin + size or (after.kind, after.section) != (one.kind, one.section) or after.labels:
             return size, after
         size += after.size
