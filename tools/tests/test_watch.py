@@ -120,10 +120,10 @@ class Held(Stepped):
             try:
                 for here in dice.sample(before, min(3, len(before))) + dice.sample(steps.clocks[:-40], 3):
                     board.go_to(here)
-                    board.next(())
+                    board.next()
                     there = board.clock
                     board.go_to(here)
-                    met = board.to_stops(lambda: board.next(()), [stop])
+                    met = board.to_stops(board.next, [stop])
                     first = next((clock for clock in steps.changes if here < clock <= there), None)
                     self.assertEqual((met, board.clock), (stop, first) if first else (None, there), (seed, here))
                     ended += first is not None
