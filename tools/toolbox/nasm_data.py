@@ -91,8 +91,9 @@ def statements(rows: list[str]) -> Iterator[Statement]:
         name = label[1] if label and not label[1].startswith('..') else ''
         above = name if name and not name.startswith('.') else above
         number = now.number if now.number and INNER.search(text[:TEXT]) else int(row[1])
-        now = Statement(int(row[1]), number, code, code[label.end() if label else 0 :].partition(';')[0].strip(), section=section, is_structure=is_structure)
-        now.labels += [above + name if name.startswith('.') else name] if name else []
+        plain = code[label.end() if label else 0 :].partition(';')[0].strip()
+        labels = [above + name if name.startswith('.') else name] if name else []
+        now = Statement(int(row[1]), number, code, plain, labels, section, is_structure)
         if row[2]:
             now.take(row)
     yield now
