@@ -9,6 +9,7 @@ import json
 import os
 import sys
 import tempfile
+import time
 import zlib
 from typing import Any
 
@@ -25,6 +26,13 @@ HANDLES = (
     'window.written={{}};window.handle=(name,text)=>({{name,getFile:async()=>new File([written[name]??text],name,{{lastModified:1}}),'
     'createWritable:async()=>({{write:async it=>{{written[name]=it}},close:async()=>{{}}}})}});'
     'window.showOpenFilePicker=async()=>[handle("mine.asm",{source}),handle("mine.json",{run})];0'
+)
+# Notes what the engine is asked from a key on, up to where the screen changes.
+ASKED = (
+    'window.asked=[];window.shown=[];window.isKey=false;const was=Worker.prototype.postMessage;'
+    'Worker.prototype.postMessage=function(it,...more){if(it.question)asked.push(it.question.do);return was.call(this,it,...more)};'
+    'const screen=document.getElementById("screen");screen.addEventListener("keydown",()=>{asked=[];isKey=true},true);'
+    'new MutationObserver(()=>{if(isKey)shown.push([...asked]);isKey=false}).observe(screen,{childList:true});0'
 )
 
 
@@ -138,7 +146,8 @@ class Alone(ToolCase):
 
     @only_if(is_run)
     def test_types_keys_live(self) -> None:
-        """Keys that are typed at the screen reach a program that runs; and Run after an edit runs from the start."""
+        """Keys that are typed at the screen reach a program that runs, which shows them by the first piece that it runs then; and Run
+        after an edit runs from the start."""
         self.open()
         self.example('keys')
         self.stands_at(10_000)
@@ -151,6 +160,12 @@ class Alone(ToolCase):
         for name in 'abc':
             self.browser.press(name)
         self.until(f"{SHOWN}.join('').startsWith('HELLOABC')")
+        self.browser.run(ASKED)
+        for n, name in enumerate('defgh'):
+            self.browser.press(name)
+            asked = self.until(f"window.shown.length>{n}&&window.shown[{n}]")
+            self.assertEqual(asked[asked.index('type') :].count('run'), 1, asked)
+            time.sleep(0.3 * (n % 2))
         self.browser.click('#run')
         self.until("document.getElementById('run').textContent==='Run'")
 

@@ -6,14 +6,18 @@ export const isAlone = true;
 const DRAFT = 'zebludor kept ', MOST_LINKED = 1 << 21, CONTEXT = 3;
 
 /* The engine, whose text, library and tables stand packed in the page. */
-const octets_in = id => Uint8Array.from(atob(document.getElementById(id).textContent), it => it.charCodeAt(0));
+function octets_in(id) {
+  const signs = atob(document.getElementById(id).textContent), octets = new Uint8Array(signs.length);
+  for (let at = 0; at < signs.length; at++) octets[at] = signs.charCodeAt(at);
+  return octets;
+}
 const unpacked = id => new Response(new Blob([octets_in(id)]).stream().pipeThrough(new DecompressionStream('gzip')));
 const ENGINE = {
   async begun() {
-    const [library, has] = await Promise.all(['the-library', 'the-has'].map(id => unpacked(id).arrayBuffer()));
     const engine = document.getElementById('the-engine').textContent;
     const place = URL.createObjectURL(new Blob([engine], {type: 'text/javascript'})), worker = new Worker(place);
     URL.revokeObjectURL(place);
+    const [library, has] = await Promise.all(['the-library', 'the-has'].map(id => unpacked(id).arrayBuffer()));
     worker.postMessage({library, has}, [library, has]);
     return worker;
   },

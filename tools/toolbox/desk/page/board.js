@@ -10,7 +10,7 @@ import {codes, draw_keys, draw_screen, send_keys} from './screen.js';
 import {tell_last} from './served.js';
 import {speaker} from './sound.js';
 import {begin_line, dragging, draw_marks, drawn, later, look_on, met, span} from './timeline.js';
-const TICK = 60, LONG_TICK = 240, STILL = 10;
+const TICK = 60, LONG_TICK = 240, STILL = 10, FRAME = Math.round(HERTZ / 60);
 const ENDS = {jammed: 'the processor has jammed: there is no instruction here',
   'halted for good': 'halted with interrupts off: nothing more will happen'};
 /* Why nothing more will happen in a state, if so: a program with services has ended. */
@@ -98,7 +98,7 @@ export async function begin(fields, clock = null, text = $('source').value) {
   services = answer.services;
   $('to').value = answer.budget;
   show(answer);
-  await put_stops(stops);
+  if (stops.length) await put_stops(stops); else draw_stops();
   const to = clock === null ? answer.budget : clock;
   if (to > 0) await run_to(to);
 }
@@ -227,17 +227,20 @@ export async function run_on() {
   draw_run();
   speaker.follow(from, isReal);
   while (running === mine) {
-    if (codes.length) {
+    let tick = performance.now(), least = view.clock;
+    const isTyped = codes.length > 0;
+    if (isTyped) {
       await send_keys();
-      begun = performance.now();
-      from = view.clock;
-      speaker.follow(from, isReal);
       if (running !== mine) break;
-    }
-    const target = isReal ? Math.floor(from + (performance.now() - begun) * HERTZ / 1000) : LAST,
+      begun += performance.now() - tick;
       tick = performance.now();
-    answer = await ask('run', {board, seen, to: Math.min(Math.max(target, view.clock), LAST), light: true, ms: isReal
-      ? 50 : 100}).then(follow_quietly);
+      least = view.clock + FRAME;  // what is typed is seen at once, also right after a tick
+    }
+    const here = view.clock, target = isReal ? Math.floor(from + (tick - begun) * HERTZ / 1000) : LAST;
+    const asked = ask('run', {board, seen, to: Math.min(Math.max(target, least), LAST), light: true, ms: isReal
+      ? 50 : 100});
+    if (isTyped) speaker.follow(here, isReal);  // asks, too, and later
+    answer = await asked.then(follow_quietly);
     if (answer.gone || answer.sorry) break;
     still = answer.screen || differ(view.registers, answer.registers) ? 0 : still + 1;
     show(answer, true);
@@ -254,7 +257,7 @@ export async function run_on() {
         speaker.follow(from, true);
       }
       /* Where nothing is seen or heard to change for a while, it is looked at less often. */
-      const wait = (still > STILL ? LONG_TICK : TICK) - (performance.now() - tick);
+      const wait = codes.length ? 0 : (still > STILL ? LONG_TICK : TICK) - (performance.now() - tick);
       await new Promise(go => { wake = go; setTimeout(go, Math.max(0, wait)); });
     }
   }

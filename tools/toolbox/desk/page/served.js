@@ -30,8 +30,8 @@ async function octets_of(name) {
 }
 const ENGINE = {
   async begun() {
-    const [library, has] = await Promise.all(['zebludor.wasm', 'has.json'].map(octets_of));
     const worker = new Worker('desk/worker.mjs', {type: 'module'});
+    const [library, has] = await Promise.all(['zebludor.wasm', 'has.json'].map(octets_of));
     worker.postMessage({library, has}, [library, has]);
     return worker;
   },

@@ -4,7 +4,7 @@ import {act, board, view} from './board.js';
 import {marks} from './timeline.js';
 const RATE = 48000;
 export const speaker = {
-  context: null, known: null, at: 0, when: 0, moved: -Infinity, isOn: false, asking: false,
+  context: null, known: null, at: 0, when: 0, moved: -Infinity, isOn: false, asking: false, keys: 0,
   ready() {
     this.context = this.context || new AudioContext();
     if (this.context.state === 'suspended') this.context.resume();
@@ -16,21 +16,26 @@ export const speaker = {
     this.when = 0;
     this.known = null;
     this.moved = -Infinity;
-    this.asking = false;
+    this.keys++;
     if (this.isOn) this.foresee(clock);
   },
   end() { this.isOn = false; },
-  /* With the keys that there are, what comes is determined: so a report tells the samples before they are played. */
-  foresee(clock) {
+  /* With the keys that there are, what comes is determined: so a report tells the samples before they are played. Of a
+     long run that takes a while, so one is asked for at a time, however fast somebody types. */
+  async foresee(clock) {
     if (this.asking) return;
+    const {keys} = this;
     this.asking = true;
-    ask('heard', {board, begin: clock, end: Math.floor(clock + 4 * HERTZ)}).then(answer => {
-      this.known = answer.samples === undefined ? null : {...answer, data: samples_of(answer)};
-      this.asking = false;
-    }, () => {});
+    try {
+      const answer = await ask('heard', {board, begin: clock, end: Math.floor(clock + 4 * HERTZ)});
+      if (keys === this.keys)
+        this.known = answer.samples === undefined ? null : {...answer, data: samples_of(answer)};
+    } catch { /* the run ends, too */ }
+    this.asking = false;
   },
   chunk(clock) {
-    if (!this.isOn || !this.known) return false;
+    if (!this.isOn) return false;
+    if (!this.known) { this.foresee(this.at); return false; }
     if (this.known.end < clock + HERTZ) this.foresee(clock);
     const to = Math.min(clock, this.known.end), place = at => Math.round((at - this.known.begin) * RATE / HERTZ);
     if (to <= this.at) return false;
