@@ -8,6 +8,7 @@ import os
 import random
 import shutil
 import subprocess
+import tempfile
 import unittest
 from pathlib import Path
 from typing import Iterator
@@ -25,10 +26,10 @@ from toolbox.crates import Crates
 from toolbox.program import path
 from toolbox.sources import stamp, sum_of, sum_of_sources
 
-# How a program of each target is started, and what Debian package brings that; a process of wine and of node takes long.
+# How a program of each target is started, and what Debian package brings that; a process of node takes long.
 RUNNERS = {'musl': ('', ''), 'aarch64': ('qemu-aarch64', 'qemu-user'), 'windows': ('wine', 'wine'), 'wasm': ('node', 'nodejs')}
 ENDINGS = {'windows': '.exe'}
-EACH = {'musl': 50, 'aarch64': 100, 'windows': 300, 'wasm': 100}  # of how many cases one is run
+EACH = {'musl': 50, 'aarch64': 100, 'windows': 100, 'wasm': 100}  # of how many cases one is run
 # What sessions are asked: each kind of command and of inquiry, and lines that are refused.
 LINES = (
     'go 1000',
@@ -54,6 +55,21 @@ LINES = (
 # What random sessions are asked besides, with a number in the place of N.
 ASKED = ('go N', 'back N', 'break F000:N', 'events N reads ins', 'dump F0000 N', 'key 1E', 'signals N', 'clear', 'undo', 'set AX N', 'when N writes')
 NAMES = sorted(name.removesuffix('.json') for name in os.listdir(EXAMPLES) if name.endswith('.json'))
+
+
+def setUpModule() -> None:
+    """Wine gets a folder and a server for these tests: else each program would begin one, which takes seconds and holds the streams of who
+    began it until it ends."""
+    if not shutil.which('wine'):
+        return
+    folder = tempfile.TemporaryDirectory(ignore_cleanup_errors=True)
+    unittest.addModuleCleanup(folder.cleanup)
+    changed = mock.patch.dict(os.environ, {'WINEPREFIX': folder.name, 'WINEDEBUG': '-all'})
+    changed.start()
+    unittest.addModuleCleanup(changed.stop)
+    for words in (['wineserver', '-p600'], ['wine', 'wineboot', '-i']):
+        subprocess.run(words, stdin=subprocess.DEVNULL, stdout=subprocess.DEVNULL, stderr=subprocess.DEVNULL, check=True)
+    unittest.addModuleCleanup(subprocess.run, ['wineserver', '-k'], check=False)
 
 
 @functools.cache
@@ -124,7 +140,7 @@ class Small(ToolCase):
         self.given = self.file('given', PRINTED)
 
     def done(self, *words: str) -> str:
-        ran = subprocess.run(words, cwd=self.room, capture_output=True, text=True, check=False, env=os.environ | {'WINEDEBUG': '-all'})
+        ran = subprocess.run(words, cwd=self.room, capture_output=True, text=True, check=False)
         self.assertEqual(ran.returncode, 0, (words, ran.stderr))
         return ran.stdout
 
@@ -258,7 +274,7 @@ class Targets(ToolCase):
         if runner and not is_there(runner, f'programs for {target}', package):
             return None
         what = f'{TOP}/web/{name}.mjs' if target == 'wasm' else file
-        script = self.file(f'{target}-{name}', f'#!/bin/sh\nexport WINEDEBUG=-all\nexec {runner} {what} "$@"\n')
+        script = self.file(f'{target}-{name}', f'#!/bin/sh\nexec {runner} {what} "$@"\n')
         os.chmod(script, 0o755)
         return script
 
