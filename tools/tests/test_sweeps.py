@@ -2,6 +2,7 @@
 another program than a shell is told as not run if that isn't there."""
 from __future__ import annotations
 
+import contextlib
 import glob
 import importlib.util
 import json
@@ -12,7 +13,7 @@ import signal
 import subprocess
 import unittest
 
-from tests.support import EXAMPLES, TOOLS, TOP, ToolCase, is_there, not_run, until
+from tests.support import EXAMPLES, TOOLS, TOP, ToolCase, is_there, members, not_run, until
 
 MANY = 2000  # runs on engines that are there
 
@@ -20,7 +21,16 @@ MANY = 2000  # runs on engines that are there
 def printed(start: str) -> str:
     """A command of the page, by how it begins."""
     with open(f'{TOP}/docs/sweeps.md', encoding='utf-8') as file:
-        return next(line for line in re.findall(r'`([^`]+)`', file.read()) if line.startswith(start))
+        return next(line for line in re.findall(r'`([^`\n]+)`', file.read()) if line.startswith(start))
+
+
+def killed(session: int) -> list[int]:
+    """Kills all processes of a session, and says which there were: GNU parallel gives each of its jobs a group of its own."""
+    there = members(session)
+    for process in there:
+        with contextlib.suppress(ProcessLookupError):
+            os.kill(process, signal.SIGKILL)
+    return there
 
 
 class Sweeps(ToolCase):
@@ -59,7 +69,7 @@ class Sweeps(ToolCase):
         ) as process:
             self.assertTrue(until(lambda: len(self.answered()) >= runs // 2 or process.poll() is not None, 0.05))
             self.assertIsNone(process.poll(), 'it had come to its end')
-            os.killpg(process.pid, signal.SIGKILL)
+            self.assertTrue(until(lambda: not killed(process.pid)))
         self.shell(f'{line} --unlock' if line.startswith('snakemake') else 'true')
         self.shell(line)
         self.check(runs)
