@@ -93,7 +93,7 @@ def with_node(case: type[Any]) -> type[Any]:
 def lacking() -> str:
     """Why no page of the desk can be opened, or nothing."""
     if browser.path() is None:
-        return "Chromium isn't installed"
+        return 'apt install chromium'
     return '' if has_library() else f'there is no {LIBRARY}'
 
 

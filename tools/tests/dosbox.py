@@ -79,17 +79,23 @@ def names() -> list[str]:
 
 
 @functools.cache
-def has_bcc() -> bool:
-    """Whether bcc is there, with its library. If it isn't, that is told, once."""
+def is_bcc_whole() -> bool:
+    """Whether bcc links a program, for which it needs its library."""
     with tempfile.TemporaryDirectory() as room:
         with open(f'{room}/it.c', 'w', encoding='ascii') as file:
             file.write('int main() { return 0; }\n')
         try:
             compiled(Guest(file.name, language='bcc'), room)
-        except Sorry as sorry:
-            not_run(f'what bcc makes; {sorry}')
+        except Sorry:
             return False
     return True
+
+
+def has_bcc() -> bool:
+    """Whether it does. If not, what isn't run is told."""
+    if not is_bcc_whole():
+        not_run('what bcc makes; apt install bcc elks-libc')
+    return is_bcc_whole()
 
 
 def com_of(name: str, room: str) -> bytes:

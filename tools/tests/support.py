@@ -80,8 +80,15 @@ def rooms_in(folder: str) -> list[str]:
     return os.listdir(f'{folder}/zebludor') if os.path.isdir(f'{folder}/zebludor') else []
 
 
+def packages() -> list[str]:
+    """What the line of CONTRIBUTING installs that brings all that a test wants."""
+    with open(f'{TOP}/CONTRIBUTING.md', encoding='utf-8') as file:
+        return re.findall(r'`sudo apt install --no-install-recommends ([^`\n]+)`', file.read())[0].split()
+
+
 def is_there(command: str, what: str, package: str) -> bool:
     """Whether a command is there. If it isn't, what it is wanted for is told as not run."""
+    assert {*package.split()} <= {*packages()}, f"CONTRIBUTING's line of packages lacks {package}"
     found = shutil.which(command) is not None
     if not found:
         not_run(f'{what}; apt install {package}')

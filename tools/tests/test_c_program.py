@@ -10,10 +10,9 @@ import subprocess
 import unittest
 from typing import Any
 
-from tests.support import STORED, TOP, ToolCase, not_run
+from tests.support import STORED, TOP, ToolCase, is_there, not_run
 from tests.test_dap import Client
 from tests.test_editors import MODE_CLIENT, batch, has_dap_mode
-from tests.test_gdb import GDB
 
 from toolbox.intel_hex import image_of, parts_of
 from toolbox.program import Files, Session
@@ -44,8 +43,8 @@ class Compiled(ToolCase):
     """The stored files are those of the C program."""
 
     def test_they_are_made_of_the_program(self) -> None:
-        if not all(map(shutil.which, ('bcc', 'as86', 'ld86', 'objcopy'))):
-            not_run('bcc, bin86')
+        wanted = {'bcc': 'bcc', 'as86': 'bin86', 'ld86': 'bin86', 'objcopy': 'binutils'}
+        if not all(is_there(command, 'the stored files of a C program', package) for command, package in wanted.items()):
             return
         room = shutil.copytree(PROGRAM, f'{self.room}/c')
         for name in ('sums.hex', 'sums.map'):
@@ -78,8 +77,7 @@ class Debugged(ToolCase):
         self.assertIn('\nscreen\nSUM 55 ', report)
 
     def test_gdb(self) -> None:
-        if not GDB:
-            not_run("gdb isn't installed")
+        if not is_there('gdb', 'a C program in gdb', 'gdb'):
             return
         typed = (
             'break *_sum',
@@ -172,7 +170,7 @@ class Debugged(ToolCase):
 
     def test_dap_mode(self) -> None:
         if not has_dap_mode():
-            not_run('Emacs with dap-mode')
+            not_run('a C program in Emacs with dap-mode; apt install emacs-nox elpa-dap-mode')
             return
         lines = batch(self.room, '-l', MODE_CLIENT, EMACS, HEX, self.run_file, '_sum', MAP)
         clocks = self.clocks(f'break {SUM}', 'go 20000', 'step', 'step', 'back step', 'back step', 'go 20000', 'back stop')

@@ -47,14 +47,14 @@ def written(folder: str) -> str:
 def is_run(case: Any) -> bool:
     """Whether the page can be opened; if it can't, that is told."""
     if case.lacking:
-        not_run(f'the desk in a page: {case.lacking}')
+        not_run(f'the desk in a page; {case.lacking}')
     return not case.lacking
 
 
 class Alone(ToolCase):
     """The page in a browser, which the tests share."""
 
-    lacking = '' if path() else 'there is no Chromium'
+    lacking = '' if path() else 'apt install chromium'
     browser: Browser
     page: str
 

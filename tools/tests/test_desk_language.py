@@ -40,7 +40,7 @@ class InTheBrowser(ToolCase):
 
     def test_underlined_told_and_completed(self) -> None:
         if why := lacking():
-            not_run(f'the words of tools/desk in a browser: {why}')
+            not_run(f'the words of tools/desk in a browser; {why}')
             return
         page = Page(self.room)
         self.addCleanup(page.close)

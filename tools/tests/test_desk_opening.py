@@ -148,7 +148,7 @@ class InABrowser(ToolCase):
         """It leads to the page, which is there again after a reload and in a second tab. Another browser is told that there is another
         address, which leads there too."""
         if why := lacking():
-            not_run(f'how a browser comes to the page of tools/desk: {why}')
+            not_run(f'how a browser comes to the page of tools/desk; {why}')
             return
         process, address, file = self.begin()
         self.assertEqual(file, f'file://{self.room}/zebludor/{rooms_in(self.room)[0]}/open.html')

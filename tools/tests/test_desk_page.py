@@ -125,7 +125,7 @@ class OnePage(ToolCase):
         room = tempfile.TemporaryDirectory()
         cls.addClassCleanup(room.cleanup)
         if why := lacking():
-            not_run(f'the page of tools/desk in a browser: {why}')
+            not_run(f'the page of tools/desk in a browser; {why}')
             return
         cls.page = Page(room.name)
         cls.addClassCleanup(cls.page.close)

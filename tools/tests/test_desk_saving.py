@@ -437,7 +437,7 @@ class OnThePage(ToolCase):
         room = tempfile.TemporaryDirectory()
         cls.addClassCleanup(room.cleanup)
         if why := lacking():
-            not_run(f'saving by a page of tools/desk in a browser: {why}')
+            not_run(f'saving by a page of tools/desk in a browser; {why}')
             return
         cls.browser = Browser(room.name)
         cls.addClassCleanup(cls.browser.close)

@@ -9,7 +9,7 @@ import shutil
 import subprocess
 import unittest
 
-from tests.support import EXAMPLES, SECONDS, TOOLS, TOP, ToolCase, example, not_run
+from tests.support import EXAMPLES, SECONDS, TOOLS, TOP, ToolCase, example, is_there, not_run
 
 from toolbox.hints import STATEMENTS, WORDS
 from toolbox.program import Files, Session
@@ -97,7 +97,7 @@ class Editors(ToolCase):
 
     def test_dap_mode_debugs(self) -> None:
         if not has_dap_mode():
-            not_run('Emacs with dap-mode')
+            not_run('debugging in Emacs with dap-mode; apt install emacs-nox elpa-dap-mode')
             return
         source, run = example('ticks')
         lines = batch(self.room, '-l', MODE_CLIENT, f'{TOP}/editors/emacs.el', source, run, '41')
@@ -117,17 +117,14 @@ class Editors(ToolCase):
 
     def test_quickfix_and_compile(self) -> None:
         source, _ = self.program(' FROB\n MOV AX,0x10')
-        if shutil.which('vim'):
+        if is_there('vim', "Vim's quickfix", 'vim'):
             self.file('it.vim', f"let &makeprg = '{TOOLS}/why --lines %'\nsilent! make\ncall writefile(map(getqflist(), 'v:val.lnum'), 'found')\nqa!\n")
             subprocess.run(
                 ['vim', '-u', 'NONE', '-es', '-S', 'it.vim', source], cwd=self.room, stdin=subprocess.DEVNULL, capture_output=True, check=False, timeout=SECONDS
             )
             with open(f'{self.room}/found', encoding='ascii') as file:
                 self.assertEqual(file.read().split(), ['3', '4'])
-        else:
-            not_run('vim')
-        if not shutil.which('emacs'):
-            not_run('Emacs')
+        if not is_there('emacs', "Emacs' compile", 'emacs-nox'):
             return
         text = (
             "(progn (require 'compile) (let ((b (compilation-start \"%s/why --lines %s\"))) (while (get-buffer-process b) (accept-process-output nil 0.1))"
@@ -137,8 +134,7 @@ class Editors(ToolCase):
 
     def test_neovim(self) -> None:
         """Its settings, with a stand-in for nvim-dap, and its quickfix."""
-        if not shutil.which('nvim'):
-            not_run('Neovim')
+        if not is_there('nvim', 'debugging in Neovim', 'neovim'):
             return
         source, _ = self.program(' FROB\n MOV AX,0x10')
         os.makedirs(f'{self.room}/lua')

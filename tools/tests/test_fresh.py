@@ -77,6 +77,21 @@ class Fresh(Repository):
         there, here = re.sub('assertNotEqual', 'assertEqual', MODULE), re.sub('print.*', 'self.fail()', MODULE)
         self.assertEqual([(status, lines[-1]) for status, lines in map(self.outcome, (there, here))], [(1, '6 passed, 1 failed')] * 2)
 
+    def test_packages_that_are_not_installed(self) -> None:
+        """A bench and either run count: what is left out there, and not here, is done."""
+        there_alone = re.sub('what wants rt', 'what is here; apt install nasm', MODULE)
+        benches = re.sub('passed: a bench', 'not run: a bench; apt install valgrind', BENCHES)
+        for module, named in (
+            (there_alone, ['valgrind']),
+            (re.sub("( *)if not.*'rt'", r"\1not_run('all of it; apt install bcc')\n\g<0>", there_alone), ['bcc', 'valgrind']),
+            (there_alone + "\nnot_run('what is wanted before it; apt install cargo')\n", ['cargo', 'valgrind']),
+        ):
+            os.chmod(self.file('top/dev/benches', benches), 0o755)
+            _, lines = self.outcome(module)
+            self.assertEqual(lines[-2:], [f'sudo apt install --no-install-recommends {" ".join(named)}', '6 passed, 0 failed'], lines)
+            self.assertEqual([line.split(':')[0].strip() for line in lines[-2 - len(named) : -2]], named)
+            self.assertEqual(len([line for line in lines if line.startswith('sudo apt')]), 1)
+
     def test_no_end(self) -> None:
         """A run that doesn't come to its counts fails."""
         status, lines = self.outcome(MODULE.replace('self.assertNotEqual(os.geteuid(), 0)', 'os._exit(0)'))

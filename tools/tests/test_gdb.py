@@ -14,7 +14,7 @@ import sys
 import unittest
 import unittest.mock
 
-from tests.support import SECONDS, SLOW, STORED, TOOLS, TOP, ToolCase, children, example, is_at_work, name_of, not_run, processor_seconds, rooms_in, until
+from tests.support import SECONDS, SLOW, STORED, TOOLS, TOP, ToolCase, children, example, is_at_work, is_there, name_of, processor_seconds, rooms_in, until
 
 from toolbox.command import Sorry
 from toolbox.gdb import door
@@ -675,8 +675,7 @@ class Gdb(ToolCase):
 
     def gdb(self, files: tuple[str, str], *commands: str, words: tuple[str, ...] = ()) -> str:
         """What gdb prints."""
-        if not GDB:
-            not_run("gdb isn't installed")
+        if not is_there('gdb', 'gdb on the board', 'gdb'):
             return ''
         given = [word for command in commands for word in ('-ex', command)]
         out, err = self.tool('gdb', *files, *words, '-nx', '-batch', *given)
@@ -757,7 +756,7 @@ class Gdb(ToolCase):
 
     def test_a_board_that_was_ended(self) -> None:
         """Nobody is there any more, which is told at once."""
-        if not GDB:
+        if not is_there('gdb', 'gdb on the board', 'gdb'):
             return
         files = self.program(BUSY)
         tool = subprocess.Popen(
@@ -776,7 +775,7 @@ class Gdb(ToolCase):
         self.assertIn('Connection refused', printed)
 
     def test_control_c(self) -> None:
-        if not GDB:
+        if not is_there('gdb', 'gdb on the board', 'gdb'):
             return
         tool = self.started()
         os.killpg(tool.pid, signal.SIGINT)
@@ -864,7 +863,7 @@ class Gdb(ToolCase):
 
     def test_run_anew(self) -> None:
         """What everyone types: from the start to the first breakpoint, also after kill; and an attach after a detach."""
-        if not GDB:
+        if not is_there('gdb', 'gdb on the board', 'gdb'):
             return
         begin = ('break tick', 'continue', 'continue', 'run', 'monitor clock', 'kill', 'run', 'monitor clock', 'stepi', 'detach', 'attach 1')
         printed = self.gdb(example('ticks'), *begin, 'monitor clock', 'checkpoint')
@@ -873,7 +872,7 @@ class Gdb(ToolCase):
 
     def test_the_machine(self) -> None:
         """The 8086's own registers, flags by their bits, what it hasn't as unavailable; and no warning at the beginning."""
-        if not GDB:
+        if not is_there('gdb', 'gdb on the board', 'gdb'):
             return
         files = example('ticks')
         printed = self.gdb(files, 'break tick if $ip == 0x58', 'continue', 'p $ip', 'p/x $sp16', 'p/x $bp16', 'p $eflags', 'p $fs', 'p $st0', 'info registers')
@@ -891,7 +890,7 @@ class Gdb(ToolCase):
 
     def test_a_condition(self) -> None:
         """As gdb hands it over, forth and back."""
-        if not GDB:
+        if not is_there('gdb', 'gdb on the board', 'gdb'):
             return
         printed = self.gdb(
             self.program(BUSY, 100_000), 'break *0xf0001 if $eax == 77', 'continue', 'p $ax', 'condition 1 $eax > 3 && $eax < 9', 'reverse-continue', 'p $ax'
@@ -960,7 +959,7 @@ class Gdb(ToolCase):
     def test_out_of_a_handler(self) -> None:
         """`up` and `finish` lead out of a handler and what it has called; a caller of long ago, which nothing shows any more, is told as
         unknown, and nothing is run up to it."""
-        if not GDB:
+        if not is_there('gdb', 'gdb on the board', 'gdb'):
             return
         files = self.program(HANDLED, 10_000_000)
         typed = ('monitor to 5000000', 'break key', 'continue', *['up'] * 3, 'backtrace', 'frame 0', *['finish'] * 3, 'backtrace', 'finish', 'advance waits')

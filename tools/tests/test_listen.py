@@ -5,7 +5,6 @@ from __future__ import annotations
 import http.client
 import os
 import re
-import shutil
 import signal
 import socket
 import subprocess
@@ -16,7 +15,7 @@ from typing import Any
 from unittest import mock
 
 from tests.desk_engine import named_library
-from tests.support import SECONDS, TOOLS, ToolCase, not_run
+from tests.support import SECONDS, TOOLS, ToolCase, is_there, not_run
 from toolbox.desk.http import COOKIE, Server
 
 # Asks for a page from within a namespace, and prints its status.
@@ -137,13 +136,13 @@ class Started(ToolCase):
 
     def test_across_a_network_namespace(self) -> None:
         """From another machine, as it were: of another namespace, by a pair of links."""
-        name = f'z{os.getpid() % 100000}'
-        ip = ['ip'] if shutil.which('ip') else []
-        made = subprocess.run([*ip, 'netns', 'add', name], capture_output=True, check=False).returncode if ip and os.getuid() == 0 else 1
-        if made:
-            not_run('the desk across a network namespace, which root makes by ip, of iproute2')
+        name, across = f'z{os.getpid() % 100000}', 'the desk across a network namespace'
+        if not is_there('ip', across, 'iproute2'):
             return
-        self.addCleanup(subprocess.run, [*ip, 'netns', 'del', name], check=False)
+        if os.getuid() != 0 or subprocess.run(['ip', 'netns', 'add', name], capture_output=True, check=False).returncode:
+            not_run(f'{across}, which root makes')
+            return
+        self.addCleanup(subprocess.run, ['ip', 'netns', 'del', name], check=False)
         for words in (
             f'link add {name}a type veth peer name {name}b netns {name}',
             f'addr add 198.51.100.1/30 dev {name}a',
@@ -151,10 +150,10 @@ class Started(ToolCase):
             f'-n {name} addr add 198.51.100.2/30 dev {name}b',
             f'-n {name} link set {name}b up',
         ):
-            if subprocess.run([*ip, *words.split()], capture_output=True, check=False).returncode:
-                not_run(f'the desk across a network namespace: ip {words}')
+            if subprocess.run(['ip', *words.split()], capture_output=True, check=False).returncode:
+                not_run(f'{across}: ip {words}')
                 return
-        inside = [*ip, 'netns', 'exec', name, sys.executable, '-c', FETCH]
+        inside = ['ip', 'netns', 'exec', name, sys.executable, '-c', FETCH]
         for words, is_reached in (((), False), (('--listen', '198.51.100.1'), True), (('--listen', '0.0.0.0'), True)):
             process, address = self.begin(*words)
             target = re.sub(r'//127\.0\.0\.1', '//198.51.100.1', address)

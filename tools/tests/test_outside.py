@@ -336,7 +336,7 @@ class Outside(ToolCase):
     def test_with_unicorn(self) -> None:
         library = unicorn.loaded()
         if library is None or unicorn.version(library) != unicorn.VERSION:
-            not_run(f'dev/outside unicorn; {unicorn.PACKAGE} ({unicorn.VERSION})')
+            not_run(f'dev/outside unicorn {unicorn.VERSION}; {unicorn.PACKAGE}')
             return
         out, _ = self.tool('dev/outside', 'unicorn', '--count', '400', '--seed', '1')
         self.assertEqual((out.splitlines()[0], out.count('0 of them by nothing')), (f'Unicorn {unicorn.VERSION}, seed 1', 1), out)
@@ -344,7 +344,7 @@ class Outside(ToolCase):
     def test_with_nasm(self) -> None:
         program = nasm.path()
         if program is None or nasm.version(program) != nasm.VERSION:
-            not_run(f'dev/outside nasm; {nasm.PACKAGE} ({nasm.VERSION})')
+            not_run(f'dev/outside nasm {nasm.VERSION}; {nasm.PACKAGE}')
             return
         out, _ = self.tool('dev/outside', 'nasm', '--count', '60', '--seed', '1')
         self.assertEqual((out.splitlines()[0], out.count('0 of them by nothing')), (f'ndisasm {nasm.VERSION}, seed 1', 1), out)
@@ -352,7 +352,7 @@ class Outside(ToolCase):
     def test_with_mame(self) -> None:
         program = mame.path()
         if program is None or mame.version(program) != mame.VERSION:
-            not_run(f'dev/outside mame; {mame.PACKAGE} ({mame.VERSION})')
+            not_run(f'dev/outside mame {mame.VERSION}; {mame.PACKAGE}')
             return
         out, _ = self.tool('dev/outside', 'mame', '--only', 'instructions,controller,port,timer', '--count', '100', '--seed', '1')
         self.assertEqual(out.count('0 of them by nothing'), 1, out)

@@ -2,6 +2,7 @@
 is here, which it finds wrong where they are."""
 from __future__ import annotations
 
+import json
 import os
 import shutil
 import subprocess
@@ -59,6 +60,25 @@ class It(unittest.TestCase):
 
     def test_d(self) -> None:
         self.assertTrue(True)
+"""
+WANTING = """import unittest
+from tests.support import not_run
+
+not_run('an assembler; apt install bin86')
+
+class It(unittest.TestCase):
+    def test_a(self) -> None:
+        not_run('C; apt install bcc bin86')
+
+    def test_b(self) -> None:
+        not_run('another; apt install bin86')
+        not_run('another; apt install bin86')
+
+    def test_c(self) -> None:
+        not_run('Unicorn; apt-get install --no-install-recommends libunicorn2')
+
+    def test_d(self) -> None:
+        not_run('what no package brings')
 """
 MODULE = 'import unittest\n\n\nclass It(unittest.TestCase):\n    def test_it(self) -> None:\n        self.assertTrue(True)\n'
 
@@ -147,7 +167,24 @@ class Whole(ToolCase):
         self.assertEqual((ran.returncode, ran.stdout.splitlines()[-1]), (1, '2 passed, 2 failed'), ran.stdout)
         self.assertEqual((ran.stdout.count('not run: a bit\n'), ran.stdout.count('not run: ')), (1, 2))
         with open(f'{self.room}/in_part', encoding='utf-8') as file:
-            self.assertEqual(file.read(), 'tests.test_it.It.test_a\n')
+            self.assertEqual(json.load(file), [['tests.test_it.It.test_a', 'a bit']])
+
+    def test_packages_that_are_not_installed(self) -> None:
+        """Each of them once, in order, with what wants it, in the last lines before the count."""
+        self.file('top/tools/tests/test_it.py', WANTING)
+        lines = self.run_it('tools/test').stdout.splitlines()
+        wanted = [
+            "not run, since packages aren't installed:",
+            '  bcc bin86: C',
+            '  bin86: an assembler; another',
+            '  libunicorn2: Unicorn',
+            'sudo apt install --no-install-recommends bcc bin86 libunicorn2',
+        ]
+        self.assertEqual((lines[-7:-2], lines[-1]), (wanted, '10 passed, 0 failed'), lines)
+        self.assertIn('not run: what no package brings', [line.lstrip('.') for line in lines])
+        self.assertEqual(self.run_it('tools/test', '--tools').stdout.splitlines()[-6:], [*wanted, '4 passed, 0 failed'])
+        of_a_part = self.run_it('tools/test', '--tools', f'{self.room}/in_part').stdout
+        self.assertNotIn("packages aren't installed", of_a_part)
 
     def test_nothing_lands_so(self) -> None:
         ran = self.run_it('.ci/run')
