@@ -14,7 +14,7 @@ from unittest import mock
 
 from parts import building, targets
 from tests.repository import Repository
-from tests.support import SECONDS, TOP, is_running, not_run, until
+from tests.support import SECONDS, TOP, is_running, is_there, not_run, until
 from toolbox import sources
 from toolbox.command import Sorry
 from toolbox.crates import Crates
@@ -242,6 +242,26 @@ class Build(Repository):
         self.assertGreater(len(sources.files(names)), 1000)
         version = subprocess.run([f'{TOP}/pcboard', '--version'], capture_output=True, text=True, check=True).stdout
         self.assertIn(f'\nsources {sources.sum_of_sources(names)}\n', version)
+
+    def test_version_tells_the_commit(self) -> None:
+        """Of a clone by git, of a release by RELEASE; no command that the clone's settings name is run for it."""
+        top = f'{self.room}/top'
+        self.assertNotIn('\ncommit', self.launch('--version').stdout)
+        if not is_there('git', 'the commit that --version tells', 'git'):
+            return
+        for line in ('init -q', 'add -A', '-c user.name=a -c user.email=a@b commit -q -m all', f'config core.fsmonitor {self.room}/watch'):
+            subprocess.run(['git', '-C', top, *line.split()], check=True)
+        os.chmod(self.file('watch', f'#!/bin/sh\ntouch {self.room}/watched\n'), 0o755)
+        commit = subprocess.run(['git', '-C', top, 'rev-parse', 'HEAD'], capture_output=True, text=True, check=True).stdout.strip()
+        self.assertEqual(self.launch('--version').stdout.splitlines()[1], f'commit {commit}')
+        self.file('top/crates/low/src/lib.rt', '// changed\n')
+        for words in ((), ('env', 'GIT_DIR=/nowhere', f'GIT_WORK_TREE={self.room}')):
+            told = self.start(*words, f'{top}/pcprobe', '--version').stdout
+            self.assertEqual(told.splitlines()[1], f'commit {commit}, and changes')
+        self.assertFalse(os.path.exists(f'{self.room}/watched'))
+        os.remove(f'{top}/crates.txt')
+        self.file('top/RELEASE', f'zebludor 1\ncommit {commit[:12]}\n')
+        self.assertEqual(self.launch('--version').stdout.splitlines()[1], f'commit {commit[:12]}')
 
     def test_a_program_that_was_built_otherwise_is_judged_by_times(self) -> None:
         """As one that `rt ci` left, which takes the place of that to which the list belongs."""
