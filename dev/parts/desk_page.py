@@ -11,6 +11,7 @@ from typing import Iterator
 
 from toolbox import proved
 from toolbox.command import Sorry, named, read_bytes, read_text
+from toolbox.desk.parts import page as whole_page
 from toolbox.program import TOP
 
 PAGE, ENGINE = f'{TOP}/tools/toolbox/desk/page', f'{TOP}/web/desk'
@@ -104,7 +105,7 @@ def script() -> str:
 
 def page_of(wasm: bytes, has: str) -> str:
     """The page, of the library and what it has of the repository."""
-    page, code, engine = text_at(f'{PAGE}/desk.html'), script(), in_scopes(f'{ENGINE}/worker.mjs')
+    page, code, engine = whole_page(), script(), in_scopes(f'{ENGINE}/worker.mjs')
     for text in (code, engine):
         assert '</script' not in text and '<!--' not in text
     policy = f'<meta http-equiv="Content-Security-Policy" content="{policy_of(page, code)}">'

@@ -98,9 +98,10 @@ def text_of_screen(rows: list[list[list[Any]]]) -> list[str]:
 def modules() -> dict[str, str]:
     """The page's modules, by their names."""
     found = dict[str, str]()
-    for name in sorted({*os.listdir(PAGE)} - {'desk.html'}):
-        with open(f'{PAGE}/{name}', encoding='utf-8') as file:
-            found[name] = file.read()
+    for name in sorted(os.listdir(PAGE)):
+        if name.endswith('.js'):
+            with open(f'{PAGE}/{name}', encoding='utf-8') as file:
+                found[name] = file.read()
     return found
 
 
@@ -1299,8 +1300,7 @@ class Pages(unittest.TestCase):
     """The page's own text, and the project's pages in it."""
 
     def test_the_page_has_no_address_outside(self) -> None:
-        with open(f'{PAGE}/desk.html', encoding='utf-8') as file:
-            page = file.read()
+        page = parts.page()
         self.assertNotRegex(page, r'https?:|//\w+\.|@import|url\(')
         self.assertEqual(
             (page.count('<script>'), page.count('<style>'), page.count('<script'), page.count(' style="'), page.count(' onclick=')), (0, 1, 1, 0, 0)
@@ -1336,7 +1336,7 @@ class Pages(unittest.TestCase):
 
     def test_it_can_be_read_in_light_and_dark(self) -> None:
         """Each text has a contrast of 4.5 to what is behind it, each mark one of 3, as the accessibility guidelines want it."""
-        with open(f'{PAGE}/desk.html', encoding='utf-8') as file:
+        with open(f'{PAGE}/desk.css', encoding='utf-8') as file:
             light, dark = (dict(re.findall(r'--([\w-]+): (#\w+);', rule)) for rule in re.findall(r':root \{(.*?)\}', file.read(), re.S)[:2])
         for colours in (light, light | dark):
             for fore, back, least in (
@@ -1361,10 +1361,10 @@ class Pages(unittest.TestCase):
         with open(f'{TOP}/editors/vscode/zebludor.tmLanguage.json', encoding='utf-8') as file:
             rows = json.load(file)['patterns']
         self.assertEqual(grammar(), rows)
-        with open(f'{PAGE}/desk.html', encoding='utf-8') as file:
-            page = file.read()
+        with open(f'{PAGE}/desk.css', encoding='utf-8') as file:
+            styles = file.read()
         for row in rows:
-            self.assertRegex(page, rf"\.{'-'.join(row['name'].split('.')[:2])}\b", row['name'])
+            self.assertRegex(styles, rf"\.{'-'.join(row['name'].split('.')[:2])}\b", row['name'])
 
     def test_all_pages_can_be_shown(self) -> None:
         for name in sorted(os.listdir(f'{TOP}/docs')):

@@ -22,6 +22,7 @@ ENGINE = f'{WEB}/desk'
 LIBRARY, CRATE = 'zebludor.wasm', 'zebludor_program'
 # Where the library is, if $ZEBLUDOR_WASM names none: built here, or stored.
 PLACES = (f'{TOP}/crates/zebludor_program/out/wasm', f'{TOP}/stored')
+STYLES = '<link rel="stylesheet" href="desk.css">'
 ALONE = 'local.js'  # which a page without a server has in the place of the page's served.js
 TABLES = ('clauses', 'faults', 'hints', 'keys', 'port_words', 'sentences', 'services')
 LACKING = f'there is no {LIBRARY} of the present sources, by which the page runs the board; dev/build zebludor_program --target wasm makes it'
@@ -55,8 +56,9 @@ def library_in(folder: str) -> bytes | None:
 
 
 def page() -> str:
-    """The page."""
-    return named(read_text(f'{PAGE}/desk.html'))
+    """The page, with its styles in it, so that its policy can name their sum."""
+    text, styles = (named(read_text(f'{PAGE}/{name}')) for name in ('desk.html', 'desk.css'))
+    return text.replace(STYLES, f'<style>\n{styles}</style>', 1)
 
 
 def modules() -> dict[str, str]:
