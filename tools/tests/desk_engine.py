@@ -85,7 +85,7 @@ class Engine:
 
 def with_node(case: type[Any]) -> type[Any]:
     """Of a class of tests one that runs none of them without node, and tells it."""
-    for name in [name for name in vars(case) if name.startswith('test_')]:
+    for name in [name for name in vars(case) if name.startswith('test_') or name == 'setUp']:
         setattr(case, name, only_if(has_node)(vars(case)[name]))
     return case
 
