@@ -11,7 +11,8 @@ STEP, GAP, HEAD = 50, 30, 26  # from row to row, between boxes, of a heading
 MOST = 4  # crates in a row
 STYLE = (
     'text{font:11px monospace;text-anchor:middle}.head{font:bold 13px sans-serif;text-anchor:start}'
-    '.box{fill:#f5f5f0;stroke:#ccc}.crate{fill:#fff;stroke:#557}path{fill:none;stroke:#27a;stroke-opacity:.6}.far{stroke:#a60;stroke-opacity:.5}.top{stroke-opacity:.25}'
+    '.box{fill:#f5f5f0;stroke:#ccc}.crate{fill:#fff;stroke:#557}'
+    'path{fill:none;stroke:#27a;stroke-opacity:.6}.far{stroke:#a60;stroke-opacity:.5}.top{stroke-opacity:.25}'
 )
 
 

@@ -44,7 +44,8 @@ class Map(ToolCase):
         """By its own text: each line leads from one crate down to another, and these lines tell all that crates.txt does."""
         tree = ElementTree.fromstring(content(PICTURE))
         space = {'svg': 'http://www.w3.org/2000/svg'}
-        names = {(int(text.get('x', '')), int(text.get('y', '')) - 15): text.text or '' for text in tree.findall('svg:text', space) if not text.get('class')}
+        texts = [text for text in tree.findall('svg:text', space) if not text.get('class')]
+        names = {(int(text.get('x', '')), int(text.get('y', '')) - 15): text.text or '' for text in texts}
         crates = Crates()
         self.assertEqual(sorted(names.values()), sorted(crates.named))
         found: Named = {name: [] for name in names.values()}
