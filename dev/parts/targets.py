@@ -192,8 +192,10 @@ def archive(room, target, to, run):
     made = compiled(room, target, run)
     if made == f'{room}/own':
         shutil.copy(made, to)
-    else:
-        run(f'{TOOLCHAIN}/bin/llvm-ar', 'rcsD', to, made)
+        return
+    with contextlib.suppress(FileNotFoundError):
+        os.remove(to)  # of another target, whose object would stay in it
+    run(f'{TOOLCHAIN}/bin/llvm-ar', 'rcsD', to, made)
 
 
 def link_shared(room, target, to, run):

@@ -144,14 +144,15 @@ class Small(ToolCase):
         self.assertEqual(ran.returncode, 0, (words, ran.stderr))
         return ran.stdout
 
-    def linked(self, kind: str, target: str, file: str) -> str:
+    def linked(self, kind: str, target: str, file: str, folder: str = '') -> str:
         """A file for a target, made of a module that the kit's clang makes of the text in C."""
-        room = f'{self.room}/{kind}-{target}'
+        folder = folder or f'{kind}-{target}'
+        room = f'{self.room}/{folder}'
         os.makedirs(room, exist_ok=True)
         source, words = self.file(f'{kind}.c', SMALL[kind]), ['--target=x86_64-unknown-linux-gnu', '-O1', '-fPIC']
         self.done(targets.CLANG, *words, '-emit-llvm', '-c', source, '-o', f'{room}/module.bc')
         self.done(targets.CLANG, *words, '-c', source, '-o', f'{room}/own')
-        self.file(f'{kind}-{target}/words', '-O2\n-c\n')
+        self.file(f'{folder}/words', '-O2\n-c\n')
         made = targets.linked(room, kind == 'program', target, file, self.done)
         first = sum_of(made)
         self.assertEqual(sum_of(targets.linked(room, kind == 'program', target, file, self.done)), first, 'made again')
@@ -166,6 +167,18 @@ class Small(ToolCase):
             if all(tools) and target not in ('wasm', 'shared'):
                 self.is_run(target, self.linked('program', target, f'small{of.ending}'), f'{self.room}/given')
                 self.is_loaded(target, self.linked('library', target, of.shared.format('small'))) if of.shared else None
+
+    def test_static_libraries(self) -> None:
+        """Made one after another in one folder, as dev/build makes them, each has an object of its own target alone."""
+        if not (shutil.which('rt') and is_there('gcc', 'small libraries for other targets', 'gcc libc6-dev')):
+            not_run("small libraries for other targets; Rattle's clang compiles them")
+            return
+        for target in ('musl', 'aarch64', 'windows'):
+            compiler, package = next(iter(targets.TARGETS[target].tools.items()))
+            if is_there(compiler, f'a small library for {target}', package):
+                library, to = self.linked('library', target, 'libsmall.a', 'one'), f'{self.room}/caller{ENDINGS.get(target, "")}'
+                self.done(compiler, '-static', '-o', to, self.file('caller.c', CALLER), library, f'{TOP}/c/memory.c')
+                self.is_run(target, to)
 
     def is_run(self, target: str, program: str, *words: str) -> None:
         """A program prints what it has to, if it can be run here."""
