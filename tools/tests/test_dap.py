@@ -595,7 +595,7 @@ class Sessions(ToolCase):
         for bad in (-1, (1 << 40) + 1, 'x'):
             self.assertTrue(client.refused('toClock', clock=bad))
         self.assertIn('to is no register', client.refused('evaluate', expression='to the end', context='repl'))
-        busy, long = self.program('again:  JMP SHORT again', 1 << 40)
+        busy, long = self.program('again:  INC AX\n        JMP SHORT again', 1 << 40)  # which no leap passes
         other = self.client()
         other.launch(busy, run=long, stopOnEntry=True)
         other.event('stopped')
